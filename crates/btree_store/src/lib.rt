@@ -1,0 +1,104 @@
+//! A store of rows in std's ordered map.
+//!
+//! A `BTreeStore` contains what its map has, row by row (`specs/Contents.antt`); the keys are numbers of 64 bits,
+//! which the type keeps. It stands on `store_trait`, whose contract it meets, and on std's `BTreeMap`. A batch is
+//! put whole or not at all, also where memory ends in the middle of it (`put`).
+#![tactic(auto)]
+
+ghost use Rattle.std.specs.Prelude.{◌≡◌};
+ghost use Rattle.std.specs.FinMap.{empty};
+ghost use Rattle.store_trait.specs.Contents.{IsNextInTable};
+ghost use Rattle.btree_store.specs.Contents.{contents_of, KeysFit};
+
+mod put;
+
+use put::put_whole;
+use rows::Row;
+use schema::{Memory, RowId};
+use std::alloc::Global;
+use std::collections::BTreeMap;
+use std::marker::Model;
+use std::ops::Bound;
+use store_trait::{Batch, RowStore};
+
+/// Rows by their ids, in order.
+type Rows = BTreeMap<RowId, Row>;
+
+/// Rows in an ordered map. No call copies the map. A batch takes the time of a few look-ups for each of its rows,
+/// and the memory of a list of their ids, which is given back, and of the rows that are new.
+#[derive(Debug, Drop)]
+pub struct BTreeStore {
+    alloc: Global,
+    rows: Rows,
+}
+
+impl Model for BTreeStore {
+    ghost use Rattle.std.specs.FinMap.{code};
+    ghost use Rattle.std.specs.Coded.{coded_list, coded_ℤ};
+    ghost use Rattle.schema.specs.RowId.{coded_row_id};
+    ghost use Rattle.rows.specs.Database.{Database};
+    ghost use Rattle.btree_store.specs.Contents.{contents_of, KeysFit};
+
+    ghost Value = { Database };
+
+    ghost coded = { code coded_row_id (coded_list coded_ℤ) };
+
+    ghost view = { λ s. contents_of s.rows };
+
+    ghost invariant = { λ s. KeysFit (contents_of s.rows) };
+}
+
+impl BTreeStore {
+    /// A store of no rows. It takes no memory.
+    pub fn new(alloc: Global) -> BTreeStore
+        ensures { result ≡ empty }
+    {
+        BTreeStore {
+            alloc,
+            rows: BTreeMap::new(alloc),
+        }
+    }
+}
+
+impl RowStore for BTreeStore {
+    ghost contents = { λ s. s };
+
+    fn get(&self, id: RowId) -> Option<Row> {
+        self.rows.get(&id).copied()
+    }
+
+    fn put_all(&mut self, batch: &Batch) -> Result<(), Memory> {
+        put_whole(self.alloc, &mut self.rows, batch.entries())
+    }
+
+    fn len(&self) -> usize {
+        self.rows.len()
+    }
+
+    fn next_in_table(&self, table: u16, above: Option<i64>) -> Option<(i64, Row)> {
+        next_row(&self.rows, table, above)
+    }
+}
+
+/// Of a table's rows above the key, or of all of them, the one with the least key.
+fn next_row(rows: &Rows, table: u16, above: Option<i64>) -> Option<(i64, Row)>
+    requires { KeysFit (contents_of rows.now) }
+    ensures { IsNextInTable (contents_of rows.now) table above result }
+{
+    let start = match above {
+        None => Bound::Included(RowId {
+            table,
+            key: i64::MIN,
+        }),
+        Some(key) => Bound::Excluded(RowId { table, key }),
+    };
+    let end = Bound::Included(RowId {
+        table,
+        key: i64::MAX,
+    });
+    let (id, row) = rows.range((start, end)).next()?;
+    Some((id.key, *row))
+}
+
+#[cfg(test)]
+mod tests;

@@ -1,0 +1,15 @@
+-- What a tracker sees of a transaction: the rows that it touches, and what kinds of tables it writes.
+use Rattle.std.specs.Prelude.{List}
+use Rattle.schema.specs.declared.Table.{Table}
+use Rattle.schema.specs.declared.RowId.{RowId}
+use Rattle.schema.specs.Rows.{Touched}
+use Rattle.schema.specs.Flags.{is_related, lacks_keys}
+use Rattle.log_index.specs.declared.Footprint.{Footprint}
+
+-- the rows written and referred to, which decide conflicts
+abbrev pub touched : Footprint → Touched
+touched f = record { writes = f.writes; refs = f.refs }
+
+-- the footprint of a transaction that writes and refers to these rows
+abbrev pub footprint_of : List Table → List RowId → List RowId → Footprint
+footprint_of ts writes refs = record { writes = writes; refs = refs; fk = is_related ts writes; missing_keys = lacks_keys ts writes }

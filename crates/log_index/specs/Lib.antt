@@ -1,0 +1,3 @@
+pub mod Footprint
+pub mod Log
+pub mod Laws

@@ -1,0 +1,28 @@
+-- Logs of entries, and which parents cover them.
+use Rattle.std.specs.Prelude.{◌≡◌, ℕ, ◌+◌, ◌-◌, ◌<◌, ◌≤◌, ◌==◌, true, if◌then◌else◌, List, slice_get, Option, Some, None}
+use Rattle.std.specs.List.{AllByRecursion}
+use Rattle.schema.specs.Rows.{Touched, conflicts}
+use Rattle.log_index.specs.declared.Entry.{Entry}
+use Rattle.log_index.specs.Footprint.{touched}
+
+-- what is known of a log: its entries in order, and how many more fit in the memory that it has
+pub record Entries : Type 0 where
+  pub entries : List Entry
+  pub room : ℕ
+
+-- the entry has this sequence number, and a parent below it
+pub record IsAt (sequence : ℕ) (entry : Entry) : Type 0 where
+  pub number : entry.sequence ≡ sequence
+  pub below : entry.parent < sequence
+
+-- the entries have the sequence numbers 1, 2, 3 and on, each with a parent below its own
+abbrev pub IsNumbered : List Entry → Type 0
+IsNumbered log = (i : ℕ) (entry : Entry) → slice_get log i ≡ Some entry → IsAt (i + 1) entry
+
+-- the entry of this sequence number
+abbrev pub entry_at : List Entry → ℕ → Option Entry
+entry_at log sequence = if sequence == 0 then None else slice_get log (sequence - 1)
+
+-- each entry of the log that conflicts with these rows has a sequence number of at most this parent
+abbrev pub Covers : List Entry → Touched → ℕ → Type 0
+Covers log rows parent = AllByRecursion (λ entry. conflicts (touched entry.footprint) rows ≡ true → entry.sequence ≤ parent) log

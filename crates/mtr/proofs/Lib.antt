@@ -1,0 +1,3 @@
+pub mod NumberTexts
+pub mod WordLists
+pub mod ScriptLines

@@ -1,0 +1,6 @@
+pub mod Number
+pub mod Words
+pub mod Command
+pub mod Script
+pub mod Options
+pub mod Pair

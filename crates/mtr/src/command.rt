@@ -1,0 +1,110 @@
+//! The event that a line's words are.
+
+ghost use Rattle.std.specs.Prelude.{◌≡◌};
+ghost use Rattle.mtr.specs.Command.{verb_of, alone, bare, event_of};
+
+use world::Event;
+use crate::words::Words;
+use rows::Change;
+
+/// The first word of an event's line.
+#[derive(Clone, Copy, Debug, PartialEq, Eq)]
+pub enum Verb {
+    Begin,
+    Insert,
+    See,
+    Prepare,
+    Queue,
+    Flush,
+    Sync,
+    Commit,
+    Deliver,
+    Dispatch,
+    Finish,
+    Next,
+    Publish,
+    Read,
+}
+
+impl Verb {
+    /// The verb of this name.
+    #[tactic(auto, unfolding(crate::specs::Command::verb_of))]
+    pub fn of(name: &str) -> Option<Verb>
+        ensures { result ≡ verb_of name.now }
+    {
+        match name {
+            "begin" => Some(Verb::Begin),
+            "insert" => Some(Verb::Insert),
+            "see" => Some(Verb::See),
+            "prepare" => Some(Verb::Prepare),
+            "queue" => Some(Verb::Queue),
+            "flush" => Some(Verb::Flush),
+            "sync" => Some(Verb::Sync),
+            "commit" => Some(Verb::Commit),
+            "deliver" => Some(Verb::Deliver),
+            "dispatch" => Some(Verb::Dispatch),
+            "finish" => Some(Verb::Finish),
+            "next" => Some(Verb::Next),
+            "publish" => Some(Verb::Publish),
+            "read" => Some(Verb::Read),
+            _ => None,
+        }
+    }
+}
+
+/// What was read, where no word stands behind it.
+pub fn alone<T: Drop>(found: Option<(T, Words)>) -> Option<T>
+    ensures { result ≡ alone found.entry }
+{
+    let (value, rest) = found?;
+    if rest.is_empty() { Some(value) } else { None }
+}
+
+/// The event of a verb and the words behind it; `None` where these are not the verb's parameters.
+pub fn event_of(verb: Verb, words: Words) -> Option<Event>
+    ensures { result ≡ event_of verb words.entry }
+{
+    match verb {
+        Verb::Begin => alone(words.u16()).map(|session| Event::Begin { session }),
+        Verb::Insert => insert_of(words),
+        Verb::See => see_of(words),
+        Verb::Prepare => alone(words.u16()).map(|session| Event::Prepare { session }),
+        Verb::Queue => alone(words.u16()).map(|session| Event::Queue { session }),
+        Verb::Flush => bare(Event::Flush, words),
+        Verb::Sync => bare(Event::Sync, words),
+        Verb::Commit => bare(Event::Commit, words),
+        Verb::Deliver => alone(words.u64()).map(|gno| Event::Deliver { gno }),
+        Verb::Dispatch => bare(Event::Dispatch, words),
+        Verb::Finish => alone(words.u64()).map(|gno| Event::Finish { gno }),
+        Verb::Next => bare(Event::Next, words),
+        Verb::Publish => bare(Event::Publish, words),
+        Verb::Read => alone(words.row_id()).map(|row| Event::Read { row }),
+    }
+}
+
+/// An event without parameters.
+fn bare(event: Event, words: Words) -> Option<Event>
+    ensures { result ≡ bare event words.entry }
+{
+    if words.is_empty() { Some(event) } else { None }
+}
+
+fn insert_of(words: Words) -> Option<Event>
+    ensures { result ≡ event_of Verb.Insert words.entry }
+{
+    let (session, words) = words.u16()?;
+    let (row, words) = words.row_id()?;
+    let values = words.row()?;
+    Some(Event::Write {
+        session,
+        change: Change::Insert { row, values },
+    })
+}
+
+fn see_of(words: Words) -> Option<Event>
+    ensures { result ≡ event_of Verb.See words.entry }
+{
+    let (session, words) = words.u16()?;
+    let row = alone(words.row_id())?;
+    Some(Event::See { session, row })
+}

@@ -1,0 +1,95 @@
+//! The command line.
+
+ghost use Rattle.std.specs.Prelude.{◌≡◌, ◌≢◌, [], ◌∷◌, map, codes, option_map, IfOk, IfErr, IfSome, IfNone, Some};
+ghost use Rattle.clap.specs.Words.{app_of, kind_of};
+ghost use Rattle.mtr.specs.Options.{program, subcommand, subcommand_for};
+
+use crate::options::{LineFault, Options};
+use clap::Command;
+use clap::error::ErrorKind;
+use std::alloc::{AllocError, Global};
+
+/// What the words behind the program's name ask for.
+pub fn options<'a>(alloc: Global, words: &'a [&'a str]) -> Result<Options, LineFault>
+    // What is answered is what the words name.
+    ensures named { IfOk result (λ asked. subcommand (map (λ w. w.now) words.entry.now) ≡ Some (subcommand_for asked)) }
+    // The words `run` alone are refused for want of memory only.
+    ensures run { IfErr result (λ fault. map (λ w. w.now) words.entry.now ≡ codes "run" ∷ [] → fault ≡ LineFault.Memory) }
+{
+    let matches = match command(alloc)?.try_get_matches_from(words) {
+        Ok(matches) => matches,
+        Err(error) => return Err(fault_of(alloc, &error)),
+    };
+    match asked_by(matches.subcommand_name()) {
+        Some(asked) => Ok(asked),
+        None => Err(LineFault::Line(String::from_str(alloc, "error: no subcommand\n")?)),
+    }
+}
+
+/// What a subcommand asks for.
+fn asked_by(name: Option<&str>) -> Option<Options>
+    ensures named { IfSome result (λ asked. option_map (λ n. n.now) name.entry ≡ Some (subcommand_for asked)) }
+    ensures none { IfNone result (option_map (λ n. n.now) name.entry ≢ Some (codes "run")) }
+{
+    match name {
+        Some("run") => Some(Options::Run),
+        _ => None,
+    }
+}
+
+/// The command line as `clap` has it.
+fn command<'a>(alloc: Global) -> Result<Command<'a>, AllocError>
+    ensures { IfOk result (λ command. app_of command ≡ program) }
+{
+    Command::new(alloc, "mtr")
+        .about("A source with group commit, and a replica that applies its log in parallel")
+        .no_binary_name(true)
+        .subcommand_required(true)
+        .subcommand(Command::new(alloc, "run").about("Runs the script on standard input"))
+}
+
+/// The fault that `clap` tells.
+fn fault_of(alloc: Global, error: &clap::Error) -> LineFault
+    ensures { kind_of error.now ≡ ErrorKind.OutOfMemory → result ≡ LineFault.Memory }
+{
+    if error.kind() == ErrorKind::OutOfMemory {
+        return LineFault::Memory;
+    }
+    match format!(in alloc; "{error}") {
+        Ok(text) => LineFault::Line(text),
+        Err(_) => LineFault::Memory,
+    }
+}
+
+#[cfg(test)]
+mod tests {
+    use super::*;
+    use std::test::Fail;
+
+    #[test]
+    fn reads_run(rt: HostRuntime) -> Result<(), Fail> {
+        assert_eq!(rt; options(rt.alloc(), &["run"])?, Options::Run);
+        Ok(())
+    }
+
+    /// Whether the words are refused with a text of whole lines.
+    fn is_refused<'a>(alloc: Global, words: &'a [&'a str]) -> bool {
+        match options(alloc, words) {
+            Err(LineFault::Line(text)) => text.ends_with('\n'),
+            _ => false,
+        }
+    }
+
+    #[test]
+    fn refuses_other_words(rt: HostRuntime) {
+        let alloc = rt.alloc();
+        assert!(rt; is_refused(alloc, &[]));
+        assert!(rt; is_refused(alloc, &[""]));
+        assert!(rt; is_refused(alloc, &["Run"]));
+        assert!(rt; is_refused(alloc, &["threads"]));
+        assert!(rt; is_refused(alloc, &["decode"]));
+        assert!(rt; is_refused(alloc, &["run", "x"]));
+        assert!(rt; is_refused(alloc, &["run", "--fail", "5"]));
+        assert!(rt; is_refused(alloc, &["--help"]));
+    }
+}

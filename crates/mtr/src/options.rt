@@ -1,0 +1,34 @@
+//! What the command line asks for.
+
+use std::alloc::AllocError;
+use thiserror::Error;
+
+/// What the words behind the program's name ask for.
+#[derive(Clone, Copy, Debug, PartialEq, Eq)]
+pub enum Options {
+    /// `run`: a script is read on standard input and run.
+    Run,
+}
+
+/// Why the words ask for nothing.
+#[derive(Debug, Drop, Error)]
+pub enum LineFault {
+    /// The words are no command line of the program; or they ask for help. This is the text for the user, which
+    /// ends with LF.
+    #[error("{0}")]
+    Line(String),
+    /// Memory ran out.
+    #[error("no memory")]
+    Memory,
+}
+
+impl From<AllocError> for LineFault {
+    ghost use Rattle.std.specs.Prelude.{◌≡◌};
+    ghost use Rattle.mtr.specs.declared.options.LineFault.TheVariants as faults;
+
+    ghost from_gives = { λ _ e. e ≡ faults.Memory };
+
+    fn from(_error: AllocError) -> LineFault {
+        LineFault::Memory
+    }
+}

@@ -1,0 +1,60 @@
+//! A source and a replica over one schema and equal rows.
+
+ghost use Rattle.std.specs.Prelude.{◌≡◌, List, IfOk, IfSome};
+ghost use Rattle.record_codec.specs.declared.records.Record.{Record as ARecord};
+ghost use Rattle.store_trait.specs.Batch.{put_batch};
+ghost use Rattle.std.specs.FinMap.{empty};
+ghost use Rattle.world.specs.Legal.{Setup, AreLegal};
+ghost use Rattle.mtr.specs.Pair.{HasLegalRun};
+
+use btree_store::BTreeStore;
+use published::plain::Plain;
+use replica_core::ReplicaCore;
+use rows::Row;
+use schema::{Memory, RowId, Schema};
+use source_core::SourceCore;
+use std::alloc::Global;
+use store_trait::{Batch, RowStore, fits};
+use world::{Event, Reply, World};
+
+/// The greatest number of records of a log.
+const MAX_RECORDS: u64 = 9223372036854775807;
+
+/// The batch of these rows; `None` where a row comes twice.
+pub fn base_of(alloc: Global, rows: Vec<(RowId, Row)>) -> Result<Option<Batch>, Memory> {
+    let mut entries: Vec<(RowId, Option<Row>)> =
+        rows.iter().map(|(id, row)| (*id, Some(*row))).collect(alloc)?;
+    entries.sort_unstable_by_key(|entry| entry.0);
+    Ok(Batch::from_entries(entries))
+}
+
+/// A store of these rows.
+fn store_of(alloc: Global, base: &Batch) -> Result<BTreeStore, Memory>
+    ensures { IfOk result (λ store. store ≡ put_batch base.now empty) }
+{
+    let mut store = BTreeStore::new(alloc);
+    store.put_all(base)?;
+    Ok(store)
+}
+
+/// The replies of a new source and a new replica that hold these rows; `None` where the rows do not fit the
+/// schema. They are legal, over one log that is legal over the rows: each read at the replica answers as the
+/// source's database after one beginning of that log.
+pub fn run_pair(
+    alloc: Global,
+    schema: Schema,
+    base: Batch,
+    events: &[Event],
+) -> Result<Option<Vec<Reply>>, Memory>
+    ensures { IfOk result (λ ran. IfSome ran (λ replies. HasLegalRun schema base events.now replies.items)) }
+{
+    let store = store_of(alloc, &base)?;
+    if !schema.is_flat() || !fits(&schema, &store) {
+        return Ok(None);
+    }
+    let source = SourceCore::new(alloc, schema.copy()?, store, MAX_RECORDS)?;
+    let replica = ReplicaCore::new(alloc, schema, store_of(alloc, &base)?)?;
+    let shown = Plain::new(alloc, BTreeStore::new(alloc), base)?;
+    let mut world = World::new(alloc, source, replica, shown);
+    Ok(Some(world.run(alloc, events)?))
+}

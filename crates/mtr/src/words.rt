@@ -1,0 +1,128 @@
+//! The words of a line, taken off one after another.
+//!
+//! Words are what stands between single spaces. So a space at either end of a line, or one behind another,
+//! makes a word without a character, which is no number and no name.
+
+ghost use Rattle.std.specs.Prelude.{◌≡◌, ◌^◌, option_map, length, ◌==◌, is_some};
+ghost use Rattle.mtr.specs.Words.{words_of, first_word, number_in, integer_in, row_id_in, row_in, AreColumns};
+
+use crate::number::{i64_of, u8_of, u16_of, u64_of};
+use rows::Row;
+use schema::RowId;
+use std::marker::Model;
+
+/// The words of a line that are left.
+#[derive(Drop)]
+pub struct Words<'a> {
+    rest: Option<&'a str>,
+}
+
+impl<'a> Model for Words<'a> {
+    ghost use Rattle.mtr.specs.Words.{Word, words_left};
+    ghost use Rattle.std.specs.Prelude.{List};
+
+    ghost Value = { List Word };
+
+    ghost view = { λ w. words_left w.rest };
+}
+
+impl<'a> Words<'a> {
+    /// The words of a line.
+    pub fn of(line: &'a str) -> Words<'a>
+        ensures { result ≡ words_of line.now }
+    {
+        Words { rest: Some(line) }
+    }
+
+    /// Whether no word is left.
+    pub fn is_empty(&self) -> bool
+        ensures { result ≡ (length self.now == 0) }
+    {
+        self.rest.is_none()
+    }
+
+    /// The first word and those behind it.
+    pub fn first(self) -> Option<(&'a str, Words<'a>)>
+        ensures { option_map (λ x. (x.0.now, x.1)) result ≡ first_word self.entry }
+    {
+        let text = self.rest?;
+        match text.split_once(' ') {
+            Some((word, rest)) => Some((word, Words { rest: Some(rest) })),
+            None => Some((text, Words { rest: None })),
+        }
+    }
+
+    /// A number of 8 bits and the words behind it; `None` where the first word is none.
+    #[tactic(auto, unfolding(crate::specs::Words::number_in))]
+    pub fn u8(self) -> Option<(u8, Words<'a>)>
+        ensures { result ≡ number_in (2 ^ 8) self.entry }
+    {
+        let (word, rest) = self.first()?;
+        Some((u8_of(word)?, rest))
+    }
+
+    /// The same at 16 bits.
+    #[tactic(auto, unfolding(crate::specs::Words::number_in))]
+    pub fn u16(self) -> Option<(u16, Words<'a>)>
+        ensures { result ≡ number_in (2 ^ 16) self.entry }
+    {
+        let (word, rest) = self.first()?;
+        Some((u16_of(word)?, rest))
+    }
+
+    /// The same at 64 bits.
+    #[tactic(auto, unfolding(crate::specs::Words::number_in))]
+    pub fn u64(self) -> Option<(u64, Words<'a>)>
+        ensures { result ≡ number_in (2 ^ 64) self.entry }
+    {
+        let (word, rest) = self.first()?;
+        Some((u64_of(word)?, rest))
+    }
+
+    /// The same with a sign.
+    #[tactic(auto, unfolding(crate::specs::Words::integer_in))]
+    pub fn i64(self) -> Option<(i64, Words<'a>)>
+        ensures { result ≡ integer_in self.entry }
+    {
+        let (word, rest) = self.first()?;
+        Some((i64_of(word)?, rest))
+    }
+
+    /// A table and a key, and the words behind them.
+    #[tactic(auto, unfolding(crate::specs::Words::row_id_in))]
+    pub fn row_id(self) -> Option<(RowId, Words<'a>)>
+        ensures { result ≡ row_id_in self.entry }
+    {
+        let (table, rest) = self.u16()?;
+        let (key, rest) = rest.i64()?;
+        Some((RowId { table, key }, rest))
+    }
+
+    /// A row of all words that are left; `None` where there are none or more than 16, or one is no number.
+    #[tactic(auto, unfolding(crate::specs::Words::row_in))]
+    pub fn row(self) -> Option<Row>
+        ensures { result ≡ row_in self.entry }
+    {
+        let mut columns = [0; 16];
+        let count = columns_of(self, &mut columns)?;
+        Row::new(&columns[..count])
+    }
+}
+
+/// Writes the numbers that all of the words are, and tells how many there are; `None` where they are too many.
+fn columns_of(words: Words, columns: &mut [i64]) -> Option<usize>
+    requires { length columns.old ≡ 16 }
+    ensures { AreColumns words.entry columns.new result }
+{
+    let mut words = words;
+    let mut count = 0;
+    while let Some((word, rest)) = words.first() {
+        if count == columns.len() {
+            return None;
+        }
+        columns[count] = i64_of(word)?;
+        count += 1;
+        words = rest;
+    }
+    Some(count)
+}

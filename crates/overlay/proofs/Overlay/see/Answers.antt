@@ -1,0 +1,13 @@
+use Rattle.std.proofs.Common.{sym, ap, ◌∙◌}
+use Rattle.overlay.specs.Pending.{Pending, left_at}
+use Rattle.overlay.proofs.Order.{find-in_order, rising-in_order, lookup-find}
+use Rattle.overlay.proofs.Overlay.see.Goals as goal
+
+pub returns-clause-value : goal.returns-clause-value
+returns-clause-value c =
+    let es = c.self.inside.left.entries in
+    c.copied.ensures ∙ c.get.ensures.value ∙ lookup-find es c.args.id ∙ sym (find-in_order es c.args.id)
+    ∙ ap (λ (p : Pending). left_at p c.args.id) c.self.view_is
+
+pub returns-clause-rising : goal.returns-clause-rising
+returns-clause-rising c = rw (← c.self.view_is) (rising-in_order c.self.inside.left.entries)

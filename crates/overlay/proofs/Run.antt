@@ -1,0 +1,61 @@
+-- A list of changes that is run one after another.
+use Rattle.std.proofs.Common.{◌≡◌, ap, sym, ◌∙◌, refl, subst, ℕ, ◌+◌, ◌<◌, ◌≤◌, List, [], ◌∷◌, ◌++◌, take, drop, length, get_or, ℤ, Option, Some, None, option_map}
+use Rattle.std.specs.Prelude.{option_and_then}
+use Rattle.std.specs.FinMap.{get}
+use Rattle.std.proofs.lemmas.List.{take_more, take_all, at_drop_more}
+use Rattle.std.proofs.lemmas.Option.{same_Some}
+use Rattle.schema.specs.declared.Table.{Table}
+use Rattle.rows.specs.declared.Change.{Change}
+use Rattle.rows.specs.Database.{Database, target, writes, apply, effect}
+use Rattle.overlay.specs.Pending.{Pending, none_pending, pushed, seen, rows_in, pending_of}
+use Rattle.overlay.specs.Follows.{Follows}
+use Rattle.overlay.proofs.Follow.{Follows-none, Follows-pushed, seen-Follows}
+
+-- the first of the changes are pending, and those behind them do to what is seen what all do to db
+pub record HasRun (ts : List Table) (changes : List Change) (db : Database) (n : ℕ) (pending : Pending) : Type 0 where
+  pub after : Database
+  pub follows : Follows ts db pending after
+  pub done : pending.changes ≡ take n changes
+  pub rest : effect ts (drop n changes) after ≡ effect ts changes db
+
+pub HasRun-none : (ts : List Table) (changes : List Change) (db : Database) → HasRun ts changes db 0 none_pending
+HasRun-none ts changes db = record { after = db; follows = Follows-none ts db; done = refl; rest = refl }
+
+mapped : {A B : Type 0} (f : A → B) (o : Option A) (y : B) → option_map f o ≡ Some y → (x : A) × (o ≡ Some x) × (f x ≡ y)
+mapped f None y h = cc
+mapped f (Some x) y h = (x, refl, same_Some (f x) y h)
+
+none_mapped : {A B : Type 0} (f : A → B) (o : Option A) → option_map f o ≡ None → o ≡ None
+none_mapped f None h = refl
+none_mapped f (Some x) h = cc
+
+module _ {ts : List Table} {changes : List Change} {db : Database} {n : ℕ} {pending : Pending} (change : Change) (run : HasRun ts changes db n pending) (within : n < length changes) (is : change ≡ get_or changes n change) where
+  -- what the changes from the next one on do
+  from_next : effect ts changes db ≡ option_and_then (effect ts (drop (n + 1) changes)) (apply ts change run.after)
+  from_next =
+      sym run.rest ∙ at_drop_more (λ l. effect ts l run.after) changes n change within
+      ∙ ap (λ (x : Change). option_and_then (effect ts (drop (n + 1) changes)) (apply ts x run.after)) (sym is)
+
+  left_after : option_map (λ m. get m (target change)) (apply ts change (seen pending db)) ≡ option_map (λ m. get m (target change)) (apply ts change run.after)
+  left_after = ap (λ (m : Database). option_map (λ m. get m (target change)) (apply ts change m)) (seen-Follows run.follows)
+
+  pub HasRun-more : (left : Option (List ℤ)) → option_map (λ m. get m (target change)) (apply ts change (seen pending db)) ≡ Some left → HasRun ts changes db (n + 1) (pushed pending change left)
+  HasRun-more left leaves =
+      let next = mapped (λ (m : Database). get m (target change)) (apply ts change run.after) left (sym left_after ∙ leaves) in
+      record {
+        after = next.0;
+        follows = subst (λ (l : Option (List ℤ)). Follows ts db (pushed pending change l) next.0) next.2 (Follows-pushed change next.0 run.follows next.1);
+        done = ap (λ l. l ++ change ∷ []) run.done ∙ ap (λ (x : Change). take n changes ++ x ∷ []) is ∙ sym (take_more changes n change within);
+        rest = sym (from_next ∙ ap (option_and_then (effect ts (drop (n + 1) changes))) next.1);
+      }
+
+  pub effect-refused : option_map (λ m. get m (target change)) (apply ts change (seen pending db)) ≡ None → effect ts changes db ≡ None
+  effect-refused refused =
+      from_next ∙ ap (option_and_then (effect ts (drop (n + 1) changes))) (none_mapped (λ (m : Database). get m (target change)) (apply ts change run.after) (sym left_after ∙ refused))
+
+pub pending-run : {ts : List Table} {changes : List Change} {db : Database} {n : ℕ} {pending : Pending} → HasRun ts changes db n pending → length changes ≤ n → Some pending ≡ option_map (pending_of changes) (effect ts changes db)
+pending-run {ts = ts} {changes = changes} {db = db} {n = n} {pending = pending} run end =
+    let all : pending.changes ≡ changes = run.done ∙ take_all n changes end in
+    let applied : effect ts changes db ≡ Some run.after = ap (λ l. effect ts l db) (sym all) ∙ run.follows.applied in
+    let is : ◌≡◌ {A = Pending} pending (pending_of changes run.after) = λ i. record { changes = all i; left = (run.follows.left ∙ ap (λ l. rows_in (writes l) run.after) all) i } in
+    ap Some is ∙ sym (ap (option_map (pending_of changes)) applied)

@@ -1,0 +1,52 @@
+-- What the overlay of changes that apply one after another shows, and how it goes on.
+use Rattle.std.specs.Prelude.{◌≡◌, ℤ, true, List, Option, Some, None, Ok, unwrap_or, if◌then◌else◌}
+use Rattle.std.specs.Option.{option_map}
+use Rattle.std.specs.Result.{result_ok}
+use Rattle.std.specs.FinMap.{get}
+use Rattle.schema.specs.declared.Table.{Table}
+use Rattle.schema.specs.declared.RowId.{RowId}
+use Rattle.rows.specs.declared.Change.{Change}
+use Rattle.rows.specs.Change.{changed}
+use Rattle.rows.specs.Database.{Database, target, writes, apply, effect}
+use Rattle.rows.specs.Frame.{SameEffect}
+use Rattle.store_trait.specs.Batch.{put_row}
+use Rattle.overlay.specs.Pending.{Pending, none_pending, pushed, left_at, seen, rows_in}
+use Rattle.overlay.specs.Step.{parent_stands}
+
+-- the changes that are pending apply to db one after another and leave after, and what they leave is there
+pub record Follows (ts : List Table) (db : Database) (pending : Pending) (after : Database) : Type 0 where
+  pub applied : effect ts pending.changes db ≡ Some after
+  pub left : pending.left ≡ rows_in (writes pending.changes) after
+
+abbrev pub NoneFollows : Type 0
+NoneFollows = (ts : List Table) (db : Database) → Follows ts db none_pending db
+
+-- a change that fits the row that it is of, as the transaction sees it, and whose parent is there
+abbrev pub StepFollows : Type 0
+StepFollows = (ts : List Table) (db : Database) (pending : Pending) (after : Database) (change : Change) (left : Option (List ℤ)) →
+    Follows ts db pending after → changed change (get after (target change)) ≡ Ok left → parent_stands ts change after ≡ true →
+    Follows ts db (pushed pending change left) (put_row after (target change) left)
+
+-- a change that applies, with what it leaves of its row
+abbrev pub PushedFollows : Type 0
+PushedFollows = (ts : List Table) (db : Database) (pending : Pending) (after : Database) (change : Change) (next : Database) →
+    Follows ts db pending after → apply ts change after ≡ Some next → Follows ts db (pushed pending change (get next (target change))) next
+
+-- a row is as the changes leave it, and else as it was
+abbrev pub ShowsRows : Type 0
+ShowsRows = (ts : List Table) (db : Database) (pending : Pending) (after : Database) →
+    Follows ts db pending after → (q : RowId) → get after q ≡ unwrap_or (left_at pending q) (get db q)
+
+-- what the transaction sees, and what its batch leaves
+abbrev pub SeesAfter : Type 0
+SeesAfter = (ts : List Table) (db : Database) (pending : Pending) (after : Database) → Follows ts db pending after → seen pending db ≡ after
+
+-- changes that do the same to another database are seen over it with the same rows
+abbrev pub MovesOver : Type 0
+MovesOver = (ts : List Table) (db : Database) (pending : Pending) (after other : Database) →
+    Follows ts db pending after → (same : SameEffect ts pending.changes db after other) → Follows ts other pending same.leaves
+
+-- a change does what its row and its parent say, and nothing else
+abbrev pub AppliesByRow : Type 0
+AppliesByRow = (ts : List Table) (change : Change) (db : Database) →
+    apply ts change db ≡ (if parent_stands ts change db then option_map (put_row db (target change)) (result_ok (changed change (get db (target change)))) else None)

@@ -1,0 +1,204 @@
+//! A transaction's pending changes and their effect.
+//!
+//! An `Overlay` has the changes of a transaction in the order in which they were made, and what they leave of
+//! each row that they are of. Laid over the committed rows it shows what the transaction sees; its batch, put
+//! into them, commits it. `row_seen`, `parent_seen` and `left_seen` look through an overlay into a store, and
+//! `run_changes` makes the overlay of a whole list of changes. `laws` states what the overlay of changes that
+//! apply one after another shows.
+#![tactic(auto)]
+
+ghost use Rattle.std.specs.Prelude.{◌≡◌, ◌↔◌, [], length, IsTrue, IfOk, OnOk, OnErr, unwrap_or};
+ghost use Rattle.std.specs.Option.{option_map};
+ghost use Rattle.std.specs.FinMap.{get as row_of};
+ghost use Rattle.rows.specs.Database.{target, apply, effect, parent_of, has_parent};
+ghost use Rattle.store_trait.specs.Batch.{IsRising};
+ghost use Rattle.overlay.specs.Pending.{none_pending, pushed, left_at, seen, pending_of};
+ghost use Rattle.overlay.specs.Step.{parent_stands};
+
+pub mod laws;
+
+use indexmap::IndexMap;
+use rows::{Change, Row, apply_one};
+use schema::{Memory, RowId, Schema};
+use std::alloc::Global;
+use std::marker::Model;
+use store_trait::{Batch, RowStore};
+
+/// The changes of a transaction, and what they leave of each row that they are of.
+#[derive(Debug, Drop)]
+pub struct Overlay {
+    changes: Vec<Change>,
+    left: IndexMap<RowId, Option<Row>>,
+}
+
+impl Model for Overlay {
+    ghost use Rattle.overlay.specs.Pending.{Pending, in_order};
+
+    ghost Value = { Pending };
+
+    ghost view = { λ o. record { changes = o.changes.items; left = in_order o.left.entries } };
+}
+
+impl Overlay {
+    /// No changes. It takes no memory.
+    pub fn new(alloc: Global) -> Overlay
+        ensures { result ≡ none_pending }
+    {
+        Overlay {
+            changes: Vec::new(alloc),
+            left: IndexMap::new(alloc),
+        }
+    }
+
+    /// What the changes leave of the row: its columns, or `None` where they remove it. No answer where no
+    /// change is of the row. It takes no memory, and expected constant time.
+    pub fn see(&self, id: RowId) -> Option<Option<Row>>
+        ensures value { result ≡ left_at self.now id }
+        ensures rising { IsRising self.now.left }
+    {
+        self.left.get(&id).copied()
+    }
+
+    /// Adds a change behind the others, with what it leaves of its row. Where memory runs out nothing changes.
+    pub fn push(&mut self, change: Change, left: Option<Row>) -> Result<(), Memory>
+        ensures ok { OnOk result (self.new ≡ pushed self.old change left) }
+        ensures err { OnErr result (self.new ≡ self.old) }
+    {
+        self.changes.reserve(1)?;
+        self.left.insert(change.target(), left)?;
+        self.changes.push(change)?;
+        Ok(())
+    }
+
+    /// The changes in the order in which they were made.
+    pub fn changes(&self) -> &[Change]
+        ensures { result.now ≡ self.now.changes }
+    {
+        &self.changes
+    }
+
+    /// The number of changes.
+    pub fn len(&self) -> usize
+        ensures { result ≡ length self.now.changes }
+    {
+        self.changes.len()
+    }
+
+    /// Whether there are no changes.
+    pub fn is_empty(&self) -> bool
+        ensures { IsTrue result ↔ (self.now.changes ≡ []) }
+    {
+        self.changes.is_empty()
+    }
+
+    /// Each row that the changes are of with what they leave of it. With b such rows the time is b log b.
+    pub fn batch(&self, alloc: Global) -> Result<Batch, Memory>
+        ensures { IfOk result (λ batch. batch ≡ self.now.left) }
+    {
+        let mut entries: Vec<(RowId, Option<Row>)> = self
+            .left
+            .iter()
+            .map(|(id, left)| (*id, *left))
+            .collect(alloc)?;
+        entries.sort_unstable_by_key(|entry| entry.0);
+        Ok(Batch::from_rising(entries))
+    }
+
+    /// The changes, in the order in which they were made. It takes no memory.
+    pub fn into_changes(self) -> Vec<Change>
+        ensures { result.items ≡ self.changes }
+    {
+        let Overlay { changes, .. } = self;
+        changes
+    }
+}
+
+/// The row as the transaction sees it: as its changes leave it, and else the store's. It takes no memory. The
+/// time is that of one look-up in the store.
+pub fn row_seen<S: RowStore>(overlay: &Overlay, store: &S, id: RowId) -> Option<Row>
+    ensures first { result ≡ unwrap_or (left_at overlay.now id) (row_of (S.contents store.now) id) }
+    ensures value { result ≡ row_of (seen overlay.now (S.contents store.now)) id }
+{
+    match overlay.see(id) {
+        Some(left) => left,
+        None => store.get(id),
+    }
+}
+
+/// The parent row that these columns of a row of the table name, where the table has a parent and they have
+/// the column that names it. It takes no memory.
+pub fn parent_row(schema: &Schema, table: u16, columns: &Row) -> Option<RowId>
+    ensures { result ≡ parent_of schema.now table columns.now }
+{
+    let (column, parent) = schema.table(table)?.parent?;
+    let key = *columns.columns().get(column as usize)?;
+    Some(RowId { table: parent, key })
+}
+
+/// Whether a row of the table may have these columns, as the transaction sees the rows: the table has no
+/// parent, or they name a parent row that is there. It takes no memory.
+pub fn parent_seen<S: RowStore>(
+    overlay: &Overlay,
+    schema: &Schema,
+    store: &S,
+    table: u16,
+    columns: &Row,
+) -> bool
+    ensures { result ≡ has_parent schema.now (seen overlay.now (S.contents store.now)) table columns.now }
+{
+    match parent_row(schema, table, columns) {
+        Some(parent) => row_seen(overlay, store, parent).is_some(),
+        None => schema.table(table).is_none_or(|t| t.parent.is_none()),
+    }
+}
+
+/// What the change leaves of its row, where it applies to the rows as the transaction sees them. It takes no
+/// memory. The time is that of at most two look-ups in the store.
+pub fn left_seen<S: RowStore>(
+    overlay: &Overlay,
+    schema: &Schema,
+    store: &S,
+    change: &Change,
+) -> Option<Option<Row>>
+    ensures { result ≡ option_map (λ after. row_of after (target change.now)) (apply schema.now change.now (seen overlay.now (S.contents store.now))) }
+{
+    let before = row_seen(overlay, store, change.target());
+    let left = apply_one(change, before.as_ref()).ok()?;
+    if parent_holds(overlay, schema, store, change) {
+        Some(left)
+    } else {
+        None
+    }
+}
+
+/// Whether the parent that the change asks for is there.
+fn parent_holds<S: RowStore>(overlay: &Overlay, schema: &Schema, store: &S, change: &Change) -> bool
+    ensures { result ≡ parent_stands schema.now change.now (seen overlay.now (S.contents store.now)) }
+{
+    match change {
+        Change::Insert { row, values } => parent_seen(overlay, schema, store, row.table, values),
+    }
+}
+
+/// The overlay of these changes over the store, or `None` where one of them does not apply behind those before
+/// it. The store stays as it is. The time is that of at most two look-ups a change.
+pub fn run_changes<S: RowStore>(
+    alloc: Global,
+    schema: &Schema,
+    store: &S,
+    changes: &[Change],
+) -> Result<Option<Overlay>, Memory>
+    ensures { IfOk result (λ ran. ran ≡ option_map (pending_of changes.now) (effect schema.now changes.now (S.contents store.now))) }
+{
+    let mut overlay = Overlay::new(alloc);
+    for change in changes {
+        let Some(left) = left_seen(&overlay, schema, store, change) else {
+            return Ok(None);
+        };
+        overlay.push(*change, left)?;
+    }
+    Ok(Some(overlay))
+}
+
+#[cfg(test)]
+mod tests;

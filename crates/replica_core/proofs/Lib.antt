@@ -1,0 +1,4 @@
+pub mod Commits
+pub mod Kept
+pub mod Finished
+pub mod OneRow

@@ -1,0 +1,5 @@
+pub mod Replica
+pub mod Order
+pub mod Calls
+pub mod Core
+pub mod Laws

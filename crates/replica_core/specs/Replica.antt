@@ -1,0 +1,50 @@
+-- What a replica is seen as.
+use Rattle.std.specs.Prelude.{ℕ, ◌+◌, List, [], ◌∷◌, take, drop, Option}
+use Rattle.std.specs.Option.{option_map_or}
+use Rattle.std.specs.FinMap.{empty}
+use Rattle.schema.specs.declared.Table.{Table}
+use Rattle.rows.specs.Database.{Database, effect, writes}
+use Rattle.store_trait.specs.Batch.{Entry, put_batch, rows_in}
+use Rattle.store_trait.specs.declared.Op.{Op}
+use Rattle.store_trait.specs.declared.Op.TheVariants.{Load, Commit}
+use Rattle.record_codec.specs.declared.records.Record.{Record}
+use Rattle.record_codec.specs.Log.{after}
+
+pub record Replica : Type 0 where
+  pub tables : List Table
+  -- the rows before the first commit, as the batch that loads them
+  pub base : List Entry
+  -- the records accepted, in order; of these the first so many were dispatched
+  pub accepted : List Record
+  pub dispatched : ℕ
+  -- the numbers of those whose results were taken and that are not committed
+  pub finished : List ℕ
+  -- the first so many are committed, and of these the first so many published
+  pub committed : ℕ
+  pub published : ℕ
+  -- how many records may be dispatched and not committed
+  pub workers : ℕ
+  -- the record that could not be applied
+  pub stopped : Option ℕ
+
+abbrev pub base_of : Replica → Database
+base_of r = put_batch r.base empty
+
+-- the working rows: the database after the committed records
+abbrev pub working_rows : Replica → Option Database
+working_rows r = after r.tables (base_of r) (take r.committed r.accepted)
+
+-- the commits of these records, the first of them numbered gno: each has the rows that the record writes, as
+-- they are after it
+abbrev pub commits_from : List Table → Database → ℕ → List Record → List Op
+commits_from ts db gno [] = []
+commits_from ts db gno (next ∷ records) =
+    option_map_or (λ leaves. Commit gno (rows_in (writes next.changes) leaves) ∷ commits_from ts leaves (gno + 1) records) (effect ts next.changes db) []
+
+-- the operations of the first n accepted records: the load of the base, and each commit
+abbrev pub operations : List Table → List Entry → List Record → ℕ → List Op
+operations ts base accepted n = Load base ∷ commits_from ts (put_batch base empty) 1 (take n accepted)
+
+-- the commits that are not published
+abbrev pub waiting : Replica → List Op
+waiting r = drop r.published (commits_from r.tables (base_of r) 1 (take r.committed r.accepted))

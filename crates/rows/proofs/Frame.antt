@@ -1,0 +1,78 @@
+-- The frame law, by induction over the list of changes, from what one change does.
+use Rattle.std.proofs.Common.{◌≡◌, sym, ap, ◌∙◌, refl, inl, inr, true, List, [], ◌∷◌, ◌++◌, Option, Some, ℤ}
+use Rattle.std.specs.Prelude.{option_and_then, option_to_list}
+use Rattle.std.specs.FinMap.{get}
+use Rattle.std.proofs.lemmas.Bool.{cases_Bool, or_cases, or_left, or_right}
+use Rattle.std.proofs.lemmas.List.Folds.{list_any-append}
+use Rattle.schema.specs.declared.Table.{Table}
+use Rattle.schema.specs.declared.RowId.{RowId}
+use Rattle.schema.specs.RowId.{same_row}
+use Rattle.schema.specs.Rows.{has_row}
+use Rattle.rows.specs.declared.Change.{Change}
+use Rattle.rows.specs.Database.{Database, target, writes, parent_of, parent_in, apply, effect, kin}
+use Rattle.rows.specs.Frame.{AgreeOn, SameEffect, LooksOnlyAtWritesAndKin}
+use Rattle.rows.proofs.Effect.{effect_first, effect_then, kin_then, changes_only_writes}
+use Rattle.rows.proofs.Apply.{apply_alike, apply_agrees, has_row-left, has_row-right, same_row_itself}
+
+-- the rows of the writes and the kin of a change and of those behind it
+abbrev touched : List Table → Change → List Change → Database → Database → List RowId
+touched ts change changes before mid =
+    writes (change ∷ changes) ++ (parent_in ts before (target change) ++ parent_in ts mid (target change) ++ kin ts changes mid)
+
+touched-writes : (ts : List Table) (change : Change) (changes : List Change) (before mid : Database) (q : RowId) → has_row (writes (change ∷ changes)) q ≡ true → has_row (touched ts change changes before mid) q ≡ true
+touched-writes ts change changes before mid q is =
+    has_row-left (writes (change ∷ changes)) (parent_in ts before (target change) ++ parent_in ts mid (target change) ++ kin ts changes mid) q is
+
+touched-parent : (ts : List Table) (change : Change) (changes : List Change) (before mid : Database) (q : RowId) → has_row (parent_in ts mid (target change)) q ≡ true → has_row (touched ts change changes before mid) q ≡ true
+touched-parent ts change changes before mid q is =
+    let was = parent_in ts before (target change) in
+    let now = parent_in ts mid (target change) in
+    has_row-right (writes (change ∷ changes)) (was ++ now ++ kin ts changes mid) q (has_row-left (was ++ now) (kin ts changes mid) q (has_row-right was now q is))
+
+touched-behind : (ts : List Table) (change : Change) (changes : List Change) (before mid : Database) (q : RowId) → has_row (writes changes ++ kin ts changes mid) q ≡ true → has_row (touched ts change changes before mid) q ≡ true
+touched-behind ts change changes before mid q is =
+    let parents = parent_in ts before (target change) ++ parent_in ts mid (target change) in
+    elim (or_cases (has_row (writes changes) q) (has_row (kin ts changes mid) q) (sym (list_any-append (same_row q) (writes changes) (kin ts changes mid)) ∙ is)) [
+      | inl written ↦ touched-writes ts change changes before mid q (or_right (same_row q (target change)) (has_row (writes changes) q) written)
+      | inr akin ↦ has_row-right (writes (change ∷ changes)) (parents ++ kin ts changes mid) q (has_row-right parents (kin ts changes mid) q akin)
+    ]
+
+joined : {A : Type 0} {a a' b b' c c' : List A} → a ≡ a' → b ≡ b' → c ≡ c' → a ++ b ++ c ≡ a' ++ b' ++ c'
+joined p q r = λ i. p i ++ q i ++ r i
+
+abbrev parent_at : List Table → RowId → Option (List ℤ) → List RowId
+parent_at ts row columns = option_to_list (option_and_then (parent_of ts row.table) columns)
+
+-- where the first change does the same to both databases, and those behind it do
+same_effect : (ts : List Table) (change : Change) (changes : List Change) (before mid after other left : Database) → apply ts change before ≡ Some mid → apply ts change other ≡ Some left → effect ts changes mid ≡ Some after → get before (target change) ≡ get other (target change) → AgreeOn (writes (change ∷ changes)) mid left → SameEffect ts changes mid after left → SameEffect ts (change ∷ changes) before after other
+same_effect ts change changes before mid after other left one twin rest was agree then =
+    let row = target change in
+    let now : get mid row ≡ get left row = agree row (or_left _ _ (same_row_itself row)) in
+    record {
+      leaves = then.leaves;
+      defined = effect_then ts change changes other left twin ∙ then.defined;
+      same_writes = λ q is. elim (cases_Bool (has_row (writes changes) q)) [
+        | inl again ↦ then.same_writes q again
+        | inr once ↦ changes_only_writes ts changes mid after q rest once ∙ agree q is ∙ sym (changes_only_writes ts changes left then.leaves q then.defined once)
+      ];
+      same_kin = kin_then ts change changes other left twin
+          ∙ joined (ap (parent_at ts row) (sym was)) (ap (parent_at ts row) (sym now)) then.same_kin
+          ∙ sym (kin_then ts change changes before mid one);
+    }
+
+pub looks_only : LooksOnlyAtWritesAndKin
+looks_only ts [] before after other h agree =
+    record { leaves = other; defined = refl; same_writes = λ q none. cc; same_kin = refl }
+looks_only ts (change ∷ changes) before after other h agree =
+    let first = effect_first ts change changes before after h in
+    let mid = first.0 in
+    let row = target change in
+    let same : (q : RowId) → has_row (touched ts change changes before mid) q ≡ true → get before q ≡ get other q =
+    λ q is. agree q (ap (λ l. has_row (writes (change ∷ changes) ++ l) q) (kin_then ts change changes before mid first.1) ∙ is) in
+    let was : get before row ≡ get other row = same row (touched-writes ts change changes before mid row (or_left _ _ (same_row_itself row))) in
+    let twin = apply_alike ts change before other mid first.1 was (λ p is. same p (touched-parent ts change changes before mid p is)) in
+    let still : (q : RowId) → has_row (touched ts change changes before mid) q ≡ true → get mid q ≡ get twin.0 q =
+    λ q is. apply_agrees ts change before other mid twin.0 q first.1 twin.1 was (λ _. same q is) in
+    same_effect ts change changes before mid after other twin.0 first.1 twin.1 first.2 was
+    (λ q is. still q (touched-writes ts change changes before mid q is))
+    (looks_only ts changes mid after twin.0 first.2 (λ q is. still q (touched-behind ts change changes before mid q is)))

@@ -1,0 +1,4 @@
+pub mod RowShape
+pub mod Apply
+pub mod Effect
+pub mod Frame

@@ -1,0 +1,9 @@
+use Rattle.rows.proofs.Effect.{changes_only_writes}
+use Rattle.rows.proofs.Frame.{looks_only}
+use Rattle.rows.proofs.laws.frame.Goals as goal
+
+pub returns-clause-changes_only : goal.returns-clause-changes_only
+returns-clause-changes_only c = changes_only_writes
+
+pub returns-clause-looks_only : goal.returns-clause-looks_only
+returns-clause-looks_only c = looks_only

@@ -1,0 +1,71 @@
+-- What one change does to its row, and what follows from that for the effect of a list of changes.
+use Rattle.std.specs.Prelude.{◌≡◌, ℕ, ℤ, Bool, true, false, if◌then◌else◌, List, [], ◌∷◌, ◌++◌, Option, Some, Ok, option_and_then}
+use Rattle.std.specs.Option.{option_map_or}
+use Rattle.std.specs.Result.{result_ok}
+use Rattle.std.specs.FinMap.{get}
+use Rattle.schema.specs.declared.Table.{Table}
+use Rattle.schema.specs.declared.RowId.{RowId}
+use Rattle.schema.specs.RowId.{same_row}
+use Rattle.schema.specs.Rows.{has_row}
+use Rattle.rows.specs.declared.Change.{Change}
+use Rattle.rows.specs.Change.{changed}
+use Rattle.rows.specs.Database.{Database, target, writes, has_parent, apply, effect, kin, ChildrenHaveParents}
+use Rattle.rows.specs.Frame.{AgreeOn}
+
+-- a row of the table may be so: it is not there, or has its parent there
+abbrev pub row_has_parent : List Table → Database → ℕ → Option (List ℤ) → Bool
+row_has_parent ts db id row = option_map_or (has_parent ts db id) row true
+
+-- what those of the changes that are of one row leave there, one after another, given the row before them;
+-- undefined where one of them does not fit
+abbrev pub row_after : List Change → RowId → Option (List ℤ) → Option (Option (List ℤ))
+row_after [] q row = Some row
+row_after (change ∷ changes) q row =
+    if same_row q (target change) then option_and_then (row_after changes q) (result_ok (changed change row)) else row_after changes q row
+
+-- a change that applies fits its row, and leaves there what it says
+abbrev pub FitsWhereItApplies : Type 0
+FitsWhereItApplies = (ts : List Table) (change : Change) (db after : Database) →
+    apply ts change db ≡ Some after → changed change (get db (target change)) ≡ Ok (get after (target change))
+
+-- and where each child has its parent, the row that it leaves has its own
+abbrev pub HasParentWhereItApplies : Type 0
+HasParentWhereItApplies = (ts : List Table) (change : Change) (db after : Database) →
+    ChildrenHaveParents ts db → apply ts change db ≡ Some after → row_has_parent ts db (target change).table (get after (target change)) ≡ true
+
+-- a change applies where it fits its row and the row that it leaves has its parent there
+abbrev pub AppliesWhereItFits : Type 0
+AppliesWhereItFits = (ts : List Table) (change : Change) (db : Database) (row : Option (List ℤ)) →
+    changed change (get db (target change)) ≡ Ok row → row_has_parent ts db (target change).table row ≡ true → (after : Database) × (apply ts change db ≡ Some after)
+
+-- one list of changes behind another
+abbrev pub WritesOfJoined : Type 0
+WritesOfJoined = (xs ys : List Change) → writes (xs ++ ys) ≡ writes xs ++ writes ys
+
+abbrev pub EffectOfJoined : Type 0
+EffectOfJoined = (ts : List Table) (xs ys : List Change) (db : Database) →
+    effect ts (xs ++ ys) db ≡ option_and_then (effect ts ys) (effect ts xs db)
+
+abbrev pub KinOfJoined : Type 0
+KinOfJoined = (ts : List Table) (xs ys : List Change) (db mid : Database) →
+    effect ts xs db ≡ Some mid → kin ts (xs ++ ys) db ≡ kin ts xs db ++ kin ts ys mid
+
+abbrev pub RowAfterJoined : Type 0
+RowAfterJoined = (xs ys : List Change) (q : RowId) (row : Option (List ℤ)) →
+    row_after (xs ++ ys) q row ≡ option_and_then (row_after ys q) (row_after xs q row)
+
+-- after the changes each row is what the changes of it leave
+abbrev pub EachRowIsLeft : Type 0
+EachRowIsLeft = (ts : List Table) (changes : List Change) (before after : Database) (q : RowId) →
+    effect ts changes before ≡ Some after → row_after changes q (get before q) ≡ Some (get after q)
+
+-- a database that has the rows written as the changes leave them, and the others as they were, is what they leave
+abbrev pub EffectIsItsRows : Type 0
+EffectIsItsRows = (ts : List Table) (changes : List Change) (before after other : Database) →
+    effect ts changes before ≡ Some after → AgreeOn (writes changes) after other →
+    ((q : RowId) → has_row (writes changes) q ≡ false → get other q ≡ get before q) → other ≡ after
+
+-- where each child has its parent, each has it after the changes
+abbrev pub ChildrenKeepParents : Type 0
+ChildrenKeepParents = (ts : List Table) (changes : List Change) (before after : Database) →
+    ChildrenHaveParents ts before → effect ts changes before ≡ Some after → ChildrenHaveParents ts after

@@ -1,0 +1,5 @@
+pub mod Row
+pub mod Change
+pub mod Database
+pub mod Frame
+pub mod Effect

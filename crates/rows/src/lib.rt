@@ -1,0 +1,142 @@
+//! Rows, changes, and what a change does to a database.
+//!
+//! A `Row` has 1 to 16 columns in a fixed array, so that copying one takes no memory. A `Change` is what a
+//! session writes; `apply_one` is what it does to the one row that it is of. What a list of changes does to a
+//! whole database, which rows it writes and which parent rows it refers to is defined in
+//! `specs/Database.antt`, and the layers above speak of it; `laws` states what follows from the definitions.
+#![tactic(auto)]
+
+ghost use Rattle.std.specs.Prelude.{◌≡◌, ◌≤◌, length, SomeIff, option_copied};
+ghost use Rattle.rows.specs.Change.{changed};
+ghost use Rattle.rows.specs.Database.{target};
+
+pub mod laws;
+
+use schema::RowId;
+use std::marker::Model;
+use thiserror::Error;
+
+/// The columns of one row: 1 to 16 numbers, the first of them column 0.
+#[derive(Clone, Copy, Debug, PartialEq, Eq)]
+pub struct Row {
+    len: u8,
+    values: [i64; 16],
+}
+
+impl Model for Row {
+    ghost use Rattle.std.specs.Prelude.{List, ℤ, length};
+
+    ghost Value = { List ℤ };
+
+    ghost use Rattle.rows.specs.Row.{columns_of, IsRow, padded, padded_again};
+
+    ghost view = { columns_of };
+
+    ghost invariant = { IsRow };
+
+    ghost inverse = { λ columns. record { len = length columns; values = padded columns } };
+
+    ghost inverse_ok = { padded_again };
+}
+
+impl Row {
+    /// A row of these columns; `None` where there are none or more than 16. It takes no memory.
+    pub fn new(columns: &[i64]) -> Option<Row>
+        ensures { SomeIff result ((1 ≤ length columns.now) × (length columns.now ≤ 16)) columns.now }
+    {
+        if columns.is_empty() || columns.len() > 16 {
+            return None;
+        }
+        let mut values = [0; 16];
+        values[..columns.len()].copy_from_slice(columns);
+        Some(Row {
+            len: columns.len() as u8,
+            values,
+        })
+    }
+
+    /// The columns in order, column 0 first.
+    pub fn columns(&self) -> &[i64]
+        ensures value { result.now ≡ self.now }
+        ensures some { 1 ≤ length result.now }
+        ensures few { length result.now ≤ 16 }
+    {
+        &self.values[..self.len as usize]
+    }
+}
+
+/// What a session writes to one row. A row's key never changes.
+#[derive(Clone, Copy, Debug, PartialEq, Eq)]
+pub enum Change {
+    /// A row that was absent is there, with these columns.
+    Insert { row: RowId, values: Row },
+}
+
+impl Change {
+    /// The row that the change is of.
+    pub fn target(&self) -> RowId
+        ensures { result ≡ target self.now }
+    {
+        match self {
+            Change::Insert { row, .. } => *row,
+        }
+    }
+}
+
+/// Why a change does not fit the one row that it is of. The text is the fault's number and name.
+#[derive(Clone, Copy, Debug, PartialEq, Eq, Error)]
+pub enum ChangeFault {
+    /// An insert of a row that is there.
+    #[error("F1 Present")]
+    Present,
+    /// An update or delete of a row that is not there.
+    #[error("F2 Absent")]
+    Absent,
+    /// A column that the row does not have.
+    #[error("F3 Columns")]
+    Columns,
+}
+
+/// The row after the change, given the row before it, `None` where there is none. It takes no memory.
+pub fn apply_one(change: &Change, before: Option<&Row>) -> Result<Option<Row>, ChangeFault>
+    ensures { result ≡ changed change.now (option_copied before.entry) }
+{
+    match (change, before) {
+        (Change::Insert { values, .. }, None) => Ok(Some(*values)),
+        (Change::Insert { .. }, Some(_)) => Err(ChangeFault::Present),
+    }
+}
+
+#[cfg(test)]
+mod tests {
+    use super::*;
+    use std::test::Fail;
+
+    #[test]
+    fn inserts_once(rt: HostRuntime) -> Result<(), Fail> {
+        let row = RowId { table: 1, key: -7 };
+        let values = Row::new(&[5, -1]).ok_or("two columns are a row")?;
+        let change = Change::Insert { row, values };
+        assert_eq!(rt; values.columns(), [5, -1].as_slice());
+        assert_eq!(rt; change.target(), row);
+        assert_eq!(rt; apply_one(&change, None), Ok(Some(values)));
+        assert_eq!(rt;
+            apply_one(&change, Some(&values)),
+            Err(ChangeFault::Present)
+        );
+        Ok(())
+    }
+
+    #[test]
+    fn faults_have_their_texts(rt: HostRuntime) -> Result<(), Fail> {
+        let texts = [
+            (ChangeFault::Present, "F1 Present"),
+            (ChangeFault::Absent, "F2 Absent"),
+            (ChangeFault::Columns, "F3 Columns"),
+        ];
+        for (fault, text) in texts {
+            assert_eq!(rt; format!(in rt.alloc(); "{fault}")?.as_str(), text);
+        }
+        Ok(())
+    }
+}

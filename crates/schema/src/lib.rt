@@ -1,0 +1,237 @@
+//! Row ids, tables and schemas.
+//!
+//! A `Schema` is a list of 1 to 256 tables that obeys the rules of `specs/Schema.antt`: ids from 1 to 256,
+//! each once, 1 to 16 columns, and a parent, where there is one, that is named by a column of the table and
+//! is a table of the schema with a lower id. No other list becomes one, and each other list is refused with
+//! its first fault, table by table.
+//!
+//! The sets of rows that transactions write and refer to, and when two of them conflict, are defined here
+//! too (`specs/Rows.antt`), since every layer above speaks of them.
+#![tactic(auto)]
+
+ghost use Rattle.std.specs.Prelude.{◌≡◌, ◌↔◌, ◌<◌, IsTrue, [], length, take, slice_get, option_and_then, IfOk, Some, None};
+ghost use Rattle.std.specs.Result.{result_err};
+ghost use Rattle.schema.specs.Flags.{IsFlat};
+ghost use Rattle.schema.specs.Schema.{schema_fault, fault_from, table_at, table_fault, has_fine_parent};
+
+pub mod laws;
+
+use std::alloc::{AllocError, AllocFailed};
+use std::marker::Model;
+use thiserror::Error;
+use uuid::Uuid;
+
+/// The error of a call whose only refusal is want of memory.
+#[derive(Clone, Copy, Debug, PartialEq, Eq, Error)]
+#[error("no memory")]
+pub struct Memory;
+
+impl From<AllocError> for Memory {
+    fn from(_error: AllocError) -> Memory {
+        Memory
+    }
+}
+
+impl<T: Drop> From<AllocFailed<T>> for Memory {
+    fn from(_error: AllocFailed<T>) -> Memory {
+        Memory
+    }
+}
+
+/// The name of a row: its table, and its key in the table. Row ids are ordered by table, then by key.
+#[derive(Clone, Copy, Debug, PartialEq, Eq, PartialOrd, Ord, Hash)]
+pub struct RowId {
+    /// The table's id, 1 to 256 in a schema.
+    pub table: u16,
+    /// The row's key, any number.
+    pub key: i64,
+}
+
+/// The name of a transaction: the server that committed it first, and its number there.
+#[derive(Clone, Copy, Debug, PartialEq, Eq)]
+pub struct Gtid {
+    /// The server's identifier.
+    pub source: Uuid,
+    /// The transaction's number at that server, from 1.
+    pub gno: u64,
+}
+
+/// A table of a schema.
+#[derive(Clone, Copy, Debug, PartialEq, Eq)]
+pub struct Table {
+    /// 1 to 256.
+    pub id: u16,
+    /// How many columns each row has, 1 to 16. They are numbered from 0.
+    pub columns: u8,
+    /// Whether changes can be told apart by the table's keys. A keyless table's rows have keys all the same.
+    pub keyed: bool,
+    /// For a child table the column whose value is the key of a row of the parent table, and that table's id.
+    pub parent: Option<(u8, u16)>,
+}
+
+/// Why a list of tables is no schema. The text is the fault's number and name.
+#[derive(Clone, Copy, Debug, PartialEq, Eq, Error)]
+pub enum SchemaFault {
+    /// There are no tables, or more than 256.
+    #[error("B1 Count")]
+    Count,
+    /// A table's id is not 1 to 256.
+    #[error("B2 Id")]
+    Id,
+    /// A table's number of columns is not 1 to 16.
+    #[error("B3 Columns")]
+    Columns,
+    /// An earlier table of the list has this id.
+    #[error("B4 Twice")]
+    Twice,
+    /// The parent's column is outside the table, or the parent is no table of the list with a lower id.
+    #[error("B5 Parent")]
+    Parent,
+    /// Memory ran out.
+    #[error("B6 Memory")]
+    Memory,
+}
+
+/// The greatest number of tables, and the greatest id of one.
+pub const MAX_TABLES: usize = 256;
+
+/// The greatest number of columns of a row.
+pub const MAX_COLUMNS: u8 = 16;
+
+/// A list of tables that obeys the rules.
+#[derive(Debug, Drop)]
+pub struct Schema {
+    tables: Vec<Table>,
+}
+
+impl Model for Schema {
+    ghost use Rattle.std.specs.Prelude.{◌≡◌, List, None};
+    ghost use Rattle.schema.specs.declared.Table.{Table};
+
+    ghost Value = { List Table };
+
+    ghost use Rattle.schema.specs.Flags.{IsFlat};
+    ghost use Rattle.schema.specs.Schema.{schema_fault};
+
+    ghost view = { λ s. s.tables.items };
+
+    ghost invariant = { λ s. schema_fault s.tables.items ≡ None };
+}
+
+impl Schema {
+    /// The schema of these tables, or the first fault of the list: first the number of tables, then, table
+    /// by table as they are listed, its id, its columns, an id that was there before, and its parent, which
+    /// may stand later in the list. It takes no memory; the time is that of n * n tests for n tables.
+    pub fn new(tables: Vec<Table>) -> Result<Schema, SchemaFault>
+        ensures exact { result_err result ≡ schema_fault tables.items }
+        ensures value { IfOk result (λ schema. schema ≡ tables.items) }
+    {
+        match first_fault(&tables) {
+            Some(fault) => Err(fault),
+            None => Ok(Schema { tables }),
+        }
+    }
+
+    /// The tables, in the order in which they were listed.
+    pub fn tables(&self) -> &[Table]
+        ensures value { result.now ≡ self.now }
+        ensures valid { schema_fault self.now ≡ None }
+    {
+        &self.tables
+    }
+
+    /// The table of this id. The time is that of a walk over the tables.
+    pub fn table(&self, id: u16) -> Option<Table>
+        ensures { result ≡ table_at self.now id }
+    {
+        table_of(&self.tables, id)
+    }
+
+    /// Whether each table is keyed and has no parent. It takes no memory.
+    pub fn is_flat(&self) -> bool
+        ensures { IsTrue result ↔ IsFlat self.now }
+    {
+        all_flat(&self.tables)
+    }
+
+    /// An equal schema, in memory of its own.
+    pub fn copy(&self) -> Result<Schema, Memory>
+        ensures { IfOk result (λ schema. schema ≡ self.now) }
+    {
+        Ok(Schema {
+            tables: self.tables.clone()?,
+        })
+    }
+}
+
+fn table_of(tables: &[Table], id: u16) -> Option<Table>
+    ensures { result ≡ table_at tables.now id }
+{
+    tables.iter().copied().find(|t| t.id == id)
+}
+
+fn all_flat(tables: &[Table]) -> bool
+    ensures { IsTrue result ↔ IsFlat tables.now }
+{
+    match tables {
+        [] => true,
+        [first, rest @ ..] => first.keyed && first.parent.is_none() && all_flat(rest),
+    }
+}
+
+fn parent_is_fine(tables: &[Table], table: Table) -> bool
+    ensures { result ≡ has_fine_parent tables.now table }
+{
+    match table.parent {
+        None => true,
+        Some((column, parent)) => {
+            column < table.columns && parent < table.id && table_of(tables, parent).is_some()
+        }
+    }
+}
+
+/// The first fault of the list.
+fn first_fault(tables: &[Table]) -> Option<SchemaFault>
+    ensures { result ≡ schema_fault tables.now }
+{
+    if tables.is_empty() || tables.len() > MAX_TABLES {
+        Some(SchemaFault::Count)
+    } else {
+        first_table_fault(tables)
+    }
+}
+
+/// The first fault of a table, table by table.
+fn first_table_fault(tables: &[Table]) -> Option<SchemaFault>
+    ensures { result ≡ fault_from tables.now [] tables.now }
+{
+    for i in 0..tables.len() {
+        let fault = fault_at(tables, i);
+        if fault.is_some() {
+            return fault;
+        }
+    }
+    None
+}
+
+/// The first fault of the table at a place of the list.
+fn fault_at(tables: &[Table], i: usize) -> Option<SchemaFault>
+    requires { i < length tables.now }
+    ensures { Some result ≡ option_and_then (λ t. Some (table_fault tables.now (take i tables.now) t)) (slice_get tables.now i) }
+{
+    let table = tables[i];
+    if table.id < 1 || table.id > 256 {
+        Some(SchemaFault::Id)
+    } else if table.columns < 1 || table.columns > MAX_COLUMNS {
+        Some(SchemaFault::Columns)
+    } else if table_of(&tables[..i], table.id).is_some() {
+        Some(SchemaFault::Twice)
+    } else if !parent_is_fine(tables, table) {
+        Some(SchemaFault::Parent)
+    } else {
+        None
+    }
+}
+
+#[cfg(test)]
+mod tests;

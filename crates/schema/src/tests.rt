@@ -1,0 +1,68 @@
+use super::*;
+use std::alloc::Global;
+use std::test::Fail;
+
+const KEYED: Table = Table {
+    id: 1,
+    columns: 2,
+    keyed: true,
+    parent: None,
+};
+
+fn fault(alloc: Global, tables: &[Table]) -> Result<Option<SchemaFault>, AllocError> {
+    Ok(Schema::new(Vec::from_slice(alloc, tables)?).err())
+}
+
+#[test]
+fn a_schema_is_copied(rt: HostRuntime) -> Result<(), Fail> {
+    let child = Table {
+        id: 2,
+        parent: Some((1, 1)),
+        ..KEYED
+    };
+    // The parent may stand later in the list.
+    let schema = Schema::new(vec![in rt.alloc(); child, KEYED]?)?;
+    let copy = schema.copy()?;
+    assert_eq!(rt; copy.table(2), Some(child));
+    assert_eq!(rt; copy.table(3), None);
+    assert!(rt; !copy.is_flat());
+    Ok(())
+}
+
+#[test]
+fn the_first_fault_of_each_table_in_turn(rt: HostRuntime) -> Result<(), Fail> {
+    let alloc = rt.alloc();
+    let bad_parent = Table {
+        parent: Some((2, 1)),
+        id: 2,
+        ..KEYED
+    };
+    let bad_id = Table { id: 257, ..KEYED };
+    let bad_columns = Table {
+        columns: 17,
+        ..KEYED
+    };
+    assert_eq!(rt; fault(alloc, &[])?, Some(SchemaFault::Count));
+    assert_eq!(rt;
+        fault(alloc, &[KEYED, bad_parent, bad_id])?,
+        Some(SchemaFault::Parent)
+    );
+    assert_eq!(rt;
+        fault(alloc, &[KEYED, bad_id, bad_parent])?,
+        Some(SchemaFault::Id)
+    );
+    assert_eq!(rt;
+        fault(alloc, &[bad_columns, bad_id])?,
+        Some(SchemaFault::Columns)
+    );
+    assert_eq!(rt; fault(alloc, &[KEYED, KEYED])?, Some(SchemaFault::Twice));
+    assert_eq!(rt; fault(alloc, &[KEYED])?, None);
+    Ok(())
+}
+
+#[test]
+fn faults_are_told_by_number_and_name(rt: HostRuntime) -> Result<(), Fail> {
+    let text = format!(in rt.alloc(); "{} {}", SchemaFault::Parent, SchemaFault::Count)?;
+    assert_eq!(rt; text.as_str(), "B5 Parent B1 Count");
+    Ok(())
+}

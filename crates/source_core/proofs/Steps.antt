@@ -1,0 +1,184 @@
+-- What each call leaves stands as a source does.
+use Rattle.std.proofs.Common.{Bool, true, false, not, ◌&&◌, nat_le, cond, ◌-◌, ◌≡◌, ◌∙◌, sym, ap, subst, refl, ℕ, ◌+◌, ◌<◌, ◌≤◌, List, [], ◌∷◌, ◌++◌, length, length-append, take, drop, Option, Some, None, arith, inl, inr, ◌==◌}
+use Rattle.std.specs.FinMap.{empty, get}
+use Rattle.std.specs.Option.{option_map, option_map_or, option_and_then}
+use Rattle.std.specs.Prelude.{ℤ, Ok, is_some}
+use Rattle.schema.specs.declared.RowId.{RowId}
+use Rattle.schema.specs.Schema.{table_at}
+use Rattle.rows.specs.declared.Change.TheVariants.{Insert}
+use Rattle.rows.specs.Change.{changed}
+use Rattle.overlay.specs.Step.{parent_stands}
+use Rattle.record_codec.specs.Log.{after}
+use Rattle.schema.specs.declared.Table.{Table}
+use Rattle.rows.specs.declared.Change.{Change}
+use Rattle.rows.specs.Database.{Database, effect, target}
+use Rattle.store_trait.specs.Batch.{Entry, put_batch, put_row}
+use Rattle.overlay.specs.Pending.{Pending, seen, none_pending, pushed}
+use Rattle.overlay.specs.Follows.{Follows}
+use Rattle.overlay.proofs.Follow.{Follows-step, seen-Follows}
+use Rattle.record_codec.specs.declared.records.Record.{Record}
+use Rattle.source_core.specs.declared.transaction.Phase.{Phase}
+use Rattle.source_core.specs.declared.transaction.Phase.TheVariants.{Active, Prepared, Queued, Flushed}
+use Rattle.source_core.specs.declared.transaction.Transaction.{Transaction}
+use Rattle.std.proofs.lemmas.Bool.Decides.{nat_tests}
+use Rattle.source_core.specs.declared.fault.SourceFault.{SourceFault}
+use Rattle.source_core.specs.declared.fault.SourceFault.TheVariants.{Halted, NoSession, NotActive, WrongColumns, NoTable, TooManyChanges, RowExists}
+use Rattle.source_core.specs.Source.{Source, Open, seen_row}
+use Rattle.source_core.specs.Calls.{cause, shape_fault, rows_fault, write_fault, written, is_active}
+use Rattle.source_core.specs.Core.{IsCore, OpenStands, Applies, IsLast,  open_view, queue_view, phase_queue, with_change, left_of}
+use Rattle.std.proofs.lemmas.List.{take-append-drop, take_all, length-drop}
+use Rattle.record_codec.proofs.Logs.{after-push}
+use Rattle.source_core.proofs.Legal.{flat_has_parent}
+
+-- another transaction that stands
+pub with_current : (ts : List Table) (rows : Database) (base : List Entry) (limit : ℕ) (log : List Record) (synced committed : ℕ) (old new : Option Transaction) →
+    IsCore ts rows base limit log synced committed old → OpenStands ts rows log committed limit new → IsCore ts rows base limit log synced committed new
+with_current ts rows base limit log synced committed old new core stands = record {
+    flat = core.flat; legal = core.legal; few = core.few; bound = core.bound; synced_within = core.synced_within;
+    committed_within = core.committed_within; rows_are = core.rows_are; stands = stands;
+  }
+
+pub opened : (ts : List Table) (rows : Database) (base : List Entry) (limit : ℕ) (log : List Record) (synced committed : ℕ) (old : Option Transaction) (pending : Pending) →
+    old ≡ None → pending ≡ none_pending → IsCore ts rows base limit log synced committed old → IsCore ts rows base limit log synced committed (Some (record { overlay = pending; phase = Active }))
+opened ts rows base limit log synced committed None pending e new core =
+    with_current ts rows base limit log synced committed None _ core
+      (subst (λ (p : Pending). Applies ts rows p) (sym new) (record { leaves = rows; follows = record { applied = refl; left = refl }; few = omega arith }), core.stands)
+opened ts rows base limit log synced committed (Some t) pending e new core = cc
+
+-- the parts, seen as a source
+abbrev pub source_of : List Table → List Entry → ℕ → List Record → ℕ → ℕ → Option Transaction → Bool → Source
+source_of ts base limit log synced committed current halted = record {
+    tables = ts; base = base; limit = limit; log = log; synced = synced; committed = committed;
+    sessions = option_map open_view current ∷ []; queue = queue_view current; halted = halted;
+  }
+
+a_fault : (fault : SourceFault) → Some fault ≡ None → ⊥
+a_fault fault e = cc
+
+pub no_cause : (b : Bool) (fault : SourceFault) (later : Option SourceFault) → cause b fault later ≡ None → (b ≡ false) × (later ≡ None)
+no_cause true fault later e = absurd (cc e)
+no_cause false fault later e = (refl, e)
+
+pub no_shape_fault : (ts : List Table) (change : Change) (later : Option SourceFault) → shape_fault ts change later ≡ None → later ≡ None
+no_shape_fault ts (Insert row columns) later e =
+    elim (table_at ts row.table) as (λ o. option_map_or (λ table. cause (not (length columns == table.columns)) WrongColumns later) o (Some NoTable) ≡ None → later ≡ None) [
+      | None ↦ λ h. absurd (cc h)
+      | Some table ↦ λ h. (no_cause _ WrongColumns later h).1
+    ] e
+
+-- there is one session
+pub the_session : (session : ℕ) → not (nat_le 1 session && nat_le session 1) ≡ false → session ≡ 1
+the_session session e = grind (arith, nat_tests)
+
+same_overlay : (a b : Transaction) → Some a ≡ Some b → a.overlay ≡ b.overlay
+same_overlay a b e = cc e
+
+-- what the one session sees
+pub seen_is : (ts : List Table) (rows : Database) (base : List Entry) (limit : ℕ) (log : List Record) (synced committed : ℕ) (current : Option Transaction) (t : Transaction) (halted : Bool) (now : Source) →
+    current ≡ Some t → source_of ts base limit log synced committed current halted ≡ now → IsCore ts rows base limit log synced committed current → (id : RowId) →
+    get (seen t.overlay rows) id ≡ seen_row now 1 id
+seen_is ts rows base limit log synced committed None t halted now e is core id = absurd (cc e)
+seen_is ts rows base limit log synced committed (Some t') t halted now e is core id =
+    let applies = core.stands.0 in
+    let same : t'.overlay ≡ t.overlay = same_overlay t' t e in
+    let sees : get (seen t'.overlay rows) id ≡ seen_row (source_of ts base limit log synced committed (Some t') halted) 1 id =
+          rw (core.rows_are, applies.follows.applied) (ap (λ db. get db id) (seen-Follows applies.follows)) in
+    ap (λ p. get (seen p rows) id) (sym same) ∙ sees ∙ ap (λ s. seen_row s 1 id) is
+
+is_none : (o : Option (List ℤ)) → is_some o ≡ false → o ≡ None
+is_none None e = refl
+is_none (Some x) e = absurd (cc e)
+
+below : (n : ℕ) → nat_le 1024 n ≡ false → n < 1024
+below n e = grind (arith, nat_tests)
+
+-- a change that the rows allow is put behind those before it
+put_change : (ts : List Table) (rows : Database) (base : List Entry) (limit : ℕ) (log : List Record) (synced committed : ℕ) (p : Pending) (halted : Bool) (change : Change) →
+    IsCore ts rows base limit log synced committed (Some (record { overlay = p; phase = Active })) →
+    rows_fault (source_of ts base limit log synced committed (Some (record { overlay = p; phase = Active })) halted) 1 change ≡ None →
+    (leaves : Database) → Follows ts rows p leaves →
+    Follows ts rows (pushed p change (left_of change)) (put_row leaves (target change) (left_of change))
+put_change ts rows base limit log synced committed p halted (Insert row columns) core e leaves follows =
+    let sees : seen_row (source_of ts base limit log synced committed (Some (record { overlay = p; phase = Active })) halted) 1 row ≡ get leaves row = rw (core.rows_are, follows.applied) in
+    let gone : get leaves row ≡ None = is_none (get leaves row) (ap is_some (sym sees) ∙ (no_cause _ RowExists None e).0) in
+    Follows-step (Insert row columns) (Some columns) follows (ap (λ o. changed (Insert row columns) o) gone) (flat_has_parent ts core.flat leaves row.table columns)
+
+wrote_one : (ts : List Table) (rows : Database) (base : List Entry) (limit : ℕ) (log : List Record) (synced committed : ℕ) (p : Pending) (phase : Phase) (halted : Bool) (change : Change) →
+    IsCore ts rows base limit log synced committed (Some (record { overlay = p; phase = phase })) →
+    write_fault (source_of ts base limit log synced committed (Some (record { overlay = p; phase = phase })) halted) 1 change ≡ None →
+    IsCore ts rows base limit log synced committed (Some (record { overlay = pushed p change (left_of change); phase = phase }))
+    × (source_of ts base limit log synced committed (Some (record { overlay = pushed p change (left_of change); phase = phase })) halted
+       ≡ written (source_of ts base limit log synced committed (Some (record { overlay = p; phase = phase })) halted) 1 change)
+wrote_one ts rows base limit log synced committed p Active halted change core e =
+    let some = no_cause false NotActive _ (no_cause false NoSession _ (no_cause halted Halted _ e).1).1 in
+    let room = no_cause (nat_le 1024 (length p.changes)) TooManyChanges _ (no_shape_fault ts change _ some.1) in
+    let applies = core.stands.0 in
+    let more : length (p.changes ++ change ∷ []) ≤ 1024 = omega (arith, below (length p.changes) room.0, length-append p.changes (change ∷ [])) in
+    (with_current ts rows base limit log synced committed _ _ core
+       (record {
+          leaves = put_row applies.leaves (target change) (left_of change);
+          follows = put_change ts rows base limit log synced committed p halted change core room.1 applies.leaves applies.follows;
+          few = more;
+        }, core.stands.1),
+     refl)
+wrote_one ts rows base limit log synced committed p (Prepared parent) halted change core e =
+    absurd (a_fault NotActive (no_cause halted Halted _ e).1)
+wrote_one ts rows base limit log synced committed p (Queued parent) halted change core e =
+    absurd (a_fault NotActive (no_cause halted Halted _ e).1)
+wrote_one ts rows base limit log synced committed p (Flushed gno) halted change core e =
+    absurd (a_fault NotActive (no_cause halted Halted _ e).1)
+
+-- a change that no cause refuses
+pub wrote : (ts : List Table) (rows : Database) (base : List Entry) (limit : ℕ) (log : List Record) (synced committed : ℕ) (current : Option Transaction) (halted : Bool) (session : ℕ) (change : Change) →
+    IsCore ts rows base limit log synced committed current →
+    write_fault (source_of ts base limit log synced committed current halted) session change ≡ None →
+    IsCore ts rows base limit log synced committed (with_change current change)
+    × (source_of ts base limit log synced committed (with_change current change) halted ≡ written (source_of ts base limit log synced committed current halted) session change)
+wrote ts rows base limit log synced committed None halted session change core e =
+    let one = the_session session (no_cause _ NoSession _ (no_cause halted Halted _ e).1).0 in
+    let at_one = subst (λ n. write_fault (source_of ts base limit log synced committed None halted) n change ≡ None) one e in
+    absurd (a_fault NotActive (no_cause halted Halted _ at_one).1)
+wrote ts rows base limit log synced committed (Some t) halted session change core e =
+    let one = the_session session (no_cause _ NoSession _ (no_cause halted Halted _ e).1).0 in
+    let at_one = subst (λ n. write_fault (source_of ts base limit log synced committed (Some t) halted) n change ≡ None) one e in
+    let both = wrote_one ts rows base limit log synced committed t.overlay t.phase halted change core at_one in
+    (both.0, both.1 ∙ ap (λ n. written (source_of ts base limit log synced committed (Some t) halted) n change) (sym one))
+
+-- what the last record and its overlay leave
+last_leaves : (ts : List Table) (rows : Database) (base : List Entry) (log : List Record) (committed gno : ℕ) (p : Pending) → after ts (put_batch base empty) (take committed log) ≡ Some rows →
+    (applies : Applies ts rows p) → (last : IsLast log committed gno p.changes) → after ts (put_batch base empty) log ≡ Some (seen p rows)
+last_leaves ts rows base log committed gno p is applies last =
+    let whole : log ≡ take committed log ++ last.made ∷ [] = sym (take-append-drop committed log) ∙ ap (λ l. take committed log ++ l) last.last in
+    ap (λ l. after ts (put_batch base empty) l) whole
+    ∙ after-push ts (put_batch base empty) rows (take committed log) last.made is
+    ∙ ap (λ cs. effect ts cs rows) last.same_changes ∙ applies.follows.applied ∙ ap Some (sym (seen-Follows applies.follows))
+
+one_more : (log : List Record) (committed : ℕ) (made : Record) → drop committed log ≡ made ∷ [] → committed ≤ length log → length log ≡ committed + 1
+one_more log committed made e h = omega (arith, sym (length-drop committed log) ∙ ap length e)
+
+by_one : (committed synced long : ℕ) → committed ≤ synced → (committed ≡ synced → ⊥) → synced ≤ long → long ≡ committed + 1 → synced ≡ long
+by_one committed synced long a more b c = omega arith
+
+last_one : (ts : List Table) (rows : Database) (base : List Entry) (limit : ℕ) (log : List Record) (synced committed : ℕ) (p : Pending) (phase : Phase) →
+    IsCore ts rows base limit log synced committed (Some (record { overlay = p; phase = phase })) → (committed ≡ synced → ⊥) → IsCore ts (seen p rows) base limit log synced synced None
+last_one ts rows base limit log synced committed p Active core more = absurd (more (omega (arith, core.stands.1, core.synced_within, core.committed_within)))
+last_one ts rows base limit log synced committed p (Prepared parent) core more = absurd (more (omega (arith, core.stands.1.all, core.synced_within, core.committed_within)))
+last_one ts rows base limit log synced committed p (Queued parent) core more = absurd (more (omega (arith, core.stands.1.0.all, core.synced_within, core.committed_within)))
+last_one ts rows base limit log synced committed p (Flushed gno) core more =
+    let last = core.stands.1 in
+    let within : committed ≤ length log = omega (arith, core.synced_within, core.committed_within) in
+    let long : length log ≡ committed + 1 = one_more log committed last.made last.last within in
+    let all : synced ≡ length log = by_one committed synced (length log) core.committed_within more core.synced_within long in
+    record {
+      flat = core.flat; legal = core.legal; few = core.few; bound = core.bound; synced_within = core.synced_within; committed_within = omega arith;
+      rows_are = ap (λ l. after ts (put_batch base empty) l) (take_all synced log (omega (arith, all))) ∙ last_leaves ts rows base log committed gno p core.rows_are core.stands.0 last;
+      stands = all;
+    }
+
+-- the record that is not committed is the last, and the store with its batch has the rows behind it
+pub committed_last : (ts : List Table) (rows : Database) (base : List Entry) (limit : ℕ) (log : List Record) (synced committed : ℕ) (current : Option Transaction) (next : Database) →
+    IsCore ts rows base limit log synced committed current → (committed ≡ synced → ⊥) →
+    next ≡ option_map_or (λ t. seen t.overlay rows) current rows → IsCore ts next base limit log synced synced None
+committed_last ts rows base limit log synced committed None next core more is = absurd (more (omega (arith, core.stands, core.synced_within, core.committed_within)))
+committed_last ts rows base limit log synced committed (Some t) next core more is =
+    subst (λ (db : Database). IsCore ts db base limit log synced synced None) (sym is) (last_one ts rows base limit log synced committed t.overlay t.phase core more)

@@ -1,0 +1,216 @@
+-- What each call of a source answers: its first cause of refusal, in order, and what it leaves.
+use Rattle.std.specs.Prelude.{◌≡◌, ℕ, ◌+◌, ◌-◌, Bool, true, false, not, ◌&&◌, ◌==◌, nat_lt, nat_le, if◌then◌else◌, List, [], ◌∷◌, ◌++◌, length, map, take, drop, slice_set, Option, Some, None, is_some, is_none, option_and_then}
+use Rattle.std.specs.Option.{option_map, option_map_or, option_or}
+use Rattle.std.specs.List.{list_any}
+use Rattle.schema.specs.declared.Table.{Table}
+use Rattle.schema.specs.declared.RowId.{RowId}
+use Rattle.schema.specs.Schema.{table_at}
+use Rattle.rows.specs.declared.Change.{Change}
+use Rattle.rows.specs.declared.Change.TheVariants.{Insert}
+use Rattle.record_codec.specs.declared.records.Record.{Record}
+use Rattle.record_codec.specs.Group as codec
+use Rattle.record_codec.specs.Group.{GroupValue}
+use Rattle.source_core.specs.declared.transaction.Phase.{Phase}
+use Rattle.source_core.specs.declared.transaction.Phase.TheVariants.{Active, Prepared, Queued, Flushed}
+use Rattle.source_core.specs.declared.fault.SourceFault.{SourceFault}
+use Rattle.source_core.specs.declared.fault.SourceFault.TheVariants.{NoSession, AlreadyOpen, NotActive, NoTable, WrongColumns, RowExists, TooManyChanges, Halted, NotPrepared, Exhausted}
+use Rattle.source_core.specs.declared.transaction.Prepared.{Prepared as Answer}
+use Rattle.source_core.specs.declared.transaction.Prepared.TheVariants as answers
+use Rattle.source_core.specs.declared.transaction.Receipt.{Receipt}
+use Rattle.source_core.specs.Source.{Source, Open, is_session, open_of, changes_of, seen_row}
+
+-- the first cause that stands
+abbrev pub cause : Bool → SourceFault → Option SourceFault → Option SourceFault
+cause stands fault later = if stands then Some fault else later
+
+-- the causes that come before all others of a session's call
+abbrev pub session_fault : Source → ℕ → Option SourceFault → Option SourceFault
+session_fault s session later = cause s.halted Halted (cause (not (is_session s session)) NoSession later)
+
+-- the same source, with this as the session's transaction
+abbrev pub with_open : Source → ℕ → Option Open → Source
+with_open s session open_ = record s { sessions = slice_set s.sessions (session - 1) open_ }
+
+abbrev pub is_active : Option Open → Bool
+is_active None = false
+is_active (Some t) = elim t.phase [ Active ↦ true | Prepared _ ↦ false | Queued _ ↦ false | Flushed _ ↦ false ]
+
+abbrev pub is_prepared : Option Open → Bool
+is_prepared None = false
+is_prepared (Some t) = elim t.phase [ Active ↦ false | Prepared _ ↦ true | Queued _ ↦ false | Flushed _ ↦ false ]
+
+-- begin
+
+abbrev pub begin_fault : Source → ℕ → Option SourceFault
+begin_fault s session = session_fault s session (cause (is_some (open_of s session)) AlreadyOpen None)
+
+abbrev pub begun : Source → ℕ → Source
+begun s session = with_open s session (Some (record { changes = []; phase = Active }))
+
+-- write
+
+-- a change that the schema does not allow, whatever the rows
+abbrev pub shape_fault : List Table → Change → Option SourceFault → Option SourceFault
+shape_fault ts (Insert row columns) later =
+    option_map_or (λ table. cause (not (length columns == table.columns)) WrongColumns later) (table_at ts row.table) (Some NoTable)
+
+-- a change that the rows that the session sees do not allow
+abbrev pub rows_fault : Source → ℕ → Change → Option SourceFault
+rows_fault s session (Insert row columns) = cause (is_some (seen_row s session row)) RowExists None
+
+abbrev pub write_fault : Source → ℕ → Change → Option SourceFault
+write_fault s session change =
+    session_fault s session (cause (not (is_active (open_of s session))) NotActive
+      (shape_fault s.tables change (cause (nat_le 1024 (length (changes_of s session))) TooManyChanges
+        (rows_fault s session change))))
+
+abbrev pub written : Source → ℕ → Change → Source
+written s session change = with_open s session (Some (record { changes = changes_of s session ++ change ∷ []; phase = Active }))
+
+-- read
+
+abbrev pub read_fault : Source → ℕ → RowId → Option SourceFault
+read_fault s session id = session_fault s session (cause (is_none (table_at s.tables id.table)) NoTable None)
+
+-- prepare: the parent is the number of transactions committed now. An empty transaction ends
+
+abbrev pub prepare_fault : Source → ℕ → Option SourceFault
+prepare_fault s session = session_fault s session (cause (not (is_active (open_of s session))) NotActive None)
+
+abbrev pub is_empty_list : List Change → Bool
+is_empty_list [] = true
+is_empty_list (x ∷ xs) = false
+
+abbrev pub prepare_answer : Source → ℕ → Answer
+prepare_answer s session = if is_empty_list (changes_of s session) then answers.Empty else answers.Parent s.committed
+
+abbrev pub prepared : Source → ℕ → Source
+prepared s session =
+    with_open s session (if is_empty_list (changes_of s session) then None else Some (record { changes = changes_of s session; phase = Prepared s.committed }))
+
+-- queue
+
+abbrev pub queue_fault : Source → ℕ → Option SourceFault
+queue_fault s session =
+    session_fault s session (cause (not (is_prepared (open_of s session))) NotPrepared
+      (cause (nat_le s.limit (length s.log + length s.queue)) Exhausted None))
+
+-- the transaction goes from prepared to queued, with its parent
+abbrev pub queued_phase : Phase → Phase
+queued_phase Active = Active
+queued_phase (Prepared parent) = Queued parent
+queued_phase (Queued parent) = Queued parent
+queued_phase (Flushed gno) = Flushed gno
+
+abbrev pub queued : Source → ℕ → Source
+queued s session =
+    let next = with_open s session (option_map (λ t. record { changes = t.changes; phase = queued_phase t.phase }) (open_of s session)) in
+    record next { queue = s.queue ++ session ∷ [] }
+
+-- abort
+
+abbrev pub abort_fault : Source → ℕ → Option SourceFault
+abort_fault s session =
+    session_fault s session (cause (not (is_active (open_of s session)) && not (is_prepared (open_of s session))) NotActive None)
+
+abbrev pub aborted : Source → ℕ → Source
+aborted s session = with_open s session None
+
+-- the calls that no session makes are refused where the source is halted
+abbrev pub flush_fault : Source → Option SourceFault
+flush_fault s = cause s.halted Halted None
+
+-- flush: the queued transactions, in the order of the queue, are the next records
+
+abbrev pub place_in : List ℕ → ℕ → Option ℕ
+place_in [] session = None
+place_in (first ∷ rest) session = if first == session then Some 0 else option_map (λ place. place + 1) (place_in rest session)
+
+-- what a function makes of each session's transaction, given the session's number
+abbrev pub each_session : (ℕ → Option Open → Option Open) → ℕ → List (Option Open) → List (Option Open)
+each_session f session [] = []
+each_session f session (t ∷ ts) = f session t ∷ each_session f (session + 1) ts
+
+-- a session's transaction where this queue is flushed, and the first of it gets this number
+abbrev pub flushed_open : ℕ → List ℕ → ℕ → Option Open → Option Open
+flushed_open first queue session t =
+    option_map_or (λ place. option_map (λ open_. record { changes = open_.changes; phase = Flushed (first + place) }) t) (place_in queue session) t
+
+abbrev pub flushed : Source → List Record → Source
+flushed s records =
+    record s { log = s.log ++ records; queue = []; sessions = each_session (flushed_open (length s.log + 1) s.queue) 1 s.sessions }
+
+abbrev pub parent_of_phase : Phase → ℕ
+parent_of_phase Active = 0
+parent_of_phase (Prepared parent) = parent
+parent_of_phase (Queued parent) = parent
+parent_of_phase (Flushed gno) = 0
+
+-- the record of a transaction: its changes, and the parent fixed when it was prepared
+pub record IsRecordOf (t : Open) (number : ℕ) (made : Record) : Type 0 where
+  pub gno : made.gno ≡ number
+  pub sequence : made.sequence ≡ number
+  pub parent : made.parent ≡ parent_of_phase t.phase
+  pub changes : made.changes ≡ t.changes
+
+-- one record for each of these sessions, in their order, numbered from gno on
+abbrev pub AreRecordsOf : Source → ℕ → List ℕ → List Record → Type 0
+AreRecordsOf s gno [] [] = Unit {0}
+AreRecordsOf s gno (session ∷ sessions) (made ∷ more) =
+    ((t : Open) × (open_of s session ≡ Some t) × IsRecordOf t gno made) × AreRecordsOf s (gno + 1) sessions more
+AreRecordsOf s gno [] (made ∷ more) = ⊥
+AreRecordsOf s gno (session ∷ sessions) [] = ⊥
+
+-- a flush: the queued transactions are the records of the group
+pub record Flushes (old : Source) (group : GroupValue) (new : Source) : Type 0 where
+  pub made : List Record
+  pub are : AreRecordsOf old (length old.log + 1) old.queue made
+  pub leaves : new ≡ flushed old made
+  pub group_of : codec.AreRecordsOf group made
+  -- there is one session, so at most one transaction is queued
+  pub alone : length made ≡ 1
+
+-- synced
+
+abbrev pub with_synced : Source → ℕ → Source
+with_synced s last = record s { synced = last }
+
+-- commit: the transactions up to the last synced one end
+
+abbrev pub is_flushed_by : ℕ → Option Open → Bool
+is_flushed_by last None = false
+is_flushed_by last (Some t) = elim t.phase [ Active ↦ false | Prepared _ ↦ false | Queued _ ↦ false | Flushed gno ↦ nat_le gno last ]
+
+abbrev pub is_flushed_as : ℕ → Option Open → Bool
+is_flushed_as gno None = false
+is_flushed_as gno (Some t) = elim t.phase [ Active ↦ false | Prepared _ ↦ false | Queued _ ↦ false | Flushed number ↦ number == gno ]
+
+abbrev pub all_committed : Source → Source
+all_committed s =
+    record s { committed = s.synced; sessions = map (λ t. if is_flushed_by s.synced t then None else t) s.sessions }
+
+-- the session, of these that are numbered from session on, whose transaction is the record of this number
+abbrev pub session_with : ℕ → ℕ → List (Option Open) → ℕ
+session_with gno session [] = 0
+session_with gno session (t ∷ ts) = if is_flushed_as gno t then session else session_with gno (session + 1) ts
+
+abbrev pub receipt_as : ℕ → Record → Receipt
+receipt_as session of = record {
+    session = session;
+    gno = of.gno;
+    sequence = of.sequence;
+    parent = of.parent;
+    changes = of.changes;
+  }
+
+abbrev pub receipt_of : Source → Record → Receipt
+receipt_of s of = receipt_as (session_with of.gno 1 s.sessions) of
+
+-- a receipt for each record that is synced and not committed
+abbrev pub receipts : Source → List Receipt
+receipts s = map (receipt_of s) (drop s.committed (take s.synced s.log))
+
+-- log_failed
+
+abbrev pub halted : Source → Source
+halted s = record s { halted = true }

@@ -1,0 +1,4 @@
+pub mod Source
+pub mod Calls
+pub mod Core
+pub mod Laws

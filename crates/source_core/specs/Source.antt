@@ -1,0 +1,72 @@
+-- What a source is seen as.
+use Rattle.std.specs.Prelude.{◌≡◌, ℕ, ℤ, ◌-◌, ◌≤◌, Bool, false, ◌&&◌, nat_le, List, [], ◌∷◌, take, length, slice_get, Option, Some, None, option_and_then, unwrap_or}
+use Rattle.std.specs.Option.{option_flatten, option_map, option_map_or}
+use Rattle.std.specs.FinMap.{empty, get}
+use Rattle.schema.specs.declared.Table.{Table}
+use Rattle.schema.specs.declared.RowId.{RowId}
+use Rattle.rows.specs.declared.Change.{Change}
+use Rattle.rows.specs.Database.{Database, effect}
+use Rattle.store_trait.specs.Batch.{Entry, put_batch}
+use Rattle.record_codec.specs.declared.records.Record.{Record}
+use Rattle.record_codec.specs.Log.{after, IsLegalLog}
+use Rattle.source_core.specs.declared.transaction.Phase.{Phase}
+
+-- an open transaction: the changes that it wrote, in order, and how far it has come
+pub record Open : Type 0 where
+  pub changes : List Change
+  pub phase : Phase
+
+pub record Source : Type 0 where
+  pub tables : List Table
+  -- the rows before the first transaction, as the batch that loads them
+  pub base : List Entry
+  -- the greatest number of records
+  pub limit : ℕ
+  -- the records flushed; of these the first so many are synced, and the first so many committed
+  pub log : List Record
+  pub synced : ℕ
+  pub committed : ℕ
+  -- the open transaction of each session, session 1 first
+  pub sessions : List (Option Open)
+  -- the sessions whose transactions are queued, in order
+  pub queue : List ℕ
+  pub halted : Bool
+
+abbrev pub base_of : Source → Database
+base_of s = put_batch s.base empty
+
+abbrev pub is_session : Source → ℕ → Bool
+is_session s session = nat_le 1 session && nat_le session (length s.sessions)
+
+abbrev pub open_of : Source → ℕ → Option Open
+open_of s session = option_flatten (slice_get s.sessions (session - 1))
+
+-- the database after the committed records
+abbrev pub committed_rows : Source → Option Database
+committed_rows s = after s.tables (base_of s) (take s.committed s.log)
+
+-- the changes of a session's open transaction
+abbrev pub changes_of : Source → ℕ → List Change
+changes_of s session = option_map_or (λ t. t.changes) (open_of s session) []
+
+-- the committed database with the session's own changes
+abbrev pub session_rows : Source → ℕ → Option Database
+session_rows s session = option_and_then (effect s.tables (changes_of s session)) (committed_rows s)
+
+-- the row that a session sees
+abbrev pub seen_row : Source → ℕ → RowId → Option (List ℤ)
+seen_row s session id = option_and_then (λ db. get db id) (session_rows s session)
+
+-- a source that nothing was done to
+abbrev pub new_source : List Table → List Entry → ℕ → Source
+new_source ts base limit = record {
+    tables = ts; base = base; limit = limit; log = []; synced = 0; committed = 0;
+    sessions = None ∷ []; queue = []; halted = false;
+  }
+
+-- What is true of every source: its log is legal, not too long, and its counts are in order.
+pub record IsSound (s : Source) : Type 0 where
+  pub legal : IsLegalLog s.tables (base_of s) s.log
+  pub few : length s.log ≤ s.limit
+  pub synced_within : s.synced ≤ length s.log
+  pub committed_within : s.committed ≤ s.synced

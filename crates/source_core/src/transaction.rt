@@ -1,0 +1,48 @@
+//! An open transaction, and the receipt that its session gets.
+
+use overlay::Overlay;
+use record_codec::Changes;
+
+/// How far an open transaction has come.
+#[derive(Clone, Copy, Debug, PartialEq, Eq)]
+pub enum Phase {
+    /// It takes changes.
+    Active,
+    /// It takes none any more. Its parent is the number of transactions committed when it was prepared.
+    Prepared { parent: u64 },
+    /// It waits for the next flush.
+    Queued { parent: u64 },
+    /// It is the record of this number, and not committed yet.
+    Flushed { gno: u64 },
+}
+
+/// What a prepared transaction is told.
+#[derive(Clone, Copy, Debug, PartialEq, Eq)]
+pub enum Prepared {
+    /// Its parent: the number of transactions that were committed.
+    Parent(u64),
+    /// It had no changes, and has ended.
+    Empty,
+}
+
+/// A transaction, with what its changes leave.
+#[derive(Debug, Drop)]
+pub struct Transaction {
+    pub overlay: Overlay,
+    pub phase: Phase,
+}
+
+/// What a session is told of its committed transaction.
+#[derive(Debug, Drop)]
+pub struct Receipt {
+    /// The session's number.
+    pub session: u16,
+    /// The transaction's number, from 1.
+    pub gno: u64,
+    /// Its place in the log, from 1.
+    pub sequence: u64,
+    /// The place up to which the log was committed when it was prepared.
+    pub parent: u64,
+    /// What it changed, in order.
+    pub changes: Changes,
+}

@@ -1,0 +1,8 @@
+pub mod Rising
+pub mod Batches
+pub mod OnlyWrites
+pub mod Runs
+pub mod Tables
+pub mod Walks
+pub mod Visits
+pub mod Copies

@@ -1,0 +1,36 @@
+-- Batches: for each row that changes its new columns, or none where the row is removed.
+use Rattle.std.specs.Prelude.{ℤ, IsTrue, List, [], ◌∷◌, map, Option, Some, None}
+use Rattle.std.specs.FinMap.{is_sorted, get, insert, remove, entries, from_entries}
+use Rattle.schema.specs.declared.RowId.{RowId}
+use Rattle.schema.specs.RowId.{row_cmp}
+use Rattle.rows.specs.Database.{Database}
+
+-- a row and its new columns, or none where it is removed
+abbrev pub Entry : Type 0
+Entry = RowId × Option (List ℤ)
+
+-- the row ids strictly rise, so that no row comes twice
+abbrev pub IsRising : List Entry → Type 0
+IsRising entries = IsTrue (is_sorted row_cmp entries)
+
+abbrev pub put_row : Database → RowId → Option (List ℤ) → Database
+put_row db id None = remove db id
+put_row db id (Some columns) = insert db id columns
+
+-- what a batch leaves
+abbrev pub put_batch : List Entry → Database → Database
+put_batch [] db = db
+put_batch (entry ∷ entries) db = put_batch entries (put_row db entry.0 entry.1)
+
+-- what batches leave, put one after another
+abbrev pub put_batches : List (List Entry) → Database → Database
+put_batches [] db = db
+put_batches (batch ∷ batches) db = put_batches batches (put_batch batch db)
+
+-- these rows as they are in a database, in the order of row ids and each once
+abbrev pub rows_in : List RowId → Database → List Entry
+rows_in rows db = entries (from_entries {R = row_cmp} (map (λ id. (id, get db id)) rows))
+
+-- all the rows of a database
+abbrev pub all_rows : Database → List Entry
+all_rows db = map (λ e. (e.0, Some e.1)) (entries db)

@@ -1,0 +1,27 @@
+-- What a store answers, said of the finite map that it contains.
+use Rattle.std.specs.Prelude.{◌≡◌, ℕ, ℤ, ◌<ℤ◌, List, Option, Some, None, MatchOption}
+use Rattle.std.specs.FinMap.{get}
+use Rattle.schema.specs.declared.RowId.{RowId}
+use Rattle.rows.specs.Database.{Database}
+
+-- a key is above a bound, where there is one
+abbrev pub IsAbove : Option ℤ → ℤ → Type 0
+IsAbove None key = Unit {0}
+IsAbove (Some bound) key = bound <ℤ key
+
+abbrev pub row_at : ℕ → ℤ → RowId
+row_at table key = record { table = table; key = key }
+
+-- the table has no row whose key is above the bound
+abbrev pub NoneAbove : Database → ℕ → Option ℤ → Type 0
+NoneAbove db table bound = (key : ℤ) → IsAbove bound key → get db (row_at table key) ≡ None
+
+-- the row with the least key above the bound
+pub record IsLeastAbove (db : Database) (table : ℕ) (bound : Option ℤ) (key : ℤ) (columns : List ℤ) : Type 0 where
+  pub there : get db (row_at table key) ≡ Some columns
+  pub above : IsAbove bound key
+  pub least : (other : ℤ) → IsAbove bound other → other <ℤ key → get db (row_at table other) ≡ None
+
+-- the table's first row above the bound, in the order of keys
+abbrev pub IsNextInTable : Database → ℕ → Option ℤ → Option (ℤ × List ℤ) → Type 0
+IsNextInTable db table bound next = MatchOption next (NoneAbove db table bound) (λ found. IsLeastAbove db table bound found.0 found.1)

@@ -1,0 +1,289 @@
+//! Stores of rows, seen as finite maps.
+//!
+//! A `RowStore` contains a database (`contents`, a finite map from row ids to rows), however it keeps it:
+//! callers stand on the trait's contract alone. A `Batch` names each row that changes once, in the order of
+//! row ids, and is put whole or not at all. An `Op` is what a replica publishes: the rows that are loaded at
+//! first, and then the batch of each commit. `laws` states what batches leave of a database.
+#![tactic(auto)]
+
+ghost use Rattle.std.specs.Prelude.{◌≡◌, ℕ, ◌≤◌, ◌↔◌, IsTrue, Some, List, [], ◌∷◌, ◌++◌, length, take, map, SomeIff, IfOk, OnOk, OnErr};
+ghost use Rattle.std.specs.FinMap.{get as row_of, len as size_of, empty};
+ghost use Rattle.schema.specs.declared.Table.{Table};
+ghost use Rattle.schema.specs.Schema.{table_at};
+ghost use Rattle.rows.specs.Database.{Database, has_parent};
+ghost use Rattle.store_trait.specs.Batch.{IsRising, put_batch, put_batches, all_rows};
+ghost use Rattle.store_trait.specs.Contents.{IsNextInTable};
+ghost use Rattle.store_trait.specs.Operation.{batch_of};
+ghost use Rattle.store_trait.specs.Fits.{Fits, RowFits};
+
+pub mod laws;
+mod walk;
+
+use rows::Row;
+use schema::{Memory, RowId, Schema, Table};
+use std::alloc::Global;
+use std::marker::Model;
+use walk::next_row;
+
+/// For each row that changes its new columns, or `None` where the row is removed. The row ids strictly rise.
+#[derive(Debug, Drop)]
+pub struct Batch {
+    entries: Vec<(RowId, Option<Row>)>,
+}
+
+impl Model for Batch {
+    ghost use Rattle.std.specs.Prelude.{List};
+    ghost use Rattle.store_trait.specs.Batch.{Entry, IsRising};
+
+    ghost Value = { List Entry };
+
+    ghost view = { λ b. b.entries.items };
+
+    ghost invariant = { λ b. IsRising b.entries.items };
+}
+
+impl Batch {
+    /// A batch of no rows. It takes no memory.
+    pub fn new(alloc: Global) -> Batch
+        ensures { result ≡ [] }
+    {
+        Batch {
+            entries: Vec::new(alloc),
+        }
+    }
+
+    /// A batch of these rows; `None` where their ids do not strictly rise. It takes no memory. The time is that
+    /// of a walk over the rows.
+    pub fn from_entries(entries: Vec<(RowId, Option<Row>)>) -> Option<Batch>
+        ensures { SomeIff result (IsRising entries.items) entries.items }
+    {
+        if !is_rising(&entries) {
+            return None;
+        }
+        Some(Batch::from_rising(entries))
+    }
+
+    /// A batch of these rows, whose ids strictly rise. It takes no memory.
+    pub fn from_rising(entries: Vec<(RowId, Option<Row>)>) -> Batch
+        requires { IsRising entries.items }
+        ensures { result ≡ entries.items }
+    {
+        Batch { entries }
+    }
+
+    /// The rows in the order of their ids.
+    pub fn entries(&self) -> &[(RowId, Option<Row>)]
+        ensures value { result.now ≡ self.now }
+        ensures rising { IsRising result.now }
+    {
+        &self.entries
+    }
+
+    /// An equal batch, in memory of its own.
+    pub fn copy(&self) -> Result<Batch, Memory>
+        ensures { IfOk result (λ batch. batch ≡ self.now) }
+    {
+        Ok(Batch {
+            entries: self.entries.clone()?,
+        })
+    }
+}
+
+/// Whether the row ids strictly rise.
+fn is_rising(entries: &[(RowId, Option<Row>)]) -> bool
+    ensures { IsTrue result ↔ IsRising entries.now }
+{
+    entries.is_sorted_by(|a, b| a.0 < b.0)
+}
+
+/// What is done to a published store.
+#[derive(Debug, Drop)]
+pub enum Op {
+    /// The rows that were there before the first commit.
+    Load(Batch),
+    /// What the commit of this number changed.
+    Commit { gno: u64, batch: Batch },
+}
+
+impl Op {
+    /// The rows that the operation sets.
+    pub fn batch(&self) -> &Batch
+        ensures { result.now ≡ batch_of self.now }
+    {
+        match self {
+            Op::Load(batch) | Op::Commit { batch, .. } => batch,
+        }
+    }
+
+    /// An equal operation, in memory of its own.
+    pub fn copy(&self) -> Result<Op, Memory>
+        ensures { IfOk result (λ op. op ≡ self.now) }
+    {
+        Ok(match self {
+            Op::Load(batch) => Op::Load(batch.copy()?),
+            Op::Commit { gno, batch } => Op::Commit {
+                gno: *gno,
+                batch: batch.copy()?,
+            },
+        })
+    }
+}
+
+/// A store of rows, which contains a database.
+pub trait RowStore {
+    /// What it contains, however it is kept.
+    ghost contents: { Self → Database };
+
+    /// The row, where it is there. It takes no memory. The time is logarithmic in the number of rows.
+    fn get(&self, id: RowId) -> Option<Row>
+        ensures { result ≡ row_of (contents self.now) id };
+
+    /// Puts the whole batch, or, where memory runs out, nothing of it.
+    fn put_all(&mut self, batch: &Batch) -> Result<(), Memory>
+        ensures ok { OnOk result (contents self.new ≡ put_batch batch.now (contents self.old)) }
+        ensures err { OnErr result (contents self.new ≡ contents self.old) };
+
+    /// The number of rows.
+    fn len(&self) -> usize
+        ensures { result ≡ size_of (contents self.now) };
+
+    /// Whether there is no row.
+    fn is_empty(&self) -> bool
+        ensures { IsTrue result ↔ (size_of (contents self.now) ≡ 0) }
+    {
+        self.len() == 0
+    }
+
+    /// Of a table's rows above the key, or of all of them, the one with the least key. It takes no memory.
+    /// The time is logarithmic in the number of rows.
+    fn next_in_table(&self, table: u16, above: Option<i64>) -> Option<(i64, Row)>
+        ensures { IsNextInTable (contents self.now) table above result };
+}
+
+/// Puts batches in order up to the first that is refused, and answers how many were put.
+pub fn run<S: RowStore>(store: &mut S, batches: &[Batch]) -> usize
+    ensures within { result ≤ length batches.now }
+    ensures put { S.contents store.new ≡ put_batches (take result batches.now) (S.contents store.old) }
+{
+    for (put, batch) in batches.iter().enumerate() {
+        if store.put_all(batch).is_err() {
+            return put;
+        }
+    }
+    batches.len()
+}
+
+/// Whether each row has its table's columns, and each row of a child table its parent. It takes no memory. The
+/// time is that of one look-up a row, of two in a child table, and of a walk over the tables for each row.
+pub fn fits<S: RowStore>(schema: &Schema, store: &S) -> bool
+    ensures { IsTrue result ↔ Fits schema.now (S.contents store.now) }
+{
+    let mut last = None;
+    for _ in 0..store.len() {
+        let Some((id, row)) = next_row(store, schema.tables(), last) else {
+            // The schema's tables have fewer rows than the store: a row is of none of them.
+            return false;
+        };
+        if !row_fits(schema, store, id, &row) {
+            return false;
+        }
+        last = Some(id);
+    }
+    true
+}
+
+/// Whether the row is of a table of the schema, has its columns, and has its parent, where there is to be one.
+fn row_fits<S: RowStore>(schema: &Schema, store: &S, id: RowId, row: &Row) -> bool
+    ensures { IsTrue result ↔ RowFits schema.now (S.contents store.now) id row.now }
+{
+    let Some(table) = schema.table(id.table) else {
+        return false;
+    };
+    let columns = row.columns();
+    columns.len() == usize::from(table.columns) && parent_is_there(store, table, columns)
+}
+
+/// Whether these columns of a row of the table name a parent that is there, where the table has a parent.
+fn parent_is_there<S: RowStore>(store: &S, table: Table, columns: &[i64]) -> bool
+    ensures { (ts : List Table) (id : ℕ) → table_at ts id ≡ Some table
+        → result ≡ has_parent ts (S.contents store.now) id columns.now }
+{
+    let Some((column, parent)) = table.parent else {
+        return true;
+    };
+    let Some(key) = columns.get(usize::from(column)) else {
+        return false;
+    };
+    let id = RowId {
+        table: parent,
+        key: *key,
+    };
+    store.get(id).is_some()
+}
+
+/// The batch that loads an empty store with all rows of this one, which fits the schema. The time is that of a
+/// look-up a row, and of a walk over the tables for each table.
+pub fn snapshot<S: RowStore>(alloc: Global, store: &S, schema: &Schema) -> Result<Batch, Memory>
+    requires { Fits schema.now (S.contents store.now) }
+    ensures rows { IfOk result (λ batch. batch ≡ all_rows (S.contents store.now)) }
+    ensures loads { IfOk result (λ batch. put_batch batch empty ≡ S.contents store.now) }
+{
+    let count = store.len();
+    let mut entries = Vec::with_capacity(alloc, count)?;
+    let mut last = None;
+    for _ in 0..count {
+        let Some((id, row)) = next_row(store, schema.tables(), last) else {
+            break;
+        };
+        entries.push((id, Some(row)))?;
+        last = Some(id);
+    }
+    Ok(Batch::from_rising(entries))
+}
+
+#[cfg(test)]
+mod tests {
+    use super::*;
+    use std::test::Fail;
+
+    fn entry(table: u16, key: i64, column: i64) -> (RowId, Option<Row>) {
+        (RowId { table, key }, Row::new(&[column]))
+    }
+
+    #[test]
+    fn batch_of_rising_rows(rt: HostRuntime) -> Result<(), Fail> {
+        let mut entries = Vec::new(rt.alloc());
+        entries.push(entry(1, -3, 7))?;
+        entries.push((RowId { table: 1, key: 4 }, None))?;
+        entries.push(entry(2, -9, 8))?;
+        let batch = Batch::from_entries(entries).ok_or("rising")?;
+        let copy = batch.copy()?;
+        assert_eq!(rt; copy.entries().len(), 3);
+        assert_eq!(rt; copy.entries()[1].0.key, 4);
+        assert_eq!(rt; copy.entries()[1].1, None);
+        assert_eq!(rt; copy.entries()[2], entry(2, -9, 8));
+        Ok(())
+    }
+
+    #[test]
+    fn no_batch_of_a_row_twice(rt: HostRuntime) -> Result<(), Fail> {
+        let mut entries = Vec::new(rt.alloc());
+        entries.push(entry(1, 4, 7))?;
+        entries.push(entry(1, 4, 8))?;
+        assert!(rt; Batch::from_entries(entries).is_none());
+        Ok(())
+    }
+
+    #[test]
+    fn copy_of_an_operation(rt: HostRuntime) -> Result<(), Fail> {
+        let mut entries = Vec::new(rt.alloc());
+        entries.push(entry(1, 4, 7))?;
+        let batch = Batch::from_rising(entries);
+        let copy = Op::Commit { gno: 5, batch }.copy()?;
+        assert!(rt; matches!(&copy, Op::Commit { gno: 5, .. }));
+        assert_eq!(rt; copy.batch().entries()[0], entry(1, 4, 7));
+        let load = Op::Load(Batch::new(rt.alloc())).copy()?;
+        assert!(rt; load.batch().entries().is_empty());
+        Ok(())
+    }
+}

@@ -1,0 +1,250 @@
+-- The numbers of a run stay in order.
+use Rattle.std.proofs.Common.{◌≡◌, sym, ap, subst, refl, ℕ, ◌+◌, ◌≤◌, Bool, true, false, not, ◌==◌, cond, List, [], ◌∷◌, ◌++◌, length, map, drop, inl, inr, arith}
+use Rattle.std.specs.List.{list_any, filter}
+use Rattle.std.proofs.lemmas.Bool.{false≢true, or_cases, eqb-true}
+use Rattle.std.proofs.lemmas.List.{length-take, length-drop, length-map}
+use Rattle.record_codec.specs.declared.records.Record.{Record}
+use Rattle.world.specs.declared.events.Event.{Event}
+use Rattle.world.specs.declared.events.Reply.{Reply}
+use Rattle.world.specs.declared.events.Reply.TheVariants as replies
+use Rattle.world.specs.Past.{Past, flushed, unsynced, synced, committed, queue, accepted, dispatched, finished, replicated, published}
+use Rattle.world.specs.Legal.{Setup, stamp_of, next_records}
+use Rattle.world.specs.Laws.{AreInOrder, NoneFalls}
+use Rattle.world.proofs.LawsReplies.{Says}
+
+-- ---- groups
+
+-- groups that follow one another, from the record behind this number up to that number
+abbrev pub Follow : ℕ → List (ℕ × ℕ) → ℕ → Type 0
+Follow from [] to = from ≡ to
+Follow from (group ∷ groups) to = (group.0 ≡ from + 1) × (from ≤ group.1) × Follow group.1 groups to
+
+Follow-le : (from : ℕ) (groups : List (ℕ × ℕ)) (to : ℕ) → Follow from groups to → from ≤ to
+Follow-le from [] to h = omega (arith, h)
+Follow-le from (group ∷ groups) to h = omega (arith, h.1, Follow-le group.1 groups to h.2)
+
+Follow-push : (from : ℕ) (groups : List (ℕ × ℕ)) (to first last : ℕ) → Follow from groups to → first ≡ to + 1 → to ≤ last → Follow from (groups ++ (first, last) ∷ []) last
+Follow-push from [] to first last h is up = (omega (arith, h, is), omega (arith, h, up), refl)
+Follow-push from (group ∷ groups) to first last h is up = (h.0, h.1, Follow-push group.1 groups to first last h.2 is up)
+
+-- ---- the numbers of finished records
+
+abbrev pub AllUpTo : ℕ → List ℕ → Type 0
+AllUpTo top [] = Unit {0}
+AllUpTo top (n ∷ ns) = (n ≤ top) × AllUpTo top ns
+
+AllUpTo-next : (top : ℕ) (ns : List ℕ) → AllUpTo top ns → AllUpTo (top + 1) ns
+AllUpTo-next top [] h = tt
+AllUpTo-next top (n ∷ ns) h = (omega (arith, h.0), AllUpTo-next top ns h.1)
+
+AllUpTo-push : (top : ℕ) (ns : List ℕ) (last : ℕ) → AllUpTo top ns → last ≤ top → AllUpTo top (ns ++ last ∷ [])
+AllUpTo-push top [] last h le = (le, tt)
+AllUpTo-push top (n ∷ ns) last h le = (h.0, AllUpTo-push top ns last h.1 le)
+
+AllUpTo-filter : (top : ℕ) (test : ℕ → Bool) (ns : List ℕ) → AllUpTo top ns → AllUpTo top (filter test ns)
+AllUpTo-filter top test [] h = tt
+AllUpTo-filter top test (n ∷ ns) h =
+    elim (test n) as (λ b. AllUpTo top (cond b (n ∷ filter test ns) (filter test ns))) [
+      | true ↦ (h.0, AllUpTo-filter top test ns h.1)
+      | false ↦ AllUpTo-filter top test ns h.1
+    ]
+
+AllUpTo-any : (top one : ℕ) (ns : List ℕ) → AllUpTo top ns → list_any (λ n. n == one) ns ≡ true → one ≤ top
+AllUpTo-any top one [] h any = absurd (false≢true any)
+AllUpTo-any top one (n ∷ ns) h any =
+    elim (or_cases (n == one) (list_any (λ k. k == one) ns) any) [
+      | inl here ↦ omega (arith, h.0, eqb-true n one here)
+      | inr there ↦ AllUpTo-any top one ns h.1 there
+    ]
+
+-- ---- each moment
+
+-- What holds of the numbers: they are in order, the groups not yet synced are all records from the synced up to the
+-- flushed ones, and what is finished was given to a worker.
+pub record InOrder (log : List Record) (flushed_ : ℕ) (groups : List (ℕ × ℕ)) (synced_ committed_ accepted_ dispatched_ : ℕ) (done : List ℕ) (replicated_ published_ : ℕ) : Type 0 where
+  pub follow : Follow synced_ groups flushed_
+  pub in_log : flushed_ ≤ length log
+  pub committed_within : committed_ ≤ synced_
+  pub accepted_within : accepted_ ≤ synced_
+  pub dispatched_within : dispatched_ ≤ accepted_
+  pub done_within : AllUpTo dispatched_ done
+  pub replicated_within : replicated_ ≤ dispatched_
+  pub published_within : published_ ≤ replicated_
+
+abbrev pub Holds : List Record → Past → Type 0
+Holds log past = InOrder log (flushed past) (unsynced past) (synced past) (committed past) (accepted past) (dispatched past) (finished past) (replicated past) (published past)
+
+pub at_first : (log : List Record) → Holds log []
+at_first log = record {
+  follow = refl;
+  in_log = omega arith;
+  committed_within = omega arith;
+  accepted_within = omega arith;
+  dispatched_within = omega arith;
+  done_within = tt;
+  replicated_within = omega arith;
+  published_within = omega arith;
+}
+
+-- the stamps of a flush are of records in the log
+stamps_in_log : (log : List Record) (past : Past) (stamps : List (ℕ × ℕ)) → flushed past ≤ length log → stamps ≡ map stamp_of (next_records log past) → flushed past + length stamps ≤ length log
+stamps_in_log log past stamps within are =
+    let a = ap length are in
+    let b = length-map (next_records log past) stamp_of in
+    let c = length-take (length (queue past)) (drop (flushed past) log) in
+    let d = length-drop (flushed past) log in
+    omega (arith, a, b, c, d, within)
+
+-- an allowed reply leaves them in order
+pub step : (setup : Setup) (log : List Record) (past : Past) (event : Event) (reply : Reply) → Says setup log past event reply → Holds log past → Holds log ((event, reply) ∷ past)
+step setup log past event (replies.Flushed first stamps) s h = record {
+  follow = Follow-push (synced past) (unsynced past) (flushed past) first (flushed past + length stamps) h.follow s.0 (omega arith);
+  in_log = stamps_in_log log past stamps h.in_log s.1;
+  committed_within = h.committed_within;
+  accepted_within = h.accepted_within;
+  dispatched_within = h.dispatched_within;
+  done_within = h.done_within;
+  replicated_within = h.replicated_within;
+  published_within = h.published_within;
+}
+step setup log past event (replies.Synced first last) s h =
+    let all : Follow (synced past) ((first, last) ∷ s.0) (flushed past) = subst (λ g. Follow (synced past) g (flushed past)) s.1 h.follow in
+    record {
+      follow = subst (λ g. Follow last (drop 1 g) (flushed past)) (sym s.1) all.2;
+      in_log = h.in_log;
+      committed_within = omega (arith, h.committed_within, all.1);
+      accepted_within = omega (arith, h.accepted_within, all.1);
+      dispatched_within = h.dispatched_within;
+      done_within = h.done_within;
+      replicated_within = h.replicated_within;
+      published_within = h.published_within;
+    }
+step setup log past event (replies.Committed first last) s h = record {
+  follow = h.follow;
+  in_log = h.in_log;
+  committed_within = omega (arith, s);
+  accepted_within = h.accepted_within;
+  dispatched_within = h.dispatched_within;
+  done_within = h.done_within;
+  replicated_within = h.replicated_within;
+  published_within = h.published_within;
+}
+step setup log past event replies.Accepted s h = record {
+  follow = h.follow;
+  in_log = h.in_log;
+  committed_within = h.committed_within;
+  accepted_within = omega (arith, s.2, s.3);
+  dispatched_within = omega (arith, h.dispatched_within);
+  done_within = h.done_within;
+  replicated_within = h.replicated_within;
+  published_within = h.published_within;
+}
+step setup log past event (replies.Job gno) s h = record {
+  follow = h.follow;
+  in_log = h.in_log;
+  committed_within = h.committed_within;
+  accepted_within = h.accepted_within;
+  dispatched_within = omega (arith, s);
+  done_within = AllUpTo-next (dispatched past) (finished past) h.done_within;
+  replicated_within = omega (arith, h.replicated_within);
+  published_within = h.published_within;
+}
+step setup log past event (replies.Finished gno) s h = record {
+  follow = h.follow;
+  in_log = h.in_log;
+  committed_within = h.committed_within;
+  accepted_within = h.accepted_within;
+  dispatched_within = h.dispatched_within;
+  done_within = AllUpTo-push (dispatched past) (finished past) gno h.done_within s;
+  replicated_within = h.replicated_within;
+  published_within = h.published_within;
+}
+step setup log past event (replies.Commit gno) s h = record {
+  follow = h.follow;
+  in_log = h.in_log;
+  committed_within = h.committed_within;
+  accepted_within = h.accepted_within;
+  dispatched_within = h.dispatched_within;
+  done_within = AllUpTo-filter (dispatched past) (λ n. not (n == gno)) (finished past) h.done_within;
+  replicated_within = AllUpTo-any (dispatched past) (replicated past + 1) (finished past) h.done_within s.1;
+  published_within = omega (arith, h.published_within);
+}
+step setup log past event (replies.Published upto) s h = record {
+  follow = h.follow;
+  in_log = h.in_log;
+  committed_within = h.committed_within;
+  accepted_within = h.accepted_within;
+  dispatched_within = h.dispatched_within;
+  done_within = h.done_within;
+  replicated_within = h.replicated_within;
+  published_within = omega (arith, s);
+}
+step setup log past event reply s h = h
+
+-- in the words of the law
+pub in_order : (log : List Record) (past : Past) → Holds log past → AreInOrder log past
+in_order log past h = record {
+  published_within = h.published_within;
+  replicated_within = h.replicated_within;
+  dispatched_within = h.dispatched_within;
+  accepted_within = h.accepted_within;
+  committed_within = h.committed_within;
+  synced_within = Follow-le (synced past) (unsynced past) (flushed past) h.follow;
+  flushed_within = h.in_log;
+}
+
+-- ---- none falls
+
+pub same : (past : Past) → NoneFalls past past
+same past = record {
+  published_rises = omega arith;
+  replicated_rises = omega arith;
+  dispatched_rises = omega arith;
+  accepted_rises = omega arith;
+  committed_rises = omega arith;
+  synced_rises = omega arith;
+  flushed_rises = omega arith;
+}
+
+pub onward : (a b c : Past) → NoneFalls a b → NoneFalls b c → NoneFalls a c
+onward a b c h k = record {
+  published_rises = omega (arith, h.published_rises, k.published_rises);
+  replicated_rises = omega (arith, h.replicated_rises, k.replicated_rises);
+  dispatched_rises = omega (arith, h.dispatched_rises, k.dispatched_rises);
+  accepted_rises = omega (arith, h.accepted_rises, k.accepted_rises);
+  committed_rises = omega (arith, h.committed_rises, k.committed_rises);
+  synced_rises = omega (arith, h.synced_rises, k.synced_rises);
+  flushed_rises = omega (arith, h.flushed_rises, k.flushed_rises);
+}
+
+-- the numbers one by one: the published, committed at the replica, dispatched, accepted, committed, synced and flushed
+abbrev RisesTo : Past → Past → Type 0
+RisesTo before later =
+    (published before ≤ published later) × (replicated before ≤ replicated later) × (dispatched before ≤ dispatched later)
+    × (accepted before ≤ accepted later) × (committed before ≤ committed later) × (synced before ≤ synced later)
+    × (flushed before ≤ flushed later)
+
+rise : (setup : Setup) (log : List Record) (past : Past) (event : Event) (reply : Reply) → Says setup log past event reply → Holds log past → RisesTo past past → RisesTo past ((event, reply) ∷ past)
+rise setup log past event (replies.Flushed first stamps) s h o = (o.0, o.1, o.2, o.3, o.4, o.5, omega arith)
+rise setup log past event (replies.Synced first last) s h o =
+    let all : Follow (synced past) ((first, last) ∷ s.0) (flushed past) = subst (λ g. Follow (synced past) g (flushed past)) s.1 h.follow in
+    (o.0, o.1, o.2, o.3, o.4, all.1, o.6)
+rise setup log past event (replies.Committed first last) s h o = (o.0, o.1, o.2, o.3, omega (arith, s, h.committed_within), o.5, o.6)
+rise setup log past event replies.Accepted s h o = (o.0, o.1, o.2, omega arith, o.4, o.5, o.6)
+rise setup log past event (replies.Job gno) s h o = (o.0, o.1, omega arith, o.3, o.4, o.5, o.6)
+rise setup log past event (replies.Commit gno) s h o = (o.0, omega arith, o.2, o.3, o.4, o.5, o.6)
+rise setup log past event (replies.Published upto) s h o = (omega (arith, s, h.published_within), o.1, o.2, o.3, o.4, o.5, o.6)
+rise setup log past event reply s h o = o
+
+pub grows : (setup : Setup) (log : List Record) (past : Past) (event : Event) (reply : Reply) → Says setup log past event reply → Holds log past → NoneFalls past ((event, reply) ∷ past)
+grows setup log past event reply s h =
+    let all = rise setup log past event reply s h (omega arith, omega arith, omega arith, omega arith, omega arith, omega arith, omega arith) in
+    record {
+      published_rises = all.0;
+      replicated_rises = all.1;
+      dispatched_rises = all.2;
+      accepted_rises = all.3;
+      committed_rises = all.4;
+      synced_rises = all.5;
+      flushed_rises = all.6;
+    }

@@ -1,0 +1,10 @@
+pub mod Parts
+pub mod SourceEvents
+pub mod ReplicaEvents
+pub mod LogEvents
+pub mod Deliver
+pub mod Publish
+pub mod LawsReplies
+pub mod LawsSteps
+pub mod LawsRuns
+pub mod Run

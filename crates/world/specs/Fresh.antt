@@ -1,0 +1,21 @@
+-- A world that nothing was done to.
+use Rattle.std.specs.Prelude.{◌≡◌, []}
+use Rattle.rows.specs.Database.{Database}
+use Rattle.source_core.specs.Source.{base_of, new_source}
+use Rattle.replica_core.specs.Calls.{new_over}
+use Rattle.world.specs.Legal.{Setup}
+use Rattle.world.specs.State.{World}
+
+-- what the world began with
+abbrev pub setup_of : {R : Type 0} → World R → Setup
+setup_of w = record { tables = w.source.tables; base = w.source.base; limit = w.source.limit; workers = 1 }
+
+-- a new source and a new replica over one schema and equal rows, which readers see
+pub record IsFresh {R : Type 0} (contents : R → Database) (w : World R) : Type 0 where
+  pub source : w.source ≡ new_source w.source.tables w.source.base w.source.limit
+  pub replica : w.replica ≡ new_over w.source.tables w.source.base
+  pub groups : w.groups ≡ []
+  pub synced : w.synced ≡ 0
+  pub upto : w.shown.upto ≡ 0
+  pub waiting : w.shown.waiting ≡ []
+  pub rows : contents w.shown.store ≡ base_of w.source

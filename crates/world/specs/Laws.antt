@@ -1,0 +1,95 @@
+-- What an operator may rely on in each run with legal replies. A place is the index of an event and of its reply, from
+-- 0 on; a moment n is when the first n events are answered.
+use Rattle.std.specs.Prelude.{◌≡◌, ℕ, ℤ, ◌+◌, ◌<◌, ◌≤◌, Bool, true, false, List, [], ◌∷◌, length, take, slice_get, count_by, Option, Some, option_and_then}
+use Rattle.std.specs.FinMap.{get}
+use Rattle.schema.specs.declared.RowId.{RowId}
+use Rattle.record_codec.specs.declared.records.Record.{Record}
+use Rattle.world.specs.declared.events.Event.{Event}
+use Rattle.world.specs.declared.events.Event.TheVariants as events
+use Rattle.world.specs.declared.events.Reply.{Reply}
+use Rattle.world.specs.declared.events.Reply.TheVariants as replies
+use Rattle.world.specs.Past.{Past, flushed, synced, committed, accepted, dispatched, replicated, published}
+use Rattle.world.specs.Legal.{Setup, rows_after, AreLegal}
+
+-- these pairs, and behind them those of the events and their replies, the newest first
+abbrev pub pairs_after : Past → List Event → List Reply → Past
+pairs_after past [] replies_ = past
+pairs_after past (event ∷ events_) [] = past
+pairs_after past (event ∷ events_) (reply ∷ replies_) = pairs_after ((event, reply) ∷ past) events_ replies_
+
+-- the first n pairs of a run: what was said before the place n
+abbrev pub past_at : List Event → List Reply → ℕ → Past
+past_at events_ replies_ n = pairs_after [] (take n events_) (take n replies_)
+
+-- Each read at the replica shows the row as it is at the source after the first so many records of the log, and says
+-- how many.
+abbrev pub ReadsArePrefixes : Type 0
+ReadsArePrefixes = (setup : Setup) (log : List Record) (events_ : List Event) (replies_ : List Reply) → AreLegal setup log events_ replies_ →
+    (place : ℕ) (id : RowId) (upto : ℕ) (row : Option (List ℤ)) →
+    slice_get events_ place ≡ Some (events.Read id) → slice_get replies_ place ≡ Some (replies.Read upto row) →
+    row ≡ option_and_then (λ db. get db id) (rows_after setup log upto)
+
+-- No read is refused: each says the number that is published at its moment.
+abbrev pub ReadsAreAnswered : Type 0
+ReadsAreAnswered = (setup : Setup) (log : List Record) (events_ : List Event) (replies_ : List Reply) → AreLegal setup log events_ replies_ →
+    (place : ℕ) (id : RowId) → slice_get events_ place ≡ Some (events.Read id) →
+    (row : Option (List ℤ)) × (slice_get replies_ place ≡ Some (replies.Read (published (past_at events_ replies_ place)) row))
+
+-- No read shows a record that is not synced at the source by then.
+abbrev pub ReadsAreSynced : Type 0
+ReadsAreSynced = (setup : Setup) (log : List Record) (events_ : List Event) (replies_ : List Reply) → AreLegal setup log events_ replies_ →
+    (place upto : ℕ) (row : Option (List ℤ)) → slice_get replies_ place ≡ Some (replies.Read upto row) → upto ≤ synced (past_at events_ replies_ place)
+
+-- A later read never shows fewer records than an earlier one.
+abbrev pub ReadsNeverGoBack : Type 0
+ReadsNeverGoBack = (setup : Setup) (log : List Record) (events_ : List Event) (replies_ : List Reply) → AreLegal setup log events_ replies_ →
+    (before later m n : ℕ) (row seen : Option (List ℤ)) → before < later →
+    slice_get replies_ before ≡ Some (replies.Read m row) → slice_get replies_ later ≡ Some (replies.Read n seen) → m ≤ n
+
+-- The numbers of records, in order: no more are published than committed at the replica, no more committed there than
+-- given to workers, no more given than accepted, no more accepted than synced at the source, no more synced than
+-- flushed, and all flushed are in the log. And no more are committed at the source than synced.
+pub record AreInOrder (log : List Record) (past : Past) : Type 0 where
+  pub published_within : published past ≤ replicated past
+  pub replicated_within : replicated past ≤ dispatched past
+  pub dispatched_within : dispatched past ≤ accepted past
+  pub accepted_within : accepted past ≤ synced past
+  pub committed_within : committed past ≤ synced past
+  pub synced_within : synced past ≤ flushed past
+  pub flushed_within : flushed past ≤ length log
+
+-- At each moment the numbers are in order.
+abbrev pub PublishedWithin : Type 0
+PublishedWithin = (setup : Setup) (log : List Record) (events_ : List Event) (replies_ : List Reply) → AreLegal setup log events_ replies_ →
+    (moment : ℕ) → AreInOrder log (past_at events_ replies_ moment)
+
+-- the numbers at a moment, and those at a later one
+pub record NoneFalls (before later : Past) : Type 0 where
+  pub published_rises : published before ≤ published later
+  pub replicated_rises : replicated before ≤ replicated later
+  pub dispatched_rises : dispatched before ≤ dispatched later
+  pub accepted_rises : accepted before ≤ accepted later
+  pub committed_rises : committed before ≤ committed later
+  pub synced_rises : synced before ≤ synced later
+  pub flushed_rises : flushed before ≤ flushed later
+
+-- None of the numbers ever falls: what is synced stays synced, and what is published stays published.
+abbrev pub NumbersNeverFall : Type 0
+NumbersNeverFall = (setup : Setup) (log : List Record) (events_ : List Event) (replies_ : List Reply) → AreLegal setup log events_ replies_ →
+    (before later : ℕ) → before ≤ later → NoneFalls (past_at events_ replies_ before) (past_at events_ replies_ later)
+
+abbrev pub is_commit : Reply → Bool
+is_commit reply = elim reply [ replies.Commit gno ↦ true | _ ↦ false ]
+
+-- The commits at the replica come once each, in the order of the log: the first is of record 1, and each further one of
+-- the record behind the last.
+abbrev pub EachCommitOnceInOrder : Type 0
+EachCommitOnceInOrder = (setup : Setup) (log : List Record) (events_ : List Event) (replies_ : List Reply) → AreLegal setup log events_ replies_ →
+    (place gno : ℕ) → slice_get replies_ place ≡ Some (replies.Commit gno) → gno ≡ count_by is_commit (take place replies_) + 1
+
+-- What the replica accepts is synced at the source before, and is the next record behind those that it has.
+abbrev pub NothingUnsyncedIsAccepted : Type 0
+NothingUnsyncedIsAccepted = (setup : Setup) (log : List Record) (events_ : List Event) (replies_ : List Reply) → AreLegal setup log events_ replies_ →
+    (place : ℕ) → slice_get replies_ place ≡ Some replies.Accepted →
+    (gno : ℕ) × (slice_get events_ place ≡ Some (events.Deliver gno)) × (gno ≤ synced (past_at events_ replies_ place))
+    × (gno ≡ accepted (past_at events_ replies_ place) + 1)

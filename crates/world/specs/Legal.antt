@@ -1,0 +1,176 @@
+-- Legal replies: each reply is the one that the pairs before it and one legal log allow.
+use Rattle.std.specs.Prelude.{◌≡◌, ℕ, ◌+◌, ◌-◌, Bool, true, false, not, ◌&&◌, ◌||◌, ◌==◌, nat_le, if◌then◌else◌, List, [], ◌∷◌, ◌++◌, length, map, take, drop, Option, Some, None, option_and_then, ◌⊎◌}
+use Rattle.std.specs.Option.{option_map_or}
+use Rattle.std.specs.FinMap.{empty, get}
+use Rattle.schema.specs.declared.Table.{Table}
+use Rattle.rows.specs.Database.{Database}
+use Rattle.store_trait.specs.Batch.{Entry, put_batch}
+use Rattle.record_codec.specs.declared.records.Record.{Record}
+use Rattle.record_codec.specs.declared.fault.CodecFault.TheVariants as codec
+use Rattle.record_codec.specs.Log.{after, IsLegalLog}
+use Rattle.source_core.specs.declared.fault.SourceFault.{SourceFault}
+use Rattle.source_core.specs.declared.fault.SourceFault.TheVariants as source
+use Rattle.source_core.specs.Source.{Source, changes_of, seen_row}
+use Rattle.source_core.specs.Calls.{begin_fault, write_fault, read_fault, prepare_fault, queue_fault, is_empty_list, AreRecordsOf}
+use Rattle.replica_core.specs.declared.ReplicaFault.TheVariants as replica
+use Rattle.replica_core.specs.Replica.{Replica}
+use Rattle.replica_core.specs.Calls.{next_job, next_commit, finish_fault}
+use Rattle.world.specs.declared.events.Event.{Event}
+use Rattle.world.specs.declared.events.Event.TheVariants as events
+use Rattle.world.specs.declared.events.Reply.{Reply}
+use Rattle.world.specs.declared.events.Reply.TheVariants as replies
+use Rattle.world.specs.Past.{Past, flushed, unsynced, synced, committed, queue, transaction_of, accepted, dispatched, finished, replicated, published}
+
+-- what a run begins with: the schema, the rows that both sides hold, the greatest number of records, and the
+-- number of workers
+pub record Setup : Type 0 where
+  pub tables : List Table
+  pub base : List Entry
+  pub limit : ℕ
+  pub workers : ℕ
+
+abbrev pub base_rows : Setup → Database
+base_rows setup = put_batch setup.base empty
+
+-- the source's database after the first n records of the log
+abbrev pub rows_after : Setup → List Record → ℕ → Option Database
+rows_after setup log n = after setup.tables (base_rows setup) (take n log)
+
+-- the source, as the pairs so far and the log say that it stands
+abbrev pub source_at : Setup → List Record → Past → Source
+source_at setup log past = record {
+    tables = setup.tables;
+    base = setup.base;
+    limit = setup.limit;
+    log = take (flushed past) log;
+    synced = synced past;
+    committed = committed past;
+    sessions = transaction_of past 1 ∷ [];
+    queue = queue past;
+    halted = false;
+  }
+
+-- the replica
+abbrev pub replica_at : Setup → List Record → Past → Replica
+replica_at setup log past = record {
+    tables = setup.tables;
+    base = setup.base;
+    accepted = take (accepted past) log;
+    dispatched = dispatched past;
+    finished = finished past;
+    committed = replicated past;
+    published = published past;
+    workers = setup.workers;
+    stopped = None;
+  }
+
+-- the source's first cause of refusal, and else this reply
+abbrev pub refused_or : Option SourceFault → Reply → Reply
+refused_or None reply = reply
+refused_or (Some fault) reply = replies.Source fault
+
+abbrev pub stamp_of : Record → ℕ × ℕ
+stamp_of of = (of.sequence, of.parent)
+
+-- the records that the next flush logs: one for each queued transaction
+abbrev pub next_records : List Record → Past → List Record
+next_records log past = take (length (queue past)) (drop (flushed past) log)
+
+-- `nothing` exactly where none is queued. Else the queued transactions are the next records, in the order of
+-- the queue: each has its transaction's changes, in order, and the parent fixed when it was prepared
+abbrev pub FlushAnswers : Setup → List Record → Past → List ℕ → Reply → Type 0
+FlushAnswers setup log past [] reply = reply ≡ replies.Nothing
+FlushAnswers setup log past (first ∷ rest) reply =
+    (reply ≡ replies.Flushed (flushed past + 1) (map stamp_of (next_records log past)))
+    × AreRecordsOf (source_at setup log past) (flushed past + 1) (first ∷ rest) (next_records log past)
+
+-- the oldest group that was flushed and is not synced
+abbrev pub sync_reply : List (ℕ × ℕ) → Reply
+sync_reply [] = replies.Nothing
+sync_reply (group ∷ groups) = replies.Synced group.0 group.1
+
+abbrev pub commit_reply : Past → Reply
+commit_reply past = if committed past == synced past then replies.Nothing else replies.Committed (committed past + 1) (synced past)
+
+-- only synced records are delivered; the next is accepted, an earlier one skipped, and a later one a gap
+abbrev pub deliver_reply : Past → ℕ → Reply
+deliver_reply past gno =
+    if not (nat_le 1 gno && nat_le gno (synced past)) then replies.Unsynced
+    else if nat_le gno (accepted past) then replies.Skipped
+    else if gno == accepted past + 1 then replies.Accepted
+    else replies.Replica replica.Gap
+
+abbrev pub job_reply : Option ℕ → Reply
+job_reply None = replies.Nothing
+job_reply (Some gno) = replies.Job gno
+
+abbrev pub next_reply : Option ℕ → Reply
+next_reply None = replies.Nothing
+next_reply (Some gno) = replies.Commit gno
+
+-- The one reply that an event has after these pairs. No other reply is legal.
+abbrev pub Answers : Setup → List Record → Past → Event → Reply → Type 0
+Answers setup log past (events.Begin session) reply =
+    reply ≡ refused_or (begin_fault (source_at setup log past) session) replies.Done
+Answers setup log past (events.Write session change) reply =
+    reply ≡ refused_or (write_fault (source_at setup log past) session change) replies.Done
+Answers setup log past (events.See session id) reply =
+    reply ≡ refused_or (read_fault (source_at setup log past) session id) (replies.Seen (seen_row (source_at setup log past) session id))
+Answers setup log past (events.Prepare session) reply =
+    reply ≡ refused_or (prepare_fault (source_at setup log past) session)
+      (if is_empty_list (changes_of (source_at setup log past) session) then replies.Empty else replies.Prepared (committed past))
+Answers setup log past (events.Queue session) reply =
+    reply ≡ refused_or (queue_fault (source_at setup log past) session) replies.Done
+Answers setup log past events.Flush reply = FlushAnswers setup log past (queue past) reply
+Answers setup log past events.Sync reply = reply ≡ sync_reply (unsynced past)
+Answers setup log past events.Commit reply = reply ≡ commit_reply past
+Answers setup log past (events.Deliver gno) reply = reply ≡ deliver_reply past gno
+Answers setup log past events.Dispatch reply = reply ≡ job_reply (next_job (replica_at setup log past))
+Answers setup log past (events.Finish gno) reply =
+    reply ≡ option_map_or (λ fault. replies.Nothing) (finish_fault (replica_at setup log past) gno) (replies.Finished gno)
+Answers setup log past events.Next reply = reply ≡ next_reply (next_commit (replica_at setup log past))
+Answers setup log past events.Publish reply = reply ≡ replies.Published (replicated past)
+Answers setup log past (events.Read id) reply =
+    reply ≡ replies.Read (published past) (option_and_then (λ db. get db id) (rows_after setup log (published past)))
+
+abbrev pub is_source_memory : Reply → Bool
+is_source_memory reply = elim reply [ replies.Source fault ↦ (elim fault [ source.Memory ↦ true | _ ↦ false ]) | _ ↦ false ]
+
+abbrev pub is_replica_memory : Reply → Bool
+is_replica_memory reply = elim reply [ replies.Replica fault ↦ (elim fault [ replica.Memory ↦ true | _ ↦ false ]) | _ ↦ false ]
+
+abbrev pub is_codec_memory : Reply → Bool
+is_codec_memory reply = elim reply [ replies.Codec fault ↦ (elim fault [ codec.Memory ↦ true | _ ↦ false ]) | _ ↦ false ]
+
+-- whether an event may be answered so for want of memory. It changes nothing then
+abbrev pub lacks_memory : Event → Reply → Bool
+lacks_memory event reply = elim event [
+    | events.Write session change ↦ is_source_memory reply
+    | events.Prepare session ↦ is_source_memory reply
+    | events.Flush ↦ is_source_memory reply
+    | events.Sync ↦ (elim reply [ replies.NoRoom ↦ true | _ ↦ false ])
+    | events.Commit ↦ is_source_memory reply
+    | events.Deliver gno ↦ is_replica_memory reply || is_codec_memory reply
+    | events.Dispatch ↦ is_replica_memory reply
+    | events.Finish gno ↦ is_replica_memory reply
+    | events.Next ↦ is_replica_memory reply
+    | events.Publish ↦ is_replica_memory reply
+    | _ ↦ false
+  ]
+
+-- a reply that the pairs so far allow
+abbrev pub Allowed : Setup → List Record → Past → Event → Reply → Type 0
+Allowed setup log past event reply = (lacks_memory event reply ≡ true) ⊎ Answers setup log past event reply
+
+-- each reply is allowed behind the pairs before it
+abbrev pub AreAllowed : Setup → List Record → Past → List Event → List Reply → Type 0
+AreAllowed setup log past [] [] = Unit {0}
+AreAllowed setup log past (event ∷ events_) (reply ∷ replies_) =
+    Allowed setup log past event reply × AreAllowed setup log ((event, reply) ∷ past) events_ replies_
+AreAllowed setup log past [] (reply ∷ replies_) = ⊥
+AreAllowed setup log past (event ∷ events_) [] = ⊥
+
+-- the replies of a whole run, over one legal log
+pub record AreLegal (setup : Setup) (log : List Record) (events_ : List Event) (replies_ : List Reply) : Type 0 where
+  pub legal : IsLegalLog setup.tables (base_rows setup) log
+  pub allowed : AreAllowed setup log [] events_ replies_

@@ -1,0 +1,102 @@
+-- What the pairs of event and reply so far say. They are listed with the newest first.
+use Rattle.std.specs.Prelude.{◌≡◌, ℕ, ◌+◌, ◌-◌, Bool, true, false, not, ◌&&◌, ◌==◌, if◌then◌else◌, List, [], ◌∷◌, ◌++◌, length, drop, filter, Option, Some, None}
+use Rattle.std.specs.Option.{option_map}
+use Rattle.source_core.specs.declared.transaction.Phase.{Phase}
+use Rattle.source_core.specs.declared.transaction.Phase.TheVariants.{Active, Prepared}
+use Rattle.source_core.specs.Source.{Open}
+use Rattle.source_core.specs.Calls.{flushed_open, queued_phase, is_flushed_by}
+use Rattle.world.specs.declared.events.Event.{Event}
+use Rattle.world.specs.declared.events.Event.TheVariants as events
+use Rattle.world.specs.declared.events.Reply.{Reply}
+use Rattle.world.specs.declared.events.Reply.TheVariants as replies
+
+abbrev pub Past : Type 0
+Past = List (Event × Reply)
+
+abbrev pub is_done : Reply → Bool
+is_done reply = elim reply [ replies.Done ↦ true | _ ↦ false ]
+
+-- the number of records flushed
+abbrev pub flushed : Past → ℕ
+flushed [] = 0
+flushed (pair ∷ past) = elim pair.1 [ replies.Flushed first stamps ↦ flushed past + length stamps | _ ↦ flushed past ]
+
+-- the groups flushed and not synced, the oldest first: the numbers of the first and the last record of each
+abbrev pub unsynced : Past → List (ℕ × ℕ)
+unsynced [] = []
+unsynced (pair ∷ past) = elim pair.1 [
+    | replies.Flushed first stamps ↦ unsynced past ++ (first, flushed past + length stamps) ∷ []
+    | replies.Synced first last ↦ drop 1 (unsynced past)
+    | _ ↦ unsynced past
+  ]
+
+-- the number of records synced
+abbrev pub synced : Past → ℕ
+synced [] = 0
+synced (pair ∷ past) = elim pair.1 [ replies.Synced first last ↦ last | _ ↦ synced past ]
+
+-- the number of records committed at the source
+abbrev pub committed : Past → ℕ
+committed [] = 0
+committed (pair ∷ past) = elim pair.1 [ replies.Committed first last ↦ last | _ ↦ committed past ]
+
+-- the sessions whose transactions are queued, in order
+abbrev pub queue : Past → List ℕ
+queue [] = []
+queue (pair ∷ past) = elim pair.0 [
+    | events.Queue session ↦ if is_done pair.1 then queue past ++ session ∷ [] else queue past
+    | events.Flush ↦ (elim pair.1 [ replies.Flushed first stamps ↦ [] | _ ↦ queue past ])
+    | _ ↦ queue past
+  ]
+
+-- a session's transaction, of which this was said before the pair
+abbrev pub transaction_after : Past → ℕ → Event → Reply → Option Open → Option Open
+transaction_after past session event reply now = elim event [
+    | events.Begin number ↦ if is_done reply && number == session then Some (record { changes = []; phase = Active }) else now
+    | events.Write number change ↦
+        if is_done reply && number == session then option_map (λ t. record { changes = t.changes ++ change ∷ []; phase = t.phase }) now else now
+    | events.Prepare number ↦ (elim reply [
+        | replies.Prepared parent ↦ if number == session then option_map (λ t. record { changes = t.changes; phase = Prepared parent }) now else now
+        | replies.Empty ↦ if number == session then None else now
+        | _ ↦ now
+      ])
+    | events.Queue number ↦
+        if is_done reply && number == session then option_map (λ t. record { changes = t.changes; phase = queued_phase t.phase }) now else now
+    | events.Flush ↦ (elim reply [ replies.Flushed first stamps ↦ flushed_open (flushed past + 1) (queue past) session now | _ ↦ now ])
+    | events.Commit ↦ (elim reply [ replies.Committed first last ↦ if is_flushed_by last now then None else now | _ ↦ now ])
+    | _ ↦ now
+  ]
+
+-- a session's open transaction: the changes that it wrote since its begin, until it is committed or answered empty
+abbrev pub transaction_of : Past → ℕ → Option Open
+transaction_of [] session = None
+transaction_of (pair ∷ past) session = transaction_after past session pair.0 pair.1 (transaction_of past session)
+
+-- the number of records accepted at the replica
+abbrev pub accepted : Past → ℕ
+accepted [] = 0
+accepted (pair ∷ past) = elim pair.1 [ replies.Accepted ↦ accepted past + 1 | _ ↦ accepted past ]
+
+-- the number of records given to workers
+abbrev pub dispatched : Past → ℕ
+dispatched [] = 0
+dispatched (pair ∷ past) = elim pair.1 [ replies.Job gno ↦ dispatched past + 1 | _ ↦ dispatched past ]
+
+-- the numbers of the records whose results were taken and that are not committed at the replica
+abbrev pub finished : Past → List ℕ
+finished [] = []
+finished (pair ∷ past) = elim pair.1 [
+    | replies.Finished gno ↦ finished past ++ gno ∷ []
+    | replies.Commit gno ↦ filter (λ n. not (n == gno)) (finished past)
+    | _ ↦ finished past
+  ]
+
+-- the number of records committed at the replica
+abbrev pub replicated : Past → ℕ
+replicated [] = 0
+replicated (pair ∷ past) = elim pair.1 [ replies.Commit gno ↦ replicated past + 1 | _ ↦ replicated past ]
+
+-- the number of commits published at the replica
+abbrev pub published : Past → ℕ
+published [] = 0
+published (pair ∷ past) = elim pair.1 [ replies.Published upto ↦ upto | _ ↦ published past ]

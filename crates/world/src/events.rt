@@ -1,0 +1,118 @@
+//! What may happen in a world, and what is answered.
+
+ghost use Rattle.std.specs.Prelude.{◌≡◌};
+
+use record_codec::CodecFault;
+use replica_core::ReplicaFault;
+use rows::{Change, Row};
+use schema::RowId;
+use source_core::SourceFault;
+use std::marker::Model;
+
+/// One step of a run: one call of the source or of the replica, one publish or one read.
+#[derive(Clone, Copy, Debug, PartialEq, Eq)]
+pub enum Event {
+    /// The session opens a transaction.
+    Begin { session: u16 },
+    /// The session's transaction writes a change.
+    Write { session: u16, change: Change },
+    /// The session reads a row at the source.
+    See { session: u16, row: RowId },
+    /// The session's transaction takes no more changes, and its parent is fixed.
+    Prepare { session: u16 },
+    /// The session's transaction waits for the next flush.
+    Queue { session: u16 },
+    /// The queued transactions become the next records of the log.
+    Flush,
+    /// The oldest group of records that is not yet synced is written to the log.
+    Sync,
+    /// The synced transactions are committed.
+    Commit,
+    /// The record of this number comes to the replica.
+    Deliver { gno: u64 },
+    /// The replica's next record is given to a worker.
+    Dispatch,
+    /// The worker that has this record has done it.
+    Finish { gno: u64 },
+    /// The replica commits the next record.
+    Next,
+    /// The replica publishes all that it committed.
+    Publish,
+    /// A read at the replica.
+    Read { row: RowId },
+}
+
+/// The stamps of the records of a group, in log order: sequence number and parent of each.
+#[derive(Debug, Drop)]
+pub struct Stamps {
+    list: Vec<(u64, u64)>,
+}
+
+impl Model for Stamps {
+    ghost use Rattle.std.specs.Prelude.{List, ℕ};
+
+    ghost Value = { List (ℕ × ℕ) };
+
+    ghost view = { λ s. s.list.items };
+}
+
+impl Stamps {
+    /// These stamps. It takes no memory.
+    pub fn new(list: Vec<(u64, u64)>) -> Stamps
+        ensures { result ≡ list.items }
+    {
+        Stamps { list }
+    }
+
+    /// The stamps, in log order.
+    pub fn list(&self) -> &[(u64, u64)]
+        ensures { result.now ≡ self.now }
+    {
+        &self.list
+    }
+}
+
+/// What an event is answered.
+#[derive(Debug, Drop)]
+pub enum Reply {
+    /// The call was taken, and answers nothing.
+    Done,
+    /// What the session sees of the row.
+    Seen { row: Option<Row> },
+    /// The transaction is prepared, with this parent.
+    Prepared { parent: u64 },
+    /// The transaction had no changes, and has ended.
+    Empty,
+    /// The queued transactions are the records from this number on, with these stamps.
+    Flushed { first: u64, stamps: Stamps },
+    /// The records of these numbers are on the log.
+    Synced { first: u64, last: u64 },
+    /// The transactions of these numbers are committed.
+    Committed { first: u64, last: u64 },
+    /// There was nothing to do.
+    Nothing,
+    /// The replica took the record.
+    Accepted,
+    /// The replica had taken the record before.
+    Skipped,
+    /// The record is not on the log.
+    Unsynced,
+    /// The record of this number was given to a worker.
+    Job { gno: u64 },
+    /// The worker's result of this number was taken.
+    Finished { gno: u64 },
+    /// The record of this number is committed at the replica.
+    Commit { gno: u64 },
+    /// As many commits are published.
+    Published { upto: u64 },
+    /// The row after as many published commits.
+    Read { upto: u64, row: Option<Row> },
+    /// The source refused the call.
+    Source(SourceFault),
+    /// The replica refused the call.
+    Replica(ReplicaFault),
+    /// The record could not be read from its bytes.
+    Codec(CodecFault),
+    /// There was no memory to write the group to the log.
+    NoRoom,
+}

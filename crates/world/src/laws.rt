@@ -1,0 +1,42 @@
+//! What follows from the definition of legal replies for an operator. Each function states a law by its
+//! contract, and does nothing.
+
+ghost use Rattle.world.specs.Laws.{
+  ReadsArePrefixes,
+  ReadsAreAnswered,
+  ReadsAreSynced,
+  ReadsNeverGoBack,
+  PublishedWithin,
+  NumbersNeverFall,
+  EachCommitOnceInOrder,
+  NothingUnsyncedIsAccepted,
+};
+
+/// Each read at the replica is answered, with the row as the source had it after a beginning of its log that is synced.
+pub fn reads_are_prefixes()
+    ensures prefixes { ReadsArePrefixes }
+    ensures answered { ReadsAreAnswered }
+    ensures synced { ReadsAreSynced }
+{}
+
+/// A read never shows fewer records than a read before it did.
+pub fn reads_never_go_back()
+    ensures { ReadsNeverGoBack }
+{}
+
+/// At each moment no more records are published than committed at the replica, no more of those than accepted there,
+/// and no more of those than synced at the source; and none of these numbers ever falls.
+pub fn published_within()
+    ensures in_order { PublishedWithin }
+    ensures never_fall { NumbersNeverFall }
+{}
+
+/// The replica commits each record once, in the order of the log.
+pub fn each_commit_once_in_order()
+    ensures { EachCommitOnceInOrder }
+{}
+
+/// The replica accepts a record only once it is synced at the source, and only the next one.
+pub fn nothing_unsynced_is_accepted()
+    ensures { NothingUnsyncedIsAccepted }
+{}
