@@ -3,9 +3,9 @@
 ghost use Rattle.std.specs.Prelude.{◌≡◌};
 ghost use Rattle.mtr.specs.Command.{verb_of, alone, bare, event_of};
 
-use world::Event;
 use crate::words::Words;
 use rows::Change;
+use world::Event;
 
 /// The first word of an event's line.
 #[derive(Clone, Copy, Debug, PartialEq, Eq)]

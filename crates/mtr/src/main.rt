@@ -18,9 +18,8 @@ mod words;
 use command_line::options;
 use options::{LineFault, Options};
 use serve::{Ending, serve};
-use std::env;
-use std::io;
 use std::process::ExitCode;
+use std::{env, io};
 
 fn main(rt: HostRuntime) -> ExitCode {
     ExitCode::from(status(&rt))

@@ -22,8 +22,10 @@ const MAX_RECORDS: u64 = 9223372036854775807;
 
 /// The batch of these rows; `None` where a row comes twice.
 pub fn base_of(alloc: Global, rows: Vec<(RowId, Row)>) -> Result<Option<Batch>, Memory> {
-    let mut entries: Vec<(RowId, Option<Row>)> =
-        rows.iter().map(|(id, row)| (*id, Some(*row))).collect(alloc)?;
+    let mut entries: Vec<(RowId, Option<Row>)> = rows
+        .iter()
+        .map(|(id, row)| (*id, Some(*row)))
+        .collect(alloc)?;
     entries.sort_unstable_by_key(|entry| entry.0);
     Ok(Batch::from_entries(entries))
 }

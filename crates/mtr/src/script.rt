@@ -10,12 +10,12 @@ ghost use Rattle.std.specs.List.{slice_split};
 ghost use Rattle.mtr.specs.Script.{table_of, base_of, command_of, is_skipped, text_line, line_of, lines_of, said, said_with, added, Says};
 
 use crate::command::{Verb, alone, event_of};
-use world::Event;
 use crate::words::Words;
 use rows::{Change, Row};
 use schema::{Memory, RowId, Table};
 use std::alloc::Global;
 use thiserror::Error;
+use world::Event;
 
 /// What a script says.
 #[derive(Debug, Drop)]

@@ -25,7 +25,7 @@ use Rattle.source_core.specs.declared.fault.SourceFault.{SourceFault}
 use Rattle.source_core.specs.declared.fault.SourceFault.TheVariants.{Halted, NoSession, NotActive, WrongColumns, NoTable, TooManyChanges, RowExists}
 use Rattle.source_core.specs.Source.{Source, Open, seen_row}
 use Rattle.source_core.specs.Calls.{cause, shape_fault, rows_fault, write_fault, written, is_active}
-use Rattle.source_core.specs.Core.{IsCore, OpenStands, Applies, IsLast,  open_view, queue_view, phase_queue, with_change, left_of}
+use Rattle.source_core.specs.Core.{IsCore, OpenStands, Applies, IsLast, open_view, queue_view, phase_queue, with_change, left_of}
 use Rattle.std.proofs.lemmas.List.{take-append-drop, take_all, length-drop}
 use Rattle.record_codec.proofs.Logs.{after-push}
 use Rattle.source_core.proofs.Legal.{flat_has_parent}
@@ -34,23 +34,36 @@ use Rattle.source_core.proofs.Legal.{flat_has_parent}
 pub with_current : (ts : List Table) (rows : Database) (base : List Entry) (limit : ℕ) (log : List Record) (synced committed : ℕ) (old new : Option Transaction) →
     IsCore ts rows base limit log synced committed old → OpenStands ts rows log committed limit new → IsCore ts rows base limit log synced committed new
 with_current ts rows base limit log synced committed old new core stands = record {
-    flat = core.flat; legal = core.legal; few = core.few; bound = core.bound; synced_within = core.synced_within;
-    committed_within = core.committed_within; rows_are = core.rows_are; stands = stands;
-  }
+  flat = core.flat;
+  legal = core.legal;
+  few = core.few;
+  bound = core.bound;
+  synced_within = core.synced_within;
+  committed_within = core.committed_within;
+  rows_are = core.rows_are;
+  stands = stands;
+}
 
 pub opened : (ts : List Table) (rows : Database) (base : List Entry) (limit : ℕ) (log : List Record) (synced committed : ℕ) (old : Option Transaction) (pending : Pending) →
     old ≡ None → pending ≡ none_pending → IsCore ts rows base limit log synced committed old → IsCore ts rows base limit log synced committed (Some (record { overlay = pending; phase = Active }))
 opened ts rows base limit log synced committed None pending e new core =
     with_current ts rows base limit log synced committed None _ core
-      (subst (λ (p : Pending). Applies ts rows p) (sym new) (record { leaves = rows; follows = record { applied = refl; left = refl }; few = omega arith }), core.stands)
+    (subst (λ (p : Pending). Applies ts rows p) (sym new) (record { leaves = rows; follows = record { applied = refl; left = refl }; few = omega arith }), core.stands)
 opened ts rows base limit log synced committed (Some t) pending e new core = cc
 
 -- the parts, seen as a source
 abbrev pub source_of : List Table → List Entry → ℕ → List Record → ℕ → ℕ → Option Transaction → Bool → Source
 source_of ts base limit log synced committed current halted = record {
-    tables = ts; base = base; limit = limit; log = log; synced = synced; committed = committed;
-    sessions = option_map open_view current ∷ []; queue = queue_view current; halted = halted;
-  }
+  tables = ts;
+  base = base;
+  limit = limit;
+  log = log;
+  synced = synced;
+  committed = committed;
+  sessions = option_map open_view current ∷ [];
+  queue = queue_view current;
+  halted = halted;
+}
 
 a_fault : (fault : SourceFault) → Some fault ≡ None → ⊥
 a_fault fault e = cc
@@ -82,7 +95,7 @@ seen_is ts rows base limit log synced committed (Some t') t halted now e is core
     let applies = core.stands.0 in
     let same : t'.overlay ≡ t.overlay = same_overlay t' t e in
     let sees : get (seen t'.overlay rows) id ≡ seen_row (source_of ts base limit log synced committed (Some t') halted) 1 id =
-          rw (core.rows_are, applies.follows.applied) (ap (λ db. get db id) (seen-Follows applies.follows)) in
+    rw (core.rows_are, applies.follows.applied) (ap (λ db. get db id) (seen-Follows applies.follows)) in
     ap (λ p. get (seen p rows) id) (sym same) ∙ sees ∙ ap (λ s. seen_row s 1 id) is
 
 is_none : (o : Option (List ℤ)) → is_some o ≡ false → o ≡ None
@@ -108,19 +121,22 @@ wrote_one : (ts : List Table) (rows : Database) (base : List Entry) (limit : ℕ
     write_fault (source_of ts base limit log synced committed (Some (record { overlay = p; phase = phase })) halted) 1 change ≡ None →
     IsCore ts rows base limit log synced committed (Some (record { overlay = pushed p change (left_of change); phase = phase }))
     × (source_of ts base limit log synced committed (Some (record { overlay = pushed p change (left_of change); phase = phase })) halted
-       ≡ written (source_of ts base limit log synced committed (Some (record { overlay = p; phase = phase })) halted) 1 change)
+    ≡ written (source_of ts base limit log synced committed (Some (record { overlay = p; phase = phase })) halted) 1 change)
 wrote_one ts rows base limit log synced committed p Active halted change core e =
     let some = no_cause false NotActive _ (no_cause false NoSession _ (no_cause halted Halted _ e).1).1 in
     let room = no_cause (nat_le 1024 (length p.changes)) TooManyChanges _ (no_shape_fault ts change _ some.1) in
     let applies = core.stands.0 in
-    let more : length (p.changes ++ change ∷ []) ≤ 1024 = omega (arith, below (length p.changes) room.0, length-append p.changes (change ∷ [])) in
-    (with_current ts rows base limit log synced committed _ _ core
-       (record {
+    let more : length (p.changes ++ change ∷ []) ≤ 1024 = omega (arith, below (length p.changes) room.0, length-append p.changes (change ∷ [])) in (
+      with_current ts rows base limit log synced committed _ _ core (
+        record {
           leaves = put_row applies.leaves (target change) (left_of change);
           follows = put_change ts rows base limit log synced committed p halted change core room.1 applies.leaves applies.follows;
           few = more;
-        }, core.stands.1),
-     refl)
+        },
+        core.stands.1,
+      ),
+      refl,
+    )
 wrote_one ts rows base limit log synced committed p (Prepared parent) halted change core e =
     absurd (a_fault NotActive (no_cause halted Halted _ e).1)
 wrote_one ts rows base limit log synced committed p (Queued parent) halted change core e =
@@ -170,7 +186,12 @@ last_one ts rows base limit log synced committed p (Flushed gno) core more =
     let long : length log ≡ committed + 1 = one_more log committed last.made last.last within in
     let all : synced ≡ length log = by_one committed synced (length log) core.committed_within more core.synced_within long in
     record {
-      flat = core.flat; legal = core.legal; few = core.few; bound = core.bound; synced_within = core.synced_within; committed_within = omega arith;
+      flat = core.flat;
+      legal = core.legal;
+      few = core.few;
+      bound = core.bound;
+      synced_within = core.synced_within;
+      committed_within = omega arith;
       rows_are = ap (λ l. after ts (put_batch base empty) l) (take_all synced log (omega (arith, all))) ∙ last_leaves ts rows base log committed gno p core.rows_are core.stands.0 last;
       stands = all;
     }

@@ -61,8 +61,8 @@ rows_fault s session (Insert row columns) = cause (is_some (seen_row s session r
 abbrev pub write_fault : Source → ℕ → Change → Option SourceFault
 write_fault s session change =
     session_fault s session (cause (not (is_active (open_of s session))) NotActive
-      (shape_fault s.tables change (cause (nat_le 1024 (length (changes_of s session))) TooManyChanges
-        (rows_fault s session change))))
+    (shape_fault s.tables change (cause (nat_le 1024 (length (changes_of s session))) TooManyChanges
+    (rows_fault s session change))))
 
 abbrev pub written : Source → ℕ → Change → Source
 written s session change = with_open s session (Some (record { changes = changes_of s session ++ change ∷ []; phase = Active }))
@@ -93,7 +93,7 @@ prepared s session =
 abbrev pub queue_fault : Source → ℕ → Option SourceFault
 queue_fault s session =
     session_fault s session (cause (not (is_prepared (open_of s session))) NotPrepared
-      (cause (nat_le s.limit (length s.log + length s.queue)) Exhausted None))
+    (cause (nat_le s.limit (length s.log + length s.queue)) Exhausted None))
 
 -- the transaction goes from prepared to queued, with its parent
 abbrev pub queued_phase : Phase → Phase
@@ -196,12 +196,12 @@ session_with gno session (t ∷ ts) = if is_flushed_as gno t then session else s
 
 abbrev pub receipt_as : ℕ → Record → Receipt
 receipt_as session of = record {
-    session = session;
-    gno = of.gno;
-    sequence = of.sequence;
-    parent = of.parent;
-    changes = of.changes;
-  }
+  session = session;
+  gno = of.gno;
+  sequence = of.sequence;
+  parent = of.parent;
+  changes = of.changes;
+}
 
 abbrev pub receipt_of : Source → Record → Receipt
 receipt_of s of = receipt_as (session_with of.gno 1 s.sessions) of

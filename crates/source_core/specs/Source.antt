@@ -60,9 +60,16 @@ seen_row s session id = option_and_then (λ db. get db id) (session_rows s sessi
 -- a source that nothing was done to
 abbrev pub new_source : List Table → List Entry → ℕ → Source
 new_source ts base limit = record {
-    tables = ts; base = base; limit = limit; log = []; synced = 0; committed = 0;
-    sessions = None ∷ []; queue = []; halted = false;
-  }
+  tables = ts;
+  base = base;
+  limit = limit;
+  log = [];
+  synced = 0;
+  committed = 0;
+  sessions = None ∷ [];
+  queue = [];
+  halted = false;
+}
 
 -- What is true of every source: its log is legal, not too long, and its counts are in order.
 pub record IsSound (s : Source) : Type 0 where

@@ -8,11 +8,11 @@
 //! `record_codec` for records and groups.
 #![tactic(auto)]
 
-pub mod laws;
 mod fault;
+pub mod laws;
 mod machine;
 mod transaction;
 
-pub use machine::SourceCore;
 pub use fault::SourceFault;
+pub use machine::SourceCore;
 pub use transaction::{Phase, Prepared, Receipt};

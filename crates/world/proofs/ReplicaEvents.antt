@@ -57,21 +57,31 @@ unchanged contents w setup past st = st
 dispatch_given : {R : Type 0} (contents : R → Database) (w : World R) (job : Option ℕ) → IsWorld contents w → next_job w.replica ≡ job →
     Goes contents w events.Dispatch (dispatch_reply (Ok job)) (with_replica w (if is_some job then dispatched_next w.replica else w.replica))
 dispatch_given contents w None h e = record {
-    world = h;
-    grows = Extends_itself w.source.log;
-    stands = λ setup past st. record { flushed = st.flushed; source = st.source; accepted = st.accepted; replica = st.replica; unsynced = st.unsynced };
-    allowed = λ setup past log st longer. inr (ap job_reply (sym (ap next_job (replica_is contents setup past w log h st longer) ∙ e)));
-  }
+  world = h;
+  grows = Extends_itself w.source.log;
+  stands = λ setup past st. record { flushed = st.flushed; source = st.source; accepted = st.accepted; replica = st.replica; unsynced = st.unsynced };
+  allowed = λ setup past log st longer. inr (ap job_reply (sym (ap next_job (replica_is contents setup past w log h st longer) ∙ e)));
+}
 dispatch_given contents w (Some gno) h e = record {
-    world = record {
-        sound = h.sound; running = h.running; groups = h.groups; synced = h.synced; tables = h.tables; base = h.base; workers = h.workers; going = h.going;
-        accepted = h.accepted; delivered = h.delivered; upto = h.upto; rows = h.rows;
-        appended = record { upto = h.appended.upto; later = h.appended.later; done = h.appended.done; there = h.appended.there; are = h.appended.are };
-      };
-    grows = Extends_itself w.source.log;
-    stands = λ setup past st. record { flushed = st.flushed; source = st.source; accepted = st.accepted; replica = ap dispatched_next st.replica; unsynced = st.unsynced };
-    allowed = λ setup past log st longer. inr (ap job_reply (sym (ap next_job (replica_is contents setup past w log h st longer) ∙ e)));
-  }
+  world = record {
+    sound = h.sound;
+    running = h.running;
+    groups = h.groups;
+    synced = h.synced;
+    tables = h.tables;
+    base = h.base;
+    workers = h.workers;
+    going = h.going;
+    accepted = h.accepted;
+    delivered = h.delivered;
+    upto = h.upto;
+    rows = h.rows;
+    appended = record { upto = h.appended.upto; later = h.appended.later; done = h.appended.done; there = h.appended.there; are = h.appended.are };
+  };
+  grows = Extends_itself w.source.log;
+  stands = λ setup past st. record { flushed = st.flushed; source = st.source; accepted = st.accepted; replica = ap dispatched_next st.replica; unsynced = st.unsynced };
+  allowed = λ setup past log st longer. inr (ap job_reply (sym (ap next_job (replica_is contents setup past w log h st longer) ∙ e)));
+}
 
 pub dispatch_goes : {R : Type 0} (contents : R → Database) (w : World R) (answer : Result (Option ℕ) ReplicaFault) (next : Replica) →
     IsWorld contents w → answer ≡ unless_stopped w.replica (next_job w.replica) → IfOk answer (λ job. next ≡ (if is_some job then dispatched_next w.replica else w.replica)) →
@@ -95,45 +105,58 @@ shown_rows contents setup past w log h st longer =
 pub read_goes : {R : Type 0} (contents : R → Database) (w : World R) (id : RowId) (row : Option (List ℤ)) (upto : ℕ) → IsWorld contents w → row ≡ get (contents w.shown.store) id → upto ≡ w.shown.upto →
     Goes contents w (events.Read id) (replies.Read upto row) w
 read_goes {R} contents w id row upto h row_is upto_is = record {
-    world = h;
-    grows = Extends_itself w.source.log;
-    stands = λ setup past st. record { flushed = st.flushed; source = st.source; accepted = st.accepted; replica = st.replica; unsynced = st.unsynced };
-    allowed = λ setup past log st longer.
+  world = h;
+  grows = Extends_itself w.source.log;
+  stands = λ setup past st. record { flushed = st.flushed; source = st.source; accepted = st.accepted; replica = st.replica; unsynced = st.unsynced };
+  allowed = λ setup past log st longer.
       let number : upto ≡ published past = upto_is ∙ h.upto ∙ ap (λ (r : Replica). r.published) st.replica in
       let found : row ≡ option_and_then (λ db. get db id) (rows_after setup log (published past)) = row_is ∙ sym (ap (option_and_then (λ db. get db id)) (shown_rows contents setup past w log h st longer)) in
       inr (λ i. replies.Read (number i) (found i));
-  }
+}
 
 commit_given : {R : Type 0} (contents : R → Database) (w : World R) (commit : Option ℕ) → IsWorld contents w → next_commit w.replica ≡ commit →
     Goes contents w events.Next (next_commit_reply (Ok commit)) (with_replica w (if is_some commit then committed_next w.replica else w.replica))
 commit_given contents w None h e = record {
-    world = h;
-    grows = Extends_itself w.source.log;
-    stands = λ setup past st. record { flushed = st.flushed; source = st.source; accepted = st.accepted; replica = st.replica; unsynced = st.unsynced };
-    allowed = λ setup past log st longer. inr (ap next_reply (sym (ap next_commit (replica_is contents setup past w log h st longer) ∙ e)));
-  }
+  world = h;
+  grows = Extends_itself w.source.log;
+  stands = λ setup past st. record { flushed = st.flushed; source = st.source; accepted = st.accepted; replica = st.replica; unsynced = st.unsynced };
+  allowed = λ setup past log st longer. inr (ap next_reply (sym (ap next_commit (replica_is contents setup past w log h st longer) ∙ e)));
+}
 commit_given contents w (Some gno) h e =
     let is : gno ≡ w.replica.committed + 1 = next_is w.replica gno e in record {
-    world = record {
-        sound = h.sound; running = h.running; groups = h.groups; synced = h.synced; tables = h.tables; base = h.base; workers = h.workers; going = h.going;
-        accepted = h.accepted; delivered = h.delivered; upto = h.upto; rows = h.rows;
+      world = record {
+        sound = h.sound;
+        running = h.running;
+        groups = h.groups;
+        synced = h.synced;
+        tables = h.tables;
+        base = h.base;
+        workers = h.workers;
+        going = h.going;
+        accepted = h.accepted;
+        delivered = h.delivered;
+        upto = h.upto;
+        rows = h.rows;
         appended = record { upto = h.appended.upto; later = h.appended.later; done = omega (arith, h.appended.done); there = h.appended.there; are = h.appended.are };
       };
-    grows = Extends_itself w.source.log;
-    stands = λ setup past st.
-      let number : replicated past + 1 ≡ gno = ap (λ (r : Replica). r.committed + 1) (sym st.replica) ∙ sym is in
-      record {
-        flushed = st.flushed; source = st.source; accepted = st.accepted; unsynced = st.unsynced;
-        replica = ap committed_next st.replica
-          ∙ ap (λ n. record (replica_at setup w.source.log past) { committed = replicated past + 1; finished = filter (λ m. not (m == n)) (finished past) }) number;
-      };
-    allowed = λ setup past log st longer. inr (ap next_reply (sym (ap next_commit (replica_is contents setup past w log h st longer) ∙ e)));
-  } where
-  next_is : (r : Replica) (n : ℕ) → next_commit r ≡ Some n → n ≡ r.committed + 1
-  next_is r n k = sym (chosen (list_any (λ m. m == r.committed + 1) r.finished) k) where
-    chosen : (b : Bool) → (if b then Some (r.committed + 1) else None) ≡ Some n → r.committed + 1 ≡ n
-    chosen true q = cc q
-    chosen false q = absurd (cc q)
+      grows = Extends_itself w.source.log;
+      stands = λ setup past st.
+          let number : replicated past + 1 ≡ gno = ap (λ (r : Replica). r.committed + 1) (sym st.replica) ∙ sym is in
+          record {
+            flushed = st.flushed;
+            source = st.source;
+            accepted = st.accepted;
+            unsynced = st.unsynced;
+            replica = ap committed_next st.replica
+                ∙ ap (λ n. record (replica_at setup w.source.log past) { committed = replicated past + 1; finished = filter (λ m. not (m == n)) (finished past) }) number;
+          };
+      allowed = λ setup past log st longer. inr (ap next_reply (sym (ap next_commit (replica_is contents setup past w log h st longer) ∙ e)));
+    } where
+      next_is : (r : Replica) (n : ℕ) → next_commit r ≡ Some n → n ≡ r.committed + 1
+      next_is r n k = sym (chosen (list_any (λ m. m == r.committed + 1) r.finished) k) where
+        chosen : (b : Bool) → (if b then Some (r.committed + 1) else None) ≡ Some n → r.committed + 1 ≡ n
+        chosen true q = cc q
+        chosen false q = absurd (cc q)
 
 pub next_goes : {R : Type 0} (contents : R → Database) (w : World R) (answer : Result (Option ℕ) ReplicaFault) (next : Replica) →
     IsWorld contents w → IsErrOf answer faults.Memory ⊎ (answer ≡ unless_stopped w.replica (next_commit w.replica)) →
@@ -142,12 +165,12 @@ pub next_goes : {R : Type 0} (contents : R → Database) (w : World R) (answer :
 next_goes {R} contents w answer next h (inl memory) ok err =
     subst (λ (a : Result (Option ℕ) ReplicaFault). OnErr a (next ≡ w.replica) → Goes {R = R} contents w events.Next (next_commit_reply a) (with_replica w next)) (sym memory)
     (λ same. subst (λ (r : Replica). Goes {R = R} contents w events.Next (replies.Replica faults.Memory) (with_replica w r)) (sym same)
-      (record {
-        world = h;
-        grows = Extends_itself w.source.log;
-        stands = λ setup past st. record { flushed = st.flushed; source = st.source; accepted = st.accepted; replica = st.replica; unsynced = st.unsynced };
-        allowed = λ setup past log st longer. inl refl;
-      })) err
+    (record {
+      world = h;
+      grows = Extends_itself w.source.log;
+      stands = λ setup past st. record { flushed = st.flushed; source = st.source; accepted = st.accepted; replica = st.replica; unsynced = st.unsynced };
+      allowed = λ setup past log st longer. inl refl;
+    })) err
 next_goes {R} contents w answer next h (inr is) ok err =
     let gives : answer ≡ Ok (next_commit w.replica) = is ∙ running_answer w.replica (next_commit w.replica) h.going in
     subst (λ (a : Result (Option ℕ) ReplicaFault). IfOk a (λ commit. next ≡ (if is_some commit then committed_next w.replica else w.replica)) → Goes {R = R} contents w events.Next (next_commit_reply a) (with_replica w next)) (sym gives)
@@ -164,7 +187,7 @@ accepted_applies contents w gno h =
     let front : take gno w.replica.accepted ≡ take (min gno n) w.source.log = ap (take gno) h.accepted ∙ take_take gno n w.source.log in
     let leaves = beginning_leaves_rows w.source h.sound.legal (min gno n) in
     let same : after w.replica.tables (rows_before w.replica) (take gno w.replica.accepted) ≡ Some leaves.0 =
-          (λ i. after (h.tables i) (put_batch (h.base i) empty) (front i)) ∙ leaves.1 in
+    (λ i. after (h.tables i) (put_batch (h.base i) empty) (front i)) ∙ leaves.1 in
     ap is_some same
 
 -- why a replica that runs does not take a result
@@ -172,35 +195,45 @@ pub refused_finish : (r : Replica) (gno : ℕ) → r.stopped ≡ None → (finis
 refused_finish r gno going =
     let fault : Bool → Bool → Option ReplicaFault = λ given done. if not given then Some faults.Stranger else if done then Some faults.Double else None in
     let is : finish_fault r gno ≡ fault (nat_le 1 gno && nat_le gno r.dispatched) (was_finished r gno) =
-          ap (λ (o : Option ℕ). option_or (option_map_or (λ n. Some (faults.Stopped n)) o None) (fault (nat_le 1 gno && nat_le gno r.dispatched) (was_finished r gno))) going in
+    ap (λ (o : Option ℕ). option_or (option_map_or (λ n. Some (faults.Stopped n)) o None) (fault (nat_le 1 gno && nat_le gno r.dispatched) (was_finished r gno))) going in
     cases (nat_le 1 gno && nat_le gno r.dispatched) (was_finished r gno) is where
-  cases : (given done : Bool) → finish_fault r gno ≡ (if not given then Some faults.Stranger else if done then Some faults.Double else None) →
-      (finish_fault r gno ≡ None) ⊎ ((finish_fault r gno ≡ Some faults.Stranger) ⊎ (finish_fault r gno ≡ Some faults.Double))
-  cases false done e = inr (inl e)
-  cases true true e = inr (inr e)
-  cases true false e = inl e
+      cases : (given done : Bool) → finish_fault r gno ≡ (if not given then Some faults.Stranger else if done then Some faults.Double else None) →
+          (finish_fault r gno ≡ None) ⊎ ((finish_fault r gno ≡ Some faults.Stranger) ⊎ (finish_fault r gno ≡ Some faults.Double))
+      cases false done e = inr (inl e)
+      cases true true e = inr (inr e)
+      cases true false e = inl e
 
 finish_nothing : {R : Type 0} (contents : R → Database) (w : World R) (gno : ℕ) (fault : ReplicaFault) → IsWorld contents w → finish_fault w.replica gno ≡ Some fault → Goes contents w (events.Finish gno) replies.Nothing w
 finish_nothing contents w gno fault h e = record {
-    world = h;
-    grows = Extends_itself w.source.log;
-    stands = λ setup past st. record { flushed = st.flushed; source = st.source; accepted = st.accepted; replica = st.replica; unsynced = st.unsynced };
-    allowed = λ setup past log st longer.
+  world = h;
+  grows = Extends_itself w.source.log;
+  stands = λ setup past st. record { flushed = st.flushed; source = st.source; accepted = st.accepted; replica = st.replica; unsynced = st.unsynced };
+  allowed = λ setup past log st longer.
       inr (sym (ap (λ (o : Option ReplicaFault). option_map_or (λ f. replies.Nothing) o (replies.Finished gno)) (ap (λ (r : Replica). finish_fault r gno) (replica_is contents setup past w log h st longer) ∙ e)));
-  }
+}
 
 finish_taken : {R : Type 0} (contents : R → Database) (w : World R) (gno : ℕ) → IsWorld contents w → finish_fault w.replica gno ≡ None → Goes contents w (events.Finish gno) (replies.Finished gno) (with_replica w (with_finished w.replica gno))
 finish_taken contents w gno h e = record {
-    world = record {
-        sound = h.sound; running = h.running; groups = h.groups; synced = h.synced; tables = h.tables; base = h.base; workers = h.workers; going = h.going;
-        accepted = h.accepted; delivered = h.delivered; upto = h.upto; rows = h.rows;
-        appended = record { upto = h.appended.upto; later = h.appended.later; done = h.appended.done; there = h.appended.there; are = h.appended.are };
-      };
-    grows = Extends_itself w.source.log;
-    stands = λ setup past st. record { flushed = st.flushed; source = st.source; accepted = st.accepted; unsynced = st.unsynced; replica = ap (λ (r : Replica). with_finished r gno) st.replica };
-    allowed = λ setup past log st longer.
+  world = record {
+    sound = h.sound;
+    running = h.running;
+    groups = h.groups;
+    synced = h.synced;
+    tables = h.tables;
+    base = h.base;
+    workers = h.workers;
+    going = h.going;
+    accepted = h.accepted;
+    delivered = h.delivered;
+    upto = h.upto;
+    rows = h.rows;
+    appended = record { upto = h.appended.upto; later = h.appended.later; done = h.appended.done; there = h.appended.there; are = h.appended.are };
+  };
+  grows = Extends_itself w.source.log;
+  stands = λ setup past st. record { flushed = st.flushed; source = st.source; accepted = st.accepted; unsynced = st.unsynced; replica = ap (λ (r : Replica). with_finished r gno) st.replica };
+  allowed = λ setup past log st longer.
       inr (sym (ap (λ (o : Option ReplicaFault). option_map_or (λ f. replies.Nothing) o (replies.Finished gno)) (ap (λ (r : Replica). finish_fault r gno) (replica_is contents setup past w log h st longer) ∙ e)));
-  }
+}
 
 -- what a finish of a replica that runs answers, and what that leaves
 finish_gives : {R : Type 0} (contents : R → Database) (w : World R) (gno : ℕ) (next : Replica) (fault : Option ReplicaFault) (given : Result (Unit {0}) ReplicaFault) → IsWorld contents w → finish_fault w.replica gno ≡ fault →
@@ -225,13 +258,13 @@ pub finish_goes : {R : Type 0} (contents : R → Database) (w : World R) (gno : 
 finish_goes {R} contents w gno answer next h (inl memory) ok err =
     subst (λ (a : Result (Unit {0}) ReplicaFault). IfErr a (λ f. next ≡ left_by_fault w.replica f) → Goes {R = R} contents w (events.Finish gno) (finish_reply gno a) (with_replica w next)) (sym memory)
     (λ same. subst (λ (r : Replica). Goes {R = R} contents w (events.Finish gno) (replies.Replica faults.Memory) (with_replica w r)) (sym same)
-      (record {
-        world = h;
-        grows = Extends_itself w.source.log;
-        stands = λ setup past st. record { flushed = st.flushed; source = st.source; accepted = st.accepted; replica = st.replica; unsynced = st.unsynced };
-        allowed = λ setup past log st longer. inl refl;
-      })) err
+    (record {
+      world = h;
+      grows = Extends_itself w.source.log;
+      stands = λ setup past st. record { flushed = st.flushed; source = st.source; accepted = st.accepted; replica = st.replica; unsynced = st.unsynced };
+      allowed = λ setup past log st longer. inl refl;
+    })) err
 finish_goes contents w gno answer next h (inr is) ok err =
     let gives : answer ≡ option_map_or (λ f. Err f) (finish_fault w.replica gno) (Ok tt) =
-          is ∙ ap (λ b. option_map_or (λ f. Err f) (finish_fault w.replica gno) (if b then Ok tt else Err (faults.Stopped gno))) (accepted_applies contents w gno h) in
+    is ∙ ap (λ b. option_map_or (λ f. Err f) (finish_fault w.replica gno) (if b then Ok tt else Err (faults.Stopped gno))) (accepted_applies contents w gno h) in
     finish_gives contents w gno next (finish_fault w.replica gno) answer h refl gives (refused_finish w.replica gno h.going) ok err

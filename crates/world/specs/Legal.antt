@@ -39,30 +39,30 @@ rows_after setup log n = after setup.tables (base_rows setup) (take n log)
 -- the source, as the pairs so far and the log say that it stands
 abbrev pub source_at : Setup → List Record → Past → Source
 source_at setup log past = record {
-    tables = setup.tables;
-    base = setup.base;
-    limit = setup.limit;
-    log = take (flushed past) log;
-    synced = synced past;
-    committed = committed past;
-    sessions = transaction_of past 1 ∷ [];
-    queue = queue past;
-    halted = false;
-  }
+  tables = setup.tables;
+  base = setup.base;
+  limit = setup.limit;
+  log = take (flushed past) log;
+  synced = synced past;
+  committed = committed past;
+  sessions = transaction_of past 1 ∷ [];
+  queue = queue past;
+  halted = false;
+}
 
 -- the replica
 abbrev pub replica_at : Setup → List Record → Past → Replica
 replica_at setup log past = record {
-    tables = setup.tables;
-    base = setup.base;
-    accepted = take (accepted past) log;
-    dispatched = dispatched past;
-    finished = finished past;
-    committed = replicated past;
-    published = published past;
-    workers = setup.workers;
-    stopped = None;
-  }
+  tables = setup.tables;
+  base = setup.base;
+  accepted = take (accepted past) log;
+  dispatched = dispatched past;
+  finished = finished past;
+  committed = replicated past;
+  published = published past;
+  workers = setup.workers;
+  stopped = None;
+}
 
 -- the source's first cause of refusal, and else this reply
 abbrev pub refused_or : Option SourceFault → Reply → Reply
@@ -118,7 +118,7 @@ Answers setup log past (events.See session id) reply =
     reply ≡ refused_or (read_fault (source_at setup log past) session id) (replies.Seen (seen_row (source_at setup log past) session id))
 Answers setup log past (events.Prepare session) reply =
     reply ≡ refused_or (prepare_fault (source_at setup log past) session)
-      (if is_empty_list (changes_of (source_at setup log past) session) then replies.Empty else replies.Prepared (committed past))
+    (if is_empty_list (changes_of (source_at setup log past) session) then replies.Empty else replies.Prepared (committed past))
 Answers setup log past (events.Queue session) reply =
     reply ≡ refused_or (queue_fault (source_at setup log past) session) replies.Done
 Answers setup log past events.Flush reply = FlushAnswers setup log past (queue past) reply
@@ -145,18 +145,18 @@ is_codec_memory reply = elim reply [ replies.Codec fault ↦ (elim fault [ codec
 -- whether an event may be answered so for want of memory. It changes nothing then
 abbrev pub lacks_memory : Event → Reply → Bool
 lacks_memory event reply = elim event [
-    | events.Write session change ↦ is_source_memory reply
-    | events.Prepare session ↦ is_source_memory reply
-    | events.Flush ↦ is_source_memory reply
-    | events.Sync ↦ (elim reply [ replies.NoRoom ↦ true | _ ↦ false ])
-    | events.Commit ↦ is_source_memory reply
-    | events.Deliver gno ↦ is_replica_memory reply || is_codec_memory reply
-    | events.Dispatch ↦ is_replica_memory reply
-    | events.Finish gno ↦ is_replica_memory reply
-    | events.Next ↦ is_replica_memory reply
-    | events.Publish ↦ is_replica_memory reply
-    | _ ↦ false
-  ]
+  | events.Write session change ↦ is_source_memory reply
+  | events.Prepare session ↦ is_source_memory reply
+  | events.Flush ↦ is_source_memory reply
+  | events.Sync ↦ (elim reply [ replies.NoRoom ↦ true | _ ↦ false ])
+  | events.Commit ↦ is_source_memory reply
+  | events.Deliver gno ↦ is_replica_memory reply || is_codec_memory reply
+  | events.Dispatch ↦ is_replica_memory reply
+  | events.Finish gno ↦ is_replica_memory reply
+  | events.Next ↦ is_replica_memory reply
+  | events.Publish ↦ is_replica_memory reply
+  | _ ↦ false
+]
 
 -- a reply that the pairs so far allow
 abbrev pub Allowed : Setup → List Record → Past → Event → Reply → Type 0

@@ -25,10 +25,10 @@ flushed (pair ∷ past) = elim pair.1 [ replies.Flushed first stamps ↦ flushed
 abbrev pub unsynced : Past → List (ℕ × ℕ)
 unsynced [] = []
 unsynced (pair ∷ past) = elim pair.1 [
-    | replies.Flushed first stamps ↦ unsynced past ++ (first, flushed past + length stamps) ∷ []
-    | replies.Synced first last ↦ drop 1 (unsynced past)
-    | _ ↦ unsynced past
-  ]
+  | replies.Flushed first stamps ↦ unsynced past ++ (first, flushed past + length stamps) ∷ []
+  | replies.Synced first last ↦ drop 1 (unsynced past)
+  | _ ↦ unsynced past
+]
 
 -- the number of records synced
 abbrev pub synced : Past → ℕ
@@ -44,28 +44,28 @@ committed (pair ∷ past) = elim pair.1 [ replies.Committed first last ↦ last 
 abbrev pub queue : Past → List ℕ
 queue [] = []
 queue (pair ∷ past) = elim pair.0 [
-    | events.Queue session ↦ if is_done pair.1 then queue past ++ session ∷ [] else queue past
-    | events.Flush ↦ (elim pair.1 [ replies.Flushed first stamps ↦ [] | _ ↦ queue past ])
-    | _ ↦ queue past
-  ]
+  | events.Queue session ↦ if is_done pair.1 then queue past ++ session ∷ [] else queue past
+  | events.Flush ↦ (elim pair.1 [ replies.Flushed first stamps ↦ [] | _ ↦ queue past ])
+  | _ ↦ queue past
+]
 
 -- a session's transaction, of which this was said before the pair
 abbrev pub transaction_after : Past → ℕ → Event → Reply → Option Open → Option Open
 transaction_after past session event reply now = elim event [
-    | events.Begin number ↦ if is_done reply && number == session then Some (record { changes = []; phase = Active }) else now
-    | events.Write number change ↦
-        if is_done reply && number == session then option_map (λ t. record { changes = t.changes ++ change ∷ []; phase = t.phase }) now else now
-    | events.Prepare number ↦ (elim reply [
-        | replies.Prepared parent ↦ if number == session then option_map (λ t. record { changes = t.changes; phase = Prepared parent }) now else now
-        | replies.Empty ↦ if number == session then None else now
-        | _ ↦ now
-      ])
-    | events.Queue number ↦
-        if is_done reply && number == session then option_map (λ t. record { changes = t.changes; phase = queued_phase t.phase }) now else now
-    | events.Flush ↦ (elim reply [ replies.Flushed first stamps ↦ flushed_open (flushed past + 1) (queue past) session now | _ ↦ now ])
-    | events.Commit ↦ (elim reply [ replies.Committed first last ↦ if is_flushed_by last now then None else now | _ ↦ now ])
+  | events.Begin number ↦ if is_done reply && number == session then Some (record { changes = []; phase = Active }) else now
+  | events.Write number change ↦
+      if is_done reply && number == session then option_map (λ t. record { changes = t.changes ++ change ∷ []; phase = t.phase }) now else now
+  | events.Prepare number ↦ (elim reply [
+    | replies.Prepared parent ↦ if number == session then option_map (λ t. record { changes = t.changes; phase = Prepared parent }) now else now
+    | replies.Empty ↦ if number == session then None else now
     | _ ↦ now
-  ]
+  ])
+  | events.Queue number ↦
+      if is_done reply && number == session then option_map (λ t. record { changes = t.changes; phase = queued_phase t.phase }) now else now
+  | events.Flush ↦ (elim reply [ replies.Flushed first stamps ↦ flushed_open (flushed past + 1) (queue past) session now | _ ↦ now ])
+  | events.Commit ↦ (elim reply [ replies.Committed first last ↦ if is_flushed_by last now then None else now | _ ↦ now ])
+  | _ ↦ now
+]
 
 -- a session's open transaction: the changes that it wrote since its begin, until it is committed or answered empty
 abbrev pub transaction_of : Past → ℕ → Option Open
@@ -86,10 +86,10 @@ dispatched (pair ∷ past) = elim pair.1 [ replies.Job gno ↦ dispatched past +
 abbrev pub finished : Past → List ℕ
 finished [] = []
 finished (pair ∷ past) = elim pair.1 [
-    | replies.Finished gno ↦ finished past ++ gno ∷ []
-    | replies.Commit gno ↦ filter (λ n. not (n == gno)) (finished past)
-    | _ ↦ finished past
-  ]
+  | replies.Finished gno ↦ finished past ++ gno ∷ []
+  | replies.Commit gno ↦ filter (λ n. not (n == gno)) (finished past)
+  | _ ↦ finished past
+]
 
 -- the number of records committed at the replica
 abbrev pub replicated : Past → ℕ

@@ -24,7 +24,6 @@ use Rattle.world.specs.declared.events.Reply.TheVariants as replies
 use Rattle.world.specs.Past.{Past, flushed, synced, unsynced, published}
 use Rattle.world.specs.Legal.{Setup, source_at, replica_at, rows_after, base_rows}
 
-
 abbrev pub last_gno : Receipt → List Receipt → ℕ
 last_gno first [] = first.gno
 last_gno first (next ∷ rest) = last_gno next rest
