@@ -1,1 +1,6 @@
 pub mod Put
+pub mod Histories
+pub mod Adding
+pub mod Steps
+pub mod Words
+pub mod Slots

@@ -18,11 +18,11 @@ use Rattle.schema.specs.RowId.{row_cmp, same_row, exact_row, row_total}
 use Rattle.rows.specs.Database.{Database}
 use Rattle.store_trait.specs.Batch.{Entry, IsRising, put_row, put_batch}
 
-get-put_row : (db : Database) (k : RowId) (v : Option (List ℤ)) (q : RowId) → get (put_row db k v) q ≡ cond (same_row q k) v (get db q)
+pub get-put_row : (db : Database) (k : RowId) (v : Option (List ℤ)) (q : RowId) → get (put_row db k v) q ≡ cond (same_row q k) v (get db q)
 get-put_row db k None q = get-remove row_total db k q
 get-put_row db k (Some columns) q = get-insert row_total db k columns q
 
-tied : (o : Ordering) → is_eq o ≡ true → o ≡ Equal
+pub tied : (o : Ordering) → is_eq o ≡ true → o ≡ Equal
 tied Less h = cc
 tied Equal h = refl
 tied Greater h = cc
@@ -32,7 +32,7 @@ again true x y z = refl
 again false x y z = refl
 
 -- the later of two entries of a row counts
-put_row_again : (db : Database) (k : RowId) (v w : Option (List ℤ)) → put_row db k v ≡ put_row (put_row db k w) k v
+pub put_row_again : (db : Database) (k : RowId) (v w : Option (List ℤ)) → put_row db k v ≡ put_row (put_row db k w) k v
 put_row_again db k v w = same_map row_total exact_row _ _ (λ q.
     get-put_row db k v q ∙ again (same_row q k) v w (get db q)
     ∙ sym (get-put_row (put_row db k w) k v q ∙ ap (cond (same_row q k) v) (get-put_row db k w q)))

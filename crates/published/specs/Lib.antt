@@ -1,1 +1,8 @@
+pub mod History
+pub mod Book
+pub mod Held
+pub mod Copies
 pub mod Plain
+pub mod Publication
+pub mod Status
+pub mod Slot

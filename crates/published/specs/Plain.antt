@@ -1,8 +1,7 @@
 -- What one thread sees of a store that it publishes to.
-use Rattle.std.specs.Prelude.{◌≡◌, ℕ, List}
+use Rattle.std.specs.Prelude.{ℕ, List}
 use Rattle.store_trait.specs.Batch.{Entry}
-use Rattle.store_trait.specs.declared.Op.{Op}
-use Rattle.store_trait.specs.declared.Op.TheVariants.{Load, Commit}
+pub use Rattle.published.specs.History.{IsCommit}
 
 -- a store, the number of commits that it shows, and the batches that are appended behind these and not yet
 -- shown
@@ -10,8 +9,3 @@ pub record Shown (S : Type 0) : Type 0 where
   pub store : S
   pub upto : ℕ
   pub waiting : List (List Entry)
-
--- the operation is the commit of this number
-abbrev pub IsCommit : Op → ℕ → Type 0
-IsCommit (Load batch) n = ⊥
-IsCommit (Commit gno batch) n = gno ≡ n

@@ -1,10 +1,33 @@
-//! Publication of a store of rows.
+//! Publication of a store of rows: readers that take no lock, never wait and never go back.
+//!
+//! A `Publisher` keeps two copies in `left_right`. What lies in each is a store and the number of commits put
+//! into it, so memory grows with rows and not with commits. The operations themselves are one history, which
+//! only grows and exists in proofs alone (`logbook`): a `Notice` is a beginning of it, each copy carries the one
+//! that left its rows, and a `ReadSeat` answers from a version only where that begins with all that the seat saw
+//! or learnt. `Plain` is the same for one thread on one store, and `Status` has three words that are read and
+//! stored as one (`crossbeam_utils`). The rows are those of `store_trait`.
 #![tactic(auto)]
 
+mod book;
+mod counts;
 mod merge;
+mod opening;
 pub mod plain;
+mod publisher;
+mod seat;
+mod status;
+#[cfg(test)]
+mod tests;
+mod version;
 
+pub use book::{Beginning, Naming, Notice};
+pub use counts::Counts;
+pub use opening::{OpenError, open};
+pub use publisher::Publisher;
 use rows::Row;
+pub use seat::ReadSeat;
+pub use status::{Status, Watch};
+pub use version::{Common, Step, Version};
 
 /// What a read finds.
 #[derive(Clone, Copy, Debug, PartialEq, Eq)]

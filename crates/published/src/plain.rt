@@ -3,7 +3,7 @@ ghost use Rattle.std.specs.Prelude.{◌≡◌, ◌+◌, [], ◌∷◌, ◌++◌,
 ghost use Rattle.std.specs.FinMap.{empty, get as row_of};
 ghost use Rattle.store_trait.specs.Batch.{put_batch, put_batches};
 ghost use Rattle.store_trait.specs.Operation.{batch_of};
-ghost use Rattle.published.specs.Plain.{IsCommit};
+ghost use Rattle.published.specs.History.{IsCommit};
 
 use crate::Answer;
 use crate::merge::merged;

@@ -1,0 +1,67 @@
+-- Beginnings of one history, and a history with one more commit.
+use Rattle.std.proofs.Common.{◌≡◌, ℕ, ◌+◌, ◌≤◌, Bool, true, false, List, [], ◌∷◌, ◌++◌, length, refl, subst, arith, length-append, MatchBool}
+use Rattle.std.proofs.lemmas.Bool.Decides.{nat_tests}
+use Rattle.std.specs.Prelude.{nat_le}
+use mathlib.Core.List.{IsPrefix}
+use Rattle.store_trait.specs.declared.Op.{Op}
+use Rattle.store_trait.specs.declared.Op.TheVariants.{Load, Commit}
+use Rattle.published.specs.History.{IsCommit, CommitsFrom, IsHistory, StartsWith, commits_in}
+
+-- of two beginnings of one list the shorter begins the longer
+prefix_shorter : (xs ys zs : List Op) → IsPrefix xs zs → IsPrefix ys zs → length xs ≤ length ys → StartsWith ys xs
+prefix_shorter [] ys zs p q le = (ys, refl)
+prefix_shorter (x ∷ xs) [] zs p q le = absurd (omega arith)
+prefix_shorter (x ∷ xs) (y ∷ ys) [] p q le = absurd (cc (p.1))
+prefix_shorter (x ∷ xs) (y ∷ ys) (z ∷ zs) p q le =
+    let heads : y ≡ x = cc (p.1, q.1) in
+    let rest = prefix_shorter xs ys zs (p.0, cc (p.1)) (q.0, cc (q.1)) (omega arith) in
+    (rest.0, cc (heads, rest.1))
+
+-- a beginning as long as the whole is the whole
+prefix_whole : (xs ys : List Op) → IsPrefix xs ys → length ys ≤ length xs → xs ≡ ys
+prefix_whole [] [] p le = refl
+prefix_whole [] (y ∷ ys) p le = absurd (omega arith)
+prefix_whole (x ∷ xs) [] p le = absurd (cc (p.1))
+prefix_whole (x ∷ xs) (y ∷ ys) p le =
+    let rest = prefix_whole xs ys (p.0, cc (p.1)) (omega arith) in cc (p.1, rest)
+
+pub history_length : (ops : List Op) → IsHistory ops → length ops ≡ commits_in ops + 1
+history_length [] h = absurd h
+history_length (op ∷ ops) h = omega arith
+
+pub begins_by : (a b whole : List Op) → IsPrefix a whole → IsPrefix b whole → IsHistory a → IsHistory b → (t : Bool) → nat_le (commits_in a) (commits_in b) ≡ t
+    → MatchBool t (StartsWith b a) (StartsWith a b)
+begins_by a b whole p q ha hb true is =
+    let le : commits_in a ≤ commits_in b = grind (arith, nat_tests) in
+    prefix_shorter a b whole p q (omega (arith, history_length a ha, history_length b hb))
+begins_by a b whole p q ha hb false is =
+    let le : commits_in b ≤ commits_in a = grind (arith, nat_tests) in
+    prefix_shorter b a whole q p (omega (arith, history_length a ha, history_length b hb))
+
+-- a history that is as long as a beginning of it
+pub same_history : (v log : List Op) → IsPrefix v log → IsHistory v → IsHistory log → commits_in log ≡ commits_in v → v ≡ log
+same_history v log p hv hlog same = prefix_whole v log p (omega (arith, history_length v hv, history_length log hlog))
+
+pub commits_and : (n : ℕ) (ops : List Op) (op : Op) → CommitsFrom n ops → IsCommit op (n + length ops) → CommitsFrom n (ops ++ op ∷ [])
+commits_and n [] op h is = (subst (IsCommit op) (omega arith) is, tt)
+commits_and n (first ∷ ops) op h is = (h.0, commits_and (n + 1) ops op h.1 (subst (IsCommit op) (omega arith) is))
+
+pub history_and : (ops : List Op) (op : Op) → IsHistory ops → IsCommit op (commits_in ops + 1) → IsHistory (ops ++ op ∷ [])
+history_and [] op h is = absurd h
+history_and (Load base ∷ ops) op h is = commits_and 1 ops op h (subst (IsCommit op) (omega arith) is)
+history_and (Commit gno batch ∷ ops) op h is = absurd h
+
+pub commits_in-and : (ops : List Op) (op : Op) → IsHistory ops → commits_in (ops ++ op ∷ []) ≡ commits_in ops + 1
+commits_in-and ops op h = omega (arith, length-append ops (op ∷ []), history_length ops h)
+
+commits_with : (n : ℕ) (ops more : List Op) → CommitsFrom n ops → CommitsFrom (n + length ops) more → CommitsFrom n (ops ++ more)
+commits_with n [] more h rest = subst (λ k. CommitsFrom k more) (omega arith) rest
+commits_with n (op ∷ ops) more h rest = (h.0, commits_with (n + 1) ops more h.1 (subst (λ k. CommitsFrom k more) (omega arith) rest))
+
+pub history_with : (ops more : List Op) → IsHistory ops → CommitsFrom (commits_in ops + 1) more → IsHistory (ops ++ more)
+history_with [] more h rest = absurd h
+history_with (Load base ∷ ops) more h rest = commits_with 1 ops more h (subst (λ k. CommitsFrom k more) (omega arith) rest)
+history_with (Commit gno batch ∷ ops) more h rest = absurd h
+
+pub commits_in-with : (ops more : List Op) → IsHistory ops → commits_in (ops ++ more) ≡ commits_in ops + length more
+commits_in-with ops more h = omega (arith, length-append ops more, history_length ops h)

@@ -1,0 +1,216 @@
+//! The history of operations, which exists in proofs alone: all that seats see and are told is a beginning of
+//! it. What is shared at run time is one word, the number of its commits.
+ghost use Rattle.std.specs.Prelude.{◌≡◌, ◌+◌, ◌++◌, ◌∷◌, [], MatchBool, IfSome};
+ghost use Rattle.published.specs.History.{IsCommit, IsHistory, StartsWith, commits_in};
+ghost use Rattle.published.specs.Book.{head_of};
+ghost use Rattle.store_trait.specs.declared.Op.TheVariants.{Load};
+
+use logbook::{Gain, Offer, Opening, Plain, Play, Rule, Seen, Start, Word};
+use std::marker::{Brand, Model, PhantomData};
+use store_trait::{Batch, Op};
+
+/// The rule of the history.
+pub struct Law;
+
+impl Rule<Op, u64> for Law {
+    ghost use Rattle.std.specs.Prelude.{[]};
+    ghost use base.Fml.{ftrue};
+    ghost use Rattle.published.specs.Book.{IsKept};
+
+    ghost holds = { λ cells log. IsKept cells log };
+
+    ghost first = { [] };
+
+    ghost hinted = { λ n log. Unit {0} };
+
+    ghost shows = { λ log. [] };
+
+    ghost keeps = { λ names log. ftrue };
+
+    ghost moves = { λ ask before after answer. Unit {0} };
+}
+
+/// Nobody keeps anything beside the history.
+pub struct Nothing;
+
+impl Gain<Op, u64> for Nothing {
+    ghost use base.Fml.{ftrue};
+
+    ghost after = { λ names about answer. ftrue };
+}
+
+/// The history begins with the load of the base.
+pub struct Loads;
+
+impl Opening<Batch, Op> for Loads {
+    ghost use Rattle.std.specs.Prelude.{[], ◌∷◌};
+    ghost use Rattle.store_trait.specs.declared.Op.TheVariants.{Load};
+
+    ghost log = { λ count base. Load base ∷ [] };
+}
+
+/// A step that adds an operation.
+pub struct Add;
+
+impl Play<Op, u64> for Add {
+    ghost use Rattle.published.specs.Book.{Adds};
+
+    ghost then = { Adds };
+}
+
+impl Plain<Op, Op, u64> for Add {
+    ghost use Rattle.std.specs.Prelude.{None};
+
+    ghost ask = { λ op. op };
+
+    ghost state = { λ op. None };
+}
+
+/// Which publication a publisher, a seat and a notice are of: a type stands for it, so that those of two
+/// publications can't be mixed. Write a function over `J: Naming` that takes a `Beginning` and requires
+/// `beginning.book ≡ J.book`. Its caller passes the marker `Brand` for `J`, and says in its `Invariants.antt`
+/// that the book is that of the argument.
+pub trait Naming {
+    ghost use Rattle.logbook.specs.Pages.{Book};
+
+    ghost book: { Book };
+}
+
+impl Naming for Brand {
+    ghost book = { record { number = 0; log_name = 0; cells_name = 0 } };
+}
+
+/// The one word. It counts the commits of the history.
+#[derive(Drop)]
+pub struct Head<J: Naming> {
+    word: Word<Op, u64, Law>,
+    of: PhantomData<J>,
+    ghost word_is: { word ≡ head_of J.book },
+}
+
+/// The rows that are there at first, and the history that begins with their load. `open` takes it. Contracts see
+/// it as those rows, and which publication it is.
+#[derive(Drop)]
+pub struct Beginning {
+    base: Batch,
+    word: Word<Op, u64, Law>,
+    seen: Seen<Op, u64, Law>,
+}
+
+impl Model for Beginning {
+    ghost use Rattle.std.specs.Prelude.{◌≡◌, [], ◌∷◌};
+    ghost use Rattle.store_trait.specs.declared.Op.TheVariants.{Load};
+    ghost use Rattle.published.specs.Book.{head_of};
+    ghost use Rattle.published.specs.Publication.{Begun};
+
+    ghost Value = { Begun };
+
+    ghost view = { λ b. record { book = b.seen.book; base = b.base } };
+
+    ghost invariant = { λ b. (b.word ≡ head_of b.seen.book) × (b.seen.log ≡ Load b.base ∷ []) };
+}
+
+impl Beginning {
+    /// A new publication of this base. It takes no memory.
+    pub fn of(base: Batch) -> Beginning
+        ensures { result.base ≡ base }
+    {
+        let (seen, mut pens) = Seen::open_row::<Batch, Loads>(&base, Start::alone(), 1);
+        let word = Word::tracked(0, &mut pens.take());
+        Beginning { base, word, seen }
+    }
+
+    // The parts, under the name of this publication.
+    pub(crate) fn named<J: Naming>(self) -> (Batch, Head<J>, Notice<J>)
+        requires { self.book ≡ J.book }
+        ensures base { result.0 ≡ self.base }
+        ensures notice { result.2 ≡ Load self.base ∷ [] }
+    {
+        let Beginning { base, word, seen } = self;
+        let head = Head {
+            word,
+            of: PhantomData,
+        };
+        let notice = Notice {
+            upto: 0,
+            seen,
+            of: PhantomData,
+        };
+        (base, head, notice)
+    }
+}
+
+/// Operations that were published, the load first: a beginning of the history. Contracts see it as that list;
+/// at run time it is the number of its commits. It may go to any thread.
+#[derive(Drop)]
+pub struct Notice<J: Naming> {
+    upto: u64,
+    seen: Seen<Op, u64, Law>,
+    of: PhantomData<J>,
+}
+
+impl<J: Naming> Model for Notice<J> {
+    ghost use Rattle.std.specs.Prelude.{◌≡◌, List};
+    ghost use Rattle.store_trait.specs.declared.Op.{Op};
+    ghost use Rattle.published.specs.History.{IsHistory, commits_in};
+
+    ghost Value = { List Op };
+
+    ghost view = { λ n. n.seen.log };
+
+    ghost invariant = { λ n. (n.upto ≡ commits_in n.seen.log) × (n.seen.book ≡ J.book) × IsHistory n.seen.log };
+}
+
+impl<J: Naming> Notice<J> {
+    /// The gno of its last commit, 0 where it has the load alone.
+    pub fn upto(&self) -> u64
+        ensures number { result ≡ commits_in self.now }
+        ensures history { IsHistory self.now }
+    {
+        self.upto
+    }
+
+    /// A copy. It takes no memory.
+    pub fn again(&self) -> Notice<J>
+        ensures { result ≡ self.now }
+    {
+        Notice {
+            upto: self.upto,
+            seen: self.seen.again(),
+            of: PhantomData,
+        }
+    }
+
+    /// Whether the other begins with this one. If not, this one begins with the other. It takes no memory.
+    pub fn begins(&self, other: &Notice<J>) -> bool
+        ensures { MatchBool result (StartsWith other.now self.now) (StartsWith self.now other.now) }
+    {
+        let mut both = self.seen.again();
+        both.learn(&other.seen);
+        other.upto >= self.upto
+    }
+
+    // It and one more commit, `None` where the history went on without it.
+    pub(crate) fn and(self, head: &Head<J>, op: &Op) -> Option<Notice<J>>
+        requires { IsCommit op.now (commits_in self + 1) }
+        ensures { IfSome result (λ longer. longer ≡ self ++ op.now ∷ []) }
+    {
+        let Notice { upto, mut seen, of } = self;
+        let Op::Commit { gno, batch: _ } = op else {
+            unreachable!();
+        };
+        let mut offer: Offer<Op, u64, Law, Nothing> = seen.plain::<Nothing, Op, Add>(op);
+        let mut pen = seen.no_pen();
+        let found = head
+            .word
+            .compare_exchange::<Add, Nothing>(upto, *gno, &mut seen, &mut offer, &mut pen);
+        if found != upto {
+            return None;
+        }
+        Some(Notice {
+            upto: *gno,
+            seen,
+            of,
+        })
+    }
+}

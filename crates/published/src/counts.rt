@@ -1,0 +1,20 @@
+//! The words of the status, and what a pass to them knows.
+
+/// How far a replica is, in commits.
+#[derive(Clone, Copy, Debug, PartialEq, Eq)]
+pub struct Counts {
+    /// How many records were received.
+    pub received: u64,
+    /// How many of these are committed.
+    pub committed: u64,
+    /// How many commits are published.
+    pub published: u64,
+}
+
+/// What a pass knows. No value of it is made.
+pub struct Look {
+    /// The counts that it stored last.
+    pub last: Counts,
+    /// Whether it is the one that stores.
+    pub stores: bool,
+}

@@ -1,0 +1,180 @@
+//! The one who publishes.
+ghost use Rattle.std.specs.Prelude.{◌≡◌, ◌+◌, [], ◌∷◌, ◌++◌, length, drop, OnOk, OnErr, IfOk, IfSome, IsSomeAnd, MatchResult, fold};
+ghost use Rattle.std.specs.Option.{ForSome};
+ghost use Rattle.published.specs.Copies.{after_step, Settles};
+ghost use Rattle.store_trait.specs.Operation.{left_by};
+ghost use Rattle.published.specs.History.{IsCommit, IsHistory, commits_in};
+
+use crate::book::{Head, Naming, Notice};
+use crate::opening::OpenError;
+use crate::seat::ReadSeat;
+use crate::version::{Common, Consistent, Step, StoreWriter, Version};
+use core::mem::replace_with;
+use left_right::Absorb;
+use schema::Memory;
+use std::alloc::AllocError;
+use std::marker::Model;
+use std::sync::Wait;
+use store_trait::{Op, RowStore};
+
+/// It appends commits and publishes them. Contracts see it as the operations that are published, and those that
+/// wait. It is not `Drop`: end it by `close`. A struct that has one repeats its bound. One that lies under a lock
+/// has to be `Drop`, so it keeps the handle too, and closes the publisher in its `drop`.
+pub struct Publisher<S: RowStore + Drop, J: Naming>
+where
+    Version<S, J>: Absorb<Step<J>, State = Common>,
+{
+    writer: StoreWriter<S, J>,
+    head: Head<J>,
+    all: Option<Notice<J>>,
+    appended: u64,
+}
+
+impl<S: RowStore + Drop, J: Naming> Model for Publisher<S, J>
+where
+    Version<S, J>: Absorb<Step<J>, State = Common>,
+{
+    ghost use Rattle.std.specs.Prelude.{drop};
+    ghost use Rattle.published.specs.Copies.{puts_in};
+    ghost use Rattle.published.specs.Publication.{Publishing, IsTied};
+
+    ghost Value = { Publishing };
+
+    ghost view = { λ p. record { published = p.writer.desk.shown.value.by; waiting = puts_in (drop p.writer.behind p.writer.log.items) } };
+
+    ghost invariant = { λ p. IsTied (S.contents p.writer.desk.shown.value.store) p.writer.desk.shown.value.by (puts_in (drop p.writer.behind p.writer.log.items)) p.appended p.all };
+}
+
+impl<S: RowStore + Drop, J: Naming> Publisher<S, J> {
+    // Over the two copies, which have the load of the base.
+    pub(crate) fn begun(
+        writer: StoreWriter<S, J>,
+        head: Head<J>,
+        notice: Notice<J>,
+    ) -> Publisher<S, J>
+        requires load { IsHistory notice × (commits_in notice ≡ 0) }
+        requires shown { (writer.desk.shown.value.by ≡ notice) × (S.contents writer.desk.shown.value.store ≡ left_by notice) }
+        requires none { drop writer.behind writer.log.items ≡ [] }
+        ensures published { result.published ≡ notice }
+        ensures waiting { result.waiting ≡ [] }
+    {
+        Publisher {
+            writer,
+            head,
+            all: Some(notice),
+            appended: 0,
+        }
+    }
+
+    // A new seat, which has seen what is published.
+    pub(crate) fn seat(&self) -> Result<ReadSeat<S, J>, OpenError>
+        ensures { IfOk result (λ seat. seat ≡ self.now.published) }
+    {
+        match self.writer.factory().reader() {
+            Ok(reader) => Ok(ReadSeat::taken(reader, self.tell())),
+            Err(_) => Err(OpenError::SeatRefused),
+        }
+    }
+
+    /// Appends a commit, which no reader sees before the next `publish`. It is the one of the gno after the last
+    /// appended, 1 at first. The time and the memory are those of a copy of the batch.
+    pub fn append(&mut self, op: &Op) -> Result<(), Memory>
+        requires { IsCommit op.now (commits_in self.old.published + length self.old.waiting + 1) }
+        ensures ok { OnOk result (self.new ≡ record self.old { waiting = self.old.waiting ++ op.now ∷ [] }) }
+        ensures err { OnErr result (self.new ≡ self.old) }
+    {
+        let Op::Commit { gno, batch } = op else {
+            unreachable!();
+        };
+        let batch = batch.copy()?;
+        add(&mut self.writer, Step::Put(Op::Commit { gno: *gno, batch }))?;
+        self.appended = *gno;
+        self.all = and(self.all.take(), &self.head, op);
+        Ok(())
+    }
+
+    /// Publishes all that was appended, at once, and answers how many commits are published then. Where memory
+    /// runs out nothing changes, and the next `publish` publishes the same and what came since. It waits for
+    /// readers that are still in the version before the last. The time is n log m, for the n entries that wait
+    /// and those of the `publish` before, and a store of m rows; each entry goes into both copies. The memory is
+    /// what the new rows need. (It would also answer `Memory` if another had added to the history, which nobody
+    /// but this publisher can.)
+    pub fn publish<R: Wait>(&mut self, rt: &R) -> Result<u64, Memory>
+        ensures number { IfOk result (λ upto. (upto ≡ commits_in self.new.published) × (upto ≡ commits_in self.old.published + length self.old.waiting)) }
+        ensures history { IsHistory self.new.published }
+        ensures published { OnOk result (self.new.published ≡ self.old.published ++ self.old.waiting) }
+        ensures all { OnOk result (self.new.waiting ≡ []) }
+        ensures err { OnErr result (self.new ≡ self.old) }
+    {
+        let Some(all) = &self.all else {
+            return Err(Memory);
+        };
+        add(&mut self.writer, Step::Mark(all.again()))?;
+        show(&mut self.writer, rt)?;
+        Ok(self.appended)
+    }
+
+    /// What is published now. It takes no memory.
+    pub fn tell(&self) -> Notice<J>
+        ensures { result ≡ self.now.published }
+    {
+        self.writer.published().by.again()
+    }
+}
+
+// Under the bound of the struct, so that the `Drop` of a type that holds a publisher may call it.
+impl<S: RowStore + Drop, J: Naming> Publisher<S, J>
+where
+    Version<S, J>: Absorb<Step<J>, State = Common>,
+{
+    /// Waits for the readers, which from then on get no answer, and gives back the store that was published
+    /// last. What waits is dropped.
+    pub fn close<R: Wait>(self, rt: &R) -> S
+        ensures { S.contents result ≡ left_by self.published }
+    {
+        let Publisher {
+            writer,
+            head: _head,
+            all: _all,
+            appended: _,
+        } = self;
+        let Version { store, by: _by } = Box::into_inner(writer.take(rt));
+        store
+    }
+}
+
+// One more step that waits.
+fn add<S: RowStore + Drop, J: Naming>(
+    writer: &mut StoreWriter<S, J>,
+    step: Step<J>,
+) -> Result<(), Memory>
+    ensures desk { writer.new.desk ≡ writer.old.desk }
+    ensures ok { OnOk result (drop writer.new.behind writer.new.log.items ≡ drop writer.old.behind writer.old.log.items ++ step ∷ []) }
+    ensures err { OnErr result (drop writer.new.behind writer.new.log.items ≡ drop writer.old.behind writer.old.log.items) }
+{
+    writer.append(step).map_err(|_| Memory)
+}
+
+// Shows readers a copy that has taken all the steps, and is what its operations leave.
+fn show<S: RowStore + Drop, J: Naming, R: Wait>(
+    writer: &mut StoreWriter<S, J>,
+    rt: &R,
+) -> Result<(), AllocError>
+    requires { Settles (record { rows = S.contents writer.old.desk.shown.value.store; by = writer.old.desk.shown.value.by }) (drop writer.old.behind writer.old.log.items) }
+    ensures ok { OnOk result (drop writer.new.behind writer.new.log.items ≡ []) }
+    ensures shown { OnOk result (record { rows = S.contents writer.new.desk.shown.value.store; by = writer.new.desk.shown.value.by } ≡ fold after_step (record { rows = S.contents writer.old.desk.shown.value.store; by = writer.old.desk.shown.value.by }) (drop writer.old.behind writer.old.log.items)) }
+    ensures err { OnErr result (drop writer.new.behind writer.new.log.items ≡ drop writer.old.behind writer.old.log.items) }
+    ensures same { OnErr result (writer.new.desk.shown.value ≡ writer.old.desk.shown.value) }
+{
+    replace_with(writer, rt, |writer, rt| {
+        writer.publish_as::<Consistent, R>(rt)
+    })
+}
+
+// All operations and one more.
+fn and<J: Naming>(all: Option<Notice<J>>, head: &Head<J>, op: &Op) -> Option<Notice<J>>
+    requires { ForSome all (λ ops. IsCommit op.now (commits_in ops + 1)) }
+    ensures { IfSome result (λ longer. IsSomeAnd all (λ ops. longer ≡ ops ++ op.now ∷ [])) }
+{
+    all?.and(head, op)
+}

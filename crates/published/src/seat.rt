@@ -1,0 +1,94 @@
+//! The seats of those who read.
+ghost use Rattle.std.specs.Prelude.{◌≡◌, IfSome, IfNone};
+ghost use Rattle.std.specs.FinMap.{get as row_of};
+ghost use Rattle.store_trait.specs.Operation.{left_by};
+ghost use Rattle.published.specs.History.{IsHistory, StartsWith, commits_in};
+
+use crate::Answer;
+use crate::book::{Naming, Notice};
+use crate::version::{Consistent, StoreReader};
+use rows::Row;
+use schema::RowId;
+use std::marker::Model;
+use store_trait::RowStore;
+
+/// It reads what is published, in any one thread. Contracts see it as its seen list: the longest of the lists of
+/// operations from which it answered and of the notices that it learnt.
+#[derive(Drop)]
+pub struct ReadSeat<S: RowStore + Drop, J: Naming> {
+    reader: Option<StoreReader<S, J>>,
+    seen: Notice<J>,
+}
+
+impl<S: RowStore + Drop, J: Naming> Model for ReadSeat<S, J> {
+    ghost use Rattle.std.specs.Prelude.{List, IsSome};
+    ghost use Rattle.store_trait.specs.declared.Op.{Op};
+
+    ghost Value = { List Op };
+
+    ghost view = { λ s. s.seen };
+
+    ghost invariant = { λ s. IsSome s.reader };
+}
+
+impl<S: RowStore + Drop, J: Naming> ReadSeat<S, J> {
+    // A seat that has seen so much.
+    pub(crate) fn taken(reader: StoreReader<S, J>, seen: Notice<J>) -> ReadSeat<S, J>
+        ensures { result ≡ seen }
+    {
+        ReadSeat {
+            reader: Some(reader),
+            seen,
+        }
+    }
+
+    /// The row as one list of published operations leaves it, which begins with all that this seat saw or
+    /// learnt, and is its seen list from then on. It takes no lock and no memory, and waits for nobody; the time
+    /// is logarithmic in the number of rows. `None` where `left_right` refuses the entry, as once the publisher
+    /// is closed. It would also be `None` at a version older than what the seat knows, which `left_right` never
+    /// shows, though its clauses do not say so across seats.
+    pub fn read(&mut self, id: RowId) -> Option<Answer>
+        ensures row { IfSome result (λ answer. answer.row ≡ row_of (left_by self.new) id) }
+        ensures upto { IfSome result (λ answer. answer.upto ≡ commits_in self.new) }
+        ensures history { IfSome result (λ answer. IsHistory self.new) }
+        ensures later { StartsWith self.new self.old }
+        ensures none { IfNone result (self.new ≡ self.old) }
+    {
+        let (reader, found) = enter(self.reader.take().unwrap(), id);
+        self.reader = Some(reader);
+        let (row, by) = found?;
+        if !self.seen.begins(&by) {
+            return None;
+        }
+        let upto = by.upto();
+        self.seen = by;
+        Some(Answer { row, upto })
+    }
+
+    /// From now on no answer is below the notice. It takes no memory.
+    pub fn learn(&mut self, notice: Notice<J>)
+        ensures kept { StartsWith self.new self.old }
+        ensures learnt { StartsWith self.new notice }
+    {
+        if self.seen.begins(&notice) {
+            self.seen = notice;
+        }
+    }
+}
+
+// The row in the version that is taken, and the operations that left that version.
+fn enter<S: RowStore + Drop, J: Naming>(
+    reader: StoreReader<S, J>,
+    id: RowId,
+) -> (StoreReader<S, J>, Option<(Option<Row>, Notice<J>)>)
+    ensures { IfSome result.1 (λ found. found.0 ≡ row_of (left_by found.1) id) }
+{
+    match reader.enter_as::<Consistent>() {
+        Ok(reading) => {
+            let version = reading.get();
+            let found = (version.store.get(id), version.by.again());
+            (reading.leave(), Some(found))
+        }
+        Err(reader) => (reader, None),
+    }
+}
