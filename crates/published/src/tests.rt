@@ -49,7 +49,7 @@ fn answer(upto: u64) -> Answer
 #[test]
 fn plain_publishes_all_at_once(rt: HostRuntime) -> Result<(), Fail> {
     let alloc = rt.alloc();
-    let mut plain = Plain::new(alloc, Slot::new(), set_to(alloc, 0)?)?;
+    let mut plain = Plain::new(alloc, Slot::new(alloc), set_to(alloc, 0)?)?;
     plain.append(&commit(alloc, 1)?)?;
     assert_eq!(rt; plain.read(ONE), answer(0));
     assert_eq!(rt; plain.publish()?, 1);
@@ -79,8 +79,8 @@ fn seen_by_one<J: Naming, R: Wait + Abort>(
         rt,
         alloc,
         beginning,
-        Slot::new(),
-        Slot::new(),
+        Slot::new(alloc),
+        Slot::new(alloc),
         1,
     )?;
     let seat = seats.pop();
@@ -117,6 +117,119 @@ fn steps<J: Naming, R: Wait>(
     let published = seat.read(ONE);
     seat.learn(publisher.tell());
     Ok([first, appended, published, seat.read(ONE)])
+}
+
+// A call that was refused, and then made again.
+#[derive(Clone, Copy, Debug, PartialEq, Eq)]
+enum Refused {
+    Append,
+    Publish,
+}
+
+/// With one allocation after another refused, a call that is refused leaves what readers see, and does its work when
+/// it is made again. Which was refused is said in the output, so that a run by hand shows it.
+#[test]
+fn refused_growth_keeps_the_old_version(rt: HostRuntime) -> Result<(), Fail> {
+    let alloc = rt.alloc();
+    let (Ok(bases), Ok(commits)) = (two_bases(alloc), two_commits(alloc)) else {
+        return Ok(println!(rt; "refused before open")?);
+    };
+    let (base, other) = bases;
+    let (first, second) = commits;
+    match grown::<Brand, _>(&rt, alloc, Beginning::of(base), &first, &second) {
+        Ok(None) => println!(rt; "none refused")?,
+        Ok(Some(Refused::Append)) => println!(rt; "append refused")?,
+        Ok(Some(Refused::Publish)) => println!(rt; "publish refused")?,
+        Err(_) => {
+            println!(rt; "open refused")?;
+            let again = grown::<Brand, _>(&rt, alloc, Beginning::of(other), &first, &second);
+            assert_eq!(rt; again, Ok(None));
+        }
+    }
+    Ok(())
+}
+
+fn two_bases(alloc: Global) -> Result<(Batch, Batch), Memory> {
+    Ok((set_to(alloc, 0)?, set_to(alloc, 0)?))
+}
+
+fn two_commits(alloc: Global) -> Result<(Op, Op), Memory>
+    ensures { IfOk result (λ ops. IsCommit ops.0 1 × IsCommit ops.1 2) }
+{
+    Ok((commit(alloc, 1)?, commit(alloc, 2)?))
+}
+
+// Opens, and publishes two commits. It answers which of these calls was refused.
+fn grown<J: Naming, R: Wait + Abort>(
+    rt: &R,
+    alloc: Global,
+    beginning: Beginning,
+    first: &Op,
+    second: &Op,
+) -> Result<Option<Refused>, OpenError>
+    requires book { beginning.book ≡ J.book }
+    requires commits { IsCommit first.now 1 × IsCommit second.now 2 }
+{
+    let (mut publisher, mut seats) = open::<Slot, J, R>(
+        rt,
+        alloc,
+        beginning,
+        Slot::new(alloc),
+        Slot::new(alloc),
+        1,
+    )?;
+    let refused = match seats.pop() {
+        Some(seat) => grow_twice(rt, &mut publisher, seat, first, second),
+        None => Err(Memory),
+    };
+    publisher.close(rt);
+    Ok(refused?)
+}
+
+fn grow_twice<J: Naming, R: Wait + Abort>(
+    rt: &R,
+    publisher: &mut Publisher<Slot, J>,
+    mut seat: ReadSeat<Slot, J>,
+    first: &Op,
+    second: &Op,
+) -> Result<Option<Refused>, Memory>
+    requires none { (commits_in publisher.old.published ≡ 0) × (publisher.old.waiting ≡ []) }
+    requires commits { IsCommit first.now 1 × IsCommit second.now 2 }
+{
+    let one = grow(rt, publisher, &mut seat, first, 1)?;
+    let two = grow(rt, publisher, &mut seat, second, 2)?;
+    Ok(one.or(two))
+}
+
+// Publishes the commit of this gno. Until it is published, the seat reads the row of the one before.
+fn grow<J: Naming, R: Wait + Abort>(
+    rt: &R,
+    publisher: &mut Publisher<Slot, J>,
+    seat: &mut ReadSeat<Slot, J>,
+    op: &Op,
+    gno: u64,
+) -> Result<Option<Refused>, Memory>
+    requires small { (0 < gno) × (gno < 2 ^ 63) }
+    requires next { commits_in publisher.old.published + 1 ≡ gno }
+    requires none { publisher.old.waiting ≡ [] }
+    requires commit { IsCommit op.now gno }
+    ensures number { OnOk result (commits_in publisher.new.published ≡ gno) }
+    ensures all { OnOk result (publisher.new.waiting ≡ []) }
+{
+    let mut refused = None;
+    if publisher.append(op).is_err() {
+        refused = Some(Refused::Append);
+        assert_eq!(rt; seat.read(ONE), Some(answer(gno - 1)));
+        publisher.append(op)?;
+    }
+    assert_eq!(rt; seat.read(ONE), Some(answer(gno - 1)));
+    if publisher.publish(rt).is_err() {
+        refused = Some(Refused::Publish);
+        assert_eq!(rt; seat.read(ONE), Some(answer(gno - 1)));
+        publisher.publish(rt)?;
+    }
+    assert_eq!(rt; seat.read(ONE), Some(answer(gno)));
+    Ok(refused)
 }
 
 #[test]
@@ -158,8 +271,8 @@ fn run_beside<J: Naming + Send + Sync, R: Threads + Wait + Abort + Sync>(
         rt,
         alloc,
         beginning,
-        Slot::new(),
-        Slot::new(),
+        Slot::new(alloc),
+        Slot::new(alloc),
         2,
     )?;
     let board = Mutex::new(Board {

@@ -1,4 +1,5 @@
-//! A store that has room for the row of key 10 of table 1 alone.
+//! A store that has room for the row of key 10 of table 1 alone. Each batch takes memory for a moment, as a larger
+//! store needs for new rows, so that it may be refused.
 ghost use Rattle.std.specs.Prelude.{◌≡◌, ◌↔◌, IsTrue, OnOk, OnErr};
 ghost use Rattle.std.specs.FinMap.{empty};
 ghost use Rattle.store_trait.specs.Contents.{IsAbove};
@@ -6,22 +7,24 @@ ghost use Rattle.published.specs.Slot.{the_one};
 
 use rows::Row;
 use schema::{Memory, RowId};
+use std::alloc::Global;
 use store_trait::{Batch, RowStore};
 
 pub const ONE: RowId = RowId { table: 1, key: 10 };
 
 #[derive(Drop)]
 pub struct Slot {
+    alloc: Global,
     row: Option<Row>,
 }
 
 impl Slot {
     ghost use Rattle.published.specs.Slot.{slot};
 
-    pub fn new() -> Slot
+    pub fn new(alloc: Global) -> Slot
         ensures { slot result.row ≡ empty }
     {
-        Slot { row: None }
+        Slot { alloc, row: None }
     }
 }
 
@@ -35,6 +38,7 @@ impl RowStore for Slot {
     }
 
     fn put_all(&mut self, batch: &Batch) -> Result<(), Memory> {
+        let _room = Box::new(self.alloc, 0u64)?;
         match batch.entries() {
             [] => Ok(()),
             [(id, row)] if is_one(*id) => {
