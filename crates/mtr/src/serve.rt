@@ -7,7 +7,7 @@ use crate::script::{Script, ScriptFault};
 use schema::{Memory, Schema, SchemaFault};
 use std::alloc::Global;
 use std::io;
-use std::io::{Read, Write};
+use std::io::{BufWriter, Read, Write};
 use world::Reply;
 
 /// How the program ends.
@@ -84,7 +84,13 @@ fn serve_run<R: Read, W: Write, E: Write>(
         Err(_) => return Ending::Stream,
     }
     match run_script(alloc, &text) {
-        Ok(replies) => print(&replies, output),
+        Ok(replies) => match print(alloc, &replies, output) {
+            Ok(()) => Ending::Done,
+            Err(error) if error.kind() == io::ErrorKind::OutOfMemory => {
+                tell(Refusal::Memory, errors)
+            }
+            Err(_) => Ending::Stream,
+        },
         Err(refusal) => tell(refusal, errors),
     }
 }
@@ -102,16 +108,13 @@ fn run_script(alloc: Global, text: &[u8]) -> Result<Vec<Reply>, Refusal> {
     run_pair(alloc, schema, base, &events)?.ok_or(Refusal::BadBase)
 }
 
-fn print<W: Write>(replies: &[Reply], output: &mut W) -> Ending {
+/// Writes each reply as a line, over a buffer.
+fn print<W: Write>(alloc: Global, replies: &[Reply], output: &mut W) -> io::Result<()> {
+    let mut out = BufWriter::new(alloc, output)?;
     for reply in replies {
-        if write_reply(output, reply).is_err() {
-            return Ending::Stream;
-        }
+        write_reply(&mut out, reply)?;
     }
-    match output.flush() {
-        Ok(()) => Ending::Done,
-        Err(_) => Ending::Stream,
-    }
+    out.flush()
 }
 
 /// Tells why a script is not run.

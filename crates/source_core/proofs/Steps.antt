@@ -1,13 +1,12 @@
 -- What each call leaves stands as a source does.
-use Rattle.std.proofs.Common.{Bool, true, false, not, ◌&&◌, nat_le, cond, ◌-◌, ◌≡◌, ◌∙◌, sym, ap, subst, refl, ℕ, ◌+◌, ◌<◌, ◌≤◌, List, [], ◌∷◌, ◌++◌, length, length-append, take, drop, Option, Some, None, arith, inl, inr, ◌==◌}
+use Rattle.std.proofs.Common.{Bool, true, false, not, ◌&&◌, nat_le, ◌≡◌, ◌∙◌, sym, ap, subst, refl, ℕ, ◌+◌, ◌<◌, ◌≤◌, List, [], ◌∷◌, ◌++◌, length, length-append, take, drop, Option, Some, None, arith, ◌==◌}
 use Rattle.std.specs.FinMap.{empty, get}
-use Rattle.std.specs.Option.{option_map, option_map_or, option_and_then}
-use Rattle.std.specs.Prelude.{ℤ, Ok, is_some}
+use Rattle.std.specs.Option.{option_map, option_map_or}
+use Rattle.std.specs.Prelude.{ℤ, is_some}
 use Rattle.schema.specs.declared.RowId.{RowId}
 use Rattle.schema.specs.Schema.{table_at}
 use Rattle.rows.specs.declared.Change.TheVariants.{Insert}
 use Rattle.rows.specs.Change.{changed}
-use Rattle.overlay.specs.Step.{parent_stands}
 use Rattle.record_codec.specs.Log.{after}
 use Rattle.schema.specs.declared.Table.{Table}
 use Rattle.rows.specs.declared.Change.{Change}
@@ -23,9 +22,9 @@ use Rattle.source_core.specs.declared.transaction.Transaction.{Transaction}
 use Rattle.std.proofs.lemmas.Bool.Decides.{nat_tests}
 use Rattle.source_core.specs.declared.fault.SourceFault.{SourceFault}
 use Rattle.source_core.specs.declared.fault.SourceFault.TheVariants.{Halted, NoSession, NotActive, WrongColumns, NoTable, TooManyChanges, RowExists}
-use Rattle.source_core.specs.Source.{Source, Open, seen_row}
-use Rattle.source_core.specs.Calls.{cause, shape_fault, rows_fault, write_fault, written, is_active}
-use Rattle.source_core.specs.Core.{IsCore, OpenStands, Applies, IsLast, open_view, queue_view, phase_queue, with_change, left_of}
+use Rattle.source_core.specs.Source.{Source, seen_row}
+use Rattle.source_core.specs.Calls.{cause, shape_fault, rows_fault, write_fault, written}
+use Rattle.source_core.specs.Core.{IsCore, OpenStands, Applies, IsLast, open_view, queue_view, with_change, left_of}
 use Rattle.std.proofs.lemmas.List.{take-append-drop, take_all, length-drop}
 use Rattle.record_codec.proofs.Logs.{after-push}
 use Rattle.source_core.proofs.Legal.{flat_has_parent}

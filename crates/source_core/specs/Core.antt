@@ -1,12 +1,11 @@
 -- How a source's parts stand together.
 use Rattle.std.specs.Prelude.{◌≡◌, ℕ, ℤ, false, if◌then◌else◌, ◌+◌, ◌<◌, ◌≤◌, ◌^◌, List, [], ◌∷◌, length, take, drop, Option, Some, None}
-use Rattle.std.specs.Option.{option_map}
 use Rattle.std.specs.FinMap.{empty}
 use Rattle.schema.specs.declared.Table.{Table}
 use Rattle.schema.specs.Flags.{IsFlat}
 use Rattle.rows.specs.declared.Change.{Change}
 use Rattle.rows.specs.declared.Change.TheVariants.{Insert}
-use Rattle.rows.specs.Database.{Database, effect}
+use Rattle.rows.specs.Database.{Database}
 use Rattle.store_trait.specs.Batch.{Entry, put_batch}
 use Rattle.overlay.specs.Pending.{Pending, pushed}
 use Rattle.overlay.specs.Follows.{Follows}

@@ -1,8 +1,7 @@
 -- What follows from the definitions.
-use Rattle.std.specs.Prelude.{◌≡◌, ℕ, List, length}
+use Rattle.std.specs.Prelude.{List, length}
 use Rattle.schema.specs.declared.Table.{Table}
 use Rattle.schema.specs.Rows.{Touched}
-use Rattle.schema.specs.Flags.{IsFlat}
 use Rattle.rows.specs.Database.{Database}
 use Rattle.record_codec.specs.declared.records.Record.{Record}
 use Rattle.record_codec.specs.Log.{Covers, IsLegalLog}

@@ -1,6 +1,6 @@
 -- What a source is seen as.
-use Rattle.std.specs.Prelude.{◌≡◌, ℕ, ℤ, ◌-◌, ◌≤◌, Bool, false, ◌&&◌, nat_le, List, [], ◌∷◌, take, length, slice_get, Option, Some, None, option_and_then, unwrap_or}
-use Rattle.std.specs.Option.{option_flatten, option_map, option_map_or}
+use Rattle.std.specs.Prelude.{ℕ, ℤ, ◌-◌, ◌≤◌, Bool, false, ◌&&◌, nat_le, List, [], ◌∷◌, take, length, slice_get, Option, None, option_and_then}
+use Rattle.std.specs.Option.{option_flatten, option_map_or}
 use Rattle.std.specs.FinMap.{empty, get}
 use Rattle.schema.specs.declared.Table.{Table}
 use Rattle.schema.specs.declared.RowId.{RowId}

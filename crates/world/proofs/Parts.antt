@@ -1,17 +1,12 @@
 -- Facts of the parts of a world that every event uses.
-use Rattle.std.proofs.Common.{◌≡◌, ◌∙◌, sym, ap, subst, refl, ℕ, ◌+◌, ◌≤◌, Bool, true, false, List, [], ◌∷◌, ◌++◌, length, length-append, take, drop, Option, Some, None, arith, append_assoc}
-use Rattle.std.proofs.lemmas.List.{take-append-le, take_all, append-nil}
-use Rattle.std.proofs.Math.Seq.{take-append_seam}
+use Rattle.std.proofs.Common.{◌≡◌, ◌∙◌, sym, ap, subst, refl, ℕ, ◌≤◌, List, [], ◌++◌, length, take, arith, append_assoc}
+use Rattle.std.proofs.lemmas.List.{take-append-le, append-nil}
 use Rattle.rows.specs.Database.{Database}
 use Rattle.record_codec.specs.declared.records.Record.{Record}
-use Rattle.record_codec.specs.Log.{after}
-use Rattle.source_core.specs.Source.{Source, IsSound, base_of}
-use Rattle.replica_core.specs.Replica.{Replica}
-use Rattle.world.specs.declared.events.Event.{Event}
-use Rattle.world.specs.declared.events.Reply.{Reply}
+use Rattle.source_core.specs.Source.{Source}
 use Rattle.world.specs.Past.{Past, flushed, accepted}
 use Rattle.world.specs.Legal.{Setup, source_at, replica_at}
-use Rattle.world.specs.State.{World, Extends, IsWorld, Stands, Goes}
+use Rattle.world.specs.State.{World, Extends, IsWorld, Stands}
 
 -- the first records of a longer list are those of the list
 pub take_longer : (log longer : List Record) → Extends log longer → (n : ℕ) → n ≤ length log → take n longer ≡ take n log

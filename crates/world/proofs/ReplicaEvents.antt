@@ -1,6 +1,6 @@
 -- The events of the replica.
-use Rattle.std.proofs.Common.{◌≡◌, ◌∙◌, sym, ap, subst, refl, ℕ, zero, suc, ◌+◌, ◌≤◌, ◌<◌, Bool, true, false, not, ◌&&◌, ◌||◌, ◌==◌, if◌then◌else◌, nat_le, List, [], ◌∷◌, ◌++◌, length, min, map, filter, take, drop, Option, Some, None, Result, Ok, Err, IsTrue, is_some, arith, inl, inr, ◌⊎◌}
-use Rattle.std.specs.Prelude.{ℤ, option_and_then, slice_get}
+use Rattle.std.proofs.Common.{◌≡◌, ◌∙◌, sym, ap, subst, refl, ℕ, zero, suc, ◌+◌, ◌≤◌, Bool, true, false, not, ◌&&◌, ◌==◌, if◌then◌else◌, nat_le, List, [], ◌∷◌, length, min, filter, take, drop, Option, Some, None, Result, Ok, Err, is_some, arith, inl, inr, ◌⊎◌}
+use Rattle.std.specs.Prelude.{ℤ, option_and_then}
 use Rattle.std.specs.List.{list_any}
 use Rattle.std.specs.Option.{option_map_or, option_or}
 use Rattle.std.specs.Result.{OnOk, OnErr, IfOk, IfErr, IsErrOf}
@@ -17,15 +17,13 @@ use Rattle.replica_core.specs.declared.ReplicaFault.{ReplicaFault}
 use Rattle.replica_core.specs.declared.ReplicaFault.TheVariants as faults
 use Rattle.replica_core.specs.Replica.{Replica, base_of as rows_before}
 use Rattle.replica_core.specs.Calls.{unless_stopped, next_job, dispatched_next, next_commit, committed_next, finish_fault, finish_answer, with_finished, left_by_fault, applies, was_finished}
-use Rattle.published.specs.Plain.{Shown}
 use Rattle.world.specs.declared.events.Event.TheVariants as events
-use Rattle.world.specs.declared.events.Reply.{Reply}
 use Rattle.world.specs.declared.events.Reply.TheVariants as replies
 use Rattle.world.specs.Past.{Past, published, replicated, finished}
-use Rattle.world.specs.Legal.{Setup, source_at, replica_at, rows_after, job_reply, next_reply, is_replica_memory, Allowed}
+use Rattle.world.specs.Legal.{Setup, replica_at, rows_after, job_reply, next_reply}
 use Rattle.world.specs.World.{dispatch_reply, finish_reply, next_commit_reply}
-use Rattle.world.specs.State.{World, Extends, IsWorld, IsAppended, Stands, Goes}
-use Rattle.world.proofs.Parts.{source_is, replica_is, Extends_itself, take_longer}
+use Rattle.world.specs.State.{World, Extends, IsWorld, Stands, Goes}
+use Rattle.world.proofs.Parts.{replica_is, Extends_itself, take_longer}
 
 -- the first of the first
 pub take_take : (a b : ℕ) (l : List Record) → take a (take b l) ≡ take (min a b) l

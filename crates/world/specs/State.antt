@@ -1,5 +1,5 @@
 -- How the parts of a world stand together, and to the pairs of event and reply so far.
-use Rattle.std.specs.Prelude.{◌≡◌, ℕ, ◌+◌, ◌≤◌, Bool, true, false, List, [], ◌∷◌, ◌++◌, length, map, take, drop, Option, Some, None}
+use Rattle.std.specs.Prelude.{◌≡◌, ℕ, ◌≤◌, false, List, [], ◌∷◌, ◌++◌, length, map, take, drop, Some, None}
 use Rattle.rows.specs.Database.{Database}
 use Rattle.store_trait.specs.Operation.{batch_of}
 use Rattle.record_codec.specs.declared.records.Record.{Record}

@@ -1,15 +1,5 @@
 -- What a world is seen as, and how its parts stand to the pairs of event and reply so far.
-use Rattle.std.specs.Prelude.{◌≡◌, ℕ, ◌+◌, ◌-◌, ◌≤◌, Bool, true, false, List, [], ◌∷◌, ◌++◌, length, map, take, drop, slice_get, Option, Some, None}
-use Rattle.std.specs.FinMap.{empty}
-use Rattle.rows.specs.Database.{Database}
-use Rattle.store_trait.specs.Batch.{Entry, put_batch, put_batches}
-use Rattle.store_trait.specs.Operation.{batch_of}
-use Rattle.record_codec.specs.declared.records.Record.{Record}
-use Rattle.record_codec.specs.Group.{GroupValue, AreRecordsOf}
-use Rattle.record_codec.specs.Log.{after}
-use Rattle.source_core.specs.Source.{Source}
-use Rattle.replica_core.specs.Replica.{Replica, commits_from, waiting, base_of}
-use Rattle.published.specs.Plain.{Shown}
+use Rattle.std.specs.Prelude.{ℕ, List, [], ◌∷◌, Option, Some, None}
 use Rattle.std.specs.Prelude.{ℤ, Result, Ok, Err}
 use Rattle.source_core.specs.declared.fault.SourceFault.{SourceFault}
 use Rattle.source_core.specs.declared.transaction.Prepared.{Prepared as Answer}
@@ -21,8 +11,6 @@ use Rattle.replica_core.specs.declared.ReplicaFault.{ReplicaFault}
 use Rattle.replica_core.specs.declared.ReplicaFault.TheVariants as replica
 use Rattle.world.specs.declared.events.Reply.{Reply}
 use Rattle.world.specs.declared.events.Reply.TheVariants as replies
-use Rattle.world.specs.Past.{Past, flushed, synced, unsynced, published}
-use Rattle.world.specs.Legal.{Setup, source_at, replica_at, rows_after, base_rows}
 
 abbrev pub last_gno : Receipt → List Receipt → ℕ
 last_gno first [] = first.gno
