@@ -7,6 +7,7 @@ ghost use Rattle.published.specs.History.{IsHistory, StartsWith, commits_in};
 use crate::Answer;
 use crate::book::{Naming, Notice};
 use crate::version::{Consistent, StoreReader};
+use core::mem::replace_with;
 use rows::Row;
 use schema::RowId;
 use std::marker::Model;
@@ -16,19 +17,17 @@ use store_trait::RowStore;
 /// operations from which it answered and of the notices that it learnt.
 #[derive(Drop)]
 pub struct ReadSeat<S: RowStore + Drop, J: Naming> {
-    reader: Option<StoreReader<S, J>>,
+    reader: StoreReader<S, J>,
     seen: Notice<J>,
 }
 
 impl<S: RowStore + Drop, J: Naming> Model for ReadSeat<S, J> {
-    ghost use Rattle.std.specs.Prelude.{List, IsSome};
+    ghost use Rattle.std.specs.Prelude.{List};
     ghost use Rattle.store_trait.specs.declared.Op.{Op};
 
     ghost Value = { List Op };
 
     ghost view = { λ s. s.seen };
-
-    ghost invariant = { λ s. IsSome s.reader };
 }
 
 impl<S: RowStore + Drop, J: Naming> ReadSeat<S, J> {
@@ -36,17 +35,14 @@ impl<S: RowStore + Drop, J: Naming> ReadSeat<S, J> {
     pub(crate) fn taken(reader: StoreReader<S, J>, seen: Notice<J>) -> ReadSeat<S, J>
         ensures { result ≡ seen }
     {
-        ReadSeat {
-            reader: Some(reader),
-            seen,
-        }
+        ReadSeat { reader, seen }
     }
 
     /// The row as one list of published operations leaves it, which begins with all that this seat saw or
     /// learnt, and is its seen list from then on. It takes no lock and no memory, and waits for nobody; the time
     /// is logarithmic in the number of rows. `None` where `left_right` refuses the entry, as once the publisher
     /// is closed. It would also be `None` at a version older than what the seat knows, which `left_right` never
-    /// shows, though its clauses do not say so across seats.
+    /// shows, though no clause of it says so.
     pub fn read(&mut self, id: RowId) -> Option<Answer>
         ensures row { IfSome result (λ answer. answer.row ≡ row_of (left_by self.new) id) }
         ensures upto { IfSome result (λ answer. answer.upto ≡ commits_in self.new) }
@@ -54,9 +50,7 @@ impl<S: RowStore + Drop, J: Naming> ReadSeat<S, J> {
         ensures later { StartsWith self.new self.old }
         ensures none { IfNone result (self.new ≡ self.old) }
     {
-        let (reader, found) = enter(self.reader.take().unwrap(), id);
-        self.reader = Some(reader);
-        let (row, by) = found?;
+        let (row, by) = replace_with(&mut self.reader, id, |reader, id| enter(reader, id))?;
         if !self.seen.begins(&by) {
             return None;
         }

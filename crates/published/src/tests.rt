@@ -1,12 +1,14 @@
-//! Each call once, and one who publishes beside two who read.
+//! Each call once, one who publishes beside two who read, and two who publish under a lock.
 ghost use Rattle.std.specs.Prelude.{◌≡◌, ◌+◌, ◌-◌, ◌^◌, ◌<◌, [], ◌∷◌, IfOk, OnOk};
 ghost use Rattle.store_trait.specs.declared.Op.TheVariants.{Load};
 ghost use Rattle.published.specs.History.{IsCommit, IsHistory, commits_in};
 
+mod locked;
 mod slot;
 
 use super::plain::Plain;
 use super::*;
+use locked::Desk;
 use rows::Row;
 use schema::{Memory, RowId};
 use slot::{ONE, Slot};
@@ -366,4 +368,54 @@ fn follow<J: Naming, R: Wait + Abort>(
         }
     }
     unreachable!()
+}
+
+#[test]
+fn two_threads_publish_under_a_lock(rt: HostRuntime) -> Result<(), Fail> {
+    let beginning = Beginning::of(set_to(rt.alloc(), 0)?);
+    run_locked::<Brand, _>(&rt, rt.alloc(), beginning)
+}
+
+fn run_locked<J: Naming + Send + Sync, R: Threads + Wait + Abort + Sync>(
+    rt: &R,
+    alloc: Global,
+    beginning: Beginning,
+) -> Result<(), Fail>
+    requires { beginning.book ≡ J.book }
+{
+    let (publisher, mut seats) = open::<Slot, J, R>(
+        rt,
+        alloc,
+        beginning,
+        Slot::new(alloc),
+        Slot::new(alloc),
+        1,
+    )?;
+    let desk = Mutex::new(Desk::new(rt, publisher));
+    join(
+        rt,
+        || publish_all(rt, alloc, &desk),
+        || publish_all(rt, alloc, &desk),
+    );
+    let mut last = None;
+    if let Some(mut seat) = seats.pop() {
+        seat.learn(desk.lock(rt).tell());
+        last = seat.read(ONE);
+    }
+    drop(desk);
+    assert_eq!(rt; last, Some(answer(LAST)));
+    Ok(())
+}
+
+// Publishes until all is published.
+fn publish_all<J: Naming + Send, R: Wait + Sync>(
+    rt: &R,
+    alloc: Global,
+    desk: &Mutex<Desk<'_, J, R>>,
+) {
+    for _ in 0..LAST {
+        if !matches!(desk.lock(rt).publish_next(alloc), Ok(Some(_))) {
+            break;
+        }
+    }
 }
