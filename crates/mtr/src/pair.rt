@@ -1,8 +1,10 @@
 //! A source and a replica over one schema and equal rows.
 
-ghost use Rattle.std.specs.Prelude.{◌≡◌, List, IfOk, IfSome};
+ghost use Rattle.std.specs.Prelude.{◌≡◌, List, IfOk, IfSome, IfNone};
 ghost use Rattle.record_codec.specs.declared.records.Record.{Record as ARecord};
+ghost use Rattle.schema.specs.Flags.{IsFlat};
 ghost use Rattle.store_trait.specs.Batch.{put_batch};
+ghost use Rattle.store_trait.specs.Fits.{Fits};
 ghost use Rattle.std.specs.FinMap.{empty};
 ghost use Rattle.world.specs.Legal.{Setup, AreLegal};
 ghost use Rattle.mtr.specs.Pair.{HasLegalRun};
@@ -39,8 +41,8 @@ fn store_of(alloc: Global, base: &Batch) -> Result<BTreeStore, Memory>
     Ok(store)
 }
 
-/// The replies of a new source and a new replica that hold these rows; `None` where the rows do not fit the
-/// schema. They are legal, over one log that is legal over the rows: each read at the replica answers as the
+/// The replies of a new source and a new replica that hold these rows; `None` exactly where the schema has tables
+/// without keys or with parents, or the rows do not fit it. They are legal, over one log that is legal over the rows: each read at the replica answers as the
 /// source's database after one beginning of that log.
 pub fn run_pair(
     alloc: Global,
@@ -48,7 +50,9 @@ pub fn run_pair(
     base: Batch,
     events: &[Event],
 ) -> Result<Option<Vec<Reply>>, Memory>
-    ensures { IfOk result (λ ran. IfSome ran (λ replies. HasLegalRun schema base events.now replies.items)) }
+    ensures legal { IfOk result (λ ran. IfSome ran (λ replies. HasLegalRun schema base events.now replies.items)) }
+    ensures fits { IfOk result (λ ran. IfSome ran (λ _. IsFlat schema × Fits schema (put_batch base empty))) }
+    ensures refused { IfOk result (λ ran. IfNone ran (¬ (IsFlat schema × Fits schema (put_batch base empty)))) }
 {
     let store = store_of(alloc, &base)?;
     if !schema.is_flat() || !fits(&schema, &store) {
