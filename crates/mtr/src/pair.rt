@@ -1,13 +1,13 @@
 //! A source and a replica over one schema and equal rows.
 
-ghost use Rattle.std.specs.Prelude.{◌≡◌, List, IfOk, IfSome, IfNone};
+ghost use Rattle.std.specs.Prelude.{◌≡◌, map, IfOk, IfSome, IfNone, IsPermutation};
 ghost use Rattle.record_codec.specs.declared.records.Record.{Record as ARecord};
 ghost use Rattle.schema.specs.Flags.{IsFlat};
 ghost use Rattle.store_trait.specs.Batch.{put_batch};
 ghost use Rattle.store_trait.specs.Fits.{Fits};
 ghost use Rattle.std.specs.FinMap.{empty};
 ghost use Rattle.world.specs.Legal.{Setup, AreLegal};
-ghost use Rattle.mtr.specs.Pair.{HasLegalRun};
+ghost use Rattle.mtr.specs.Pair.{HasLegalRun, present};
 
 use btree_store::BTreeStore;
 use published::plain::Plain;
@@ -15,21 +15,26 @@ use replica_core::ReplicaCore;
 use rows::Row;
 use schema::{Memory, RowId, Schema};
 use source_core::SourceCore;
-use std::alloc::Global;
+use std::alloc::{AllocError, Global};
 use store_trait::{Batch, RowStore, fits};
 use world::{Event, Reply, World};
 
 /// The greatest number of records of a log.
 const MAX_RECORDS: u64 = 9223372036854775807;
 
-/// The batch of these rows; `None` where a row comes twice.
-pub fn base_of(alloc: Global, rows: Vec<(RowId, Row)>) -> Result<Option<Batch>, Memory> {
-    let mut entries: Vec<(RowId, Option<Row>)> = rows
-        .iter()
-        .map(|(id, row)| (*id, Some(*row)))
-        .collect(alloc)?;
+/// The batch of these rows, in any order; `None` where one comes twice. The time is n log n.
+pub fn base_of(alloc: Global, rows: &[(RowId, Row)]) -> Result<Option<Batch>, Memory>
+    ensures { IfOk result (λ made. IfSome made (λ batch. IsPermutation (map present rows.now) batch)) }
+{
+    let mut entries = entries_of(alloc, rows)?;
     entries.sort_unstable_by_key(|entry| entry.0);
     Ok(Batch::from_entries(entries))
+}
+
+fn entries_of(alloc: Global, rows: &[(RowId, Row)]) -> Result<Vec<(RowId, Option<Row>)>, AllocError>
+    ensures { IfOk result (λ entries. entries.items ≡ map present rows.now) }
+{
+    rows.iter().map(|row| (row.0, Some(row.1))).collect(alloc)
 }
 
 /// A store of these rows.
@@ -42,8 +47,8 @@ fn store_of(alloc: Global, base: &Batch) -> Result<BTreeStore, Memory>
 }
 
 /// The replies of a new source and a new replica that hold these rows; `None` exactly where the schema has tables
-/// without keys or with parents, or the rows do not fit it. They are legal, over one log that is legal over the rows: each read at the replica answers as the
-/// source's database after one beginning of that log.
+/// without keys or with parents, or the rows do not fit it. The replies are legal, over one log that is legal over the
+/// rows: each read at the replica answers as the source's database after one beginning of that log.
 pub fn run_pair(
     alloc: Global,
     schema: Schema,

@@ -104,7 +104,7 @@ fn run_script(alloc: Global, text: &[u8]) -> Result<Vec<Reply>, Refusal> {
         events,
     } = script;
     let schema = Schema::new(tables).map_err(Refusal::Schema)?;
-    let base = base_of(alloc, base)?.ok_or(Refusal::BadBase)?;
+    let base = base_of(alloc, &base)?.ok_or(Refusal::BadBase)?;
     run_pair(alloc, schema, base, &events)?.ok_or(Refusal::BadBase)
 }
 
