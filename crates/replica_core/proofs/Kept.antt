@@ -15,7 +15,7 @@ use Rattle.record_codec.specs.Log.{after}
 use Rattle.replica_core.specs.declared.Job.{Job}
 use Rattle.replica_core.specs.declared.Job.TheVariants.{Idle, Given, Done}
 use Rattle.replica_core.specs.Replica.{commits_from}
-use Rattle.replica_core.specs.Order.{AreNumbered}
+use Rattle.record_codec.specs.Group.{AreNumbered}
 use Rattle.replica_core.specs.Core.{IsJob, IsKept, CommitsJob}
 use Rattle.replica_core.proofs.Commits.{after-next, length-committed, waiting-next}
 

@@ -10,7 +10,8 @@ use Rattle.replica_core.specs.declared.ReplicaFault.{ReplicaFault}
 use Rattle.replica_core.specs.declared.ReplicaFault.TheVariants.{Gap, Malformed, Stopped, Stranger, Double, Memory}
 use Rattle.replica_core.specs.declared.Received.{Received}
 use Rattle.replica_core.specs.declared.Received.TheVariants.{Accepted, Skipped}
-use Rattle.replica_core.specs.Replica.{Replica, base_of}
+use Rattle.replica_core.specs.Replica.{Replica}
+use Rattle.store_trait.specs.Operation.{loaded}
 
 -- new: nothing is accepted yet
 
@@ -80,7 +81,7 @@ finish_fault r gno =
 
 -- the changes of the record of this number apply, in order, where its turn is
 abbrev pub applies : Replica → ℕ → Bool
-applies r gno = is_some (after r.tables (base_of r) (take gno r.accepted))
+applies r gno = is_some (after r.tables (loaded r.base) (take gno r.accepted))
 
 abbrev pub with_finished : Replica → ℕ → Replica
 with_finished r gno = record r { finished = r.finished ++ gno ∷ [] }

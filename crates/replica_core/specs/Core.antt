@@ -14,7 +14,7 @@ use Rattle.replica_core.specs.declared.ReplicaFault.TheVariants.{Stranger, Doubl
 use Rattle.replica_core.specs.declared.Job.{Job}
 use Rattle.replica_core.specs.declared.Job.TheVariants.{Idle, Given, Done}
 use Rattle.replica_core.specs.Replica.{Replica, commits_from}
-use Rattle.replica_core.specs.Order.{AreNumbered}
+use Rattle.record_codec.specs.Group.{AreNumbered}
 
 -- how many records are dispatched, where so many are committed
 abbrev pub dispatched_with : ℕ → Job → ℕ

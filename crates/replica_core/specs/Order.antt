@@ -2,12 +2,8 @@
 use Rattle.std.specs.Prelude.{◌≡◌, ℕ, ◌+◌, ◌<◌, ◌≤◌, List, [], ◌∷◌, length}
 use Rattle.std.specs.List.{AllByRecursion}
 use Rattle.record_codec.specs.declared.records.Record.{Record}
+use Rattle.record_codec.specs.Group.{AreNumbered}
 use Rattle.replica_core.specs.Replica.{Replica}
-
--- each record has the next number, the first of them this one
-abbrev pub AreNumbered : ℕ → List Record → Type 0
-AreNumbered gno [] = Unit {0}
-AreNumbered gno (next ∷ records) = (next.gno ≡ gno) × AreNumbered (gno + 1) records
 
 -- The accepted records are numbered from 1 on. What is published was committed, what is committed was
 -- dispatched, and what is dispatched was accepted; no more is between dispatch and commit than there are

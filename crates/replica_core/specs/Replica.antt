@@ -9,6 +9,7 @@ use Rattle.store_trait.specs.declared.Op.{Op}
 use Rattle.store_trait.specs.declared.Op.TheVariants.{Load, Commit}
 use Rattle.record_codec.specs.declared.records.Record.{Record}
 use Rattle.record_codec.specs.Log.{after}
+use Rattle.store_trait.specs.Operation.{loaded}
 
 pub record Replica : Type 0 where
   pub tables : List Table
@@ -27,12 +28,9 @@ pub record Replica : Type 0 where
   -- the record that could not be applied
   pub stopped : Option ℕ
 
-abbrev pub base_of : Replica → Database
-base_of r = put_batch r.base empty
-
 -- the working rows: the database after the committed records
 abbrev pub working_rows : Replica → Option Database
-working_rows r = after r.tables (base_of r) (take r.committed r.accepted)
+working_rows r = after r.tables (loaded r.base) (take r.committed r.accepted)
 
 -- the commits of these records, the first of them numbered gno: each has the rows that the record writes, as
 -- they are after it
@@ -47,4 +45,4 @@ operations ts base accepted n = Load base ∷ commits_from ts (put_batch base em
 
 -- the commits that are not published
 abbrev pub waiting : Replica → List Op
-waiting r = drop r.published (commits_from r.tables (base_of r) 1 (take r.committed r.accepted))
+waiting r = drop r.published (commits_from r.tables (loaded r.base) 1 (take r.committed r.accepted))

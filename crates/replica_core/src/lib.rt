@@ -13,9 +13,10 @@ ghost use Rattle.std.specs.Prelude.{◌≡◌, ◌≤◌, ◌⊎◌, IfOk, OnOk,
 ghost use Rattle.schema.specs.Flags.{IsFlat};
 ghost use Rattle.store_trait.specs.Batch.{all_rows};
 ghost use Rattle.store_trait.specs.Fits.{Fits};
-ghost use Rattle.replica_core.specs.Replica.{base_of, working_rows, waiting};
+ghost use Rattle.replica_core.specs.Replica.{working_rows, waiting};
 ghost use Rattle.replica_core.specs.Order.{IsInOrder};
 ghost use Rattle.replica_core.specs.Calls.{new_over, unless_stopped, received, left_by_receive, next_job, dispatched_next, finish_fault, finish_answer, with_finished, left_by_fault, next_commit, committed_next, with_published};
+ghost use Rattle.store_trait.specs.Operation.{loaded};
 
 pub mod laws;
 mod steps;
@@ -131,7 +132,7 @@ impl<S: RowStore> ReplicaCore<S> {
         requires fits { Fits schema (S.contents store) }
         requires flat { IsFlat schema }
         ensures fresh { IfOk result (λ core. core ≡ new_over schema (all_rows (S.contents store))) }
-        ensures rows { IfOk result (λ core. base_of core ≡ S.contents store) }
+        ensures rows { IfOk result (λ core. loaded core.base ≡ S.contents store) }
     {
         let base = snapshot(alloc, &store, &schema)?;
         Ok(ReplicaCore {

@@ -102,8 +102,8 @@ fn record(alloc: Global, gno: u64, times: usize) -> Result<Record, Fail> {
         sequence: gno,
         parent: 0,
         flags: Flags {
-            related: false,
-            keyless: false,
+            fk: false,
+            missing_keys: false,
         },
         refs: Refs::none(alloc),
         changes: Changes::new(list).ok_or("there are changes")?,

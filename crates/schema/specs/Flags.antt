@@ -11,12 +11,12 @@ abbrev pub is_parent : List Table → ℕ → Bool
 is_parent ts id = list_any (λ t. option_map_or (λ link. link.1 == id) t.parent false) ts
 
 -- foreign-key related: some row is of a table that has a parent or is one
-abbrev pub is_related : List Table → List RowId → Bool
-is_related ts writes = list_any (λ r. is_some (link_of ts r.table) || is_parent ts r.table) writes
+abbrev pub is_fk : List Table → List RowId → Bool
+is_fk ts writes = list_any (λ r. is_some (link_of ts r.table) || is_parent ts r.table) writes
 
 -- a missing key: some row is of a keyless table
-abbrev pub lacks_keys : List Table → List RowId → Bool
-lacks_keys ts writes = list_any (λ r. option_map_or (λ t. not t.keyed) (table_at ts r.table) false) writes
+abbrev pub misses_keys : List Table → List RowId → Bool
+misses_keys ts writes = list_any (λ r. option_map_or (λ t. not t.keyed) (table_at ts r.table) false) writes
 
 -- each table is keyed and has no parent
 abbrev pub IsFlat : List Table → Type 0

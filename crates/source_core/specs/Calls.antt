@@ -116,8 +116,8 @@ abbrev pub aborted : Source → ℕ → Source
 aborted s session = with_open s session None
 
 -- the calls that no session makes are refused where the source is halted
-abbrev pub flush_fault : Source → Option SourceFault
-flush_fault s = cause s.halted Halted None
+abbrev pub halted_fault : Source → Option SourceFault
+halted_fault s = cause s.halted Halted None
 
 -- flush: the queued transactions, in the order of the queue, are the next records
 

@@ -61,7 +61,7 @@ pub record IsQueuedRecord (current : Option Transaction) (number : ℕ) (made : 
   pub queued : t.phase ≡ Queued made.parent
   pub gno : made.gno ≡ number
   pub sequence : made.sequence ≡ number
-  pub flags : made.flags ≡ record { related = false; keyless = false }
+  pub flags : made.flags ≡ record { fk = false; missing_keys = false }
   pub refs : made.refs ≡ []
   pub changes : made.changes ≡ t.overlay.changes
 

@@ -10,6 +10,7 @@ use Rattle.store_trait.specs.Batch.{Entry, put_batch}
 use Rattle.record_codec.specs.declared.records.Record.{Record}
 use Rattle.record_codec.specs.Log.{after, IsLegalLog}
 use Rattle.source_core.specs.declared.transaction.Phase.{Phase}
+use Rattle.store_trait.specs.Operation.{loaded}
 
 -- an open transaction: the changes that it wrote, in order, and how far it has come
 pub record Open : Type 0 where
@@ -32,9 +33,6 @@ pub record Source : Type 0 where
   pub queue : List ℕ
   pub halted : Bool
 
-abbrev pub base_of : Source → Database
-base_of s = put_batch s.base empty
-
 abbrev pub is_session : Source → ℕ → Bool
 is_session s session = nat_le 1 session && nat_le session (length s.sessions)
 
@@ -43,7 +41,7 @@ open_of s session = option_flatten (slice_get s.sessions (session - 1))
 
 -- the database after the committed records
 abbrev pub committed_rows : Source → Option Database
-committed_rows s = after s.tables (base_of s) (take s.committed s.log)
+committed_rows s = after s.tables (loaded s.base) (take s.committed s.log)
 
 -- the changes of a session's open transaction
 abbrev pub changes_of : Source → ℕ → List Change
@@ -73,7 +71,7 @@ new_source ts base limit = record {
 
 -- What is true of every source: its log is legal, not too long, and its counts are in order.
 pub record IsSound (s : Source) : Type 0 where
-  pub legal : IsLegalLog s.tables (base_of s) s.log
+  pub legal : IsLegalLog s.tables (loaded s.base) s.log
   pub few : length s.log ≤ s.limit
   pub synced_within : s.synced ≤ length s.log
   pub committed_within : s.committed ≤ s.synced

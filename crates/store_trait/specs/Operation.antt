@@ -2,7 +2,7 @@
 use Rattle.std.specs.Prelude.{List, map}
 use Rattle.std.specs.FinMap.{empty}
 use Rattle.rows.specs.Database.{Database}
-use Rattle.store_trait.specs.Batch.{Entry, put_batches}
+use Rattle.store_trait.specs.Batch.{Entry, put_batch, put_batches}
 use Rattle.store_trait.specs.declared.Op.{Op}
 use Rattle.store_trait.specs.declared.Op.TheVariants.{Load, Commit}
 
@@ -14,3 +14,7 @@ batch_of (Commit gno batch) = batch
 -- what operations leave of an empty store, in order
 abbrev pub left_by : List Op → Database
 left_by ops = put_batches (map batch_of ops) empty
+
+-- what the load of a base leaves of an empty store
+abbrev pub loaded : List Entry → Database
+loaded base = put_batch base empty

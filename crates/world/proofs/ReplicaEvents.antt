@@ -12,10 +12,10 @@ use Rattle.schema.specs.declared.RowId.{RowId}
 use Rattle.record_codec.specs.declared.records.Record.{Record}
 use Rattle.record_codec.specs.Log.{after, IsLegalLog}
 use Rattle.record_codec.proofs.Logs.{beginning_leaves}
-use Rattle.source_core.specs.Source.{Source, base_of}
+use Rattle.source_core.specs.Source.{Source}
 use Rattle.replica_core.specs.declared.ReplicaFault.{ReplicaFault}
 use Rattle.replica_core.specs.declared.ReplicaFault.TheVariants as faults
-use Rattle.replica_core.specs.Replica.{Replica, base_of as rows_before}
+use Rattle.replica_core.specs.Replica.{Replica}
 use Rattle.replica_core.specs.Calls.{unless_stopped, next_job, dispatched_next, next_commit, committed_next, finish_fault, finish_answer, with_finished, left_by_fault, applies, was_finished}
 use Rattle.world.specs.declared.events.Event.TheVariants as events
 use Rattle.world.specs.declared.events.Reply.TheVariants as replies
@@ -24,6 +24,7 @@ use Rattle.world.specs.Legal.{Setup, replica_at, rows_after, job_reply, next_rep
 use Rattle.world.specs.World.{dispatch_reply, finish_reply, next_commit_reply}
 use Rattle.world.specs.State.{World, Extends, IsWorld, Stands, Goes}
 use Rattle.world.proofs.Parts.{replica_is, Extends_itself, take_longer}
+use Rattle.store_trait.specs.Operation.{loaded}
 
 -- the first of the first
 pub take_take : (a b : ℕ) (l : List Record) → take a (take b l) ≡ take (min a b) l
@@ -95,9 +96,9 @@ pub shown_rows : {R : Type 0} (contents : R → Database) (setup : Setup) (past 
 shown_rows contents setup past w log h st longer =
     let number : published past ≡ w.replica.published = ap (λ (r : Replica). r.published) (sym st.replica) in
     let within : w.replica.published ≤ length w.source.log = omega (arith, h.appended.later, h.appended.there, h.delivered, h.sound.synced_within) in
-    ap (λ (s : Source). after s.tables (base_of s) (take (published past) log)) (sym st.source)
-    ∙ ap (λ n. after w.source.tables (base_of w.source) (take n log)) number
-    ∙ ap (after w.source.tables (base_of w.source)) (take_longer w.source.log log longer w.replica.published within)
+    ap (λ (s : Source). after s.tables (loaded s.base) (take (published past) log)) (sym st.source)
+    ∙ ap (λ n. after w.source.tables (loaded w.source.base) (take n log)) number
+    ∙ ap (after w.source.tables (loaded w.source.base)) (take_longer w.source.log log longer w.replica.published within)
     ∙ h.rows
 
 pub read_goes : {R : Type 0} (contents : R → Database) (w : World R) (id : RowId) (row : Option (List ℤ)) (upto : ℕ) → IsWorld contents w → row ≡ get (contents w.shown.store) id → upto ≡ w.shown.upto →
@@ -175,8 +176,8 @@ next_goes {R} contents w answer next h (inr is) ok err =
     (λ left. subst (λ (r : Replica). Goes {R = R} contents w events.Next (next_commit_reply (Ok (next_commit w.replica))) (with_replica w r)) (sym left) (commit_given contents w (next_commit w.replica) h refl)) ok
 
 -- the rows after each beginning of a source's log are there
-pub beginning_leaves_rows : (s : Source) → IsLegalLog s.tables (base_of s) s.log → (n : ℕ) → (db : Database) × (after s.tables (base_of s) (take n s.log) ≡ Some db)
-beginning_leaves_rows s legal n = beginning_leaves s.tables (base_of s) (take n s.log) (drop n s.log) (subst (λ (l : List Record). IsLegalLog s.tables (base_of s) l) (sym (take-append-drop n s.log)) legal)
+pub beginning_leaves_rows : (s : Source) → IsLegalLog s.tables (loaded s.base) s.log → (n : ℕ) → (db : Database) × (after s.tables (loaded s.base) (take n s.log) ≡ Some db)
+beginning_leaves_rows s legal n = beginning_leaves s.tables (loaded s.base) (take n s.log) (drop n s.log) (subst (λ (l : List Record). IsLegalLog s.tables (loaded s.base) l) (sym (take-append-drop n s.log)) legal)
 
 -- each record that was accepted applies where its turn is
 pub accepted_applies : {R : Type 0} (contents : R → Database) (w : World R) (gno : ℕ) → IsWorld contents w → applies w.replica gno ≡ true
@@ -184,7 +185,7 @@ accepted_applies contents w gno h =
     let n = length w.replica.accepted in
     let front : take gno w.replica.accepted ≡ take (min gno n) w.source.log = ap (take gno) h.accepted ∙ take_take gno n w.source.log in
     let leaves = beginning_leaves_rows w.source h.sound.legal (min gno n) in
-    let same : after w.replica.tables (rows_before w.replica) (take gno w.replica.accepted) ≡ Some leaves.0 =
+    let same : after w.replica.tables (loaded w.replica.base) (take gno w.replica.accepted) ≡ Some leaves.0 =
     (λ i. after (h.tables i) (put_batch (h.base i) empty) (front i)) ∙ leaves.1 in
     ap is_some same
 

@@ -1,10 +1,11 @@
 -- A world that nothing was done to.
 use Rattle.std.specs.Prelude.{◌≡◌, []}
 use Rattle.rows.specs.Database.{Database}
-use Rattle.source_core.specs.Source.{base_of, new_source}
+use Rattle.source_core.specs.Source.{new_source}
 use Rattle.replica_core.specs.Calls.{new_over}
 use Rattle.world.specs.Legal.{Setup}
 use Rattle.world.specs.State.{World}
+use Rattle.store_trait.specs.Operation.{loaded}
 
 -- what the world began with
 abbrev pub setup_of : {R : Type 0} → World R → Setup
@@ -18,4 +19,4 @@ pub record IsFresh {R : Type 0} (contents : R → Database) (w : World R) : Type
   pub synced : w.synced ≡ 0
   pub upto : w.shown.upto ≡ 0
   pub waiting : w.shown.waiting ≡ []
-  pub rows : contents w.shown.store ≡ base_of w.source
+  pub rows : contents w.shown.store ≡ loaded w.source.base

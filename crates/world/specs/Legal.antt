@@ -20,6 +20,7 @@ use Rattle.world.specs.declared.events.Event.TheVariants as events
 use Rattle.world.specs.declared.events.Reply.{Reply}
 use Rattle.world.specs.declared.events.Reply.TheVariants as replies
 use Rattle.world.specs.Past.{Past, flushed, unsynced, synced, committed, queue, transaction_of, accepted, dispatched, finished, replicated, published}
+use Rattle.store_trait.specs.Operation.{loaded}
 
 -- what a run begins with: the schema, the rows that both sides hold, the greatest number of records, and the
 -- number of workers
@@ -29,12 +30,9 @@ pub record Setup : Type 0 where
   pub limit : ℕ
   pub workers : ℕ
 
-abbrev pub base_rows : Setup → Database
-base_rows setup = put_batch setup.base empty
-
 -- the source's database after the first n records of the log
 abbrev pub rows_after : Setup → List Record → ℕ → Option Database
-rows_after setup log n = after setup.tables (base_rows setup) (take n log)
+rows_after setup log n = after setup.tables (loaded setup.base) (take n log)
 
 -- the source, as the pairs so far and the log say that it stands
 abbrev pub source_at : Setup → List Record → Past → Source
@@ -172,5 +170,5 @@ AreAllowed setup log past (event ∷ events_) [] = ⊥
 
 -- the replies of a whole run, over one legal log
 pub record AreLegal (setup : Setup) (log : List Record) (events_ : List Event) (replies_ : List Reply) : Type 0 where
-  pub legal : IsLegalLog setup.tables (base_rows setup) log
+  pub legal : IsLegalLog setup.tables (loaded setup.base) log
   pub allowed : AreAllowed setup log [] events_ replies_

@@ -1,12 +1,12 @@
 -- How the parts of a world stand together, and to the pairs of event and reply so far.
 use Rattle.std.specs.Prelude.{◌≡◌, ℕ, ◌≤◌, false, List, [], ◌∷◌, ◌++◌, length, map, take, drop, Some, None}
 use Rattle.rows.specs.Database.{Database}
-use Rattle.store_trait.specs.Operation.{batch_of}
+use Rattle.store_trait.specs.Operation.{batch_of, loaded}
 use Rattle.record_codec.specs.declared.records.Record.{Record}
 use Rattle.record_codec.specs.Group.{GroupValue, AreRecordsOf}
 use Rattle.record_codec.specs.Log.{after}
-use Rattle.source_core.specs.Source.{Source, IsSound, base_of}
-use Rattle.replica_core.specs.Replica.{Replica, commits_from, base_of as base_rows}
+use Rattle.source_core.specs.Source.{Source, IsSound}
+use Rattle.replica_core.specs.Replica.{Replica, commits_from}
 use Rattle.published.specs.Plain.{Shown}
 use Rattle.world.specs.declared.events.Event.{Event}
 use Rattle.world.specs.declared.events.Reply.{Reply}
@@ -40,7 +40,7 @@ pub record IsAppended {R : Type 0} (replica : Replica) (shown : Shown R) : Type 
   pub later : replica.published ≤ upto
   pub done : upto ≤ replica.committed
   pub there : upto ≤ length replica.accepted
-  pub are : shown.waiting ≡ map batch_of (drop replica.published (commits_from replica.tables (base_rows replica) 1 (take upto replica.accepted)))
+  pub are : shown.waiting ≡ map batch_of (drop replica.published (commits_from replica.tables (loaded replica.base) 1 (take upto replica.accepted)))
 
 -- What is true of every world, whatever came before.
 pub record IsWorld {R : Type 0} (contents : R → Database) (w : World R) : Type 0 where
@@ -59,7 +59,7 @@ pub record IsWorld {R : Type 0} (contents : R → Database) (w : World R) : Type
   pub delivered : length w.replica.accepted ≤ w.source.synced
   -- readers see the rows after the published commits
   pub upto : w.shown.upto ≡ w.replica.published
-  pub rows : after w.source.tables (base_of w.source) (take w.replica.published w.source.log) ≡ Some (contents w.shown.store)
+  pub rows : after w.source.tables (loaded w.source.base) (take w.replica.published w.source.log) ≡ Some (contents w.shown.store)
   pub appended : IsAppended w.replica w.shown
 
 abbrev pub ends_of : GroupValue → ℕ × ℕ
