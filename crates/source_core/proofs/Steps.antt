@@ -8,12 +8,11 @@ use Rattle.schema.specs.declared.RowId.{RowId}
 use Rattle.schema.specs.Schema.{table_at}
 use Rattle.schema.specs.Flags.{IsFlat}
 use Rattle.rows.specs.declared.Change.TheVariants.{Insert}
-use Rattle.rows.specs.Change.{changed}
 use Rattle.record_codec.specs.Log.{after}
 use Rattle.schema.specs.declared.Table.{Table}
 use Rattle.rows.specs.declared.Change.{Change}
 use Rattle.rows.specs.Database.{Database, apply, effect, target}
-use Rattle.store_trait.specs.Batch.{Entry, put_batch, put_row}
+use Rattle.store_trait.specs.Batch.{Entry, put_batch}
 use Rattle.overlay.specs.Pending.{Pending, seen, none_pending, pushed}
 use Rattle.overlay.specs.Follows.{Follows}
 use Rattle.overlay.proofs.Follow.{Follows-pushed, seen-Follows}

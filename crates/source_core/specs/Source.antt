@@ -1,12 +1,12 @@
 -- What a source is seen as.
 use Rattle.std.specs.Prelude.{ℕ, ℤ, ◌-◌, ◌≤◌, Bool, false, ◌&&◌, nat_le, List, [], ◌∷◌, take, length, slice_get, Option, None, IsSome, option_and_then}
 use Rattle.std.specs.Option.{option_flatten, option_map, option_map_or}
-use Rattle.std.specs.FinMap.{empty, get}
+use Rattle.std.specs.FinMap.{get}
 use Rattle.schema.specs.declared.Table.{Table}
 use Rattle.schema.specs.declared.RowId.{RowId}
 use Rattle.rows.specs.declared.Change.{Change}
 use Rattle.rows.specs.Database.{Database, target, apply, effect}
-use Rattle.store_trait.specs.Batch.{Entry, put_batch}
+use Rattle.store_trait.specs.Batch.{Entry}
 use Rattle.record_codec.specs.declared.records.Record.{Record}
 use Rattle.record_codec.specs.Log.{after, IsLegalLog}
 use Rattle.source_core.specs.declared.transaction.Phase.{Phase}
