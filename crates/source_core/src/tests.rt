@@ -170,19 +170,19 @@ fn refused_when_full(rt: &impl Abort, source: &mut Source) -> Result<(), Fail>
     };
     assert_eq!(rt; source.write(1, insert(2, 5)?), Err(SourceFault::NoTable));
     assert_eq!(rt; source.write(1, narrow), Err(SourceFault::WrongColumns));
-    assert_eq!(rt; source.write(1, insert(1, 5)?), Err(SourceFault::TooManyChanges));
-    assert_eq!(rt; source.write(1, insert(1, 5000)?), Err(SourceFault::TooManyChanges));
+    assert_eq!(rt;
+        source.write(1, insert(1, 5)?),
+        Err(SourceFault::TooManyChanges)
+    );
+    assert_eq!(rt;
+        source.write(1, insert(1, 5000)?),
+        Err(SourceFault::TooManyChanges)
+    );
     Ok(())
 }
 
 /// The receipt tells the last record, which has this number, parent and number of changes.
-fn is_last(
-    rt: &impl Abort,
-    source: &Source,
-    given: &[Receipt],
-    numbers: (u64, u64),
-    count: usize,
-) {
+fn is_last(rt: &impl Abort, source: &Source, given: &[Receipt], numbers: (u64, u64), count: usize) {
     let Some(receipt) = given.first() else {
         panic!(rt; "no receipt");
     };
@@ -195,7 +195,10 @@ fn is_last(
     let Some(last) = log.last() else {
         panic!(rt; "no record");
     };
-    assert_eq!(rt; (last.gno, last.sequence, last.parent), (numbers.0, numbers.0, numbers.1));
+    assert_eq!(rt;
+        (last.gno, last.sequence, last.parent),
+        (numbers.0, numbers.0, numbers.1)
+    );
     assert!(rt; !last.flags.fk && !last.flags.missing_keys);
     assert_eq!(rt; last.changes.list(), receipt.changes.list());
 }
@@ -208,8 +211,17 @@ fn transactions_at_the_bounds(rt: HostRuntime) -> Result<(), Fail> {
     let given = finish(&mut source)?;
     is_last(&rt, &source, &given, (1, 0), 1024);
     assert_eq!(rt; source.rows().len(), 1024);
-    assert_eq!(rt; source.rows().get(RowId { table: 1, key: 999 }), Some(row(999)?));
-    assert_eq!(rt; source.rows().get(RowId { table: 1, key: 1000 }), None);
+    assert_eq!(rt;
+        source.rows().get(RowId { table: 1, key: 999 }),
+        Some(row(999)?)
+    );
+    assert_eq!(rt;
+        source.rows().get(RowId {
+            table: 1,
+            key: 1000
+        }),
+        None
+    );
 
     fill(&mut source, 1000, 1024)?;
     refused_when_full(&rt, &mut source)?;
@@ -219,24 +231,54 @@ fn transactions_at_the_bounds(rt: HostRuntime) -> Result<(), Fail> {
 
     source.begin(1)?;
     assert_eq!(rt; source.begin(1), Err(SourceFault::AlreadyOpen));
-    assert_eq!(rt; source.write(1, insert(1, 1000)?), Err(SourceFault::RowExists));
+    assert_eq!(rt;
+        source.write(1, insert(1, 1000)?),
+        Err(SourceFault::RowExists)
+    );
     source.write(1, insert(1, 5000)?)?;
     assert_eq!(rt; source.prepare(1), Ok(Prepared::Parent(2)));
     assert_eq!(rt; source.queue(1), Err(SourceFault::Exhausted));
     Ok(())
 }
 
+/// Three inserts from this key on, as the next record.
+fn three_more(
+    rt: &impl Abort,
+    source: &mut Source,
+    numbers: (u64, u64),
+    from: i64,
+) -> Result<(), Fail>
+    requires { source.old.synced ≡ length source.old.log }
+    ensures { OnOk result (source.new.synced ≡ length source.new.log) }
+{
+    fill(source, from, 3)?;
+    assert_eq!(rt;
+        source.read(
+            1,
+            RowId {
+                table: 1,
+                key: from
+            }
+        ),
+        Ok(Some(row(from)?))
+    );
+    let given = finish(source)?;
+    is_last(rt, source, &given, numbers, 3);
+    assert_eq!(rt;
+        source.rows().get(RowId {
+            table: 1,
+            key: from
+        }),
+        Some(row(from)?)
+    );
+    Ok(())
+}
+
 #[test]
 fn a_refused_call_is_made_again(rt: HostRuntime) -> Result<(), Fail> {
     let mut source = source_again(rt.alloc())?;
-    for numbers in [(1, 0), (2, 1)] {
-        let from = 10 * numbers.1 as i64;
-        fill(&mut source, from, 3)?;
-        assert_eq!(rt; source.read(1, RowId { table: 1, key: from }), Ok(Some(row(from)?)));
-        let given = finish(&mut source)?;
-        is_last(&rt, &source, &given, numbers, 3);
-        assert_eq!(rt; source.rows().get(RowId { table: 1, key: from + 2 }), Some(row(from + 2)?));
-    }
+    three_more(&rt, &mut source, (1, 0), 10)?;
+    three_more(&rt, &mut source, (2, 1), 20)?;
     assert_eq!(rt; source.rows().len(), 6);
     Ok(())
 }
