@@ -1,7 +1,6 @@
--- Logs of entries, and which parents cover them.
-use Rattle.std.specs.Prelude.{◌≡◌, ℕ, ◌+◌, ◌-◌, ◌<◌, ◌≤◌, ◌==◌, true, if◌then◌else◌, List, slice_get, Option, Some, None}
-use Rattle.std.specs.List.{AllByRecursion}
-use Rattle.schema.specs.Rows.{Touched, conflicts}
+-- Logs of entries.
+use Rattle.std.specs.Prelude.{◌≡◌, ℕ, ◌+◌, ◌-◌, ◌<◌, ◌≤◌, ◌==◌, if◌then◌else◌, List, slice_get, Option, Some, None}
+use Rattle.schema.specs.Rows.{Touched}
 use Rattle.log_index.specs.declared.Entry.{Entry}
 use Rattle.log_index.specs.Footprint.{touched}
 
@@ -19,10 +18,15 @@ pub record IsAt (sequence : ℕ) (entry : Entry) : Type 0 where
 abbrev pub IsNumbered : List Entry → Type 0
 IsNumbered log = (i : ℕ) (entry : Entry) → slice_get log i ≡ Some entry → IsAt (i + 1) entry
 
+-- what a log keeps: how its entries are numbered, and that as many more as its room fit where they lie
+pub record IsLog (log : List Entry) (long capacity room : ℕ) : Type 0 where
+  pub numbered : IsNumbered log
+  pub fits : long + room ≤ capacity
+
 -- the entry of this sequence number
 abbrev pub entry_at : List Entry → ℕ → Option Entry
 entry_at log sequence = if sequence == 0 then None else slice_get log (sequence - 1)
 
--- each entry of the log that conflicts with these rows has a sequence number of at most this parent
-abbrev pub Covers : List Entry → Touched → ℕ → Type 0
-Covers log rows parent = AllByRecursion (λ entry. conflicts (touched entry.footprint) rows ≡ true → entry.sequence ≤ parent) log
+-- its sequence number, and the rows that it touches
+abbrev pub place_of : Entry → ℕ × Touched
+place_of entry = (entry.sequence, touched entry.footprint)

@@ -1,23 +1,8 @@
-//! What follows from the definitions alone. Each function states laws by its contract, and does nothing.
+//! What follows from the definitions alone. Each function states a law by its contract, and does nothing.
 
-ghost use Rattle.log_index.specs.Laws.{ConflictsBothWays, ConflictsBySets, CoversEach, CoversLonger, CoversFromLess, CoversAtEnd, CoversBySets};
+ghost use Rattle.log_index.specs.Laws.{LengthCovers};
 
-/// Conflicts are of two transactions as sets of rows: neither which of the two comes first nor how their rows
-/// are listed matters.
-pub fn conflicts()
-    ensures both_ways { ConflictsBothWays }
-    ensures by_sets { ConflictsBySets }
-{}
-
-/// Which parents cover: entry by entry, for a log with one more entry, and by the sets of rows alone.
-pub fn covers()
-    ensures each { CoversEach }
-    ensures longer { CoversLonger }
-    ensures by_sets { CoversBySets }
-{}
-
-/// A parent above one that covers does, and so does any parent from the log's length on.
-pub fn greater_parents()
-    ensures from_less { CoversFromLess }
-    ensures at_end { CoversAtEnd }
+/// A parent from the log's length on covers all rows.
+pub fn next_entry()
+    ensures { LengthCovers }
 {}

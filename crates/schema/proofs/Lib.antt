@@ -1,2 +1,4 @@
 pub mod Faults
 pub mod Flat
+pub mod Conflicts
+pub mod Covers

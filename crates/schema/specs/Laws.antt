@@ -1,7 +1,10 @@
 -- What follows from the definitions.
-use Rattle.std.specs.Prelude.{◌≡◌, ℕ, false, List, None}
+use Rattle.std.specs.Prelude.{◌≡◌, ℕ, ◌≤◌, ◌↔◌, true, false, List, [], ◌∷◌, ◌++◌, slice_get, Some, None}
+use Rattle.std.specs.List.{AllByRecursion}
 use Rattle.schema.specs.declared.Table.{Table}
 use Rattle.schema.specs.declared.RowId.{RowId}
+use Rattle.schema.specs.Rows.{Touched, conflicts, SameRows}
+use Rattle.schema.specs.Covering.{Covers}
 use Rattle.schema.specs.Schema.{link_of}
 use Rattle.schema.specs.Flags.{IsFlat, is_fk, misses_keys}
 
@@ -12,3 +15,33 @@ NoLinks = (ts : List Table) → IsFlat ts → (id : ℕ) → link_of ts id ≡ N
 -- no transaction is foreign-key related or lacks keys
 abbrev pub NoFlags : Type 0
 NoFlags = (ts : List Table) (rows : List RowId) → IsFlat ts → (is_fk ts rows ≡ false) × (misses_keys ts rows ≡ false)
+
+-- two transactions conflict, whichever of the two is named first
+abbrev pub ConflictsBothWays : Type 0
+ConflictsBothWays = (a b : Touched) → conflicts a b ≡ conflicts b a
+
+-- only the sets of rows count, and not how they are listed
+abbrev pub ConflictsBySets : Type 0
+ConflictsBySets = (a b other : Touched) → SameRows a.writes b.writes → SameRows a.refs b.refs → conflicts a other ≡ conflicts b other
+
+-- what conflicts with these rows is numbered at most the parent, one by one
+abbrev pub CoversEach : Type 0
+CoversEach = (past : List (ℕ × Touched)) (rows : Touched) (parent : ℕ) →
+    Covers past rows parent ↔ ((i number : ℕ) (before : Touched) → slice_get past i ≡ Some (number, before) → conflicts before rows ≡ true → number ≤ parent)
+
+-- a parent covers one transaction more where it covers those before it, and that one where it conflicts
+abbrev pub CoversLonger : Type 0
+CoversLonger = (past : List (ℕ × Touched)) (number : ℕ) (last rows : Touched) (parent : ℕ) →
+    Covers (past ++ (number, last) ∷ []) rows parent ↔ (Covers past rows parent × (conflicts last rows ≡ true → number ≤ parent))
+
+-- a greater parent covers too
+abbrev pub CoversFromLess : Type 0
+CoversFromLess = (past : List (ℕ × Touched)) (rows : Touched) (less parent : ℕ) → less ≤ parent → Covers past rows less → Covers past rows parent
+
+-- a parent that nothing is numbered above covers all rows
+abbrev pub CoversAtEnd : Type 0
+CoversAtEnd = (past : List (ℕ × Touched)) (rows : Touched) (parent : ℕ) → AllByRecursion (λ before. before.0 ≤ parent) past → Covers past rows parent
+
+-- only the sets of rows count, and not how they are listed
+abbrev pub CoversBySets : Type 0
+CoversBySets = (past : List (ℕ × Touched)) (rows others : Touched) (parent : ℕ) → SameRows rows.writes others.writes → SameRows rows.refs others.refs → Covers past rows parent → Covers past others parent

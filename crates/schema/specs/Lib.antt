@@ -1,5 +1,7 @@
 pub mod RowId
+pub mod RowOrder
 pub mod Rows
+pub mod Covering
 pub mod Schema
 pub mod Flags
 pub mod Laws

@@ -17,6 +17,7 @@ ghost use Rattle.schema.specs.Schema.{schema_fault, fault_from, table_at, table_
 pub mod laws;
 
 use std::alloc::{AllocError, AllocFailed};
+use std::cmp::Ordering;
 use std::marker::Model;
 use thiserror::Error;
 use uuid::Uuid;
@@ -39,12 +40,43 @@ impl<T: Drop> From<AllocFailed<T>> for Memory {
 }
 
 /// The name of a row: its table, and its key in the table. Row ids are ordered by table, then by key.
-#[derive(Clone, Copy, Debug, PartialEq, Eq, PartialOrd, Ord, Hash)]
+#[derive(Clone, Copy, Debug, PartialEq, Eq, Hash)]
 pub struct RowId {
     /// The table's id, 1 to 256 in a schema.
     pub table: u16,
     /// The row's key, any number.
     pub key: i64,
+}
+
+impl Ord for RowId {
+    ghost use Rattle.schema.specs.RowId.{row_cmp, row_total};
+    ghost use Rattle.schema.specs.RowOrder.{alike, answered};
+
+    ghost cmp = { row_cmp };
+
+    ghost total = { row_total };
+
+    ghost matches_partial_cmp = { answered };
+
+    ghost matches_eq = { alike };
+
+    fn cmp(&self, other: &RowId) -> Ordering {
+        self.table.cmp(&other.table).then(self.key.cmp(&other.key))
+    }
+}
+
+impl PartialOrd for RowId {
+    ghost use Rattle.std.specs.Ordering.{as_partial_cmp};
+    ghost use Rattle.schema.specs.RowId.{row_cmp};
+    ghost use Rattle.schema.specs.RowOrder.{ordered};
+
+    ghost partial_cmp = { as_partial_cmp row_cmp };
+
+    ghost laws = { ordered };
+
+    fn partial_cmp(&self, other: &RowId) -> Option<Ordering> {
+        Some(self.cmp(other))
+    }
 }
 
 /// The name of a transaction: the server that committed it first, and its number there.

@@ -66,3 +66,43 @@ fn faults_are_told_by_number_and_name(rt: HostRuntime) -> Result<(), Fail> {
     assert_eq!(rt; text.as_str(), "B5 Parent B1 Count");
     Ok(())
 }
+
+/// So many tables of 16 columns, each but the first a child of the one before it.
+fn chain(alloc: Global, last: u16) -> Result<Vec<Table>, AllocError> {
+    let mut tables = Vec::new(alloc);
+    for id in 1..=last {
+        let parent = if id > 1 { Some((15, id - 1)) } else { None };
+        tables.push(Table {
+            id,
+            columns: 16,
+            keyed: true,
+            parent,
+        })?;
+    }
+    Ok(tables)
+}
+
+#[test]
+fn a_schema_of_256_tables(rt: HostRuntime) -> Result<(), Fail> {
+    let schema = Schema::new(chain(rt.alloc(), 256)?)?;
+    let copy = match schema.copy() {
+        Ok(copy) => copy,
+        Err(_) => schema.copy()?,
+    };
+    assert_eq!(rt; copy.tables().len(), 256);
+    assert_eq!(rt; copy.table(256).and_then(|t| t.parent), Some((15, 255)));
+    assert_eq!(rt; copy.tables(), schema.tables());
+    assert_eq!(rt;
+        fault(rt.alloc(), &chain(rt.alloc(), 257)?)?,
+        Some(SchemaFault::Count)
+    );
+    Ok(())
+}
+
+#[test]
+fn row_ids_go_by_table_and_then_by_key(rt: HostRuntime) {
+    let row = |table: u16, key: i64| RowId { table, key };
+    assert!(rt; row(1, 9) < row(2, -9));
+    assert!(rt; row(2, -9) < row(2, 3));
+    assert!(rt; row(2, 3).max(row(1, 9)) == row(2, 3));
+}

@@ -1,3 +1,4 @@
 pub mod Legal
 pub mod Steps
 pub mod Flush
+pub mod FlushEnds

@@ -1,20 +1,21 @@
 -- What each call leaves stands as a source does.
 use Rattle.std.proofs.Common.{Bool, true, false, not, ◌&&◌, nat_le, ◌≡◌, ◌∙◌, sym, ap, subst, refl, ℕ, ◌+◌, ◌<◌, ◌≤◌, List, [], ◌∷◌, ◌++◌, length, length-append, take, drop, Option, Some, None, arith, ◌==◌}
-use Rattle.std.specs.FinMap.{empty, get}
-use Rattle.std.specs.Option.{option_map, option_map_or}
-use Rattle.std.specs.Prelude.{ℤ, is_some}
+use Rattle.std.specs.FinMap.{empty, get, insert}
+use Rattle.std.specs.Option.{option_map, option_map_or, option_flatten, option_and_then, ok_or, IsSome}
+use Rattle.std.specs.Result.{result_err, IfOk}
+use Rattle.std.specs.Prelude.{ℤ, is_some, is_none, slice_get, zero, suc, ◌-◌, cond, Result}
 use Rattle.schema.specs.declared.RowId.{RowId}
 use Rattle.schema.specs.Schema.{table_at}
+use Rattle.schema.specs.Flags.{IsFlat}
 use Rattle.rows.specs.declared.Change.TheVariants.{Insert}
-use Rattle.rows.specs.Change.{changed}
 use Rattle.record_codec.specs.Log.{after}
 use Rattle.schema.specs.declared.Table.{Table}
 use Rattle.rows.specs.declared.Change.{Change}
-use Rattle.rows.specs.Database.{Database, effect, target}
-use Rattle.store_trait.specs.Batch.{Entry, put_batch, put_row}
+use Rattle.rows.specs.Database.{Database, apply, effect, target}
+use Rattle.store_trait.specs.Batch.{Entry, put_batch}
 use Rattle.overlay.specs.Pending.{Pending, seen, none_pending, pushed}
 use Rattle.overlay.specs.Follows.{Follows}
-use Rattle.overlay.proofs.Follow.{Follows-step, seen-Follows}
+use Rattle.overlay.proofs.Follow.{Follows-pushed, seen-Follows}
 use Rattle.record_codec.specs.declared.records.Record.{Record}
 use Rattle.source_core.specs.declared.transaction.Phase.{Phase}
 use Rattle.source_core.specs.declared.transaction.Phase.TheVariants.{Active, Prepared, Queued, Flushed}
@@ -22,9 +23,9 @@ use Rattle.source_core.specs.declared.transaction.Transaction.{Transaction}
 use Rattle.std.proofs.lemmas.Bool.Decides.{nat_tests}
 use Rattle.source_core.specs.declared.fault.SourceFault.{SourceFault}
 use Rattle.source_core.specs.declared.fault.SourceFault.TheVariants.{Halted, NoSession, NotActive, WrongColumns, NoTable, TooManyChanges, RowExists}
-use Rattle.source_core.specs.Source.{Source, seen_row}
-use Rattle.source_core.specs.Calls.{cause, shape_fault, rows_fault, write_fault, written}
-use Rattle.source_core.specs.Core.{IsCore, OpenStands, Applies, IsLast, open_view, queue_view, with_change, left_of}
+use Rattle.source_core.specs.Source.{Source, seen_row, session_rows, left_in, EachApplies}
+use Rattle.source_core.specs.Calls.{cause, shape_fault, rows_fault, change_fault, write_fault, written}
+use Rattle.source_core.specs.Core.{IsCore, OpenStands, Applies, IsLast, open_view, queue_view, with_change}
 use Rattle.std.proofs.lemmas.List.{take-append-drop, take_all, length-drop}
 use Rattle.record_codec.proofs.Logs.{after-push}
 use Rattle.source_core.proofs.Legal.{flat_has_parent}
@@ -97,67 +98,138 @@ seen_is ts rows base limit log synced committed (Some t') t halted now e is core
     rw (core.rows_are, applies.follows.applied) (ap (λ db. get db id) (seen-Follows applies.follows)) in
     ap (λ p. get (seen p rows) id) (sym same) ∙ sees ∙ ap (λ s. seen_row s 1 id) is
 
-is_none : (o : Option (List ℤ)) → is_some o ≡ false → o ≡ None
-is_none None e = refl
-is_none (Some x) e = absurd (cc e)
-
 below : (n : ℕ) → nat_le 1024 n ≡ false → n < 1024
 below n e = grind (arith, nat_tests)
 
--- a change that the rows allow is put behind those before it
-put_change : (ts : List Table) (rows : Database) (base : List Entry) (limit : ℕ) (log : List Record) (synced committed : ℕ) (p : Pending) (halted : Bool) (change : Change) →
-    IsCore ts rows base limit log synced committed (Some (record { overlay = p; phase = Active })) →
-    rows_fault (source_of ts base limit log synced committed (Some (record { overlay = p; phase = Active })) halted) 1 change ≡ None →
-    (leaves : Database) → Follows ts rows p leaves →
-    Follows ts rows (pushed p change (left_of change)) (put_row leaves (target change) (left_of change))
-put_change ts rows base limit log synced committed p halted (Insert row columns) core e leaves follows =
-    let sees : seen_row (source_of ts base limit log synced committed (Some (record { overlay = p; phase = Active })) halted) 1 row ≡ get leaves row = rw (core.rows_are, follows.applied) in
-    let gone : get leaves row ≡ None = is_none (get leaves row) (ap is_some (sym sees) ∙ (no_cause _ RowExists None e).0) in
-    Follows-step (Insert row columns) (Some columns) follows (ap (λ o. changed (Insert row columns) o) gone) (flat_has_parent ts core.flat leaves row.table columns)
+-- what the session of a transaction sees
+sees : (ts : List Table) (rows : Database) (base : List Entry) (limit : ℕ) (log : List Record) (synced committed : ℕ) (t : Transaction) (halted : Bool) →
+    (core : IsCore ts rows base limit log synced committed (Some t)) → session_rows (source_of ts base limit log synced committed (Some t) halted) 1 ≡ Some core.stands.0.leaves
+sees ts rows base limit log synced committed t halted core = rw (core.rows_are, core.stands.0.follows.applied)
 
-wrote_one : (ts : List Table) (rows : Database) (base : List Entry) (limit : ℕ) (log : List Record) (synced committed : ℕ) (p : Pending) (phase : Phase) (halted : Bool) (change : Change) →
+-- a change that applies leaves a database, and there what it leaves of its row
+leaves_row : (row : RowId) (o : Option Database) (left : Option (List ℤ)) → option_map (λ after. get after row) o ≡ Some left → (next : Database) × (o ≡ Some next) × (get next row ≡ left)
+leaves_row row None left e = absurd (cc e)
+leaves_row row (Some next) left e = (next, refl, cc e)
+
+-- a change that applies is put behind those before it
+put_change : (ts : List Table) (rows leaves : Database) (p : Pending) (change : Change) (left : Option (List ℤ)) →
+    Follows ts rows p leaves → option_map (λ after. get after (target change)) (apply ts change leaves) ≡ Some left →
+    (next : Database) × Follows ts rows (pushed p change left) next
+put_change ts rows leaves p change left follows e =
+    let found = leaves_row (target change) (apply ts change leaves) left e in
+    (found.0, subst (λ (l : Option (List ℤ)). Follows ts rows (pushed p change l) found.0) found.2 (Follows-pushed change found.0 follows found.1))
+
+wrote_one : (ts : List Table) (rows : Database) (base : List Entry) (limit : ℕ) (log : List Record) (synced committed : ℕ) (p : Pending) (phase : Phase) (halted : Bool) (change : Change) (left : Option (List ℤ)) →
     IsCore ts rows base limit log synced committed (Some (record { overlay = p; phase = phase })) →
     write_fault (source_of ts base limit log synced committed (Some (record { overlay = p; phase = phase })) halted) 1 change ≡ None →
-    IsCore ts rows base limit log synced committed (Some (record { overlay = pushed p change (left_of change); phase = phase }))
-    × (source_of ts base limit log synced committed (Some (record { overlay = pushed p change (left_of change); phase = phase })) halted
+    left_in (source_of ts base limit log synced committed (Some (record { overlay = p; phase = phase })) halted) 1 change ≡ Some left →
+    IsCore ts rows base limit log synced committed (Some (record { overlay = pushed p change left; phase = phase }))
+    × (source_of ts base limit log synced committed (Some (record { overlay = pushed p change left; phase = phase })) halted
     ≡ written (source_of ts base limit log synced committed (Some (record { overlay = p; phase = phase })) halted) 1 change)
-wrote_one ts rows base limit log synced committed p Active halted change core e =
+wrote_one ts rows base limit log synced committed p Active halted change left core e is =
     let some = no_cause false NotActive _ (no_cause false NoSession _ (no_cause halted Halted _ e).1).1 in
     let room = no_cause (nat_le 1024 (length p.changes)) TooManyChanges _ (no_shape_fault ts change _ some.1) in
     let applies = core.stands.0 in
-    let more : length (p.changes ++ change ∷ []) ≤ 1024 = omega (arith, below (length p.changes) room.0, length-append p.changes (change ∷ [])) in (
-      with_current ts rows base limit log synced committed _ _ core (
-        record {
-          leaves = put_row applies.leaves (target change) (left_of change);
-          follows = put_change ts rows base limit log synced committed p halted change core room.1 applies.leaves applies.follows;
-          few = more;
-        },
-        core.stands.1,
-      ),
+    let t : Transaction = record { overlay = p; phase = Active } in
+    let more : length (p.changes ++ change ∷ []) ≤ 1024 = omega (arith, below (length p.changes) room.0, length-append p.changes (change ∷ [])) in
+    let after = rw (sees ts rows base limit log synced committed t halted core) at is in
+    let put = put_change ts rows applies.leaves p change left applies.follows after in (
+      with_current ts rows base limit log synced committed _ _ core (record { leaves = put.0; follows = put.1; few = more }, core.stands.1),
       refl,
     )
-wrote_one ts rows base limit log synced committed p (Prepared parent) halted change core e =
+wrote_one ts rows base limit log synced committed p (Prepared parent) halted change left core e is =
     absurd (a_fault NotActive (no_cause halted Halted _ e).1)
-wrote_one ts rows base limit log synced committed p (Queued parent) halted change core e =
+wrote_one ts rows base limit log synced committed p (Queued parent) halted change left core e is =
     absurd (a_fault NotActive (no_cause halted Halted _ e).1)
-wrote_one ts rows base limit log synced committed p (Flushed gno) halted change core e =
+wrote_one ts rows base limit log synced committed p (Flushed gno) halted change left core e is =
     absurd (a_fault NotActive (no_cause halted Halted _ e).1)
 
 -- a change that no cause refuses
-pub wrote : (ts : List Table) (rows : Database) (base : List Entry) (limit : ℕ) (log : List Record) (synced committed : ℕ) (current : Option Transaction) (halted : Bool) (session : ℕ) (change : Change) →
+pub wrote : (ts : List Table) (rows : Database) (base : List Entry) (limit : ℕ) (log : List Record) (synced committed : ℕ) (current : Option Transaction) (halted : Bool) (session : ℕ) (change : Change) (left : Option (List ℤ)) →
     IsCore ts rows base limit log synced committed current →
     write_fault (source_of ts base limit log synced committed current halted) session change ≡ None →
-    IsCore ts rows base limit log synced committed (with_change current change)
-    × (source_of ts base limit log synced committed (with_change current change) halted ≡ written (source_of ts base limit log synced committed current halted) session change)
-wrote ts rows base limit log synced committed None halted session change core e =
+    left_in (source_of ts base limit log synced committed current halted) session change ≡ Some left →
+    IsCore ts rows base limit log synced committed (with_change current change left)
+    × (source_of ts base limit log synced committed (with_change current change left) halted ≡ written (source_of ts base limit log synced committed current halted) session change)
+wrote ts rows base limit log synced committed None halted session change left core e is =
     let one = the_session session (no_cause _ NoSession _ (no_cause halted Halted _ e).1).0 in
     let at_one = subst (λ n. write_fault (source_of ts base limit log synced committed None halted) n change ≡ None) one e in
     absurd (a_fault NotActive (no_cause halted Halted _ at_one).1)
-wrote ts rows base limit log synced committed (Some t) halted session change core e =
+wrote ts rows base limit log synced committed (Some t) halted session change left core e is =
     let one = the_session session (no_cause _ NoSession _ (no_cause halted Halted _ e).1).0 in
     let at_one = subst (λ n. write_fault (source_of ts base limit log synced committed (Some t) halted) n change ≡ None) one e in
-    let both = wrote_one ts rows base limit log synced committed t.overlay t.phase halted change core at_one in
+    let left_at_one = subst (λ n. left_in (source_of ts base limit log synced committed (Some t) halted) n change ≡ Some left) one is in
+    let both = wrote_one ts rows base limit log synced committed t.overlay t.phase halted change left core at_one left_at_one in
     (both.0, both.1 ∙ ap (λ n. written (source_of ts base limit log synced committed (Some t) halted) n change) (sym one))
+
+-- what each session sees is defined
+applies_at : (ts : List Table) (rows : Database) (base : List Entry) (limit : ℕ) (log : List Record) (synced committed : ℕ) (current : Option Transaction) → IsCore ts rows base limit log synced committed current → (place : ℕ) →
+    IsSome (option_and_then (effect ts (option_map_or (λ t. t.changes) (option_flatten (slice_get (option_map open_view current ∷ []) place)) [])) (after ts (put_batch base empty) (take committed log)))
+applies_at ts rows base limit log synced committed None core zero = rw core.rows_are refl
+applies_at ts rows base limit log synced committed None core (suc place) = rw core.rows_are refl
+applies_at ts rows base limit log synced committed (Some t) core zero = rw (core.rows_are, core.stands.0.follows.applied) refl
+applies_at ts rows base limit log synced committed (Some t) core (suc place) = rw core.rows_are refl
+
+pub each_applies : (ts : List Table) (rows : Database) (base : List Entry) (limit : ℕ) (log : List Record) (synced committed : ℕ) (current : Option Transaction) (halted : Bool) (now : Source) →
+    source_of ts base limit log synced committed current halted ≡ now → IsCore ts rows base limit log synced committed current → EachApplies now
+each_applies ts rows base limit log synced committed current halted now is core =
+    subst (λ (s : Source). EachApplies s) is (λ session. applies_at ts rows base limit log synced committed current core (session - 1))
+
+-- where the causes so far do not stand, the first is a later one
+past_cause : (b : Bool) (fault : SourceFault) (early later first : Option SourceFault) → (early ≡ None → later ≡ first) → cause b fault early ≡ None → cause b fault later ≡ first
+past_cause true fault early later first then e = absurd (a_fault fault e)
+past_cause false fault early later first then e = then e
+
+past_shape : (ts : List Table) (change : Change) (early later first : Option SourceFault) → (early ≡ None → later ≡ first) → shape_fault ts change early ≡ None → shape_fault ts change later ≡ first
+past_shape ts (Insert row columns) early later first then e =
+    elim (table_at ts row.table) as (λ o. option_map_or (λ table. cause (not (length columns == table.columns)) WrongColumns early) o (Some NoTable) ≡ None → option_map_or (λ table. cause (not (length columns == table.columns)) WrongColumns later) o (Some NoTable) ≡ first) [
+      | None ↦ λ h. absurd (a_fault NoTable h)
+      | Some table ↦ λ h. past_cause _ WrongColumns early later first then h
+    ] e
+
+past_change : (s : Source) (session : ℕ) (change : Change) (later : Option SourceFault) → change_fault s session change None ≡ None → change_fault s session change later ≡ later
+past_change s session change later e =
+    past_cause s.halted Halted _ _ later (past_cause _ NoSession _ _ later (past_cause _ NotActive _ _ later (past_shape s.tables change _ _ later (past_cause _ TooManyChanges None later later (λ _. refl))))) e
+
+-- what the rows refuse, told by whether the change leaves its row
+abbrev told : Option (Option (List ℤ)) → Option SourceFault
+told None = Some RowExists
+told (Some left) = None
+
+by_row : (o : Option (List ℤ)) (next : Database) (row : RowId) → cause (is_some o) RowExists None ≡ told (option_map (λ after. get after row) (cond (is_none o && true) (Some next) None))
+by_row None next row = refl
+by_row (Some columns) next row = refl
+
+by_rows : (ts : List Table) (flat : IsFlat ts) (s : Source) (session : ℕ) (change : Change) (rows : Database) → s.tables ≡ ts → session_rows s session ≡ Some rows →
+    rows_fault s session change ≡ told (left_in s session change)
+by_rows ts flat s session (Insert row columns) rows same is =
+    rw (is, same, flat_has_parent ts flat rows row.table columns) (by_row (get rows row) (insert rows row columns) row)
+
+-- what the session's change leaves, and whether the rows refuse it
+pub left_is : (ts : List Table) (rows : Database) (base : List Entry) (limit : ℕ) (log : List Record) (synced committed : ℕ) (current : Option Transaction) (t : Transaction) (halted : Bool) (now : Source) (session : ℕ) (change : Change) (left : Option (Option (List ℤ))) →
+    current ≡ Some t → source_of ts base limit log synced committed current halted ≡ now → IsCore ts rows base limit log synced committed current → change_fault now session change None ≡ None →
+    left ≡ option_map (λ after. get after (target change)) (apply ts change (seen t.overlay rows)) → (left_in now session change ≡ left) × (write_fault now session change ≡ told left)
+left_is ts rows base limit log synced committed None t halted now session change left e is core none from = absurd (cc e)
+left_is ts rows base limit log synced committed (Some t') t halted now session change left e is core none from =
+    let source = source_of ts base limit log synced committed (Some t') halted in
+    let none' = subst (λ (s : Source). change_fault s session change None ≡ None) (sym is) none in
+    let one = the_session session (no_cause _ NoSession _ (no_cause halted Halted _ none').1).0 in
+    let sees_one = subst (λ n. session_rows source n ≡ Some core.stands.0.leaves) (sym one) (sees ts rows base limit log synced committed t' halted core) in
+    let there : seen t.overlay rows ≡ core.stands.0.leaves = ap (λ (p : Pending). seen p rows) (sym (same_overlay t' t e)) ∙ seen-Follows core.stands.0.follows in
+    let leaves : left_in source session change ≡ left = rw sees_one (sym (from ∙ ap (λ db. option_map (λ after. get after (target change)) (apply ts change db)) there)) in
+    let fault : write_fault source session change ≡ told left =
+    past_change source session change (rows_fault source session change) none' ∙ by_rows ts core.flat source session change core.stands.0.leaves refl sees_one ∙ ap told leaves in
+    subst (λ (s : Source). (left_in s session change ≡ left) × (write_fault s session change ≡ told left)) is (leaves, fault)
+
+-- the same, as the answer
+pub refused : (left : Option (Option (List ℤ))) (answer : Result (Option (List ℤ)) SourceFault) → answer ≡ ok_or left RowExists → result_err answer ≡ told left
+refused None answer e = rw e refl
+refused (Some left) answer e = rw e refl
+
+pub left_answered : (s : Source) (session : ℕ) (change : Change) (left : Option (Option (List ℤ))) (answer : Result (Option (List ℤ)) SourceFault) → answer ≡ ok_or left RowExists → left_in s session change ≡ left →
+    IfOk answer (λ l. left_in s session change ≡ Some l)
+left_answered s session change None answer e is = subst (λ (r : Result (Option (List ℤ)) SourceFault). IfOk r (λ l. left_in s session change ≡ Some l)) (sym e) tt
+left_answered s session change (Some left) answer e is = subst (λ (r : Result (Option (List ℤ)) SourceFault). IfOk r (λ l. left_in s session change ≡ Some l)) (sym e) is
 
 -- what the last record and its overlay leave
 last_leaves : (ts : List Table) (rows : Database) (base : List Entry) (log : List Record) (committed gno : ℕ) (p : Pending) → after ts (put_batch base empty) (take committed log) ≡ Some rows →

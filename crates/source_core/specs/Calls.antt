@@ -57,11 +57,14 @@ shape_fault ts (Insert row columns) later =
 abbrev pub rows_fault : Source → ℕ → Change → Option SourceFault
 rows_fault s session (Insert row columns) = cause (is_some (seen_row s session row)) RowExists None
 
-abbrev pub write_fault : Source → ℕ → Change → Option SourceFault
-write_fault s session change =
+-- the causes that come before those that the rows have
+abbrev pub change_fault : Source → ℕ → Change → Option SourceFault → Option SourceFault
+change_fault s session change later =
     session_fault s session (cause (not (is_active (open_of s session))) NotActive
-    (shape_fault s.tables change (cause (nat_le 1024 (length (changes_of s session))) TooManyChanges
-    (rows_fault s session change))))
+    (shape_fault s.tables change (cause (nat_le 1024 (length (changes_of s session))) TooManyChanges later)))
+
+abbrev pub write_fault : Source → ℕ → Change → Option SourceFault
+write_fault s session change = change_fault s session change (rows_fault s session change)
 
 abbrev pub written : Source → ℕ → Change → Source
 written s session change = with_open s session (Some (record { changes = changes_of s session ++ change ∷ []; phase = Active }))

@@ -1,16 +1,15 @@
 -- How a source's parts stand together.
-use Rattle.std.specs.Prelude.{◌≡◌, ℕ, ℤ, false, if◌then◌else◌, ◌+◌, ◌<◌, ◌≤◌, ◌^◌, List, [], ◌∷◌, length, take, drop, Option, Some, None}
+use Rattle.std.specs.Prelude.{◌≡◌, ℕ, ℤ, if◌then◌else◌, ◌+◌, ◌<◌, ◌≤◌, ◌^◌, List, [], ◌∷◌, length, take, drop, Option, Some, None}
 use Rattle.std.specs.FinMap.{empty}
 use Rattle.schema.specs.declared.Table.{Table}
 use Rattle.schema.specs.Flags.{IsFlat}
 use Rattle.rows.specs.declared.Change.{Change}
-use Rattle.rows.specs.declared.Change.TheVariants.{Insert}
-use Rattle.rows.specs.Database.{Database}
+use Rattle.rows.specs.Database.{Database, writes}
 use Rattle.store_trait.specs.Batch.{Entry, put_batch}
 use Rattle.overlay.specs.Pending.{Pending, pushed}
 use Rattle.overlay.specs.Follows.{Follows}
 use Rattle.record_codec.specs.declared.records.Record.{Record}
-use Rattle.record_codec.specs.Log.{after, IsLegalLog}
+use Rattle.record_codec.specs.Log.{after, flags_of, IsLegalLog}
 use Rattle.source_core.specs.declared.transaction.Phase.{Phase}
 use Rattle.source_core.specs.declared.transaction.Phase.TheVariants.{Active, Prepared, Queued, Flushed}
 use Rattle.source_core.specs.declared.transaction.Transaction.{Transaction}
@@ -33,14 +32,10 @@ abbrev pub queue_view : Option Transaction → List ℕ
 queue_view None = []
 queue_view (Some t) = phase_queue t.phase
 
--- what a change leaves of its row
-abbrev pub left_of : Change → Option (List ℤ)
-left_of (Insert row columns) = Some columns
-
--- the transaction with one more change
-abbrev pub with_change : Option Transaction → Change → Option Transaction
-with_change None change = None
-with_change (Some t) change = Some (record { overlay = pushed t.overlay change (left_of change); phase = t.phase })
+-- the transaction with one more change, and what it leaves of its row
+abbrev pub with_change : Option Transaction → Change → Option (List ℤ) → Option Transaction
+with_change None change left = None
+with_change (Some t) change left = Some (record { overlay = pushed t.overlay change left; phase = t.phase })
 
 -- the transaction once it is prepared, and what its session is told
 abbrev pub ready : Option Transaction → ℕ → Option Transaction × Answer
@@ -55,13 +50,13 @@ as_flushed None gno = None
 as_flushed (Some t) gno = Some (record { overlay = t.overlay; phase = Flushed gno })
 
 -- what is flushed of the one session's transaction
-pub record IsQueuedRecord (current : Option Transaction) (number : ℕ) (made : Record) : Type 0 where
+pub record IsQueuedRecord (ts : List Table) (current : Option Transaction) (number : ℕ) (made : Record) : Type 0 where
   pub t : Transaction
   pub is : current ≡ Some t
   pub queued : t.phase ≡ Queued made.parent
   pub gno : made.gno ≡ number
   pub sequence : made.sequence ≡ number
-  pub flags : made.flags ≡ record { fk = false; missing_keys = false }
+  pub flags : made.flags ≡ flags_of ts (writes made.changes)
   pub refs : made.refs ≡ []
   pub changes : made.changes ≡ t.overlay.changes
 

@@ -1,11 +1,12 @@
 -- What follows from the definitions.
-use Rattle.std.specs.Prelude.{List, length}
+use Rattle.std.specs.Prelude.{List, length, map}
 use Rattle.schema.specs.declared.Table.{Table}
 use Rattle.schema.specs.Rows.{Touched}
+use Rattle.schema.specs.Covering.{Covers}
 use Rattle.rows.specs.Database.{Database}
 use Rattle.record_codec.specs.declared.records.Record.{Record}
-use Rattle.record_codec.specs.Log.{Covers, IsLegalLog}
+use Rattle.record_codec.specs.Log.{place_of, IsLegalLog}
 
 -- the number of records of a legal log is a parent that covers all of them
 abbrev pub LengthCovers : Type 0
-LengthCovers = (ts : List Table) (base : Database) (log : List Record) → IsLegalLog ts base log → (rows : Touched) → Covers log rows (length log)
+LengthCovers = (ts : List Table) (base : Database) (log : List Record) → IsLegalLog ts base log → (rows : Touched) → Covers (map place_of log) rows (length log)

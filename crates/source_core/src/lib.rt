@@ -16,3 +16,6 @@ mod transaction;
 pub use fault::SourceFault;
 pub use machine::SourceCore;
 pub use transaction::{Phase, Prepared, Receipt};
+
+#[cfg(test)]
+mod tests;
