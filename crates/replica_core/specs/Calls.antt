@@ -1,17 +1,16 @@
 -- What each call of a replica answers, and what it leaves.
-use Rattle.std.specs.Prelude.{ℕ, ◌+◌, Bool, false, not, ◌&&◌, ◌||◌, ◌==◌, nat_lt, nat_le, if◌then◌else◌, List, [], ◌∷◌, ◌++◌, length, filter, slice_get, take, Option, Some, None, is_some, Result, Ok, Err}
-use Rattle.std.specs.Option.{option_map_or, option_or}
+use Rattle.std.specs.Prelude.{ℕ, ◌+◌, ◌-◌, Bool, false, not, ◌&&◌, ◌||◌, ◌==◌, nat_lt, nat_le, if◌then◌else◌, List, [], ◌∷◌, ◌++◌, length, filter, slice_get, Option, Some, None, is_some, Result, Ok, Err}
+use Rattle.std.specs.Option.{option_and_then, option_map_or, option_or}
 use Rattle.std.specs.List.{list_any}
 use Rattle.schema.specs.declared.Table.{Table}
+use Rattle.rows.specs.Database.{effect}
 use Rattle.store_trait.specs.Batch.{Entry}
 use Rattle.record_codec.specs.declared.records.Record.{Record}
-use Rattle.record_codec.specs.Log.{after}
 use Rattle.replica_core.specs.declared.ReplicaFault.{ReplicaFault}
 use Rattle.replica_core.specs.declared.ReplicaFault.TheVariants.{Gap, Malformed, Stopped, Stranger, Double, Memory}
 use Rattle.replica_core.specs.declared.Received.{Received}
 use Rattle.replica_core.specs.declared.Received.TheVariants.{Accepted, Skipped}
-use Rattle.replica_core.specs.Replica.{Replica}
-use Rattle.store_trait.specs.Operation.{loaded}
+use Rattle.replica_core.specs.Replica.{Replica, working_rows}
 
 -- new: nothing is accepted yet
 
@@ -79,9 +78,11 @@ finish_fault r gno =
     else if was_finished r gno then Some Double
     else None)
 
--- the changes of the record of this number apply, in order, where its turn is
+-- the changes of the accepted record of this number, counted from 1, apply to the working rows, over which its job was
+-- dispatched. Nothing else is asked of the records before it
 abbrev pub applies : Replica → ℕ → Bool
-applies r gno = is_some (after r.tables (loaded r.base) (take gno r.accepted))
+applies r gno =
+    is_some (option_and_then (λ next. option_and_then (effect r.tables next.changes) (working_rows r)) (slice_get r.accepted (gno - 1)))
 
 abbrev pub with_finished : Replica → ℕ → Replica
 with_finished r gno = record r { finished = r.finished ++ gno ∷ [] }
