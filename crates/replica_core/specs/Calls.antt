@@ -66,17 +66,24 @@ next_job r = if is_eligible r then Some (r.dispatched + 1) else None
 abbrev pub dispatched_next : Replica → Replica
 dispatched_next r = record r { dispatched = r.dispatched + 1 }
 
--- finish: the result of a job that was given and not finished
+-- finish: the result of a record that was dispatched, and whose job was not finished
+
+-- among the first so many, which are committed, or among those whose results were taken
+abbrev pub is_finished : ℕ → List ℕ → ℕ → Bool
+is_finished committed finished gno = nat_le gno committed || list_any (λ n. n == gno) finished
 
 abbrev pub was_finished : Replica → ℕ → Bool
-was_finished r gno = nat_le gno r.committed || list_any (λ n. n == gno) r.finished
+was_finished r gno = is_finished r.committed r.finished gno
+
+-- where so many are dispatched, and so many of these committed
+abbrev pub job_fault : ℕ → ℕ → List ℕ → ℕ → Option ReplicaFault
+job_fault dispatched committed finished gno =
+    if not (nat_le 1 gno && nat_le gno dispatched) then Some Stranger
+    else if is_finished committed finished gno then Some Double
+    else None
 
 abbrev pub finish_fault : Replica → ℕ → Option ReplicaFault
-finish_fault r gno =
-    option_or (stop_fault r)
-    (if not (nat_le 1 gno && nat_le gno r.dispatched) then Some Stranger
-    else if was_finished r gno then Some Double
-    else None)
+finish_fault r gno = option_or (stop_fault r) (job_fault r.dispatched r.committed r.finished gno)
 
 -- the changes of the accepted record of this number, counted from 1, apply to the working rows, over which its job was
 -- dispatched. Nothing else is asked of the records before it
