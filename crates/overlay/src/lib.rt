@@ -32,7 +32,8 @@ pub struct Overlay {
 }
 
 impl Model for Overlay {
-    ghost use Rattle.overlay.specs.Pending.{Pending, in_order};
+    ghost use Rattle.store_trait.specs.Batch.{in_order};
+    ghost use Rattle.overlay.specs.Pending.{Pending};
 
     ghost Value = { Pending };
 

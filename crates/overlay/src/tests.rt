@@ -1,33 +1,11 @@
-ghost use Rattle.std.specs.FinMap.{empty};
+//! What no clause says: that a transaction of the most changes finds its memory, and refused calls that are made again.
 
 use crate::{Overlay, run_changes};
+use btree_store::BTreeStore;
 use rows::{Change, Row};
 use schema::{Memory, RowId, Schema, Table};
 use std::alloc::Global;
-use store_trait::{Batch, RowStore};
-
-/// A store without rows, which has no room for any.
-struct NoRows;
-
-impl RowStore for NoRows {
-    ghost contents = { λ _. empty };
-
-    fn get(&self, _id: RowId) -> Option<Row> {
-        None
-    }
-
-    fn put_all(&mut self, _batch: &Batch) -> Result<(), Memory> {
-        Err(Memory)
-    }
-
-    fn len(&self) -> usize {
-        0
-    }
-
-    fn next_in_table(&self, _table: u16, _above: Option<i64>) -> Option<(i64, Row)> {
-        None
-    }
-}
+use std::test::Fail;
 
 const PARENT: RowId = RowId { table: 3, key: 1 };
 
@@ -69,7 +47,7 @@ fn insert(row: RowId, value: i64) -> Result<Change, Memory> {
 /// How many changes the overlay of these has over no rows.
 fn run(alloc: Global, changes: &[Change]) -> Result<Option<usize>, Memory> {
     let schema = schema(alloc)?;
-    Ok(run_changes(alloc, &schema, &NoRows, changes)?.map(|overlay| overlay.len()))
+    Ok(run_changes(alloc, &schema, &BTreeStore::new(alloc), changes)?.map(|overlay| overlay.len()))
 }
 
 fn three_changes(alloc: Global) -> Result<Overlay, Memory> {
@@ -107,5 +85,101 @@ fn changes_run_where_each_applies(rt: HostRuntime) -> Result<(), Memory> {
     // The child before its parent, and a row that is there.
     assert!(rt; run(rt.alloc(), &[child, parent])?.is_none());
     assert!(rt; run(rt.alloc(), &[parent, parent])?.is_none());
+    Ok(())
+}
+
+/// A table of 16 columns, and one of as many whose last column names a row of the first.
+fn wide_schema(alloc: Global) -> Result<Schema, Memory> {
+    let mut tables = Vec::new(alloc);
+    for (id, parent) in [(1, None), (2, Some((15, 1)))] {
+        tables.push(Table {
+            id,
+            columns: 16,
+            keyed: true,
+            parent,
+        })?;
+    }
+    Schema::new(tables).map_err(|_| Memory)
+}
+
+/// So many rows of 16 columns of table 1, and behind each a row of table 2 whose last column names it.
+fn wide_changes(alloc: Global, keys: u16) -> Result<Vec<Change>, Memory> {
+    let mut changes = Vec::new(alloc);
+    for key in 0..keys {
+        let key = 100 - i64::from(key);
+        let values = Row::new(&[key; 16]).ok_or(Memory)?;
+        for table in [1, 2] {
+            let row = RowId { table, key };
+            changes.push(Change::Insert { row, values })?;
+        }
+    }
+    Ok(changes)
+}
+
+#[test]
+fn a_transaction_of_1024_changes(rt: HostRuntime) -> Result<(), Fail> {
+    let alloc = rt.alloc();
+    let schema = wide_schema(alloc)?;
+    let changes = wide_changes(alloc, 512)?;
+    let ran = run_changes(alloc, &schema, &BTreeStore::new(alloc), &changes)?;
+    let overlay = ran.ok_or("each change applies")?;
+    assert_eq!(rt; overlay.len(), 1024);
+    let batch = overlay.batch(alloc)?;
+    let entries = batch.entries();
+    assert_eq!(rt; entries.len(), 1024);
+    assert!(rt;
+        entries[0]
+            == (
+                RowId {
+                    table: 1,
+                    key: -411
+                },
+                Row::new(&[-411; 16])
+            )
+    );
+    assert!(rt; entries[511] == (RowId { table: 1, key: 100 }, Row::new(&[100; 16])));
+    assert!(rt;
+        entries[512]
+            == (
+                RowId {
+                    table: 2,
+                    key: -411
+                },
+                Row::new(&[-411; 16])
+            )
+    );
+    assert!(rt; entries[1023] == (RowId { table: 2, key: 100 }, Row::new(&[100; 16])));
+    assert!(rt; overlay.into_changes().as_slice() == changes.as_slice());
+    Ok(())
+}
+
+/// With one allocation after another refused, the call that was refused leaves the overlay as it was, and answers at
+/// its second try as if none had been.
+#[test]
+fn refused_calls_are_made_again(rt: HostRuntime) -> Result<(), Fail> {
+    let alloc = rt.alloc();
+    let schema = wide_schema(alloc).or_else(|_| wide_schema(alloc))?;
+    let changes = wide_changes(alloc, 20).or_else(|_| wide_changes(alloc, 20))?;
+    let none = BTreeStore::new(alloc);
+    let ran = run_changes(alloc, &schema, &none, &changes).or_else(|_| run_changes(
+        alloc, &schema, &none, &changes,
+    ))?;
+    let ran = ran.ok_or("each change applies")?;
+    let mut pushed = Overlay::new(alloc);
+    for change in &changes {
+        let Change::Insert { values, .. } = change;
+        let before = pushed.len();
+        if pushed.push(*change, Some(*values)).is_err() {
+            assert_eq!(rt; pushed.len(), before);
+            assert!(rt; pushed.see(change.target()).is_none());
+            pushed.push(*change, Some(*values))?;
+        }
+    }
+    assert!(rt; pushed.changes() == changes.as_slice());
+    assert!(rt; ran.changes() == changes.as_slice());
+    let one = ran.batch(alloc).or_else(|_| ran.batch(alloc))?;
+    let other = pushed.batch(alloc).or_else(|_| pushed.batch(alloc))?;
+    assert_eq!(rt; one.entries().len(), 40);
+    assert!(rt; one.entries() == other.entries());
     Ok(())
 }

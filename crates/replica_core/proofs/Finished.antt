@@ -23,15 +23,11 @@ use Rattle.replica_core.proofs.Kept.{next_dispatched}
 
 -- ---- the batch of an overlay
 
-entries-from_entries : (es : List Entry) → entries (from_entries {R = row_cmp} es) ≡ overlay.in_order es
-entries-from_entries [] = nil_from_length (entries empty) (sym (len-entries empty) ∙ len-empty row_cmp (Option (List ℤ)))
-entries-from_entries (e ∷ es) = entries-insert row_total (from_entries es) e.0 e.1 ∙ ap (put row_cmp e.0 e.1) (entries-from_entries es)
-
 -- what is pending is the batch of the rows written
 pub left-is-batch : (changes : List Change) (left : Option Database) (pending : overlay.Pending) → Some pending ≡ option_map (overlay.pending_of changes) left → Some pending.left ≡ option_map (λ leaves. rows_in (writes changes) leaves) left
 left-is-batch changes None pending is = absurd (none-some pending (sym is))
 left-is-batch changes (Some leaves) pending is =
-    ap Some (ap (λ p. p.left) (same_Some pending _ is) ∙ sym (entries-from_entries (map (λ id. (id, get leaves id)) (writes changes))))
+    ap (λ (p : overlay.Pending). Some p.left) (same_Some pending _ is)
 
 -- ---- the answer
 
