@@ -5,7 +5,9 @@ use btree_store::BTreeStore;
 use rows::{Change, Row};
 use schema::{Memory, RowId, Schema, Table};
 use std::alloc::Global;
+use std::process::Abort;
 use std::test::Fail;
+use store_trait::Batch;
 
 const PARENT: RowId = RowId { table: 3, key: 1 };
 
@@ -153,10 +155,51 @@ fn a_transaction_of_1024_changes(rt: HostRuntime) -> Result<(), Fail> {
     Ok(())
 }
 
-/// With one allocation after another refused, the call that was refused leaves the overlay as it was, and answers at
-/// its second try as if none had been.
+/// Pushes the change, once more where it is refused, which leaves the overlay as it was.
+fn push_again(rt: &impl Abort, overlay: &mut Overlay, change: &Change) -> Result<(), Memory> {
+    let Change::Insert { values, .. } = change;
+    let before = overlay.len();
+    if overlay.push(*change, Some(*values)).is_ok() {
+        return Ok(());
+    }
+    assert_eq!(rt; overlay.len(), before);
+    assert!(rt; overlay.see(change.target()).is_none());
+    overlay.push(*change, Some(*values))
+}
+
+fn pushed(rt: &(impl Abort + AllocGlobal), changes: &[Change]) -> Result<Overlay, Memory> {
+    let mut overlay = Overlay::new(rt.alloc());
+    for change in changes {
+        push_again(rt, &mut overlay, change)?;
+    }
+    Ok(overlay)
+}
+
+/// With one allocation after another refused, each push is as if none had been.
 #[test]
-fn refused_calls_are_made_again(rt: HostRuntime) -> Result<(), Fail> {
+fn refused_pushes_are_made_again(rt: HostRuntime) -> Result<(), Memory> {
+    let alloc = rt.alloc();
+    let changes = wide_changes(alloc, 20).or_else(|_| wide_changes(alloc, 20))?;
+    let overlay = pushed(&rt, &changes)?;
+    assert!(rt; overlay.changes() == changes.as_slice());
+    assert_wide(
+        &rt,
+        &overlay.batch(alloc).or_else(|_| overlay.batch(alloc))?,
+    );
+    Ok(())
+}
+
+/// The batch that twenty rows of each of the two tables leave.
+fn assert_wide(rt: &impl Abort, batch: &Batch) {
+    let entries = batch.entries();
+    assert_eq!(rt; entries.len(), 40);
+    assert!(rt; entries[0] == (RowId { table: 1, key: 81 }, Row::new(&[81; 16])));
+    assert!(rt; entries[39] == (RowId { table: 2, key: 100 }, Row::new(&[100; 16])));
+}
+
+/// With one allocation after another refused, a run of changes is as if none had been.
+#[test]
+fn a_refused_run_is_made_again(rt: HostRuntime) -> Result<(), Memory> {
     let alloc = rt.alloc();
     let schema = wide_schema(alloc).or_else(|_| wide_schema(alloc))?;
     let changes = wide_changes(alloc, 20).or_else(|_| wide_changes(alloc, 20))?;
@@ -164,22 +207,10 @@ fn refused_calls_are_made_again(rt: HostRuntime) -> Result<(), Fail> {
     let ran = run_changes(alloc, &schema, &none, &changes).or_else(|_| run_changes(
         alloc, &schema, &none, &changes,
     ))?;
-    let ran = ran.ok_or("each change applies")?;
-    let mut pushed = Overlay::new(alloc);
-    for change in &changes {
-        let Change::Insert { values, .. } = change;
-        let before = pushed.len();
-        if pushed.push(*change, Some(*values)).is_err() {
-            assert_eq!(rt; pushed.len(), before);
-            assert!(rt; pushed.see(change.target()).is_none());
-            pushed.push(*change, Some(*values))?;
-        }
-    }
-    assert!(rt; pushed.changes() == changes.as_slice());
-    assert!(rt; ran.changes() == changes.as_slice());
-    let one = ran.batch(alloc).or_else(|_| ran.batch(alloc))?;
-    let other = pushed.batch(alloc).or_else(|_| pushed.batch(alloc))?;
-    assert_eq!(rt; one.entries().len(), 40);
-    assert!(rt; one.entries() == other.entries());
+    let overlay = ran.expect(&rt, "each change applies");
+    assert_wide(
+        &rt,
+        &overlay.batch(alloc).or_else(|_| overlay.batch(alloc))?,
+    );
     Ok(())
 }
