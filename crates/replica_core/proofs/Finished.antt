@@ -1,11 +1,9 @@
 -- What is answered where a job was executed.
-use Rattle.std.proofs.Common.{◌≡◌, ◌∙◌, sym, ap, refl, ℕ, ℤ, ◌+◌, ◌-◌, arith, slice_get, get_or, List, [], ◌∷◌, map, take, Option, Some, None, is_some, Ok, Err, if◌then◌else◌}
+use Rattle.std.proofs.Common.{◌≡◌, ◌∙◌, sym, ap, refl, ℕ, ◌+◌, ◌-◌, arith, slice_get, get_or, List, take, Option, Some, None, is_some, Ok, Err, if◌then◌else◌}
 use Rattle.std.specs.Option.{option_and_then, option_map, option_map_or, option_or}
-use Rattle.std.specs.FinMap.{empty, entries, from_entries, entries-insert, len-empty, len-entries, get, put}
+use Rattle.std.specs.FinMap.{empty}
 use Rattle.std.proofs.lemmas.Option.{none-some, same_Some}
-use Rattle.std.proofs.lemmas.List.{nil_from_length}
 use Rattle.schema.specs.declared.Table.{Table}
-use Rattle.schema.specs.RowId.{row_cmp, row_total}
 use Rattle.rows.specs.declared.Change.{Change}
 use Rattle.rows.specs.Database.{Database, effect, writes}
 use Rattle.store_trait.specs.Batch.{Entry, put_batch, rows_in}
