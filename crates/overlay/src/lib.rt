@@ -51,6 +51,15 @@ impl Overlay {
         }
     }
 
+    /// No changes, with room for so many.
+    fn with_room(alloc: Global, count: usize) -> Result<Overlay, Memory>
+        ensures { IfOk result (λ overlay. overlay ≡ none_pending) }
+    {
+        let changes = Vec::with_capacity(alloc, count)?;
+        let left = IndexMap::with_capacity(alloc, count)?;
+        Ok(Overlay { changes, left })
+    }
+
     /// What the changes leave of the row: its columns, or `None` where they remove it. No answer where no
     /// change is of the row. It takes no memory, and expected constant time.
     pub fn see(&self, id: RowId) -> Option<Option<Row>>
@@ -191,7 +200,7 @@ pub fn run_changes<S: RowStore>(
 ) -> Result<Option<Overlay>, Memory>
     ensures { IfOk result (λ ran. ran ≡ option_map (pending_of changes.now) (effect schema.now changes.now (S.contents store.now))) }
 {
-    let mut overlay = Overlay::new(alloc);
+    let mut overlay = Overlay::with_room(alloc, changes.len())?;
     for change in changes {
         let Some(left) = left_seen(&overlay, schema, store, change) else {
             return Ok(None);
