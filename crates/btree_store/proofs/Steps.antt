@@ -10,7 +10,8 @@ use Rattle.schema.specs.declared.RowId.{RowId}
 use Rattle.schema.specs.RowId.{row_cmp, row_total, exact_row, same_row}
 use Rattle.rows.specs.Database.{Database}
 use Rattle.store_trait.specs.Batch.{Entry, IsRising, put_row, put_batch}
-use Rattle.store_trait.proofs.Batches.{one_row, less_apart, get-put_row, get-put_batch}
+use Rattle.rows.proofs.Apply.{row_is}
+use Rattle.store_trait.proofs.Batches.{less_apart, get-put_row, get-put_batch}
 use Rattle.btree_store.specs.Contents.{KeysFit}
 use Rattle.btree_store.specs.Put.{filled, undo, AreThere}
 
@@ -26,14 +27,14 @@ remove-insert db id columns absent = same_map row_total exact_row (remove (inser
     get-remove row_total (insert db id columns) id q ∙ ap (cond (same_row q id) None) (get-insert row_total db id columns q) ∙ at q (same_row q id) refl)
   where
     at : (q : RowId) (b : Bool) → same_row q id ≡ b → cond b None (cond b (Some columns) (get db q)) ≡ get db q
-    at q true same = sym absent ∙ ap (get db) (sym (one_row q id same))
+    at q true same = sym absent ∙ ap (get db) (sym (row_is q id same))
     at q false other = refl
 
 pub remove-absent : (db : Database) (id : RowId) → get db id ≡ None → remove db id ≡ db
 remove-absent db id absent = same_map row_total exact_row (remove db id) db (λ q. get-remove row_total db id q ∙ at q (same_row q id) refl)
   where
     at : (q : RowId) (b : Bool) → same_row q id ≡ b → cond b None (get db q) ≡ get db q
-    at q true same = sym absent ∙ ap (get db) (sym (one_row q id same))
+    at q true same = sym absent ∙ ap (get db) (sym (row_is q id same))
     at q false other = refl
 
 pub filled-there : (db : Database) (id : RowId) (columns : List ℤ) → contains_key db id ≡ true → filled db id columns ≡ db
@@ -70,7 +71,7 @@ filled_has db id columns =
 filled_keeps : (db : Database) (id q : RowId) (columns : List ℤ) → IsSome (get db q) → IsSome (get (filled db id columns) q)
 filled_keeps db id q columns there =
     elim (same_row q id) as (λ b. same_row q id ≡ b → IsSome (get (filled db id columns) q)) [
-      | true ↦ λ same. ap (λ r. is_some (get (filled db id columns) r)) (one_row q id same) ∙ filled_has db id columns
+      | true ↦ λ same. ap (λ r. is_some (get (filled db id columns) r)) (row_is q id same) ∙ filled_has db id columns
       | false ↦ λ other. ap is_some (filled-other db id q columns other) ∙ there
     ] refl
 
@@ -92,7 +93,7 @@ put_batch-filled es db id columns rising found = same_map row_total exact_row (p
     whatever (Some x) a b some = refl
 
     at : (q : RowId) (b : Bool) → same_row q id ≡ b → unwrap_or (find row_cmp q es) (get (filled db id columns) q) ≡ unwrap_or (find row_cmp q es) (get db q)
-    at q true same = whatever (find row_cmp q es) _ _ (ap (λ r. is_some (find row_cmp r es)) (one_row q id same) ∙ found)
+    at q true same = whatever (find row_cmp q es) _ _ (ap (λ r. is_some (find row_cmp r es)) (row_is q id same) ∙ found)
     at q false other = ap (unwrap_or (find row_cmp q es)) (filled-other db id q columns other)
 
 -- a row of the batch is found in it
@@ -186,5 +187,5 @@ KeysFit-put_batch [] db keys h = h
 KeysFit-put_batch (e ∷ es) db keys h = KeysFit-put_batch es (put_row db e.0 e.1) keys.1 (λ id columns there. at id columns there (same_row id e.0) refl)
   where
     at : (id : RowId) (columns : List ℤ) → get (put_row db e.0 e.1) id ≡ Some columns → (b : Bool) → same_row id e.0 ≡ b → FitsSigned w64 id.key
-    at id columns there true same = subst (λ (r : RowId). FitsSigned w64 r.key) (sym (one_row id e.0 same)) keys.0
+    at id columns there true same = subst (λ (r : RowId). FitsSigned w64 r.key) (sym (row_is id e.0 same)) keys.0
     at id columns there false other = h id columns (sym (cond-false _ _ _ other) ∙ sym (get-put_row db e.0 e.1 id) ∙ there)

@@ -1,5 +1,7 @@
 //! What no clause says: that batches are put with ample memory, and what a walk over a whole store gives.
 
+ghost use Rattle.std.specs.Prelude.{pos, ◌≤ℤ◌};
+
 use super::*;
 use schema::{Schema, Table};
 use std::process::Abort;
@@ -140,6 +142,113 @@ fn snapshot_has_all_rows(rt: HostRuntime) -> Result<(), Fail> {
     Ok(())
 }
 
+/// Four tables of 16 columns; the last column of table 2 names a row of table 1.
+fn wide_tables(alloc: Global) -> Result<Schema, Memory> {
+    let mut tables = Vec::new(alloc);
+    for (id, parent) in [(1, None), (2, Some((15, 1))), (3, None), (256, None)] {
+        tables.push(Table {
+            id,
+            columns: 16,
+            keyed: true,
+            parent,
+        })?;
+    }
+    Schema::new(tables).map_err(|_| Memory)
+}
+
+/// Of each of the four tables the rows of so many keys, half of them negative; each of a row's columns is its key.
+fn wide_rows(rt: &(impl Abort + AllocGlobal), keys: i64) -> Result<Batch, Memory>
+    requires some { pos 0 ≤ℤ keys }
+    requires few { keys ≤ℤ pos 1000 }
+{
+    let mut entries = Vec::new(rt.alloc());
+    for table in [1, 2, 3, 256] {
+        for key in -keys / 2..keys / 2 {
+            entries.push(set(table, key, &[key; 16]))?;
+        }
+    }
+    Ok(Batch::from_entries(entries).expect(rt, "rising"))
+}
+
+#[test]
+fn snapshot_of_two_thousand_rows(rt: HostRuntime) -> Result<(), Fail> {
+    let alloc = rt.alloc();
+    let schema = wide_tables(alloc)?;
+    let rows = wide_rows(&rt, 500)?;
+    let mut store = BTreeStore::new(alloc);
+    store.put_all(&rows)?;
+    assert_eq!(rt; store.len(), 2000);
+    assert!(rt; fits(&schema, &store));
+    let load = snapshot(alloc, &store, &schema)?;
+    assert_eq!(rt; load.entries().len(), 2000);
+    assert!(rt; load.entries() == rows.entries());
+    // A child whose parent's key is in its last column.
+    store.put_all(&batch(&rt, &[set(2, 900, &[250; 16])])?)?;
+    assert!(rt; !fits(&schema, &store));
+    Ok(())
+}
+
+#[test]
+fn fifteen_hundred_rows_are_put(rt: HostRuntime) -> Result<(), Fail> {
+    let mut entries = Vec::new(rt.alloc());
+    for key in -750..750 {
+        entries.push(set(7, key, &[key]))?;
+    }
+    let rows = Batch::from_entries(entries).ok_or("rising")?;
+    let copy = rows.copy()?;
+    assert!(rt; copy.entries() == rows.entries());
+    let mut store = BTreeStore::new(rt.alloc());
+    store.put_all(&copy)?;
+    assert_eq!(rt; store.len(), 1500);
+    assert_eq!(rt; first_column(&store, id(7, -750)), Some(-750));
+    assert_eq!(rt; first_column(&store, id(7, 749)), Some(749));
+    store.put_all(&copy)?;
+    assert_eq!(rt; store.len(), 1500);
+    Ok(())
+}
+
+#[test]
+fn absent_rows_are_removed(rt: HostRuntime) -> Result<(), Fail> {
+    let mut store = three_rows(&rt)?;
+    store.put_all(&batch(
+        &rt,
+        &[(id(1, 5), None), (id(1, 20), None), (id(2, 1), None)],
+    )?)?;
+    assert_eq!(rt; store.len(), 2);
+    store.put_all(&batch(&rt, &[(id(1, 5), None), (id(1, 20), None)])?)?;
+    assert_eq!(rt; store.len(), 2);
+    assert_eq!(rt; first_column(&store, id(1, 30)), Some(3));
+    Ok(())
+}
+
+/// For each key five batches: two rows that are new, no row, one of the two removed, the same removed again, and one
+/// more row that is new.
+fn many_batches(rt: &(impl Abort + AllocGlobal), keys: u16) -> Result<Vec<Batch>, Memory> {
+    let mut batches = Vec::new(rt.alloc());
+    for key in 0..keys {
+        let key = i64::from(key);
+        batches.push(batch(rt, &[set(1, key, &[1]), set(2, key, &[2])])?)?;
+        batches.push(Batch::new(rt.alloc()))?;
+        batches.push(batch(rt, &[(id(1, key), None)])?)?;
+        batches.push(batch(rt, &[(id(1, key), None)])?)?;
+        batches.push(batch(rt, &[set(3, key - 30, &[3])])?)?;
+    }
+    Ok(batches)
+}
+
+#[test]
+fn three_hundred_batches_are_put(rt: HostRuntime) -> Result<(), Fail> {
+    let mut store = BTreeStore::new(rt.alloc());
+    let batches = many_batches(&rt, 60)?;
+    assert_eq!(rt; batches.len(), 300);
+    assert_eq!(rt; run(&mut store, &batches), 300);
+    assert_eq!(rt; store.len(), 120);
+    assert!(rt; store.next_in_table(1, None).is_none());
+    assert_eq!(rt; first_column(&store, id(2, 59)), Some(2));
+    assert_eq!(rt; first_column(&store, id(3, -30)), Some(3));
+    Ok(())
+}
+
 /// A store of three rows of table 1.
 fn three_rows(rt: &(impl Abort + AllocGlobal)) -> Result<BTreeStore, Memory> {
     store_of(rt, &[set(1, 10, &[1]), set(1, 20, &[2]), set(1, 30, &[3])])
@@ -164,20 +273,45 @@ fn assert_three_rows(rt: &(impl Abort + AllocGlobal), store: &BTreeStore) {
     assert!(rt; store.next_in_table(2, None).is_none());
 }
 
-/// With one allocation after another refused, the batch is put whole or not at all. Which refusal comes is said in
-/// the output, so that a run by hand shows where it was met.
+/// With one allocation after another refused, the batch is put whole or not at all, and whole when it is put again.
 #[test]
-fn refused_batch_changes_nothing(rt: HostRuntime) -> Result<(), Fail> {
-    let (Ok(mut store), Ok(batch)) = (three_rows(&rt), large_batch(&rt)) else {
-        return Ok(println!(rt; "refused before the batch")?);
-    };
+fn a_refused_batch_is_put_again(rt: HostRuntime) -> Result<(), Fail> {
+    let mut store = three_rows(&rt).or_else(|_| three_rows(&rt))?;
+    let batch = large_batch(&rt).or_else(|_| large_batch(&rt))?;
     if store.put_all(&batch).is_err() {
         assert_three_rows(&rt, &store);
-        return Ok(println!(rt; "refused, and unchanged")?);
+        store.put_all(&batch)?;
     }
     assert_eq!(rt; store.len(), 42);
     assert_eq!(rt; first_column(&store, id(1, 10)), None);
     assert_eq!(rt; first_column(&store, id(1, 20)), Some(4));
     assert_eq!(rt; first_column(&store, id(2, 39)), Some(39));
-    Ok(println!(rt; "put")?)
+    Ok(())
+}
+
+/// With one allocation after another refused, each other call that takes memory answers at its second try as if none
+/// had been.
+#[test]
+fn refused_calls_are_made_again(rt: HostRuntime) -> Result<(), Fail> {
+    let alloc = rt.alloc();
+    let schema = wide_tables(alloc).or_else(|_| wide_tables(alloc))?;
+    let rows = wide_rows(&rt, 20).or_else(|_| wide_rows(&rt, 20))?;
+    let batches = many_batches(&rt, 3).or_else(|_| many_batches(&rt, 3))?;
+    let copy = rows.copy().or_else(|_| rows.copy())?;
+    assert!(rt; copy.entries() == rows.entries());
+    let mut store = BTreeStore::new(alloc);
+    if store.put_all(&copy).is_err() {
+        assert!(rt; store.is_empty());
+        store.put_all(&copy)?;
+    }
+    assert!(rt; fits(&schema, &store));
+    let load = snapshot(alloc, &store, &schema).or_else(|_| snapshot(alloc, &store, &schema))?;
+    assert!(rt; load.entries() == rows.entries());
+    let mut put = run(&mut store, &batches);
+    if put < batches.len() {
+        put += run(&mut store, &batches[put..]);
+    }
+    assert_eq!(rt; put, 15);
+    assert_eq!(rt; store.len(), 80);
+    Ok(())
 }

@@ -1,25 +1,15 @@
 -- What one change does, by cases on the change. The laws on lists of changes stand on these alone.
 use Rattle.std.proofs.Common.{◌≡◌, refl, Bool, true, false, ◌&&◌, cond, List, ℤ, Option, Some, None, is_none, option_map}
 use Rattle.std.specs.Result.{result_ok}
-use Rattle.std.specs.FinMap.{get, insert, get-insert, get-remove}
-use Rattle.std.specs.Cmp.{eq_by_cmp_equiv}
+use Rattle.std.specs.FinMap.{get, insert}
 use Rattle.schema.specs.declared.Table.{Table}
 use Rattle.schema.specs.declared.RowId.{RowId}
-use Rattle.schema.specs.RowId.{same_row, row_total}
 use Rattle.rows.specs.declared.Change.{Change}
 use Rattle.rows.specs.declared.Change.TheVariants.{Insert}
 use Rattle.rows.specs.Change.{changed}
 use Rattle.rows.specs.Database.{Database, target, apply, has_parent}
 use Rattle.store_trait.specs.Batch.{put_row}
 use Rattle.overlay.specs.Step.{parent_stands}
-
--- a row that a batch puts
-pub get-put_row : (db : Database) (k q : RowId) (left : Option (List ℤ)) → get (put_row db k left) q ≡ cond (same_row q k) left (get db q)
-get-put_row db k q None = get-remove row_total db k q
-get-put_row db k q (Some columns) = get-insert row_total db k columns q
-
-pub same_row_itself : (q : RowId) → same_row q q ≡ true
-same_row_itself q = (eq_by_cmp_equiv row_total).refl q
 
 either_none : {A : Type 0} (b : Bool) → ◌≡◌ {A = Option A} None (cond b None None)
 either_none true = refl

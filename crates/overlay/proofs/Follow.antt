@@ -1,11 +1,9 @@
 -- What the overlay of changes that apply one after another shows.
-use Rattle.std.proofs.Common.{◌≡◌, ap, sym, subst, ◌∙◌, refl, Bool, true, false, ◌||◌, cond, List, [], ◌∷◌, ◌++◌, map, ℤ, Option, Some, None, option_map, Ok}
+use Rattle.std.proofs.Common.{◌≡◌, ap, sym, subst, ◌∙◌, refl, Bool, true, false, ◌||◌, cond, List, [], ◌∷◌, ◌++◌, ℤ, Option, Some, None, option_map, Ok}
 use Rattle.std.specs.Prelude.{unwrap_or, option_and_then}
 use Rattle.std.specs.Result.{result_ok}
 use Rattle.std.specs.FinMap.{get, find, put, same_map}
 use Rattle.std.specs.FinMap.Entries.{find-put}
-use Rattle.std.proofs.lemmas.Bool.{or_parts}
-use Rattle.std.proofs.lemmas.Option.{option_and_then_some, same_Some}
 use Rattle.schema.specs.declared.Table.{Table}
 use Rattle.schema.specs.declared.RowId.{RowId}
 use Rattle.schema.specs.RowId.{row_cmp, same_row, exact_row, row_total}
@@ -14,13 +12,14 @@ use Rattle.rows.specs.declared.Change.{Change}
 use Rattle.rows.specs.Change.{changed}
 use Rattle.rows.specs.Database.{Database, target, writes, apply, effect}
 use Rattle.rows.specs.Frame.{AgreeOn, SameEffect}
-use Rattle.store_trait.specs.Batch.{IsRising, put_row}
-use Rattle.overlay.specs.Pending.{Pending, none_pending, pushed, left_at, seen, rows_in}
+use Rattle.rows.proofs.Apply.{apply_stays, row_is, same_row_itself}
+use Rattle.rows.proofs.Effect.{changes_only_writes, effect_joined}
+use Rattle.store_trait.specs.Batch.{IsRising, put_row, rows_in}
+use Rattle.store_trait.proofs.Batches.{find-rows_in, get-put_batch, get-put_row, put_rises, rows_in_rise, same_batch}
+use Rattle.overlay.specs.Pending.{Pending, none_pending, pushed, left_at, seen}
 use Rattle.overlay.specs.Follows.{Follows}
 use Rattle.overlay.specs.Step.{parent_stands}
-use Rattle.overlay.proofs.Order.{find-in_order, rising-in_order, rising-put, same_rising}
-use Rattle.overlay.proofs.Apply.{get-put_row, same_row_itself, apply_by_row}
-use Rattle.overlay.proofs.Seen.{row_is, get-put_batch}
+use Rattle.overlay.proofs.Apply.{apply_by_row}
 
 -- what a change leaves of its row, where it applies
 pub left_by_row : (ts : List Table) (change : Change) (db : Database) →
@@ -34,7 +33,7 @@ left_by_row ts change db =
         option_map (λ after. get after (target change)) (cond b (option_map (put_row db (target change)) left) None) ≡ cond b left None
     put_and_got true None = refl
     put_and_got true (Some left) =
-        ap Some (get-put_row db (target change) (target change) left ∙ ap (λ b. cond b left (get db (target change))) (same_row_itself (target change)))
+        ap Some (get-put_row db (target change) left (target change) ∙ ap (λ b. cond b left (get db (target change))) (same_row_itself (target change)))
     put_and_got false left = refl
 
 -- a change that fits the row before it, and whose parent is there
@@ -46,57 +45,10 @@ left-fits ts change db row before left stands is was fits by_parent parent =
     let there : parent_stands ts change db ≡ true = sym by_parent ∙ parent in
     sym (left_by_row ts change db ∙ (λ i. cond (there i) (result_ok (changed change (here i))) None) ∙ fits)
 
--- the rows that the change is not of stay
-pub apply_stays : (ts : List Table) (change : Change) (db after : Database) (q : RowId) → apply ts change db ≡ Some after → same_row q (target change) ≡ false → get after q ≡ get db q
-apply_stays ts change db after q h other = only_put (parent_stands ts change db) (result_ok (changed change (get db (target change)))) (sym (apply_by_row ts change db) ∙ h)
-  where
-    only_put : (b : Bool) (left : Option (Option (List ℤ))) → cond b (option_map (put_row db (target change)) left) None ≡ Some after → get after q ≡ get db q
-    only_put true None e = cc
-    only_put true (Some left) e =
-        ap (λ (m : Database). get m q) (sym (same_Some (put_row db (target change) left) after e))
-        ∙ get-put_row db (target change) q left ∙ ap (λ b. cond b left (get db q)) other
-    only_put false left e = cc
-
--- the rows that are not written stay
-pub effect_stays : (ts : List Table) (changes : List Change) (before after : Database) (q : RowId) → effect ts changes before ≡ Some after → has_row (writes changes) q ≡ false → get after q ≡ get before q
-effect_stays ts [] before after q h other = ap (λ (m : Database). get m q) (sym (same_Some before after h))
-effect_stays ts (change ∷ changes) before after q h other =
-    let apart = or_parts (same_row q (target change)) (has_row (writes changes) q) other in
-    option_and_then_some (effect ts changes) (apply ts change before) after h (λ mid one rest.
-    effect_stays ts changes mid after q rest apart.1 ∙ apply_stays ts change before mid q one apart.0)
-
--- one more change
-pub effect-push : (ts : List Table) (changes : List Change) (change : Change) (db : Database) → effect ts (changes ++ change ∷ []) db ≡ option_and_then (apply ts change) (effect ts changes db)
-effect-push ts [] change db = some_then (apply ts change db)
-  where
-    some_then : (o : Option Database) → option_and_then (λ m. Some m) o ≡ o
-    some_then None = refl
-    some_then (Some m) = refl
-effect-push ts (first ∷ changes) change db = by (effect-push ts changes change) (apply ts first db)
-  where
-    by : ((mid : Database) → effect ts (changes ++ change ∷ []) mid ≡ option_and_then (apply ts change) (effect ts changes mid)) → (o : Option Database) → option_and_then (effect ts (changes ++ change ∷ [])) o ≡ option_and_then (apply ts change) (option_and_then (effect ts changes) o)
-    by rest None = refl
-    by rest (Some mid) = rest mid
-
--- what is found among rows as they are in a database
-find-rows_in : (rows : List RowId) (db : Database) (q : RowId) → find row_cmp q (rows_in rows db) ≡ cond (has_row rows q) (Some (get db q)) None
-find-rows_in rows db q = find-in_order (map (λ id. (id, get db id)) rows) q ∙ among rows
-  where
-    here : (id : RowId) (rest : Bool) (b : Bool) → same_row q id ≡ b → cond b (Some (get db id)) (cond rest (Some (get db q)) None) ≡ cond (b || rest) (Some (get db q)) None
-    here id rest true same = ap (λ (r : RowId). Some (get db r)) (sym (row_is q id same))
-    here id rest false same = refl
-
-    among : (rows : List RowId) → find row_cmp q (map (λ id. (id, get db id)) rows) ≡ cond (has_row rows q) (Some (get db q)) None
-    among [] = refl
-    among (id ∷ rows) = ap (cond (same_row q id) (Some (get db id))) (among rows) ∙ here id (has_row rows q) (same_row q id) refl
-
-rising-rows_in : (rows : List RowId) (db : Database) → IsRising (rows_in rows db)
-rising-rows_in rows db = rising-in_order (map (λ id. (id, get db id)) rows)
-
 -- rows that are the same in two databases
 rows_in-alike : (rows : List RowId) (a b : Database) → AgreeOn rows a b → rows_in rows a ≡ rows_in rows b
 rows_in-alike rows a b same =
-    same_rising (rows_in rows a) (rows_in rows b) (rising-rows_in rows a) (rising-rows_in rows b) (λ q.
+    same_batch (rows_in rows a) (rows_in rows b) (rows_in_rise rows a) (rows_in_rise rows b) (λ q.
     find-rows_in rows a q ∙ by q (has_row rows q) refl ∙ sym (find-rows_in rows b q))
   where
     by : (q : RowId) (is : Bool) → has_row rows q ≡ is → cond is (Some (get a q)) None ≡ cond is (Some (get b q)) None
@@ -107,7 +59,7 @@ pub Follows-none : (ts : List Table) (db : Database) → Follows ts db none_pend
 Follows-none ts db = record { applied = refl; left = refl }
 
 pub rising-Follows : {ts : List Table} {db : Database} {pending : Pending} {after : Database} → Follows ts db pending after → IsRising pending.left
-rising-Follows {pending = pending} {after = after} f = rw f.left (rising-rows_in (writes pending.changes) after)
+rising-Follows {pending = pending} {after = after} f = rw f.left (rows_in_rise (writes pending.changes) after)
 
 pub left_at-Follows : {ts : List Table} {db : Database} {pending : Pending} {after : Database} → Follows ts db pending after → (q : RowId) → left_at pending q ≡ cond (has_row (writes pending.changes) q) (Some (get after q)) None
 left_at-Follows {pending = pending} {after = after} f q = ap (find row_cmp q) f.left ∙ find-rows_in (writes pending.changes) after q
@@ -119,7 +71,7 @@ get-Follows {ts = ts} {db = db} {pending = pending} {after = after} f q =
   where
     by : (is : Bool) → has_row (writes pending.changes) q ≡ is → get after q ≡ unwrap_or (cond is (Some (get after q)) None) (get db q)
     by true h = refl
-    by false h = effect_stays ts pending.changes db after q f.applied h
+    by false h = changes_only_writes ts pending.changes db after q f.applied h
 
 -- the database as the transaction sees it is the one that its changes leave
 pub seen-Follows : {ts : List Table} {db : Database} {pending : Pending} {after : Database} → Follows ts db pending after → seen pending db ≡ after
@@ -130,9 +82,9 @@ seen-Follows {db = db} {pending = pending} {after = after} f =
 -- one more change that applies, with what it leaves of its row
 pub Follows-pushed : {ts : List Table} {db : Database} {pending : Pending} {after : Database} (change : Change) (next : Database) → Follows ts db pending after → apply ts change after ≡ Some next → Follows ts db (pushed pending change (get next (target change))) next
 Follows-pushed {ts = ts} {db = db} {pending = pending} {after = after} change next f h = record {
-  applied = effect-push ts pending.changes change db ∙ ap (option_and_then (apply ts change)) f.applied ∙ h;
-  left = same_rising (put row_cmp row (get next row) pending.left) (rows_in (writes (pending.changes ++ change ∷ [])) next)
-      (rising-put row (get next row) pending.left (rising-Follows f)) (rising-rows_in (writes (pending.changes ++ change ∷ [])) next) (λ q.
+  applied = effect_joined ts pending.changes (change ∷ []) db ∙ ap (option_and_then (effect ts (change ∷ []))) f.applied ∙ ap (option_and_then (effect ts [])) h;
+  left = same_batch (put row_cmp row (get next row) pending.left) (rows_in (writes (pending.changes ++ change ∷ [])) next)
+      (put_rises row (get next row) pending.left (rising-Follows f)) (rows_in_rise (writes (pending.changes ++ change ∷ [])) next) (λ q.
       find-put row_cmp row_total q row (get next row) pending.left
       ∙ ap (cond (same_row q row) (Some (get next row))) (left_at-Follows f q)
       ∙ by q (same_row q row) (has_row (writes pending.changes) q) refl
@@ -167,7 +119,7 @@ pub Follows-step : {ts : List Table} {db : Database} {pending : Pending} {after 
 Follows-step {ts = ts} {db = db} {pending = pending} {after = after} change left f fits parent =
     let row = target change in
     let there : get (put_row after row left) row ≡ left =
-    get-put_row after row row left ∙ ap (λ b. cond b left (get after row)) (same_row_itself row) in
+    get-put_row after row left row ∙ ap (λ b. cond b left (get after row)) (same_row_itself row) in
     let applies : apply ts change after ≡ Some (put_row after row left) =
     apply_by_row ts change after ∙ ap (λ b. cond b (option_map (put_row after row) (result_ok (changed change (get after row)))) None) parent
     ∙ ap (λ r. option_map (put_row after row) (result_ok r)) fits in

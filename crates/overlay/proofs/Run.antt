@@ -7,7 +7,8 @@ use Rattle.std.proofs.lemmas.Option.{same_Some}
 use Rattle.schema.specs.declared.Table.{Table}
 use Rattle.rows.specs.declared.Change.{Change}
 use Rattle.rows.specs.Database.{Database, target, writes, apply, effect}
-use Rattle.overlay.specs.Pending.{Pending, none_pending, pushed, seen, rows_in, pending_of}
+use Rattle.store_trait.specs.Batch.{rows_in}
+use Rattle.overlay.specs.Pending.{Pending, none_pending, pushed, seen, pending_of}
 use Rattle.overlay.specs.Follows.{Follows}
 use Rattle.overlay.proofs.Follow.{Follows-none, Follows-pushed, seen-Follows}
 

@@ -9,8 +9,8 @@ use Rattle.rows.specs.declared.Change.{Change}
 use Rattle.rows.specs.Change.{changed}
 use Rattle.rows.specs.Database.{Database, target, writes, apply, effect}
 use Rattle.rows.specs.Frame.{SameEffect}
-use Rattle.store_trait.specs.Batch.{put_row}
-use Rattle.overlay.specs.Pending.{Pending, none_pending, pushed, left_at, seen, rows_in}
+use Rattle.store_trait.specs.Batch.{put_row, rows_in}
+use Rattle.overlay.specs.Pending.{Pending, none_pending, pushed, left_at, seen}
 use Rattle.overlay.specs.Step.{parent_stands}
 
 -- the changes that are pending apply to db one after another and leave after, and what they leave is there

@@ -1,11 +1,11 @@
 -- What a transaction has pending: its changes, and what they leave of the rows that they are of.
-use Rattle.std.specs.Prelude.{ℤ, List, [], ◌∷◌, ◌++◌, map, Option}
-use Rattle.std.specs.FinMap.{find, get, put}
+use Rattle.std.specs.Prelude.{ℤ, List, [], ◌∷◌, ◌++◌, Option}
+use Rattle.std.specs.FinMap.{find, put}
 use Rattle.schema.specs.declared.RowId.{RowId}
 use Rattle.schema.specs.RowId.{row_cmp}
 use Rattle.rows.specs.declared.Change.{Change}
 use Rattle.rows.specs.Database.{Database, target, writes}
-use Rattle.store_trait.specs.Batch.{Entry, put_batch}
+use Rattle.store_trait.specs.Batch.{Entry, put_batch, rows_in}
 
 -- the changes in order, and, in the order of row ids, each row that they are of with what they leave of it
 pub record Pending : Type 0 where
@@ -27,15 +27,6 @@ left_at pending q = find row_cmp q pending.left
 -- a database as the transaction sees it, with its own changes
 abbrev pub seen : Pending → Database → Database
 seen pending db = put_batch pending.left db
-
--- the entries in the order of row ids; where two are of one row, the first of them
-abbrev pub in_order : List Entry → List Entry
-in_order [] = []
-in_order (entry ∷ entries) = put row_cmp entry.0 entry.1 (in_order entries)
-
--- these rows as they are in a database, in the order of row ids and each once
-abbrev pub rows_in : List RowId → Database → List Entry
-rows_in rows db = in_order (map (λ id. (id, get db id)) rows)
 
 -- what is pending once these changes left this database
 abbrev pub pending_of : List Change → Database → Pending

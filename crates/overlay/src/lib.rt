@@ -32,7 +32,8 @@ pub struct Overlay {
 }
 
 impl Model for Overlay {
-    ghost use Rattle.overlay.specs.Pending.{Pending, in_order};
+    ghost use Rattle.store_trait.specs.Batch.{in_order};
+    ghost use Rattle.overlay.specs.Pending.{Pending};
 
     ghost Value = { Pending };
 
@@ -48,6 +49,15 @@ impl Overlay {
             changes: Vec::new(alloc),
             left: IndexMap::new(alloc),
         }
+    }
+
+    /// No changes, with room for so many.
+    fn with_room(alloc: Global, count: usize) -> Result<Overlay, Memory>
+        ensures { IfOk result (λ overlay. overlay ≡ none_pending) }
+    {
+        let changes = Vec::with_capacity(alloc, count)?;
+        let left = IndexMap::with_capacity(alloc, count)?;
+        Ok(Overlay { changes, left })
     }
 
     /// What the changes leave of the row: its columns, or `None` where they remove it. No answer where no
@@ -190,7 +200,7 @@ pub fn run_changes<S: RowStore>(
 ) -> Result<Option<Overlay>, Memory>
     ensures { IfOk result (λ ran. ran ≡ option_map (pending_of changes.now) (effect schema.now changes.now (S.contents store.now))) }
 {
-    let mut overlay = Overlay::new(alloc);
+    let mut overlay = Overlay::with_room(alloc, changes.len())?;
     for change in changes {
         let Some(left) = left_seen(&overlay, schema, store, change) else {
             return Ok(None);

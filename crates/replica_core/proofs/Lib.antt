@@ -1,4 +1,3 @@
 pub mod Commits
 pub mod Kept
 pub mod Finished
-pub mod OneRow

@@ -1,23 +1,20 @@
 -- What batches leave of a database.
 use Rattle.std.proofs.Common.{◌≡◌, ◌∙◌, sym, ap, refl, Bool, true, false, cond, ◌&&◌, ◌||◌, T, List, [], ◌∷◌, ◌++◌, map, Option, Some, None, option_map, unwrap_or, ℤ, is_eq, is_lt, Ordering, Less, Equal, Greater, true≢false}
 use Rattle.std.specs.Bool.{passes}
-use Rattle.std.specs.Cmp.{Equal-is}
-use Rattle.std.specs.FinMap.{get, find, empty, entries, entries_sorted, from_entries, is_sorted, get-entries, get-empty, get-insert, get-remove, get-from_entries, same_map}
-use Rattle.std.specs.FinMap.Entries.{below_all, same_entries}
+use Rattle.std.specs.FinMap.{get, find, empty, entries, entries_sorted, is_sorted, put, get-entries, get-empty, get-insert, get-remove, same_map}
+use Rattle.std.specs.FinMap.Entries.{below_all, same_entries, find-put, is_sorted-put}
 use Rattle.std.proofs.lemmas.Bool.{and_parts, cond-false}
 use Rattle.schema.specs.declared.RowId.{RowId}
 use Rattle.schema.specs.RowId.{row_cmp, row_total, exact_row, same_row}
 use Rattle.schema.specs.Rows.{has_row}
 use Rattle.rows.specs.Database.{Database, writes}
-use Rattle.store_trait.specs.Batch.{IsRising, put_row, put_batch, put_batches, rows_in, all_rows}
+use Rattle.store_trait.specs.Batch.{Entry, IsRising, put_row, put_batch, put_batches, in_order, rows_in, all_rows}
 use Rattle.store_trait.specs.Operation.{batch_of}
 use Rattle.store_trait.specs.Laws.{SetsItsRows, IsItsRows, HasTheRows, CarriesChanges, GoesOn, GoesOnByOps, LoadsAll}
-use Rattle.store_trait.proofs.OnlyWrites.{only_writes}
+use Rattle.rows.proofs.Apply.{row_is}
+use Rattle.rows.proofs.Effect.{changes_only_writes}
 
 -- ---- row ids
-
-pub one_row : (a b : RowId) → same_row a b ≡ true → a ≡ b
-one_row a b same = exact_row a b ((Equal-is (row_cmp a b)).0 same)
 
 pub less_apart : (r : Ordering) → is_lt r ≡ true → is_eq r ≡ false
 less_apart Less h = refl
@@ -60,7 +57,7 @@ find-of_each f q [] = refl
 find-of_each {X} f q (row ∷ rows) =
     let rest = find row_cmp q (map (λ (id : RowId). (id, f id)) rows) in
     elim (same_row q row) as (λ b. same_row q row ≡ b → cond b (Some (f row)) rest ≡ cond (b || has_row rows q) (Some (f q)) None) [
-      | true ↦ λ same. ap (λ id. Some (f id)) (sym (one_row q row same))
+      | true ↦ λ same. ap (λ id. Some (f id)) (sym (row_is q row same))
       | false ↦ λ _. find-of_each f q rows
     ] refl
 
@@ -82,18 +79,28 @@ get-put_batch (e ∷ es) db q rising =
     get-put_batch es (put_row db e.0 e.1) q parts.1
     ∙ ap (unwrap_or (find row_cmp q es)) (get-put_row db e.0 e.1 q)
     ∙ chosen (same_row q e.0) (find row_cmp q es) e.1 (get db q)
-    (λ same. ap (λ id. find row_cmp id es) (one_row q e.0 same) ∙ find_below e.0 es parts.0)
+    (λ same. ap (λ id. find row_cmp id es) (row_is q e.0 same) ∙ find_below e.0 es parts.0)
 
 pub same_batch : IsItsRows
 same_batch xs ys rises rises_too same = same_entries row_cmp row_total exact_row xs ys (passes _ rises) (passes _ rises_too) same
 
+pub find-in_order : (es : List Entry) (q : RowId) → find row_cmp q (in_order es) ≡ find row_cmp q es
+find-in_order [] q = refl
+find-in_order (e ∷ es) q = find-put row_cmp row_total q e.0 e.1 (in_order es) ∙ ap (cond (same_row q e.0) (Some e.1)) (find-in_order es q)
+
+pub put_rises : (q : RowId) (left : Option (List ℤ)) (es : List Entry) → IsRising es → IsRising (put row_cmp q left es)
+put_rises q left es rising = holds _ (is_sorted-put row_cmp row_total q left es (passes _ rising))
+
+pub in_order_rises : (es : List Entry) → IsRising (in_order es)
+in_order_rises [] = refl
+in_order_rises (e ∷ es) = put_rises e.0 e.1 (in_order es) (in_order_rises es)
+
 pub rows_in_rise : (rows : List RowId) (db : Database) → IsRising (rows_in rows db)
-rows_in_rise rows db = holds _ (entries_sorted (from_entries {R = row_cmp} (map (λ id. (id, get db id)) rows)))
+rows_in_rise rows db = in_order_rises (map (λ id. (id, get db id)) rows)
 
 pub find-rows_in : (rows : List RowId) (db : Database) (q : RowId) → find row_cmp q (rows_in rows db) ≡ cond (has_row rows q) (Some (get db q)) None
 find-rows_in rows db q =
-    let pairs = map (λ (id : RowId). (id, get db id)) rows in
-    sym (get-entries (from_entries {R = row_cmp} pairs) q) ∙ get-from_entries row_total pairs q ∙ find-of_each (get db) q rows
+    find-in_order (map (λ id. (id, get db id)) rows) q ∙ find-of_each (get db) q rows
 
 pub has_the_rows : HasTheRows
 has_the_rows rows db = (rows_in_rise rows db, find-rows_in rows db)
@@ -108,7 +115,7 @@ put_batch-writes ts changes before after is =
     same_map row_total exact_row (put_batch batch before) after (λ q.
     get-put_batch batch before q (rows_in_rise (writes changes) after)
     ∙ ap (λ found. unwrap_or found (get before q)) (find-rows_in (writes changes) after q)
-    ∙ carried (has_row (writes changes) q) (get after q) (get before q) (only_writes ts changes before after q is))
+    ∙ carried (has_row (writes changes) q) (get after q) (get before q) (changes_only_writes ts changes before after q is))
 
 pub put_batches-append : GoesOn
 put_batches-append [] more db = refl

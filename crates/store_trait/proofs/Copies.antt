@@ -9,7 +9,8 @@ use Rattle.schema.specs.RowId.{row_cmp, row_total, same_row}
 use Rattle.rows.specs.Database.{Database}
 use Rattle.store_trait.specs.Batch.{Entry, IsRising, all_rows}
 use Rattle.store_trait.specs.Walk.{IsFirst, IsAhead}
-use Rattle.store_trait.proofs.Batches.{one_row, same_batch, all_rows_rise, find-all_rows}
+use Rattle.rows.proofs.Apply.{row_is}
+use Rattle.store_trait.proofs.Batches.{same_batch, all_rows_rise, find-all_rows}
 use Rattle.store_trait.proofs.Rising.{rising_push}
 use Rattle.store_trait.proofs.Visits.{is_visited, Visits, none_visited, visit, all_visited, visited_before, choice_on, ahead_unvisited}
 
@@ -40,7 +41,7 @@ module _ (ts : List Table) (db : Database) (last : Option RowId) (count : ℕ) (
       absent = h.same id ∙ ap (λ b. cond b (option_map Some (get db id)) None) (ahead_unvisited ts last id first.counted)
 
       here : (q : RowId) (b : Bool) (found : Option (Option (List ℤ))) → same_row q id ≡ b → cond b (Some (Some columns)) found ≡ cond b (option_map Some (get db q)) found
-      here q true found same = ap (option_map Some) (sym first.there ∙ ap (get db) (sym (one_row q id same)))
+      here q true found same = ap (option_map Some) (sym first.there ∙ ap (get db) (sym (row_is q id same)))
       here q false found other = refl
 
       pushed : (q : RowId) → cond (same_row q id) (Some (Some columns)) (find row_cmp q entries) ≡ cond (is_visited ts (Some id) q) (option_map Some (get db q)) None

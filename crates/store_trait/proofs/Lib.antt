@@ -1,6 +1,6 @@
 pub mod Rising
 pub mod Batches
-pub mod OnlyWrites
+pub mod Sorting
 pub mod Runs
 pub mod Tables
 pub mod Walks

@@ -12,7 +12,7 @@ use Rattle.schema.specs.Schema.{table_at}
 use Rattle.rows.specs.Database.{Database}
 use Rattle.store_trait.specs.Fits.{RowFits, Fits}
 use Rattle.store_trait.specs.Walk.{IsListed, IsFirst, IsFirstOf, IsBehind, IsAhead, IsOfTables}
-use Rattle.store_trait.proofs.Batches.{one_row}
+use Rattle.rows.proofs.Apply.{row_is}
 use Rattle.store_trait.proofs.Rising.{is_less}
 
 -- ---- which rows are visited
@@ -78,7 +78,7 @@ pub visited_cases : (ts : List Table) (db : Database) (last : Option RowId) (id 
 visited_cases ts db last id columns q first visited =
     let parts = and_parts (is_some (table_at ts q.table)) _ visited in
     elim (same_row q id) as (λ b. same_row q id ≡ b → (q ≡ id) ⊎ ((is_visited ts last q ≡ true) ⊎ (get db q ≡ None))) [
-      | true ↦ λ same. inl (one_row q id same)
+      | true ↦ λ same. inl (row_is q id same)
       | false ↦ λ other. inr (elim (is_visited ts last q) as (λ v. is_visited ts last q ≡ v → (v ≡ true) ⊎ (get db q ≡ None)) [
         | true ↦ λ _. inl refl
         | false ↦ λ un. inr (first.first q (unvisited_ahead ts last q parts.0 un) (up_to id q (not-true _ parts.1) other))
@@ -89,7 +89,7 @@ visited_cases ts db last id columns q first visited =
 pub choice_on : {A : Type 0} (ts : List Table) (db : Database) (last : Option RowId) (id : RowId) (columns : List ℤ) (q : RowId) (seen unseen : A) → IsFirst db (IsAhead ts last) id columns → (get db q ≡ None → seen ≡ unseen) → cond (same_row q id) seen (cond (is_visited ts last q) seen unseen) ≡ cond (is_visited ts (Some id) q) seen unseen
 choice_on {A} ts db last id columns q seen unseen first alike =
     elim (same_row q id) as (λ b. same_row q id ≡ b → cond b seen (cond (is_visited ts last q) seen unseen) ≡ cond (is_visited ts (Some id) q) seen unseen) [
-      | true ↦ λ same. sym (on_true (ap (is_visited ts (Some id)) (one_row q id same) ∙ last_visited ts id first.counted.0))
+      | true ↦ λ same. sym (on_true (ap (is_visited ts (Some id)) (row_is q id same) ∙ last_visited ts id first.counted.0))
       | false ↦ λ other. elim (is_visited ts last q) as (λ b. is_visited ts last q ≡ b → cond b seen unseen ≡ cond (is_visited ts (Some id) q) seen unseen) [
         | true ↦ λ visited. sym (on_true (stays_visited ts last q id visited first.counted.1))
         | false ↦ λ un. elim (is_visited ts (Some id) q) as (λ b. is_visited ts (Some id) q ≡ b → unseen ≡ cond b seen unseen) [

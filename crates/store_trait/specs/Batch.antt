@@ -1,6 +1,6 @@
 -- Batches: for each row that changes its new columns, or none where the row is removed.
 use Rattle.std.specs.Prelude.{ℤ, IsTrue, List, [], ◌∷◌, map, Option, Some, None}
-use Rattle.std.specs.FinMap.{is_sorted, get, insert, remove, entries, from_entries}
+use Rattle.std.specs.FinMap.{is_sorted, get, insert, remove, entries, put}
 use Rattle.schema.specs.declared.RowId.{RowId}
 use Rattle.schema.specs.RowId.{row_cmp}
 use Rattle.rows.specs.Database.{Database}
@@ -27,9 +27,14 @@ abbrev pub put_batches : List (List Entry) → Database → Database
 put_batches [] db = db
 put_batches (batch ∷ batches) db = put_batches batches (put_batch batch db)
 
+-- the entries in the order of row ids; where two are of one row, the first of them
+abbrev pub in_order : List Entry → List Entry
+in_order [] = []
+in_order (entry ∷ entries) = put row_cmp entry.0 entry.1 (in_order entries)
+
 -- these rows as they are in a database, in the order of row ids and each once
 abbrev pub rows_in : List RowId → Database → List Entry
-rows_in rows db = entries (from_entries {R = row_cmp} (map (λ id. (id, get db id)) rows))
+rows_in rows db = in_order (map (λ id. (id, get db id)) rows)
 
 -- all the rows of a database
 abbrev pub all_rows : Database → List Entry

@@ -1,9 +1,12 @@
 -- What batches leave of a database.
 use Rattle.std.specs.Prelude.{◌≡◌, List, ◌++◌, map, Some, None, unwrap_or, if◌then◌else◌}
+use Rattle.std.specs.List.{IsDistinct}
+use Rattle.std.specs.List.Sorted.{IsPermutation, IsSortedByKey}
+use Rattle.std.specs.Map.{keys_of}
 use Rattle.std.specs.FinMap.{get, find, empty}
 use Rattle.schema.specs.declared.Table.{Table}
 use Rattle.schema.specs.declared.RowId.{RowId}
-use Rattle.schema.specs.RowId.{row_cmp}
+use Rattle.schema.specs.RowId.{row_cmp, same_row}
 use Rattle.schema.specs.Rows.{has_row}
 use Rattle.rows.specs.declared.Change.{Change}
 use Rattle.rows.specs.Database.{Database, effect, writes}
@@ -30,6 +33,16 @@ HasTheRows = (rows : List RowId) (db : Database) →
 abbrev pub CarriesChanges : Type 0
 CarriesChanges = (ts : List Table) (changes : List Change) (before after : Database) →
     effect ts changes before ≡ Some after → put_batch (rows_in (writes changes) after) before ≡ after
+
+-- entries of distinct rows, sorted by row id, rise
+abbrev pub SortedRowsRise : Type 0
+SortedRowsRise = (entries sorted : List Entry) →
+    IsDistinct same_row (keys_of entries) → IsPermutation entries sorted → IsSortedByKey (λ (entry : Entry). entry.0) row_cmp sorted → IsRising sorted
+
+-- entries that rise in some arrangement are of distinct rows: where two are of one row, none of their arrangements
+-- rises
+abbrev pub RisingRowsDiffer : Type 0
+RisingRowsDiffer = (entries arranged : List Entry) → IsPermutation entries arranged → IsRising arranged → IsDistinct same_row (keys_of entries)
 
 -- batches, and more of them
 abbrev pub GoesOn : Type 0

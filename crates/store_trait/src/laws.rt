@@ -1,6 +1,6 @@
 //! What batches leave of a database, stated as contracts of functions that do nothing.
 
-ghost use Rattle.store_trait.specs.Laws.{SetsItsRows, IsItsRows, HasTheRows, CarriesChanges, GoesOn, GoesOnByOps, LoadsAll};
+ghost use Rattle.store_trait.specs.Laws.{SetsItsRows, IsItsRows, HasTheRows, SortedRowsRise, RisingRowsDiffer, CarriesChanges, GoesOn, GoesOnByOps, LoadsAll};
 
 /// Behind a batch each row is as the batch has it, or else as it was.
 pub fn batch_sets_its_rows()
@@ -20,6 +20,12 @@ pub fn batch_of_rows()
 /// The batch of the rows that changes write, as they leave them, does what the changes do.
 pub fn batch_carries_changes()
     ensures { CarriesChanges }
+{}
+
+/// Entries make a batch, once they are sorted by row id, exactly where no row comes twice.
+pub fn sorted_rows()
+    ensures rise { SortedRowsRise }
+    ensures differ { RisingRowsDiffer }
 {}
 
 /// Batches put in two parts are put in one.

@@ -6,12 +6,12 @@
 //! first, and then the batch of each commit. `laws` states what batches leave of a database.
 #![tactic(auto)]
 
-ghost use Rattle.std.specs.Prelude.{◌≡◌, ℕ, ◌≤◌, ◌↔◌, IsTrue, Some, List, [], ◌∷◌, ◌++◌, length, take, map, SomeIff, IfOk, OnOk, OnErr};
+ghost use Rattle.std.specs.Prelude.{◌≡◌, ℕ, ◌≤◌, ◌↔◌, IsTrue, Some, List, [], ◌∷◌, ◌++◌, length, take, map, slice_get, SomeIff, IfSome, IfOk, OnOk, OnErr};
 ghost use Rattle.std.specs.FinMap.{get as row_of, len as size_of, empty};
 ghost use Rattle.schema.specs.declared.Table.{Table};
 ghost use Rattle.schema.specs.Schema.{table_at};
 ghost use Rattle.rows.specs.Database.{Database, has_parent};
-ghost use Rattle.store_trait.specs.Batch.{IsRising, put_batch, put_batches, all_rows};
+ghost use Rattle.store_trait.specs.Batch.{Entry, IsRising, put_batch, put_batches, all_rows};
 ghost use Rattle.store_trait.specs.Contents.{IsNextInTable};
 ghost use Rattle.store_trait.specs.Operation.{batch_of};
 ghost use Rattle.store_trait.specs.Fits.{Fits, RowFits};
@@ -134,6 +134,10 @@ pub trait RowStore {
     /// What it contains, however it is kept.
     ghost contents: { Self → Database };
 
+    /// A store that has just refused this batch. What it means is the store's own; callers learn of a refusal by it
+    /// alone.
+    ghost has_refused: { Self → List Entry → Type 0 } = { λ _ _. Unit {0} };
+
     /// The row, where it is there. It takes no memory. The time is logarithmic in the number of rows.
     fn get(&self, id: RowId) -> Option<Row>
         ensures { result ≡ row_of (contents self.now) id };
@@ -141,7 +145,8 @@ pub trait RowStore {
     /// Puts the whole batch, or, where memory runs out, nothing of it.
     fn put_all(&mut self, batch: &Batch) -> Result<(), Memory>
         ensures ok { OnOk result (contents self.new ≡ put_batch batch.now (contents self.old)) }
-        ensures err { OnErr result (contents self.new ≡ contents self.old) };
+        ensures err { OnErr result (contents self.new ≡ contents self.old) }
+        ensures refusal { OnErr result (has_refused self.new batch.now) };
 
     /// The number of rows.
     fn len(&self) -> usize
@@ -160,10 +165,12 @@ pub trait RowStore {
         ensures { IsNextInTable (contents self.now) table above result };
 }
 
-/// Puts batches in order up to the first that is refused, and answers how many were put.
+/// Puts batches in order up to the first that is refused, and answers how many were put: all of them, where none is
+/// refused. The time is that of putting these.
 pub fn run<S: RowStore>(store: &mut S, batches: &[Batch]) -> usize
     ensures within { result ≤ length batches.now }
     ensures put { S.contents store.new ≡ put_batches (take result batches.now) (S.contents store.old) }
+    ensures refused { IfSome (slice_get batches.now result) (λ batch. S.has_refused store.new batch) }
 {
     for (put, batch) in batches.iter().enumerate() {
         if store.put_all(batch).is_err() {

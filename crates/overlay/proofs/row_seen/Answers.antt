@@ -1,7 +1,7 @@
 use Rattle.std.proofs.Common.{sym, ap, ◌∙◌}
 use Rattle.std.specs.Prelude.{unwrap_or}
 use Rattle.std.specs.FinMap.{get}
-use Rattle.overlay.proofs.Seen.{get-put_batch}
+use Rattle.store_trait.proofs.Batches.{get-put_batch}
 use Rattle.overlay.proofs.row_seen.Goals as goal
 
 pub returns-in-Some-clause-value : goal.returns-in-Some-clause-value

@@ -4,7 +4,7 @@ use Rattle.overlay.proofs.Run.{HasRun-none, HasRun-more, effect-refused, pending
 use Rattle.overlay.proofs.run_changes.Goals as goal
 
 pub loop-change-init : goal.loop-change-init
-loop-change-init g c = rw c.new-overlay.ensures (HasRun-none c.args.schema.now c.args.changes.now (g.S.RowStore.contents c.args.store.now))
+loop-change-init g c = rw c.in_ok-overlay.ensures (HasRun-none c.args.schema.now c.args.changes.now (g.S.RowStore.contents c.args.store.now))
 
 pub loop-change-preserved : goal.loop-change-preserved
 loop-change-preserved g c =

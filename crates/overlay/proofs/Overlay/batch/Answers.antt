@@ -1,7 +1,7 @@
 use Rattle.std.proofs.Common.{rules, ◌≡◌, ap, ◌∙◌, IsPermutation}
 use Rattle.std.proofs.lemmas.List.Sorted.{answers_always}
-use Rattle.store_trait.specs.Batch.{IsRising}
-use Rattle.overlay.specs.Pending.{Pending, in_order}
+use Rattle.store_trait.specs.Batch.{IsRising, in_order}
+use Rattle.overlay.specs.Pending.{Pending}
 use Rattle.overlay.proofs.Order.{sorted-in_order}
 use Rattle.overlay.proofs.Overlay.batch.Goals as goal
 use Rattle.overlay.proofs.Overlay.batch.Goals.{After-sort_unstable_by_key}

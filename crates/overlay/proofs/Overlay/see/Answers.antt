@@ -1,6 +1,7 @@
 use Rattle.std.proofs.Common.{sym, ap, ◌∙◌}
 use Rattle.overlay.specs.Pending.{Pending, left_at}
-use Rattle.overlay.proofs.Order.{find-in_order, rising-in_order, lookup-find}
+use Rattle.store_trait.proofs.Batches.{find-in_order, in_order_rises}
+use Rattle.overlay.proofs.Order.{lookup-find}
 use Rattle.overlay.proofs.Overlay.see.Goals as goal
 
 pub returns-clause-value : goal.returns-clause-value
@@ -10,4 +11,4 @@ returns-clause-value c =
     ∙ ap (λ (p : Pending). left_at p c.args.id) c.self.view_is
 
 pub returns-clause-rising : goal.returns-clause-rising
-returns-clause-rising c = rw (← c.self.view_is) (rising-in_order c.self.inside.left.entries)
+returns-clause-rising c = rw (← c.self.view_is) (in_order_rises c.self.inside.left.entries)
