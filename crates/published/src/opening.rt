@@ -52,7 +52,7 @@ pub fn open<S: RowStore + Drop, J: Naming, R: Wait>(
     requires second { S.contents second ≡ empty }
     requires some { 1 ≤ seats }
     requires few { seats ≤ 32 }
-    ensures publisher { IfOk result (λ opened. (opened.0.published ≡ Load beginning.base ∷ []) × (opened.0.waiting ≡ [])) }
+    ensures publisher { IfOk result (λ opened. opened.0 ≡ record { published = Load beginning.base ∷ []; waiting = []; history = Load beginning.base ∷ [] }) }
     ensures seats { IfOk result (λ opened. opened.1.items ≡ replicate seats (Load beginning.base ∷ [])) }
 {
     let (base, head, notice) = beginning.named::<J>();
