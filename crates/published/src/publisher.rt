@@ -5,7 +5,6 @@ ghost use Rattle.store_trait.specs.Operation.{left_by};
 ghost use Rattle.published.specs.History.{IsCommit, IsHistory, commits_in};
 
 use crate::book::{Head, Naming, Notice, Part};
-use crate::opening::OpenError;
 use crate::seat::ReadSeat;
 use crate::version::{Common, Consistent, Step, StoreWriter, Version};
 use core::mem::replace_with;
@@ -79,14 +78,12 @@ impl<S: RowStore + Drop, J: Naming> Publisher<S, J> {
         }
     }
 
-    // A new seat, which has seen what is published.
-    pub(crate) fn seat(&self) -> Result<ReadSeat<S, J>, OpenError>
-        ensures { IfOk result (λ seat. seat ≡ self.now.published) }
+    // A new seat, which has seen what is published. `None` where `left_right` gave no reader.
+    pub(crate) fn seat(&self) -> Option<ReadSeat<S, J>>
+        ensures { IfSome result (λ seat. seat ≡ self.now.published) }
     {
-        match self.writer.factory().reader() {
-            Ok(reader) => Ok(ReadSeat::taken(reader, self.tell())),
-            Err(_) => Err(OpenError::SeatRefused),
-        }
+        let reader = self.writer.factory().reader().ok()?;
+        Some(ReadSeat::taken(reader, self.tell()))
     }
 
     /// Appends a commit, which no reader sees before the next `publish`. It is the one of the gno after the last
