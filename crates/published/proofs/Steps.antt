@@ -69,13 +69,13 @@ tied_put rows p longer appended gno op tied next number is = record {
   commits = subst (CommitsFrom (commits_in p.published + 1)) (sym is) (commits_with (commits_in p.published + 1) p.waiting (op ∷ []) tied.commits (subst (IsCommit op) (omega arith) next, tt));
   number = number ∙ sym (ap (λ l. commits_in p.published + length l) is ∙ omega (arith, length-append p.waiting (op ∷ [])));
   whole =
-    let known = length p.history - length p.published in
-    ap (λ l. p.history ++ drop known l) is
-    ∙ ap (λ l. p.history ++ l) (drop-append-le known p.waiting (op ∷ []) (known_within rows p appended tied))
-    ∙ sym (append_assoc p.history (unsaid p) (op ∷ []))
-    ∙ ap (λ l. l ++ op ∷ []) tied.whole
-    ∙ append_assoc p.published p.waiting (op ∷ [])
-    ∙ ap (λ l. p.published ++ l) (sym is);
+      let known = length p.history - length p.published in
+      ap (λ l. p.history ++ drop known l) is
+      ∙ ap (λ l. p.history ++ l) (drop-append-le known p.waiting (op ∷ []) (known_within rows p appended tied))
+      ∙ sym (append_assoc p.history (unsaid p) (op ∷ []))
+      ∙ ap (λ l. l ++ op ∷ []) tied.whole
+      ∙ append_assoc p.published p.waiting (op ∷ [])
+      ∙ ap (λ l. p.published ++ l) (sym is);
 }
 
 -- all that waits is in the history
@@ -86,9 +86,9 @@ tied_known rows p all appended tied whole = record {
   commits = tied.commits;
   number = tied.number;
   whole =
-    let none : drop (length all - length p.published) p.waiting ≡ [] =
-    ap (λ n. drop n p.waiting) (omega (arith, ap length whole, length-append p.published p.waiting)) ∙ drop-length p.waiting in
-    ap (λ l. all ++ l) none ∙ append-nil all ∙ whole;
+      let none : drop (length all - length p.published) p.waiting ≡ [] =
+      ap (λ n. drop n p.waiting) (omega (arith, ap length whole, length-append p.published p.waiting)) ∙ drop-length p.waiting in
+      ap (λ l. all ++ l) none ∙ append-nil all ∙ whole;
 }
 
 -- all that waited is published
@@ -115,9 +115,9 @@ unsaid_goes_on rows p appended tied =
     let h = history_front p.history (unsaid p) some all in (
       history_past p.history (unsaid p) h all,
       tied.number
-      ∙ sym (commits_in-with p.published p.waiting tied.history)
-      ∙ ap commits_in (sym tied.whole)
-      ∙ commits_in-with p.history (unsaid p) h,
+          ∙ sym (commits_in-with p.published p.waiting tied.history)
+          ∙ ap commits_in (sym tied.whole)
+          ∙ commits_in-with p.history (unsaid p) h,
     )
 
 pub same_publishing : (a b : Publishing) → a.published ≡ b.published → a.waiting ≡ b.waiting → a.history ≡ b.history → a ≡ b

@@ -49,8 +49,8 @@ finds pass v x views k at =
         seen = λ j u there.
             ⊎_elim
             (λ (t : (j ≡ pass) × (w ≡ u)).
-                subst (λ (q : Look). IsSuffix q.seen k.stored × (q.stores ≡ true → (j ≡ k.writer) × (q.seen ≡ k.stored))) t.1
-                (([], refl), λ e. (t.0 ∙ (mine.1 e).0, refl)))
+            subst (λ (q : Look). IsSuffix q.seen k.stored × (q.stores ≡ true → (j ≡ k.writer) × (q.seen ≡ k.stored))) t.1
+            (([], refl), λ e. (t.0 ∙ (mine.1 e).0, refl)))
             (λ (t : (j ≢ pass) × (get_elem? views j ≡ some u)). k.seen j u t.1)
             (at_set views pass j w u there);
       },
@@ -72,11 +72,11 @@ stores pass v x c right order rise views k at =
         seen = λ j u there.
             ⊎_elim
             (λ (t : (j ≡ pass) × (w ≡ u)).
-                subst (λ (q : Look). IsSuffix q.seen (c ∷ k.stored) × (q.stores ≡ true → (j ≡ pass) × (q.seen ≡ c ∷ k.stored))) t.1
-                (([], ap (λ l. c ∷ l) mine.1), λ e. (t.0, ap (λ l. c ∷ l) mine.1)))
+            subst (λ (q : Look). IsSuffix q.seen (c ∷ k.stored) × (q.stores ≡ true → (j ≡ pass) × (q.seen ≡ c ∷ k.stored))) t.1
+            (([], ap (λ l. c ∷ l) mine.1), λ e. (t.0, ap (λ l. c ∷ l) mine.1)))
             (λ (t : (j ≢ pass) × (get_elem? views j ≡ some u)).
-                let other = k.seen j u t.1 in
-                ((c ∷ other.0.0, ap (λ l. c ∷ l) other.0.1), λ e. absurd (t.0 ((other.1 e).0 ∙ sym mine.0))))
+            let other = k.seen j u t.1 in
+            ((c ∷ other.0.0, ap (λ l. c ∷ l) other.0.1), λ e. absurd (t.0 ((other.1 e).0 ∙ sym mine.0))))
             (at_set views pass j w u there);
       },
       (refl, refl),
@@ -93,7 +93,7 @@ forks pass v x views k at = record {
       ⊎_elim
       (λ (t : get_elem? (set views pass v) j ≡ some u). k.seen j u (subst (λ l. get_elem? l j ≡ some u) (set_again views pass v at) t))
       (λ (t : watching v ≡ u).
-          subst (λ (q : Look). IsSuffix q.seen k.stored × (q.stores ≡ true → (j ≡ k.writer) × (q.seen ≡ k.stored))) t
-          ((k.seen pass v at).0, λ e. absurd (cc (e))))
+      subst (λ (q : Look). IsSuffix q.seen k.stored × (q.stores ≡ true → (j ≡ k.writer) × (q.seen ≡ k.stored))) t
+      ((k.seen pass v at).0, λ e. absurd (cc (e))))
       (at_snoc (set views pass v) (watching v) u j there);
 }

@@ -1,4 +1,4 @@
-use Rattle.published.proofs.tests.two_seats_beside_a_publisher.Given as goal
+use Rattle.published.proofs.tests.threads.two_seats_beside_a_publisher.Given as goal
 
 -- the publication that was just begun
 abbrev pub ghosts-run_beside : goal.ghosts-run_beside

@@ -1,4 +1,4 @@
-use Rattle.published.proofs.tests.refused_growth_keeps_the_old_version.Given as goal
+use Rattle.published.proofs.tests.refused.refused_publishing.Given as goal
 
 -- the publication that was just begun
 abbrev pub ghosts-grown : goal.ghosts-grown

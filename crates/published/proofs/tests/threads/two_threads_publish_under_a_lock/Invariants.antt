@@ -1,4 +1,4 @@
-use Rattle.published.proofs.tests.two_threads_publish_under_a_lock.Given as goal
+use Rattle.published.proofs.tests.threads.two_threads_publish_under_a_lock.Given as goal
 
 -- the publication that was just begun
 abbrev pub ghosts-run_locked : goal.ghosts-run_locked
