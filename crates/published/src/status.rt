@@ -1,7 +1,8 @@
 //! The status of a replica: three words, which are read and stored as one.
 ghost use Rattle.std.specs.Prelude.{◌≡◌, [], ◌∷◌, IfOk};
 ghost use mathlib.Core.List.{IsSuffix};
-ghost use Rattle.published.specs.Status.{InOrder, NoneFalls, latest};
+ghost use Rattle.crossbeam_utils.specs.Seq.{cell_view};
+ghost use Rattle.published.specs.Status.{InOrder, NoneFalls, Finds, latest};
 
 use crate::counts::{Counts, Look};
 use atomic_table::Split;
@@ -145,7 +146,7 @@ impl Status {
         ensures in_order { InOrder result }
         ensures same { self.new ≡ self.old }
     {
-        self.cell.load_as::<Found, R>(rt, &mut self.pass)
+        look(rt, &self.cell, &mut self.pass)
     }
 
     /// One who reads the words, in any thread. It has seen all that was stored.
@@ -169,6 +170,15 @@ impl Watch {
         ensures later { IsSuffix self.old.stored self.new.stored }
         ensures cell { self.new.cell ≡ self.old.cell }
     {
-        self.cell.load_as::<Found, R>(rt, &mut self.pass)
+        look(rt, &self.cell, &mut self.pass)
     }
+}
+
+// The words, which the pass has then seen.
+fn look<R: Wait>(rt: &R, cell: &Cell, pass: &mut Pass<Counts, Look>) -> Counts
+    requires { pass.old.table_id ≡ cell.now.table.shared.table_id }
+    ensures cell { pass.new.table_id ≡ pass.old.table_id }
+    ensures finds { Finds (cell_view pass.old) result result (cell_view pass.new) }
+{
+    cell.load_as::<Found, R>(rt, pass)
 }
