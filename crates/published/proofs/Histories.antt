@@ -7,7 +7,7 @@ use Rattle.std.proofs.lemmas.List.Concat.{flat_map-append}
 use mathlib.Core.List.{IsPrefix}
 use Rattle.store_trait.specs.declared.Op.{Op}
 use Rattle.store_trait.specs.declared.Op.TheVariants.{Load, Commit}
-use Rattle.published.specs.History.{IsCommit, CommitsFrom, IsHistory, commits_in}
+use Rattle.published.specs.History.{CommitsFrom, IsHistory, commits_in}
 use Rattle.published.specs.Book.{joined}
 
 -- of two beginnings of one list the shorter begins the longer

@@ -4,9 +4,8 @@ use Rattle.std.proofs.Math.Seq.{drop-length, drop-nil}
 use Rattle.std.proofs.lemmas.List.{append-nil, drop-append-le, length-drop}
 use Rattle.std.proofs.lemmas.List.Sums.{fold-append}
 use Rattle.rows.specs.Database.{Database}
-use Rattle.std.specs.FinMap.{empty}
 use Rattle.store_trait.specs.declared.Op.{Op}
-use Rattle.store_trait.specs.Batch.{Entry, put_batch, put_batches}
+use Rattle.store_trait.specs.Batch.{put_batches}
 use Rattle.store_trait.specs.Operation.{batch_of, left_by}
 use Rattle.published.specs.History.{IsCommit, CommitsFrom, IsHistory, commits_in}
 use Rattle.published.specs.Held.{Held}

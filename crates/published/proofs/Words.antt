@@ -1,5 +1,5 @@
 -- Each step on the status words keeps their rule.
-use Rattle.std.proofs.Common.{◌≡◌, ◌≢◌, ℕ, zero, suc, true, false, List, [], ◌∷◌, ◌++◌, set, refl, sym, ap, subst, ◌∙◌, ⊎_elim, arith}
+use Rattle.std.proofs.Common.{◌≡◌, ◌≢◌, ℕ, zero, suc, true, List, [], ◌∷◌, ◌++◌, set, refl, sym, ap, subst, ◌∙◌, ⊎_elim, arith}
 use mathlib.Core.Option.{some, some-injective}
 use mathlib.Core.List.{IsSuffix}
 use lib.ListN.{get_elem?}
@@ -35,25 +35,25 @@ pub finds_no_less : (before : List Counts) (v w : Look) (x y : Counts) → v.see
 finds_no_less before v w x y same told =
     subst (λ l. NoneFalls (latest l) x) same (subst (λ c. NoneFalls (latest v.seen) c) (sym told.found) (rises v.seen w.seen told.later told.reports))
 
+-- the rule after a step that stores nothing
+kept : (x : Counts) (before after : List Look) → (k : Kept x before)
+    → ((j : ℕ) (u : Look) → get_elem? after j ≡ some u → IsSuffix u.seen k.stored × (u.stores ≡ true → (j ≡ k.writer) × (u.seen ≡ k.stored))) → Kept x after
+kept x before after k seen = record { stored = k.stored; reports = k.reports; last = k.last; writer = k.writer; seen = seen }
+
 pub finds : (pass : ℕ) (v : Look) (x : Counts) (views : List Look) → Kept x views → get_elem? views pass ≡ some v
     → (w : Look) × Kept x (set views pass w) × Finds v x x w
 finds pass v x views k at =
     let w : Look = record v { seen = k.stored } in
     let mine = k.seen pass v at in (
       w,
-      record {
-        stored = k.stored;
-        reports = k.reports;
-        last = k.last;
-        writer = k.writer;
-        seen = λ j u there.
-            ⊎_elim
-            (λ (t : (j ≡ pass) × (w ≡ u)).
-            subst (λ (q : Look). IsSuffix q.seen k.stored × (q.stores ≡ true → (j ≡ k.writer) × (q.seen ≡ k.stored))) t.1
-            (([], refl), λ e. (t.0 ∙ (mine.1 e).0, refl)))
-            (λ (t : (j ≢ pass) × (get_elem? views j ≡ some u)). k.seen j u t.1)
-            (at_set views pass j w u there);
-      },
+      kept x views (set views pass w) k
+          (λ j u there.
+          ⊎_elim
+          (λ (t : (j ≡ pass) × (w ≡ u)).
+          subst (λ (q : Look). IsSuffix q.seen k.stored × (q.stores ≡ true → (j ≡ k.writer) × (q.seen ≡ k.stored))) t.1
+          (([], refl), λ e. (t.0 ∙ (mine.1 e).0, refl)))
+          (λ (t : (j ≢ pass) × (get_elem? views j ≡ some u)). k.seen j u t.1)
+          (at_set views pass j w u there)),
       record { found = k.last; later = mine.0; reports = k.reports; own = λ e. sym (mine.1 e).1; same = refl },
     )
 
@@ -84,16 +84,12 @@ stores pass v x c right order rise views k at =
 
 pub forks : (pass : ℕ) (v : Look) (x : Counts) (views : List Look) → Kept x views → get_elem? views pass ≡ some v
     → Kept x (set views pass v ++ watching v ∷ [])
-forks pass v x views k at = record {
-  stored = k.stored;
-  reports = k.reports;
-  last = k.last;
-  writer = k.writer;
-  seen = λ j u there.
-      ⊎_elim
-      (λ (t : get_elem? (set views pass v) j ≡ some u). k.seen j u (subst (λ l. get_elem? l j ≡ some u) (set_again views pass v at) t))
-      (λ (t : watching v ≡ u).
-      subst (λ (q : Look). IsSuffix q.seen k.stored × (q.stores ≡ true → (j ≡ k.writer) × (q.seen ≡ k.stored))) t
-      ((k.seen pass v at).0, λ e. absurd (cc (e))))
-      (at_snoc (set views pass v) (watching v) u j there);
-}
+forks pass v x views k at =
+    kept x views (set views pass v ++ watching v ∷ []) k
+    (λ j u there.
+    ⊎_elim
+    (λ (t : get_elem? (set views pass v) j ≡ some u). k.seen j u (subst (λ l. get_elem? l j ≡ some u) (set_again views pass v at) t))
+    (λ (t : watching v ≡ u).
+    subst (λ (q : Look). IsSuffix q.seen k.stored × (q.stores ≡ true → (j ≡ k.writer) × (q.seen ≡ k.stored))) t
+    ((k.seen pass v at).0, λ e. absurd (cc (e))))
+    (at_snoc (set views pass v) (watching v) u j there))

@@ -65,7 +65,10 @@ pub fn open<S: RowStore + Drop, J: Naming, R: Wait>(
     ensures publisher { IfOk result (λ opened. opened.0 ≡ record { published = Load beginning.base ∷ []; waiting = []; history = Load beginning.base ∷ [] }) }
     ensures seats { IfOk result (λ opened. opened.1.items ≡ replicate seats (Load beginning.base ∷ [])) }
 {
-    let (publisher, places) = begin(alloc, beginning, first, second, seats)?;
+    let (base, head, notice) = beginning.named::<J>();
+    let places = Vec::with_capacity(alloc, seats)?;
+    let writer = both(alloc, &base, &notice, first, second, seats)?;
+    let publisher = Publisher::begun(writer, head, notice);
     match take_seats(&publisher, places, seats) {
         Some(places) => Ok((publisher, places)),
         None => {
@@ -73,27 +76,6 @@ pub fn open<S: RowStore + Drop, J: Naming, R: Wait>(
             Err(OpenError::SeatRefused)
         }
     }
-}
-
-// The publisher, and room for the seats. It is refused for want of memory alone.
-fn begin<S: RowStore + Drop, J: Naming>(
-    alloc: Global,
-    beginning: Beginning,
-    first: S,
-    second: S,
-    seats: usize,
-) -> Result<(Publisher<S, J>, Vec<ReadSeat<S, J>>), Memory>
-    requires named { beginning.book ≡ J.book }
-    requires first { S.contents first ≡ empty }
-    requires second { S.contents second ≡ empty }
-    requires seats { (1 ≤ seats) × (seats ≤ 32) }
-    ensures publisher { IfOk result (λ begun. begun.0 ≡ record { published = Load beginning.base ∷ []; waiting = []; history = Load beginning.base ∷ [] }) }
-    ensures room { IfOk result (λ begun. (begun.1.items ≡ []) × (seats ≤ vec_capacity begun.1)) }
-{
-    let (base, head, notice) = beginning.named::<J>();
-    let places = Vec::with_capacity(alloc, seats)?;
-    let writer = both(alloc, &base, &notice, first, second, seats)?;
-    Ok((Publisher::begun(writer, head, notice), places))
 }
 
 // The two copies, each with the base.

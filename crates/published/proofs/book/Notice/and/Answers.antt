@@ -1,6 +1,6 @@
 use Rattle.std.proofs.Common.{◌≡◌, ◌+◌, ◌++◌, sym, ◌∙◌, ap, length}
 use Rattle.published.specs.Book.{joined}
-use Rattle.published.specs.History.{CommitsFrom, commits_in}
+use Rattle.published.specs.History.{CommitsFrom}
 use Rattle.published.proofs.Adding.{adds_moves, added, number_after, history_after}
 use Rattle.published.proofs.book.Notice.and.Goals as goal
 
