@@ -103,12 +103,13 @@ impl<S: RowStore + Drop, J: Naming> Publisher<S, J> {
     }
 
     /// Publishes all that was appended, at once, and answers how many commits are published then. Where memory
-    /// runs out readers see what they saw, and the next `publish` publishes the same and what came since; the
-    /// history may then have what was to be published, and the next `publish` adds to it only what came since. It
-    /// waits for readers that are still in the version before the last. The time is n log m, for the n entries
-    /// that wait and those of the `publish` before, and a store of m rows; each entry goes into both copies. The
-    /// memory is what the new rows need; what both copies have is kept nowhere else. (It would also answer
-    /// `Memory` if another had added to the history, which nobody but this publisher can.)
+    /// runs out readers see what they saw, and the next `publish` publishes the same and what came since. The
+    /// history may then have all that was to be published; the next `publish` goes on from there, and adds to it
+    /// only what came since. It waits for readers that are still in the version before the last. The time is
+    /// n log m, for the n entries that wait and those of the `publish` before, and a store of m rows; each entry
+    /// goes into both copies. The memory is what the new rows need, and the operations are kept until both copies
+    /// have them, which is at the `publish` after. (It would also answer `Memory` if another had added to the
+    /// history, which nobody but this publisher can.)
     pub fn publish<R: Wait>(&mut self, rt: &R) -> Result<u64, Memory>
         ensures number { IfOk result (λ upto. (upto ≡ commits_in self.new.published) × (upto ≡ commits_in self.old.published + length self.old.waiting)) }
         ensures is_history { IsHistory self.new.published }
