@@ -1,5 +1,5 @@
--- The exchange that adds an operation keeps the rule of the history.
-use Rattle.std.proofs.Common.{◌≡◌, ℕ, ◌+◌, ◌<◌, ◌==◌, Bool, true, false, List, [], ◌∷◌, ◌++◌, length, refl, ap, sym, subst, ◌∙◌, arith, inl, None, eq-eqb}
+-- The exchange that adds operations keeps the rule of the history.
+use Rattle.std.proofs.Common.{◌≡◌, ℕ, ◌+◌, ◌<◌, ◌==◌, Bool, true, false, List, [], ◌∷◌, ◌++◌, length, refl, ap, sym, subst, ◌∙◌, arith, inl, Option, eq-eqb}
 use Rattle.std.specs.Bool.{OnTrue}
 use Rattle.std.proofs.lemmas.List.{append-nil}
 use Rattle.std.proofs.lemmas.Bool.Decides.{nat_tests}
@@ -7,63 +7,59 @@ use mathlib.Core.List.{IsPrefix}
 use prog.Atomic.{either}
 use Rattle.logbook.specs.Pages.{Cell, cell, keeps, no_nib, step, Moves, Goes}
 use Rattle.store_trait.specs.declared.Op.{Op}
-use Rattle.published.specs.History.{IsCommit, IsHistory, commits_in}
-use Rattle.published.specs.Book.{IsKept, Adds}
-use Rattle.published.proofs.Histories.{same_history, history_and, commits_in-and}
+use Rattle.published.specs.History.{CommitsFrom, IsHistory, commits_in}
+use Rattle.published.specs.Book.{joined, IsKept, Adds}
+use Rattle.published.proofs.Histories.{same_history, history_with, commits_in-with, prefix_joined, joined-snoc}
 
-abbrev shown : List Op → List Op
+abbrev shown : List (List Op) → List (List Op)
 shown log = []
 
-abbrev moved : List Op → List Op → ℕ → Type 0
+abbrev moved : List (List Op) → List (List Op) → ℕ → Type 0
 moved xs ys n = Unit {0}
 
-adds_goes : (log v : List Op) (op : Op) (old : ℕ) → commits_in v ≡ old → IsHistory v → IsCommit op (old + 1) → IsHistory log → IsPrefix v log
-    → (b : Bool) → (commits_in log == old) ≡ b
-    → Goes IsKept shown moved 0 (v, (no_nib, None)) (λ n. either (n == old) (old + 1) n) (Adds (step 0 old (old + 1) op) (v, (no_nib, None))) ((commits_in log, true) ∷ []) log
-adds_goes log v op old number hv next hlog pre true is =
-    let here : commits_in log ≡ old = grind (arith, nat_tests) in
-    let same : v ≡ log = same_history v log pre hv hlog (here ∙ sym number) in
-    let more : IsHistory (log ++ op ∷ []) = history_and log op hlog (subst (λ n. IsCommit op (n + 1)) (sym here) next) in
-    let n : either (commits_in log == old) (old + 1) (commits_in log) ≡ commits_in (log ++ op ∷ []) = rw is (omega (arith, commits_in-and log op hlog)) in (
+adds_goes : (log v : List (List Op)) (ops : List Op) (old new : ℕ) (state : Option ℕ) → commits_in (joined v) ≡ old → IsHistory (joined v) → CommitsFrom (old + 1) ops → new ≡ old + length ops
+    → IsHistory (joined log) → IsPrefix v log → (b : Bool) → (commits_in (joined log) == old) ≡ b
+    → Goes IsKept shown moved 0 (v, (no_nib, state)) (λ n. either (n == old) new n) (Adds (step 0 old new ops) (v, (no_nib, state))) ((commits_in (joined log), true) ∷ []) log
+adds_goes log v ops old new state number hv next size hlog pre true is =
+    let here : commits_in (joined log) ≡ old = grind (arith, nat_tests) in
+    let same : joined v ≡ joined log = same_history (joined v) (joined log) (prefix_joined v log pre) hv hlog (here ∙ sym number) in
+    let longer : joined (log ++ ops ∷ []) ≡ joined log ++ ops = joined-snoc log ops in
+    let more : IsHistory (joined log ++ ops) = history_with (joined log) ops hlog (subst (λ n. CommitsFrom (n + 1) ops) (sym here) next) in
+    let n : either (commits_in (joined log) == old) new (commits_in (joined log)) ≡ commits_in (joined (log ++ ops ∷ [])) =
+    rw is (size ∙ sym (ap commits_in longer ∙ commits_in-with (joined log) ops hlog ∙ ap (λ m. m + length ops) here)) in (
       keeps,
-      op ∷ [],
-      None,
+      ops ∷ [],
+      state,
       tt,
-      record { words = ap (λ (k : ℕ). (k, true) ∷ []) n; history = more },
+      record { words = ap (λ (k : ℕ). (k, true) ∷ []) n; history = subst IsHistory (sym longer) more },
       inl (refl, refl),
-      rw is (ap (λ w. w ++ op ∷ []) (sym same)),
+      rw is (longer ∙ ap (λ l. l ++ ops) (sym same)),
     )
-adds_goes log v op old number hv next hlog pre false is =
+adds_goes log v ops old new state number hv next size hlog pre false is =
     let all : log ++ [] ≡ log = append-nil log in
-    let n : either (commits_in log == old) (old + 1) (commits_in log) ≡ commits_in (log ++ []) = rw is (ap commits_in (sym all)) in (
+    let n : either (commits_in (joined log) == old) new (commits_in (joined log)) ≡ commits_in (joined (log ++ [])) = rw is (ap (λ l. commits_in (joined l)) (sym all)) in (
       keeps,
       [],
-      None,
+      state,
       tt,
-      record { words = ap (λ (k : ℕ). (k, true) ∷ []) n; history = subst IsHistory (sym all) hlog },
+      record { words = ap (λ (k : ℕ). (k, true) ∷ []) n; history = subst (λ l. IsHistory (joined l)) (sym all) hlog },
       inl (refl, refl),
       rw is tt,
     )
 
--- whatever the history is, the exchange adds the operation to all that was seen, or finds that there are more
-pub adds_moves : (v : List Op) (op : Op) (old : ℕ) → commits_in v ≡ old → IsHistory v → IsCommit op (old + 1)
-    → Moves IsKept shown moved 0 (v, (no_nib, None)) (λ n. either (n == old) (old + 1) n) (Adds (step 0 old (old + 1) op) (v, (no_nib, None)))
-adds_moves v op old number hv next cs log kept pre away =
-    let P : List Cell → Type 0 = λ c. (0 < length c) × ((cell c 0).1 ≡ true) × Goes IsKept shown moved 0 (v, (no_nib, None)) (λ n. either (n == old) (old + 1) n) (Adds (step 0 old (old + 1) op) (v, (no_nib, None))) c log in
-    subst P (sym kept.words) (omega arith, refl, adds_goes log v op old number hv next kept.history pre (commits_in log == old) refl)
+-- whatever the history is, the exchange adds the operations to all that was seen, or finds that there are more
+pub adds_moves : (v : List (List Op)) (ops : List Op) (old new : ℕ) (state : Option ℕ) → commits_in (joined v) ≡ old → IsHistory (joined v) → CommitsFrom (old + 1) ops → new ≡ old + length ops
+    → Moves IsKept shown moved 0 (v, (no_nib, state)) (λ n. either (n == old) new n) (Adds (step 0 old new ops) (v, (no_nib, state)))
+adds_moves v ops old new state number hv next size cs log kept pre away =
+    let P : List Cell → Type 0 = λ c. (0 < length c) × ((cell c 0).1 ≡ true) × Goes IsKept shown moved 0 (v, (no_nib, state)) (λ n. either (n == old) new n) (Adds (step 0 old new ops) (v, (no_nib, state))) c log in
+    subst P (sym kept.words) (omega arith, refl, adds_goes log v ops old new state number hv next size kept.history pre (commits_in (joined log) == old) refl)
 
-pub adds_moves_to : (v : List Op) (op : Op) (old new : ℕ) → commits_in v ≡ old → IsHistory v → IsCommit op (old + 1) → new ≡ old + 1
-    → Moves IsKept shown moved 0 (v, (no_nib, None)) (λ n. either (n == old) new n) (Adds (step 0 old new op) (v, (no_nib, None)))
-adds_moves_to v op old new number hv next is =
-    let P : ℕ → Type 0 = λ m. Moves IsKept shown moved 0 (v, (no_nib, None)) (λ n. either (n == old) m n) (Adds (step 0 old m op) (v, (no_nib, None))) in
-    subst P (sym is) (adds_moves v op old number hv next)
+-- where the number found was the one expected, the operations were added
+pub added : (found old : ℕ) (v w : List (List Op)) (ops : List Op) → found ≡ old → OnTrue (found == old) (joined w ≡ joined v ++ ops) → joined w ≡ joined v ++ ops
+added found old v w ops same told = subst (λ b. OnTrue b (joined w ≡ joined v ++ ops)) (eq-eqb found old same) told
 
--- where the number found was the one expected, there is one operation more
-pub added : (found old : ℕ) (v w : List Op) (op : Op) → found ≡ old → OnTrue (found == old) (w ≡ v ++ op ∷ []) → w ≡ v ++ op ∷ []
-added found old v w op same told = subst (λ b. OnTrue b (w ≡ v ++ op ∷ [])) (eq-eqb found old same) told
+pub number_after : (v w ops : List Op) (old new : ℕ) → old ≡ commits_in v → IsHistory v → new ≡ old + length ops → w ≡ v ++ ops → new ≡ commits_in w
+number_after v w ops old new number hv is longer = is ∙ ap (λ n. n + length ops) number ∙ sym (ap commits_in longer ∙ commits_in-with v ops hv)
 
-pub number_after : (v w : List Op) (op : Op) (old new : ℕ) → old ≡ commits_in v → IsHistory v → new ≡ old + 1 → w ≡ v ++ op ∷ [] → new ≡ commits_in w
-number_after v w op old new number hv is longer = is ∙ ap (λ n. n + 1) number ∙ sym (ap commits_in longer ∙ commits_in-and v op hv)
-
-pub history_after : (v w : List Op) (op : Op) (old : ℕ) → old ≡ commits_in v → IsHistory v → IsCommit op (old + 1) → w ≡ v ++ op ∷ [] → IsHistory w
-history_after v w op old number hv next longer = subst IsHistory (sym longer) (history_and v op hv (subst (λ n. IsCommit op (n + 1)) number next))
+pub history_after : (v w ops : List Op) (old : ℕ) → old ≡ commits_in v → IsHistory v → CommitsFrom (old + 1) ops → w ≡ v ++ ops → IsHistory w
+history_after v w ops old number hv next longer = subst IsHistory (sym longer) (history_with v ops hv (subst (λ n. CommitsFrom (n + 1) ops) number next))

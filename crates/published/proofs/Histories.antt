@@ -1,19 +1,22 @@
 -- Beginnings of one history, and a history with one more commit.
-use Rattle.std.proofs.Common.{◌≡◌, ℕ, ◌+◌, ◌≤◌, Bool, true, false, List, [], ◌∷◌, ◌++◌, length, refl, subst, arith, length-append, MatchBool}
+use Rattle.std.proofs.Common.{◌≡◌, ℕ, ◌+◌, ◌≤◌, Bool, true, false, List, [], ◌∷◌, ◌++◌, length, refl, sym, ap, ◌∙◌, subst, arith, length-append, MatchBool}
 use Rattle.std.proofs.lemmas.Bool.Decides.{nat_tests}
 use Rattle.std.specs.Prelude.{nat_le}
+use Rattle.std.proofs.lemmas.List.{append-nil}
+use Rattle.std.proofs.lemmas.List.Concat.{flat_map-append}
 use mathlib.Core.List.{IsPrefix}
 use Rattle.store_trait.specs.declared.Op.{Op}
 use Rattle.store_trait.specs.declared.Op.TheVariants.{Load, Commit}
-use Rattle.published.specs.History.{IsCommit, CommitsFrom, IsHistory, StartsWith, commits_in}
+use Rattle.published.specs.History.{CommitsFrom, IsHistory, commits_in}
+use Rattle.published.specs.Book.{joined}
 
 -- of two beginnings of one list the shorter begins the longer
-prefix_shorter : (xs ys zs : List Op) → IsPrefix xs zs → IsPrefix ys zs → length xs ≤ length ys → StartsWith ys xs
+prefix_shorter : (xs ys zs : List Op) → IsPrefix xs zs → IsPrefix ys zs → length xs ≤ length ys → IsPrefix xs ys
 prefix_shorter [] ys zs p q le = (ys, refl)
 prefix_shorter (x ∷ xs) [] zs p q le = absurd (omega arith)
 prefix_shorter (x ∷ xs) (y ∷ ys) [] p q le = absurd (cc (p.1))
 prefix_shorter (x ∷ xs) (y ∷ ys) (z ∷ zs) p q le =
-    let heads : y ≡ x = cc (p.1, q.1) in
+    let heads : x ≡ y = cc (p.1, q.1) in
     let rest = prefix_shorter xs ys zs (p.0, cc (p.1)) (q.0, cc (q.1)) (omega arith) in
     (rest.0, cc (heads, rest.1))
 
@@ -25,12 +28,20 @@ prefix_whole (x ∷ xs) [] p le = absurd (cc (p.1))
 prefix_whole (x ∷ xs) (y ∷ ys) p le =
     let rest = prefix_whole xs ys (p.0, cc (p.1)) (omega arith) in cc (p.1, rest)
 
+-- the operations of a beginning are a beginning of the operations
+pub prefix_joined : (v log : List (List Op)) → IsPrefix v log → IsPrefix (joined v) (joined log)
+prefix_joined v log p = (joined p.0, sym (flat_map-append (λ (part : List Op). part) v p.0) ∙ ap joined p.1)
+
+-- one more part
+pub joined-snoc : (log : List (List Op)) (part : List Op) → joined (log ++ part ∷ []) ≡ joined log ++ part
+joined-snoc log part = flat_map-append (λ (p : List Op). p) log (part ∷ []) ∙ ap (λ l. joined log ++ l) (append-nil part)
+
 pub history_length : (ops : List Op) → IsHistory ops → length ops ≡ commits_in ops + 1
 history_length [] h = absurd h
 history_length (op ∷ ops) h = omega arith
 
 pub begins_by : (a b whole : List Op) → IsPrefix a whole → IsPrefix b whole → IsHistory a → IsHistory b → (t : Bool) → nat_le (commits_in a) (commits_in b) ≡ t
-    → MatchBool t (StartsWith b a) (StartsWith a b)
+    → MatchBool t (IsPrefix a b) (IsPrefix b a)
 begins_by a b whole p q ha hb true is =
     let le : commits_in a ≤ commits_in b = grind (arith, nat_tests) in
     prefix_shorter a b whole p q (omega (arith, history_length a ha, history_length b hb))
@@ -42,19 +53,7 @@ begins_by a b whole p q ha hb false is =
 pub same_history : (v log : List Op) → IsPrefix v log → IsHistory v → IsHistory log → commits_in log ≡ commits_in v → v ≡ log
 same_history v log p hv hlog same = prefix_whole v log p (omega (arith, history_length v hv, history_length log hlog))
 
-pub commits_and : (n : ℕ) (ops : List Op) (op : Op) → CommitsFrom n ops → IsCommit op (n + length ops) → CommitsFrom n (ops ++ op ∷ [])
-commits_and n [] op h is = (subst (IsCommit op) (omega arith) is, tt)
-commits_and n (first ∷ ops) op h is = (h.0, commits_and (n + 1) ops op h.1 (subst (IsCommit op) (omega arith) is))
-
-pub history_and : (ops : List Op) (op : Op) → IsHistory ops → IsCommit op (commits_in ops + 1) → IsHistory (ops ++ op ∷ [])
-history_and [] op h is = absurd h
-history_and (Load base ∷ ops) op h is = commits_and 1 ops op h (subst (IsCommit op) (omega arith) is)
-history_and (Commit gno batch ∷ ops) op h is = absurd h
-
-pub commits_in-and : (ops : List Op) (op : Op) → IsHistory ops → commits_in (ops ++ op ∷ []) ≡ commits_in ops + 1
-commits_in-and ops op h = omega (arith, length-append ops (op ∷ []), history_length ops h)
-
-commits_with : (n : ℕ) (ops more : List Op) → CommitsFrom n ops → CommitsFrom (n + length ops) more → CommitsFrom n (ops ++ more)
+pub commits_with : (n : ℕ) (ops more : List Op) → CommitsFrom n ops → CommitsFrom (n + length ops) more → CommitsFrom n (ops ++ more)
 commits_with n [] more h rest = subst (λ k. CommitsFrom k more) (omega arith) rest
 commits_with n (op ∷ ops) more h rest = (h.0, commits_with (n + 1) ops more h.1 (subst (λ k. CommitsFrom k more) (omega arith) rest))
 
@@ -65,3 +64,22 @@ history_with (Commit gno batch ∷ ops) more h rest = absurd h
 
 pub commits_in-with : (ops more : List Op) → IsHistory ops → commits_in (ops ++ more) ≡ commits_in ops + length more
 commits_in-with ops more h = omega (arith, length-append ops more, history_length ops h)
+
+commits_past : (n : ℕ) (ops more : List Op) → CommitsFrom n (ops ++ more) → CommitsFrom (n + length ops) more
+commits_past n [] more h = subst (λ k. CommitsFrom k more) (omega arith) h
+commits_past n (op ∷ ops) more h = subst (λ k. CommitsFrom k more) (omega arith) (commits_past (n + 1) ops more h.1)
+
+-- what goes on a history are the next commits
+pub history_past : (ops more : List Op) → IsHistory ops → IsHistory (ops ++ more) → CommitsFrom (commits_in ops + 1) more
+history_past [] more h rest = absurd h
+history_past (Load base ∷ ops) more h rest = subst (λ k. CommitsFrom k more) (omega arith) (commits_past 1 ops more rest)
+history_past (Commit gno batch ∷ ops) more h rest = absurd h
+
+commits_front : (n : ℕ) (ops more : List Op) → CommitsFrom n (ops ++ more) → CommitsFrom n ops
+commits_front n [] more h = tt
+commits_front n (op ∷ ops) more h = (h.0, commits_front (n + 1) ops more h.1)
+
+pub history_front : (ops more : List Op) → 1 ≤ length ops → IsHistory (ops ++ more) → IsHistory ops
+history_front [] more some h = absurd (omega arith)
+history_front (Load base ∷ ops) more some h = commits_front 1 ops more h
+history_front (Commit gno batch ∷ ops) more some h = absurd h

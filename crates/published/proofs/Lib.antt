@@ -3,4 +3,3 @@ pub mod Histories
 pub mod Adding
 pub mod Steps
 pub mod Words
-pub mod Slots

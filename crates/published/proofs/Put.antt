@@ -1,9 +1,9 @@
 -- Putting one more entry into a batch in order.
-use Rattle.std.proofs.Common.{◌≡◌, ◌≢◌, ℕ, ◌+◌, ◌<◌, length, get_or, drop, add-one, drop-cons, ℤ, Bool, true, false, cond, IsTrue, List, [], ◌∷◌, refl, sym, ap, subst, ◌∙◌, Option, Some, None}
+use Rattle.std.proofs.Common.{◌≡◌, ◌≢◌, ℕ, ◌+◌, ◌<◌, length, get_or, drop, add-one, drop-cons, ℤ, Bool, true, false, cond, IsTrue, List, [], ◌∷◌, refl, sym, ap, subst, ◌∙◌, Option}
 use Rattle.std.specs.List.Sorted.{IsStrictlySortedBy}
 use Rattle.std.specs.Map.{keys_of}
 use Rattle.std.specs.BTreeMap.{insert_entry, is_at}
-use Rattle.std.specs.FinMap.{get, get-insert, get-remove, same_map}
+use Rattle.std.specs.FinMap.{get, same_map}
 use Rattle.std.specs.FinMap.Entries.{below_all}
 use Rattle.std.specs.List.{AllByRecursion}
 use Rattle.std.specs.Ordering.{match_ordering, is_eq}
@@ -17,12 +17,9 @@ use Rattle.schema.specs.declared.RowId.{RowId}
 use Rattle.schema.specs.RowId.{row_cmp, same_row, exact_row, row_total}
 use Rattle.rows.specs.Database.{Database}
 use Rattle.store_trait.specs.Batch.{Entry, IsRising, put_row, put_batch}
+use Rattle.store_trait.proofs.Batches.{get-put_row}
 
-pub get-put_row : (db : Database) (k : RowId) (v : Option (List ℤ)) (q : RowId) → get (put_row db k v) q ≡ cond (same_row q k) v (get db q)
-get-put_row db k None q = get-remove row_total db k q
-get-put_row db k (Some columns) q = get-insert row_total db k columns q
-
-pub tied : (o : Ordering) → is_eq o ≡ true → o ≡ Equal
+tied : (o : Ordering) → is_eq o ≡ true → o ≡ Equal
 tied Less h = cc
 tied Equal h = refl
 tied Greater h = cc

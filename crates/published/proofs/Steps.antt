@@ -1,30 +1,20 @@
 -- What a publication does to a copy.
-use Rattle.std.proofs.Common.{◌≡◌, ℕ, ◌+◌, List, [], ◌∷◌, ◌++◌, length, map, fold, refl, sym, ap, subst, ◌∙◌, Option, Some, None, IfSome, IsSomeAnd, arith, append_assoc, length-append}
-use Rattle.std.proofs.lemmas.List.{append-nil}
+use Rattle.std.proofs.Common.{◌≡◌, ℕ, ◌+◌, ◌-◌, ◌≤◌, List, [], ◌∷◌, ◌++◌, length, drop, map, fold, refl, sym, ap, subst, ◌∙◌, Option, Some, IfSome, arith, append_assoc, length-append}
+use Rattle.std.proofs.Math.Seq.{drop-length, drop-nil}
+use Rattle.std.proofs.lemmas.List.{append-nil, drop-append-le, length-drop}
 use Rattle.std.proofs.lemmas.List.Sums.{fold-append}
 use Rattle.rows.specs.Database.{Database}
-use Rattle.std.specs.FinMap.{empty}
 use Rattle.store_trait.specs.declared.Op.{Op}
-use Rattle.store_trait.specs.Batch.{Entry, put_batch, put_batches}
+use Rattle.store_trait.specs.Batch.{put_batches}
 use Rattle.store_trait.specs.Operation.{batch_of, left_by}
 use Rattle.published.specs.History.{IsCommit, CommitsFrom, IsHistory, commits_in}
 use Rattle.published.specs.Held.{Held}
 use Rattle.published.specs.Copies.{after_step, puts_in, Settles}
-use Rattle.published.specs.Publication.{Publishing, IsTied}
+use Rattle.published.specs.Publication.{Publishing, unsaid, IsTied}
 use Rattle.published.specs.declared.version.Step.{Step}
 use Rattle.published.specs.declared.version.Step.TheVariants.{Put, Mark}
-use Rattle.published.proofs.Histories.{commits_and, history_with, commits_in-with}
-
-put_batches-append : (xs ys : List (List Entry)) (db : Database) → put_batches (xs ++ ys) db ≡ put_batches ys (put_batches xs db)
-put_batches-append [] ys db = refl
-put_batches-append (x ∷ xs) ys db = put_batches-append xs ys (put_batch x db)
-
-map_batches : (xs ys : List Op) → map batch_of (xs ++ ys) ≡ map batch_of xs ++ map batch_of ys
-map_batches [] ys = refl
-map_batches (x ∷ xs) ys = ap (λ l. batch_of x ∷ l) (map_batches xs ys)
-
-left_by-append : (xs ys : List Op) → left_by (xs ++ ys) ≡ put_batches (map batch_of ys) (left_by xs)
-left_by-append xs ys = ap (λ l. put_batches l empty) (map_batches xs ys) ∙ put_batches-append (map batch_of xs) (map batch_of ys) empty
+use Rattle.store_trait.proofs.Batches.{left_by-append}
+use Rattle.published.proofs.Histories.{commits_with, history_length, history_with, history_past, history_front, commits_in-with}
 
 module _ {J : Type 0} where
   pub puts_in-put : (steps : List (Step J)) (op : Op) → puts_in (steps ++ Put op ∷ []) ≡ puts_in steps ++ op ∷ []
@@ -61,42 +51,77 @@ module _ {J : Type 0} where
   published_after rows published all steps after is =
       ap (λ (h : Held). h.by) (ap (fold after_step (record { rows = rows; by = published })) is ∙ marked steps (record { rows = rows; by = published }) all)
 
+-- the history has no more than what is published and what waits
+known_within : (rows : Database) (p : Publishing) (appended : ℕ) → IsTied rows p appended → length p.history - length p.published ≤ length p.waiting
+known_within rows p appended tied =
+    let sizes = ap length tied.whole in
+    omega (arith, length-append p.history (unsaid p), length-append p.published p.waiting, length-drop (length p.history - length p.published) p.waiting, sizes)
+
 -- one more commit waits
-pub tied_put : (rows : Database) (published waiting longer : List Op) (appended gno : ℕ) (all more : Option (List Op)) (op : Op)
-    → IsTied rows published waiting appended all → IsCommit op (commits_in published + length waiting + 1) → gno ≡ commits_in published + length waiting + 1
-    → longer ≡ waiting ++ op ∷ [] → IfSome more (λ l. IsSomeAnd all (λ ops. l ≡ ops ++ op ∷ []))
-    → IsTied rows published longer gno more
-tied_put rows published waiting longer appended gno all more op tied next number is whole = record {
+pub tied_put : (rows : Database) (p : Publishing) (longer : List Op) (appended gno : ℕ) (op : Op)
+    → IsTied rows p appended → IsCommit op (commits_in p.published + length p.waiting + 1) → gno ≡ commits_in p.published + length p.waiting + 1
+    → longer ≡ p.waiting ++ op ∷ []
+    → IsTied rows (record p { waiting = longer }) gno
+tied_put rows p longer appended gno op tied next number is = record {
   left = tied.left;
   history = tied.history;
-  commits = subst (CommitsFrom (commits_in published + 1)) (sym is) (commits_and (commits_in published + 1) waiting op tied.commits (subst (IsCommit op) (omega arith) next));
-  number = number ∙ sym (ap (λ l. commits_in published + length l) is ∙ omega (arith, length-append waiting (op ∷ [])));
-  whole = whole_put published waiting longer all more op tied.whole is whole;
+  commits = subst (CommitsFrom (commits_in p.published + 1)) (sym is) (commits_with (commits_in p.published + 1) p.waiting (op ∷ []) tied.commits (subst (IsCommit op) (omega arith) next, tt));
+  number = number ∙ sym (ap (λ l. commits_in p.published + length l) is ∙ omega (arith, length-append p.waiting (op ∷ [])));
+  whole =
+      let known = length p.history - length p.published in
+      ap (λ l. p.history ++ drop known l) is
+      ∙ ap (λ l. p.history ++ l) (drop-append-le known p.waiting (op ∷ []) (known_within rows p appended tied))
+      ∙ sym (append_assoc p.history (unsaid p) (op ∷ []))
+      ∙ ap (λ l. l ++ op ∷ []) tied.whole
+      ∙ append_assoc p.published p.waiting (op ∷ [])
+      ∙ ap (λ l. p.published ++ l) (sym is);
 }
-  where
-    whole_put : (published waiting longer : List Op) (all more : Option (List Op)) (op : Op) → IfSome all (λ ops. ops ≡ published ++ waiting) → longer ≡ waiting ++ op ∷ []
-        → IfSome more (λ l. IsSomeAnd all (λ ops. l ≡ ops ++ op ∷ [])) → IfSome more (λ l. l ≡ published ++ longer)
-    whole_put published waiting longer all None op h is whole = tt
-    whole_put published waiting longer None (Some l) op h is whole = absurd whole
-    whole_put published waiting longer (Some ops) (Some l) op h is whole =
-        whole ∙ ap (λ m. m ++ op ∷ []) h ∙ append_assoc published waiting (op ∷ []) ∙ ap (λ m. published ++ m) (sym is)
+
+-- all that waits is in the history
+pub tied_known : (rows : Database) (p : Publishing) (all : List Op) (appended : ℕ) → IsTied rows p appended → all ≡ p.published ++ p.waiting → IsTied rows (record p { history = all }) appended
+tied_known rows p all appended tied whole = record {
+  left = tied.left;
+  history = tied.history;
+  commits = tied.commits;
+  number = tied.number;
+  whole =
+      let none : drop (length all - length p.published) p.waiting ≡ [] =
+      ap (λ n. drop n p.waiting) (omega (arith, ap length whole, length-append p.published p.waiting)) ∙ drop-length p.waiting in
+      ap (λ l. all ++ l) none ∙ append-nil all ∙ whole;
+}
 
 -- all that waited is published
-pub tied_shown : (rows rows' : Database) (published waiting all by steps : List Op) (appended : ℕ) (known : Option (List Op))
-    → IsTied rows published waiting appended known → known ≡ Some all → rows' ≡ left_by by → by ≡ all → steps ≡ []
-    → IsTied rows' by steps appended known
-tied_shown rows rows' published waiting all by steps appended known tied is left same none =
-    let whole : all ≡ published ++ waiting = subst (λ o. IfSome o (λ ops. ops ≡ published ++ waiting)) is tied.whole in
-    let both : by ≡ published ++ waiting = same ∙ whole in record {
+pub tied_shown : (rows rows' : Database) (p : Publishing) (by : List Op) (appended : ℕ)
+    → IsTied rows p appended → p.history ≡ p.published ++ p.waiting → rows' ≡ left_by by → by ≡ p.history
+    → IsTied rows' (record { published = by; waiting = []; history = p.history }) appended
+tied_shown rows rows' p by appended tied whole left same =
+    let both : by ≡ p.published ++ p.waiting = same ∙ whole in record {
       left = left;
-      history = subst IsHistory (sym both) (history_with published waiting tied.history tied.commits);
-      commits = subst (CommitsFrom (commits_in by + 1)) (sym none) tt;
-      number = tied.number ∙ sym (ap (λ l. commits_in by + length l) none ∙ omega (arith, ap commits_in both, commits_in-with published waiting tied.history));
-      whole = subst (λ o. IfSome o (λ ops. ops ≡ by ++ steps)) (sym is) (sym same ∙ sym (ap (λ l. by ++ l) none ∙ append-nil by));
+      history = subst IsHistory (sym both) (history_with p.published p.waiting tied.history tied.commits);
+      commits = tt;
+      number = tied.number ∙ sym (omega (arith, ap commits_in both, commits_in-with p.published p.waiting tied.history));
+      whole = ap (λ l. p.history ++ l) (drop-nil (length p.history - length by)) ∙ ap (λ l. l ++ []) (sym same);
     }
 
-pub same_publishing : (a b : Publishing) → a.published ≡ b.published → a.waiting ≡ b.waiting → a ≡ b
-same_publishing a b p w i = record { published = p i; waiting = w i }
+-- what is not in the history goes on from it, up to the number of the last
+pub unsaid_goes_on : (rows : Database) (p : Publishing) (appended : ℕ) → IsTied rows p appended
+    → CommitsFrom (commits_in p.history + 1) (unsaid p) × (appended ≡ commits_in p.history + length (unsaid p))
+unsaid_goes_on rows p appended tied =
+    let sizes = ap length tied.whole in
+    let some : 1 ≤ length p.history =
+    omega (arith, length-append p.history (unsaid p), length-append p.published p.waiting, length-drop (length p.history - length p.published) p.waiting, sizes, history_length p.published tied.history) in
+    let all : IsHistory (p.history ++ unsaid p) = subst IsHistory (sym tied.whole) (history_with p.published p.waiting tied.history tied.commits) in
+    let h = history_front p.history (unsaid p) some all in (
+      history_past p.history (unsaid p) h all,
+      tied.number
+          ∙ sym (commits_in-with p.published p.waiting tied.history)
+          ∙ ap commits_in (sym tied.whole)
+          ∙ commits_in-with p.history (unsaid p) h,
+    )
 
-pub whole_of : (published waiting all : List Op) (known : Option (List Op)) → known ≡ Some all → IfSome known (λ ops. ops ≡ published ++ waiting) → all ≡ published ++ waiting
-whole_of published waiting all known is whole = subst (λ o. IfSome o (λ ops. ops ≡ published ++ waiting)) is whole
+pub same_publishing : (a b : Publishing) → a.published ≡ b.published → a.waiting ≡ b.waiting → a.history ≡ b.history → a ≡ b
+same_publishing a b p w h i = record { published = p i; waiting = w i; history = h i }
+
+-- what an extended history has
+pub found : (p q : Publishing) (all : List Op) (told : Option (List Op)) → p ≡ q → told ≡ Some all → IfSome told (λ l. l ≡ q.published ++ q.waiting) → all ≡ p.published ++ p.waiting
+found p q all told same is all_of = subst (λ o. IfSome o (λ l. l ≡ q.published ++ q.waiting)) is all_of ∙ ap (λ v. v.published ++ v.waiting) (sym same)

@@ -1,5 +1,5 @@
 -- Lists of operations that are published: the load of the base, and then the commits 1, 2 and on.
-use Rattle.std.specs.Prelude.{◌≡◌, ℕ, ◌+◌, ◌-◌, List, [], ◌∷◌, ◌++◌, length}
+use Rattle.std.specs.Prelude.{◌≡◌, ℕ, ◌+◌, ◌-◌, List, [], ◌∷◌, length}
 use Rattle.store_trait.specs.declared.Op.{Op}
 use Rattle.store_trait.specs.declared.Op.TheVariants.{Load, Commit}
 
@@ -22,7 +22,3 @@ IsHistory (Commit gno batch ∷ ops) = ⊥
 -- how many commits stand behind the load
 abbrev pub commits_in : List Op → ℕ
 commits_in ops = length ops - 1
-
--- the operations begin with these
-abbrev pub StartsWith : List Op → List Op → Type 0
-StartsWith ops first = (rest : List Op) × (ops ≡ first ++ rest)

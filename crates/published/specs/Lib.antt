@@ -5,4 +5,3 @@ pub mod Copies
 pub mod Plain
 pub mod Publication
 pub mod Status
-pub mod Slot

@@ -1,18 +1,24 @@
 //! The history of operations, which exists in proofs alone: all that seats see and are told is a beginning of
-//! it. What is shared at run time is one word, the number of its commits.
-ghost use Rattle.std.specs.Prelude.{◌≡◌, ◌+◌, ◌++◌, ◌∷◌, [], MatchBool, IfSome};
-ghost use Rattle.published.specs.History.{IsCommit, IsHistory, StartsWith, commits_in};
+//! it. What is shared at run time is one word, the number of its commits. It grows where commits are published,
+//! by all that wait at once, and nowhere else.
+ghost use Rattle.std.specs.Prelude.{◌≡◌, ◌+◌, ◌++◌, ◌∷◌, [], length, MatchBool, IfSome};
+ghost use mathlib.Core.List.{IsPrefix};
+ghost use Rattle.published.specs.History.{CommitsFrom, IsHistory, commits_in};
 ghost use Rattle.published.specs.Book.{head_of};
 ghost use Rattle.store_trait.specs.declared.Op.TheVariants.{Load};
 
 use logbook::{Gain, Offer, Opening, Plain, Play, Rule, Seen, Start, Word};
+use std::collections::LinkedList;
 use std::marker::{Brand, Model, PhantomData};
 use store_trait::{Batch, Op};
+
+/// What one step adds. No value of it is made.
+pub type Part = LinkedList<Op>;
 
 /// The rule of the history.
 pub struct Law;
 
-impl Rule<Op, u64> for Law {
+impl Rule<Part, u64> for Law {
     ghost use Rattle.std.specs.Prelude.{[]};
     ghost use base.Fml.{ftrue};
     ghost use Rattle.published.specs.Book.{IsKept};
@@ -33,7 +39,7 @@ impl Rule<Op, u64> for Law {
 /// Nobody keeps anything beside the history.
 pub struct Nothing;
 
-impl Gain<Op, u64> for Nothing {
+impl Gain<Part, u64> for Nothing {
     ghost use base.Fml.{ftrue};
 
     ghost after = { λ names about answer. ftrue };
@@ -42,28 +48,20 @@ impl Gain<Op, u64> for Nothing {
 /// The history begins with the load of the base.
 pub struct Loads;
 
-impl Opening<Batch, Op> for Loads {
+impl Opening<Batch, Part> for Loads {
     ghost use Rattle.std.specs.Prelude.{[], ◌∷◌};
     ghost use Rattle.store_trait.specs.declared.Op.TheVariants.{Load};
 
-    ghost log = { λ count base. Load base ∷ [] };
+    ghost log = { λ count base. (Load base ∷ []) ∷ [] };
 }
 
-/// A step that adds an operation.
+/// A step that adds operations.
 pub struct Add;
 
-impl Play<Op, u64> for Add {
+impl Play<Part, u64> for Add {
     ghost use Rattle.published.specs.Book.{Adds};
 
     ghost then = { Adds };
-}
-
-impl Plain<Op, Op, u64> for Add {
-    ghost use Rattle.std.specs.Prelude.{None};
-
-    ghost ask = { λ op. op };
-
-    ghost state = { λ op. None };
 }
 
 /// Which publication a publisher, a seat and a notice are of: a type stands for it, so that those of two
@@ -83,7 +81,7 @@ impl Naming for Brand {
 /// The one word. It counts the commits of the history.
 #[derive(Drop)]
 pub struct Head<J: Naming> {
-    word: Word<Op, u64, Law>,
+    word: Word<Part, u64, Law>,
     of: PhantomData<J>,
     ghost word_is: { word ≡ head_of J.book },
 }
@@ -93,8 +91,8 @@ pub struct Head<J: Naming> {
 #[derive(Drop)]
 pub struct Beginning {
     base: Batch,
-    word: Word<Op, u64, Law>,
-    seen: Seen<Op, u64, Law>,
+    word: Word<Part, u64, Law>,
+    seen: Seen<Part, u64, Law>,
 }
 
 impl Model for Beginning {
@@ -107,7 +105,7 @@ impl Model for Beginning {
 
     ghost view = { λ b. record { book = b.seen.book; base = b.base } };
 
-    ghost invariant = { λ b. (b.word ≡ head_of b.seen.book) × (b.seen.log ≡ Load b.base ∷ []) };
+    ghost invariant = { λ b. (b.word ≡ head_of b.seen.book) × (b.seen.log ≡ (Load b.base ∷ []) ∷ []) };
 }
 
 impl Beginning {
@@ -145,7 +143,7 @@ impl Beginning {
 #[derive(Drop)]
 pub struct Notice<J: Naming> {
     upto: u64,
-    seen: Seen<Op, u64, Law>,
+    seen: Seen<Part, u64, Law>,
     of: PhantomData<J>,
 }
 
@@ -153,12 +151,13 @@ impl<J: Naming> Model for Notice<J> {
     ghost use Rattle.std.specs.Prelude.{◌≡◌, List};
     ghost use Rattle.store_trait.specs.declared.Op.{Op};
     ghost use Rattle.published.specs.History.{IsHistory, commits_in};
+    ghost use Rattle.published.specs.Book.{joined};
 
     ghost Value = { List Op };
 
-    ghost view = { λ n. n.seen.log };
+    ghost view = { λ n. joined n.seen.log };
 
-    ghost invariant = { λ n. (n.upto ≡ commits_in n.seen.log) × (n.seen.book ≡ J.book) × IsHistory n.seen.log };
+    ghost invariant = { λ n. (n.upto ≡ commits_in (joined n.seen.log)) × (n.seen.book ≡ J.book) × IsHistory (joined n.seen.log) };
 }
 
 impl<J: Naming> Notice<J> {
@@ -183,34 +182,38 @@ impl<J: Naming> Notice<J> {
 
     /// Whether the other begins with this one. If not, this one begins with the other. It takes no memory.
     pub fn begins(&self, other: &Notice<J>) -> bool
-        ensures { MatchBool result (StartsWith other.now self.now) (StartsWith self.now other.now) }
+        ensures { MatchBool result (IsPrefix self.now other.now) (IsPrefix other.now self.now) }
     {
         let mut both = self.seen.again();
         both.learn(&other.seen);
         other.upto >= self.upto
     }
 
-    // It and one more commit, `None` where the history went on without it.
-    pub(crate) fn and(self, head: &Head<J>, op: &Op) -> Option<Notice<J>>
-        requires { IsCommit op.now (commits_in self + 1) }
-        ensures { IfSome result (λ longer. longer ≡ self ++ op.now ∷ []) }
+    // It and the commits that `M` names behind it, up to this number. `None` where the history went on without
+    // them.
+    pub(crate) fn and<X, M: Plain<X, Part, u64>>(
+        &self,
+        head: &Head<J>,
+        of: &X,
+        upto: u64,
+    ) -> Option<Notice<J>>
+        requires commits { CommitsFrom (commits_in self.now + 1) (M.ask of.now) }
+        requires number { upto ≡ commits_in self.now + length (M.ask of.now) }
+        ensures { IfSome result (λ longer. longer ≡ self.now ++ M.ask of.now) }
     {
-        let Notice { upto, mut seen, of } = self;
-        let Op::Commit { gno, batch: _ } = op else {
-            unreachable!();
-        };
-        let mut offer: Offer<Op, u64, Law, Nothing> = seen.plain::<Nothing, Op, Add>(op);
+        let mut seen = self.seen.again();
+        let mut offer: Offer<Part, u64, Law, Nothing> = seen.plain::<Nothing, X, M>(of);
         let mut pen = seen.no_pen();
         let found = head
             .word
-            .compare_exchange::<Add, Nothing>(upto, *gno, &mut seen, &mut offer, &mut pen);
-        if found != upto {
+            .compare_exchange::<Add, Nothing>(self.upto, upto, &mut seen, &mut offer, &mut pen);
+        if found != self.upto {
             return None;
         }
         Some(Notice {
-            upto: *gno,
+            upto,
             seen,
-            of,
+            of: PhantomData,
         })
     }
 }

@@ -1,5 +1,7 @@
 //! The words of the status, and what a pass to them knows.
 
+use std::collections::LinkedList;
+
 /// How far a replica is, in commits.
 #[derive(Clone, Copy, Debug, PartialEq, Eq)]
 pub struct Counts {
@@ -13,8 +15,8 @@ pub struct Counts {
 
 /// What a pass knows. No value of it is made.
 pub struct Look {
-    /// The counts that it stored last.
-    pub last: Counts,
+    /// The counts that were stored, the last first, up to those that it stored or saw last.
+    pub seen: LinkedList<Counts>,
     /// Whether it is the one that stores.
     pub stores: bool,
 }

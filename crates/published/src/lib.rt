@@ -4,8 +4,9 @@
 //! into it, so memory grows with rows and not with commits. The operations themselves are one history, which
 //! only grows and exists in proofs alone (`logbook`): a `Notice` is a beginning of it, each copy carries the one
 //! that left its rows, and a `ReadSeat` answers from a version only where that begins with all that the seat saw
-//! or learnt. `Plain` is the same for one thread on one store, and `Status` has three words that are read and
-//! stored as one (`crossbeam_utils`). The rows are those of `store_trait`.
+//! or learnt. The history is what readers may see: `publish` adds to it, and `append` nothing. `Plain` is the same
+//! for one thread on one store. `Status` has three words that are read and stored as one (`crossbeam_utils`):
+//! those who read them see what was stored, in turn, and none of it falls. The rows are those of `store_trait`.
 #![tactic(auto)]
 
 mod book;

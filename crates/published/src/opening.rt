@@ -1,5 +1,5 @@
 //! How a publication begins.
-ghost use Rattle.std.specs.Prelude.{◌≡◌, ◌≤◌, [], ◌∷◌, IfOk, drop, replicate};
+ghost use Rattle.std.specs.Prelude.{◌≡◌, ◌≤◌, [], ◌∷◌, IfOk, IfSome, drop, replicate, vec_capacity};
 ghost use Rattle.std.specs.FinMap.{empty};
 ghost use Rattle.store_trait.specs.declared.Op.TheVariants.{Load};
 ghost use Rattle.store_trait.specs.Operation.{left_by};
@@ -9,7 +9,7 @@ use crate::publisher::Publisher;
 use crate::seat::ReadSeat;
 use crate::version::{StoreWriter, Version};
 use schema::Memory;
-use std::alloc::{AllocError, AllocFailed, Global};
+use std::alloc::{AllocError, Global};
 use std::sync::Wait;
 use store_trait::{Batch, RowStore};
 use thiserror::Error;
@@ -20,18 +20,28 @@ pub enum OpenError {
     /// Memory ran out.
     #[error("no memory")]
     Memory,
-    /// There was no place for a reader.
+    /// `left_right` gave no reader, as where all its places are taken. Memory did not run out.
     #[error("seat refused")]
     SeatRefused,
 }
 
 impl From<Memory> for OpenError {
+    ghost use Rattle.std.specs.Prelude.{◌≡◌};
+    ghost use Rattle.published.specs.declared.opening.OpenError.TheVariants as causes;
+
+    ghost from_gives = { λ _ e. e ≡ causes.Memory };
+
     fn from(_error: Memory) -> OpenError {
         OpenError::Memory
     }
 }
 
 impl From<AllocError> for OpenError {
+    ghost use Rattle.std.specs.Prelude.{◌≡◌};
+    ghost use Rattle.published.specs.declared.opening.OpenError.TheVariants as causes;
+
+    ghost from_gives = { λ _ e. e ≡ causes.Memory };
+
     fn from(_error: AllocError) -> OpenError {
         OpenError::Memory
     }
@@ -52,7 +62,7 @@ pub fn open<S: RowStore + Drop, J: Naming, R: Wait>(
     requires second { S.contents second ≡ empty }
     requires some { 1 ≤ seats }
     requires few { seats ≤ 32 }
-    ensures publisher { IfOk result (λ opened. (opened.0.published ≡ Load beginning.base ∷ []) × (opened.0.waiting ≡ [])) }
+    ensures publisher { IfOk result (λ opened. opened.0 ≡ record { published = Load beginning.base ∷ []; waiting = []; history = Load beginning.base ∷ [] }) }
     ensures seats { IfOk result (λ opened. opened.1.items ≡ replicate seats (Load beginning.base ∷ [])) }
 {
     let (base, head, notice) = beginning.named::<J>();
@@ -60,10 +70,10 @@ pub fn open<S: RowStore + Drop, J: Naming, R: Wait>(
     let writer = both(alloc, &base, &notice, first, second, seats)?;
     let publisher = Publisher::begun(writer, head, notice);
     match take_seats(&publisher, places, seats) {
-        Ok(places) => Ok((publisher, places)),
-        Err(error) => {
+        Some(places) => Ok((publisher, places)),
+        None => {
             drop(publisher.close(rt));
-            Err(error)
+            Err(OpenError::SeatRefused)
         }
     }
 }
@@ -97,19 +107,18 @@ fn both<S: RowStore + Drop, J: Naming>(
     Ok(StoreWriter::new(alloc, first, second, seats)?)
 }
 
-// So many seats, which have seen what is published.
+// So many seats, which have seen what is published. `None` where `left_right` gave no reader.
 fn take_seats<S: RowStore + Drop, J: Naming>(
     publisher: &Publisher<S, J>,
     mut places: Vec<ReadSeat<S, J>>,
     seats: usize,
-) -> Result<Vec<ReadSeat<S, J>>, OpenError>
-    requires { places.items ≡ [] }
-    ensures { IfOk result (λ places. places.items ≡ replicate seats publisher.now.published) }
+) -> Option<Vec<ReadSeat<S, J>>>
+    requires none { places.items ≡ [] }
+    requires room { seats ≤ vec_capacity places }
+    ensures { IfSome result (λ places. places.items ≡ replicate seats publisher.now.published) }
 {
     for _ in 0..seats {
-        places
-            .push(publisher.seat()?)
-            .map_err(|_| OpenError::Memory)?;
+        places.push_reserved(publisher.seat()?);
     }
-    Ok(places)
+    Some(places)
 }

@@ -1,24 +1,23 @@
 //! The one who publishes.
-ghost use Rattle.std.specs.Prelude.{◌≡◌, ◌+◌, [], ◌∷◌, ◌++◌, length, drop, OnOk, OnErr, IfOk, IfSome, IsSomeAnd, MatchResult, fold};
-ghost use Rattle.std.specs.Option.{ForSome};
+ghost use Rattle.std.specs.Prelude.{◌≡◌, ◌⊎◌, ◌+◌, [], ◌∷◌, ◌++◌, length, drop, OnOk, OnErr, IfOk, IfSome, fold};
 ghost use Rattle.published.specs.Copies.{after_step, Settles};
 ghost use Rattle.store_trait.specs.Operation.{left_by};
 ghost use Rattle.published.specs.History.{IsCommit, IsHistory, commits_in};
 
-use crate::book::{Head, Naming, Notice};
-use crate::opening::OpenError;
+use crate::book::{Head, Naming, Notice, Part};
 use crate::seat::ReadSeat;
 use crate::version::{Common, Consistent, Step, StoreWriter, Version};
 use core::mem::replace_with;
 use left_right::Absorb;
+use logbook::Plain;
 use schema::Memory;
 use std::alloc::AllocError;
 use std::marker::Model;
 use std::sync::Wait;
 use store_trait::{Op, RowStore};
 
-/// It appends commits and publishes them. Contracts see it as the operations that are published, and those that
-/// wait. It is not `Drop`: end it by `close`. A struct that has one repeats its bound. One that lies under a lock
+/// It appends commits and publishes them. Contracts see it as the operations that are published, those that wait,
+/// and the history of what readers may see, which is what they see but after a refused `publish`. It is not `Drop`: end it by `close`. A struct that has one repeats its bound. One that lies under a lock
 /// has to be `Drop`, so it keeps the handle too, and closes the publisher in its `drop`.
 pub struct Publisher<S: RowStore + Drop, J: Naming>
 where
@@ -26,7 +25,7 @@ where
 {
     writer: StoreWriter<S, J>,
     head: Head<J>,
-    all: Option<Notice<J>>,
+    history: Notice<J>,
     appended: u64,
 }
 
@@ -40,9 +39,21 @@ where
 
     ghost Value = { Publishing };
 
-    ghost view = { λ p. record { published = p.writer.desk.shown.value.by; waiting = puts_in (drop p.writer.behind p.writer.log.items) } };
+    ghost view = { λ p. record { published = p.writer.desk.shown.value.by; waiting = puts_in (drop p.writer.behind p.writer.log.items); history = p.history } };
 
-    ghost invariant = { λ p. IsTied (S.contents p.writer.desk.shown.value.store) p.writer.desk.shown.value.by (puts_in (drop p.writer.behind p.writer.log.items)) p.appended p.all };
+    ghost invariant = { λ p. IsTied (S.contents p.writer.desk.shown.value.store) (record { published = p.writer.desk.shown.value.by; waiting = puts_in (drop p.writer.behind p.writer.log.items); history = p.history }) p.appended };
+}
+
+/// What waits and is not in the history.
+struct Unsaid;
+
+impl<S: RowStore + Drop, J: Naming> Plain<Publisher<S, J>, Part, u64> for Unsaid {
+    ghost use Rattle.std.specs.Prelude.{None};
+    ghost use Rattle.published.specs.Publication.{unsaid};
+
+    ghost ask = { λ p. unsaid p };
+
+    ghost state = { λ p. None };
 }
 
 impl<S: RowStore + Drop, J: Naming> Publisher<S, J> {
@@ -57,23 +68,22 @@ impl<S: RowStore + Drop, J: Naming> Publisher<S, J> {
         requires none { drop writer.behind writer.log.items ≡ [] }
         ensures published { result.published ≡ notice }
         ensures waiting { result.waiting ≡ [] }
+        ensures history { result.history ≡ notice }
     {
         Publisher {
             writer,
             head,
-            all: Some(notice),
+            history: notice,
             appended: 0,
         }
     }
 
-    // A new seat, which has seen what is published.
-    pub(crate) fn seat(&self) -> Result<ReadSeat<S, J>, OpenError>
-        ensures { IfOk result (λ seat. seat ≡ self.now.published) }
+    // A new seat, which has seen what is published. `None` where `left_right` gave no reader.
+    pub(crate) fn seat(&self) -> Option<ReadSeat<S, J>>
+        ensures { IfSome result (λ seat. seat ≡ self.now.published) }
     {
-        match self.writer.factory().reader() {
-            Ok(reader) => Ok(ReadSeat::taken(reader, self.tell())),
-            Err(_) => Err(OpenError::SeatRefused),
-        }
+        let reader = self.writer.factory().reader().ok()?;
+        Some(ReadSeat::taken(reader, self.tell()))
     }
 
     /// Appends a commit, which no reader sees before the next `publish`. It is the one of the gno after the last
@@ -89,29 +99,41 @@ impl<S: RowStore + Drop, J: Naming> Publisher<S, J> {
         let batch = batch.copy()?;
         add(&mut self.writer, Step::Put(Op::Commit { gno: *gno, batch }))?;
         self.appended = *gno;
-        self.all = and(self.all.take(), &self.head, op);
         Ok(())
     }
 
     /// Publishes all that was appended, at once, and answers how many commits are published then. Where memory
-    /// runs out nothing changes, and the next `publish` publishes the same and what came since. It waits for
-    /// readers that are still in the version before the last. The time is n log m, for the n entries that wait
-    /// and those of the `publish` before, and a store of m rows; each entry goes into both copies. The memory is
-    /// what the new rows need. (It would also answer `Memory` if another had added to the history, which nobody
-    /// but this publisher can.)
+    /// runs out readers see what they saw, and the next `publish` publishes the same and what came since. The
+    /// history may then have all that was to be published; the next `publish` goes on from there, and adds to it
+    /// only what came since. It waits for readers that are still in the version before the last. The time is
+    /// n log m, for the n entries that wait and those of the `publish` before, and a store of m rows; each entry
+    /// goes into both copies. The memory is what the new rows need, and the operations are kept until both copies
+    /// have them, which is at the `publish` after. (It would also answer `Memory` if another had added to the
+    /// history, which nobody but this publisher can.)
     pub fn publish<R: Wait>(&mut self, rt: &R) -> Result<u64, Memory>
         ensures number { IfOk result (λ upto. (upto ≡ commits_in self.new.published) × (upto ≡ commits_in self.old.published + length self.old.waiting)) }
-        ensures history { IsHistory self.new.published }
+        ensures is_history { IsHistory self.new.published }
         ensures published { OnOk result (self.new.published ≡ self.old.published ++ self.old.waiting) }
         ensures all { OnOk result (self.new.waiting ≡ []) }
-        ensures err { OnErr result (self.new ≡ self.old) }
+        ensures history { OnOk result (self.new.history ≡ self.new.published) }
+        ensures err { OnErr result (self.new ≡ record self.old { history = self.new.history }) }
+        ensures err_history { OnErr result ((self.new.history ≡ self.old.history) ⊎ (self.new.history ≡ self.old.published ++ self.old.waiting)) }
     {
-        let Some(all) = &self.all else {
+        let Some(history) = self.extended() else {
             return Err(Memory);
         };
-        add(&mut self.writer, Step::Mark(all.again()))?;
+        self.history = history;
+        add(&mut self.writer, Step::Mark(self.history.again()))?;
         show(&mut self.writer, rt)?;
         Ok(self.appended)
+    }
+
+    // The history with all that waits. `None` where it went on without that.
+    fn extended(&self) -> Option<Notice<J>>
+        ensures { IfSome result (λ all. all ≡ self.now.published ++ self.now.waiting) }
+    {
+        self.history
+            .and::<Publisher<S, J>, Unsaid>(&self.head, self, self.appended)
     }
 
     /// What is published now. It takes no memory.
@@ -135,7 +157,7 @@ where
         let Publisher {
             writer,
             head: _head,
-            all: _all,
+            history: _history,
             appended: _,
         } = self;
         let Version { store, by: _by } = Box::into_inner(writer.take(rt));
@@ -169,12 +191,4 @@ fn show<S: RowStore + Drop, J: Naming, R: Wait>(
     replace_with(writer, rt, |writer, rt| {
         writer.publish_as::<Consistent, R>(rt)
     })
-}
-
-// All operations and one more.
-fn and<J: Naming>(all: Option<Notice<J>>, head: &Head<J>, op: &Op) -> Option<Notice<J>>
-    requires { ForSome all (λ ops. IsCommit op.now (commits_in ops + 1)) }
-    ensures { IfSome result (λ longer. IsSomeAnd all (λ ops. longer ≡ ops ++ op.now ∷ [])) }
-{
-    all?.and(head, op)
 }

@@ -1,8 +1,9 @@
 //! The seats of those who read.
-ghost use Rattle.std.specs.Prelude.{◌≡◌, IfSome, IfNone};
+ghost use Rattle.std.specs.Prelude.{◌≡◌, ◌⊎◌, IfSome, IfNone};
+ghost use mathlib.Core.List.{IsPrefix};
 ghost use Rattle.std.specs.FinMap.{get as row_of};
 ghost use Rattle.store_trait.specs.Operation.{left_by};
-ghost use Rattle.published.specs.History.{IsHistory, StartsWith, commits_in};
+ghost use Rattle.published.specs.History.{IsHistory, commits_in};
 
 use crate::Answer;
 use crate::book::{Naming, Notice};
@@ -47,7 +48,7 @@ impl<S: RowStore + Drop, J: Naming> ReadSeat<S, J> {
         ensures row { IfSome result (λ answer. answer.row ≡ row_of (left_by self.new) id) }
         ensures upto { IfSome result (λ answer. answer.upto ≡ commits_in self.new) }
         ensures history { IfSome result (λ answer. IsHistory self.new) }
-        ensures later { StartsWith self.new self.old }
+        ensures later { IsPrefix self.old self.new }
         ensures none { IfNone result (self.new ≡ self.old) }
     {
         let (row, by) = replace_with(&mut self.reader, id, |reader, id| enter(reader, id))?;
@@ -59,10 +60,11 @@ impl<S: RowStore + Drop, J: Naming> ReadSeat<S, J> {
         Some(Answer { row, upto })
     }
 
-    /// From now on no answer is below the notice. It takes no memory.
+    /// From now on no answer is below the notice: the seen list is the longer of the two. It takes no memory.
     pub fn learn(&mut self, notice: Notice<J>)
-        ensures kept { StartsWith self.new self.old }
-        ensures learnt { StartsWith self.new notice }
+        ensures one { (self.new ≡ self.old) ⊎ (self.new ≡ notice) }
+        ensures kept { IsPrefix self.old self.new }
+        ensures learnt { IsPrefix notice self.new }
     {
         if self.seen.begins(&notice) {
             self.seen = notice;

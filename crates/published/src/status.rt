@@ -1,7 +1,8 @@
 //! The status of a replica: three words, which are read and stored as one.
-ghost use Rattle.std.specs.Prelude.{◌≡◌, true, [], IfOk};
-ghost use Rattle.std.specs.Arc.{arc_value};
-ghost use Rattle.published.specs.Status.{InOrder, counts_of};
+ghost use Rattle.std.specs.Prelude.{◌≡◌, [], ◌∷◌, IfOk};
+ghost use mathlib.Core.List.{IsSuffix};
+ghost use Rattle.crossbeam_utils.specs.Seq.{cell_view};
+ghost use Rattle.published.specs.Status.{InOrder, NoneFalls, Finds, latest};
 
 use crate::counts::{Counts, Look};
 use atomic_table::Split;
@@ -30,7 +31,7 @@ impl Words<3> for Counts {
     }
 }
 
-/// The words are in order, and are those that the one who stores stored last.
+/// The words are in order and never fall, and are those that the one who stores stored last.
 struct Ordered;
 
 impl Protocol<Counts, Look> for Ordered {
@@ -70,7 +71,8 @@ impl Split<Look> for Watching {
 
 type Cell = RuledSeqCell<Counts, Look, Ordered, 3>;
 
-/// The right to store the words. Contracts see it as the counts that it stored last, all 0 at first.
+/// The right to store the words. Contracts see it as which words these are, and the counts that were stored, the
+/// last first.
 #[derive(Drop)]
 pub struct Status {
     cell: Arc<Cell>,
@@ -81,27 +83,40 @@ impl Model for Status {
     ghost use Rattle.std.specs.Prelude.{◌≡◌, true};
     ghost use Rattle.std.specs.Arc.{arc_value};
     ghost use Rattle.crossbeam_utils.specs.Seq.{cell_view};
-    ghost use Rattle.published.specs.declared.counts.Counts.{Counts};
+    ghost use Rattle.published.specs.Status.{Reported};
 
-    ghost Value = { Counts };
+    ghost Value = { Reported };
 
-    ghost view = { λ s. (cell_view s.pass).last };
+    ghost view = { λ s. record { cell = s.pass.table_id; stored = (cell_view s.pass).seen } };
 
     ghost invariant = { λ s. (s.pass.table_id ≡ (arc_value s.cell).table.shared.table_id) × ((cell_view s.pass).stores ≡ true) };
 }
 
-/// It reads the words.
+/// It reads the words. Contracts see it as which words these are, and the counts that were stored, the last first,
+/// up to those that it answered last; at first all that were stored by then.
 #[derive(Drop)]
 pub struct Watch {
     cell: Arc<Cell>,
     pass: Pass<Counts, Look>,
-    ghost of_cell: { pass.table_id ≡ (arc_value cell).table.shared.table_id },
+}
+
+impl Model for Watch {
+    ghost use Rattle.std.specs.Prelude.{◌≡◌};
+    ghost use Rattle.std.specs.Arc.{arc_value};
+    ghost use Rattle.crossbeam_utils.specs.Seq.{cell_view};
+    ghost use Rattle.published.specs.Status.{Reported};
+
+    ghost Value = { Reported };
+
+    ghost view = { λ w. record { cell = w.pass.table_id; stored = (cell_view w.pass).seen } };
+
+    ghost invariant = { λ w. w.pass.table_id ≡ (arc_value w.cell).table.shared.table_id };
 }
 
 impl Status {
     /// New words, all 0.
     pub fn new(alloc: Global) -> Result<Status, Memory>
-        ensures { IfOk result (λ status. status ≡ counts_of 0 0 0) }
+        ensures { IfOk result (λ status. status.stored ≡ []) }
     {
         let zero = Counts {
             received: 0,
@@ -115,26 +130,29 @@ impl Status {
         })
     }
 
-    /// Stores the three words as one. It waits for one who is storing them.
+    /// Stores the three words as one: nobody reads anything between these and those before. None of them falls.
+    /// It waits for one who is storing them.
     pub fn store<R: Wait>(&mut self, rt: &R, counts: Counts)
-        requires { InOrder counts }
-        ensures { self.new ≡ counts }
+        requires in_order { InOrder counts }
+        requires rises { NoneFalls (latest self.old.stored) counts }
+        ensures { self.new ≡ record self.old { stored = counts ∷ self.old.stored } }
     {
         self.cell.swap_as::<Stored, R>(rt, &mut self.pass, counts);
     }
 
     /// Reads the three words as one: those that were stored last. It waits only where they are stored meanwhile.
     pub fn load<R: Wait>(&mut self, rt: &R) -> Counts
-        ensures last { result ≡ self.old }
+        ensures last { result ≡ latest self.old.stored }
         ensures in_order { InOrder result }
         ensures same { self.new ≡ self.old }
     {
-        self.cell.load_as::<Found, R>(rt, &mut self.pass)
+        look(rt, &self.cell, &mut self.pass)
     }
 
-    /// One who reads the words, in any thread.
+    /// One who reads the words, in any thread. It has seen all that was stored.
     pub fn watch(&mut self) -> Result<Watch, Memory>
-        ensures { self.new ≡ self.old }
+        ensures watch { IfOk result (λ watch. watch ≡ self.old) }
+        ensures same { self.new ≡ self.old }
     {
         let cell = Arc::try_clone(&self.cell)?;
         let pass = cell.split_pass::<Watching>(&mut self.pass);
@@ -143,11 +161,24 @@ impl Status {
 }
 
 impl Watch {
-    /// Reads the three words as one. It waits only where they are stored meanwhile.
+    /// Reads the three words as one: those that were stored last, or later than all that it has seen. None of them
+    /// is below what it answered. It waits only where they are stored meanwhile.
     pub fn load<R: Wait>(&mut self, rt: &R) -> Counts
-        ensures { InOrder result }
+        ensures answer { result ≡ latest self.new.stored }
+        ensures in_order { InOrder result }
+        ensures rises { NoneFalls (latest self.old.stored) result }
+        ensures later { IsSuffix self.old.stored self.new.stored }
+        ensures cell { self.new.cell ≡ self.old.cell }
     {
-        let Watch { cell, pass } = self;
-        cell.load_as::<Found, R>(rt, pass)
+        look(rt, &self.cell, &mut self.pass)
     }
+}
+
+// The words, which the pass has then seen.
+fn look<R: Wait>(rt: &R, cell: &Cell, pass: &mut Pass<Counts, Look>) -> Counts
+    requires { pass.old.table_id ≡ cell.now.table.shared.table_id }
+    ensures cell { pass.new.table_id ≡ pass.old.table_id }
+    ensures finds { Finds (cell_view pass.old) result result (cell_view pass.new) }
+{
+    cell.load_as::<Found, R>(rt, pass)
 }

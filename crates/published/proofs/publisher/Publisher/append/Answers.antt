@@ -1,4 +1,4 @@
-use Rattle.std.proofs.Common.{◌≡◌, ◌+◌, ◌++◌, ◌∷◌, [], length, drop, ap, subst, sym, ◌∙◌, IfSome, IsSomeAnd}
+use Rattle.std.proofs.Common.{◌≡◌, ◌+◌, ◌++◌, ◌∷◌, [], length, drop, ap, subst, sym, ◌∙◌}
 use Rattle.store_trait.specs.declared.Op.TheVariants.{Commit}
 use Rattle.published.specs.History.{IsCommit, commits_in}
 use Rattle.published.specs.Copies.{puts_in}
@@ -16,10 +16,7 @@ invariant_of-self-2 g c =
     let number = subst (λ o. IsCommit o (commits_in published + length (puts_in steps) + 1)) c.in-Commit.is next in
     let same : Commit c.in-Commit.gno c.in_ok-batch.batch ≡ op = ap (Commit c.in-Commit.gno) c.in_ok-batch.ensures ∙ sym c.in-Commit.is in
     let longer = ap puts_in c.in_ok-add.ensures.ok ∙ puts_in-put steps (Commit c.in-Commit.gno c.in_ok-batch.batch) ∙ ap (λ o. puts_in steps ++ o ∷ []) same in
-    let whole : IfSome c.and.result (λ l. IsSomeAnd c.self.inside.all (λ ops. l ≡ ops ++ op ∷ [])) =
-    subst (λ a. IfSome c.and.result (λ l. IsSomeAnd a (λ ops. l ≡ ops ++ op ∷ []))) c.take.ensures.value c.and.ensures in
-    rw c.add.ensures.desk
-    (tied_put _ published (puts_in steps) _ c.self.inside.appended c.in-Commit.gno c.self.inside.all c.and.result op c.self.invariant next number longer whole)
+    rw c.add.ensures.desk (tied_put _ _ _ c.self.inside.appended c.in-Commit.gno op c.self.invariant next number longer)
 
 pub returns-clause-ok : goal.returns-clause-ok
 returns-clause-ok g c =
@@ -27,4 +24,8 @@ returns-clause-ok g c =
     let op = c.args.op.now in
     let same : Commit c.in-Commit.gno c.in_ok-batch.batch ≡ op = ap (Commit c.in-Commit.gno) c.in_ok-batch.ensures ∙ sym c.in-Commit.is in
     let longer = ap puts_in c.in_ok-add.ensures.ok ∙ puts_in-put steps (Commit c.in-Commit.gno c.in_ok-batch.batch) ∙ ap (λ o. puts_in steps ++ o ∷ []) same in
-    same_publishing _ _ (ap (λ d. d.shown.value.by) c.add.ensures.desk ∙ ap (λ (v : Publishing). v.published) c.self.view_is) (longer ∙ ap (λ (v : Publishing). v.waiting ++ op ∷ []) c.self.view_is)
+    let was : Publishing → Publishing = λ v. v in
+    same_publishing _ _
+    (ap (λ d. d.shown.value.by) c.add.ensures.desk ∙ ap (λ (v : Publishing). v.published) c.self.view_is)
+    (longer ∙ ap (λ (v : Publishing). v.waiting ++ op ∷ []) c.self.view_is)
+    (ap (λ (v : Publishing). v.history) c.self.view_is)

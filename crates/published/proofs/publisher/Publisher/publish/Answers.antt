@@ -1,24 +1,26 @@
-use Rattle.std.proofs.Common.{◌≡◌, drop, ap, sym, ◌∙◌, Some}
+use Rattle.std.proofs.Common.{◌≡◌, drop, ap, sym, ◌∙◌, ◌++◌, refl}
 use Rattle.std.proofs.lemmas.Result.{err_from_is_err_and}
 use Rattle.store_trait.specs.Operation.{left_by}
 use Rattle.published.specs.Held.{Held}
 use Rattle.published.specs.Copies.{puts_in}
 use Rattle.published.specs.Publication.{Publishing, IsTied}
-use Rattle.published.proofs.Steps.{settles, published_after, puts_in-mark, tied_shown, same_publishing, whole_of}
+use Rattle.published.proofs.Steps.{settles, published_after, puts_in-mark, tied_known, tied_shown, same_publishing, found}
 use Rattle.published.proofs.publisher.Publisher.publish.Goals as goal
 
 pub show-requires : goal.show-requires
 show-requires g c =
     let published = c.self.inside.writer.desk.shown.value.by in
     let steps = drop c.self.inside.writer.behind c.self.inside.writer.log.items in
-    let whole = c.again.ensures ∙ whole_of published (puts_in steps) _ c.self.inside.all c.in-Some.is c.self.invariant.whole in
+    let all = found _ _ _ c.extended.result c.self.view_is c.in-Some.is c.extended.ensures in
+    let whole : c.again.result ≡ published ++ puts_in steps = c.again.ensures ∙ all in
     rw c.add.ensures.desk (settles _ published c.again.result steps _ c.self.invariant.left whole c.in_ok-add.ensures.ok)
 
 pub invariant_of-self-in_err-show : goal.invariant_of-self-in_err-show
 invariant_of-self-in_err-show g c =
     let steps = drop c.self.inside.writer.behind c.self.inside.writer.log.items in
+    let all = found _ _ _ c.extended.result c.self.view_is c.in-Some.is c.extended.ensures in
     let waits = ap puts_in (c.in_err-show.ensures.err ∙ c.in_ok-add.ensures.ok) ∙ puts_in-mark steps c.again.result in
-    rw (c.in_err-show.ensures.same, c.add.ensures.desk, waits) c.self.invariant
+    rw (c.in_err-show.ensures.same, c.add.ensures.desk, waits) (tied_known _ _ c.in-Some.history c.self.inside.appended c.self.invariant all)
 
 pub returns-in_err-show-clause-err : goal.returns-in_err-show-clause-err
 returns-in_err-show-clause-err g c =
@@ -26,19 +28,22 @@ returns-in_err-show-clause-err g c =
     let steps = drop c.self.inside.writer.behind c.self.inside.writer.log.items in
     let waits = ap puts_in (c.in_err-show.ensures.err ∙ c.in_ok-add.ensures.ok) ∙ puts_in-mark steps c.again.result in
     let shown = ap (λ v. v.by) c.in_err-show.ensures.same ∙ ap (λ d. d.shown.value.by) c.add.ensures.desk in
-    rw p.1 (same_publishing _ _ (shown ∙ ap (λ (v : Publishing). v.published) c.self.view_is) (waits ∙ ap (λ (v : Publishing). v.waiting) c.self.view_is))
+    rw p.1 (same_publishing _ _ (shown ∙ ap (λ (v : Publishing). v.published) c.self.view_is) (waits ∙ ap (λ (v : Publishing). v.waiting) c.self.view_is) refl)
 
 pub invariant_of-self-2 : goal.invariant_of-self-2
 invariant_of-self-2 g c =
     let rows = g.S.RowStore.contents c.add.new.writer.desk.shown.value.store in
     let published = c.add.new.writer.desk.shown.value.by in
     let steps = drop c.self.inside.writer.behind c.self.inside.writer.log.items in
-    let all = c.again.result in
     let after = drop c.add.new.writer.behind c.add.new.writer.log.items in
-    let tied : IsTied rows published (puts_in steps) c.self.inside.appended c.self.inside.all = rw c.add.ensures.desk c.self.invariant in
-    let known : c.self.inside.all ≡ Some all = c.in-Some.is ∙ ap Some (sym c.again.ensures) in
+    let p : Publishing = record { published = published; waiting = puts_in steps; history = c.self.inside.history } in
+    let tied : IsTied rows p c.self.inside.appended = rw c.add.ensures.desk c.self.invariant in
+    let known = found _ _ _ c.extended.result c.self.view_is c.in-Some.is c.extended.ensures in
+    let all : c.in-Some.history ≡ published ++ puts_in steps = rw c.add.ensures.desk known in
+    let whole : c.again.result ≡ published ++ puts_in steps = c.again.ensures ∙ all in
     let done = c.in_ok-show.ensures.shown in
-    let settled = settles rows published all steps after tied.left (whole_of published (puts_in steps) all c.self.inside.all known tied.whole) c.in_ok-add.ensures.ok in
+    let settled = settles rows published c.again.result steps after tied.left whole c.in_ok-add.ensures.ok in
     let left = ap (λ (h : Held). h.rows) done ∙ settled ∙ ap (λ (h : Held). left_by h.by) (sym done) in
-    let by = ap (λ (h : Held). h.by) done ∙ published_after rows published all steps after c.in_ok-add.ensures.ok in
-    tied_shown rows _ published (puts_in steps) all _ _ c.self.inside.appended c.self.inside.all tied known left by (ap puts_in c.in_ok-show.ensures.ok)
+    let by = ap (λ (h : Held). h.by) done ∙ published_after rows published c.again.result steps after c.in_ok-add.ensures.ok ∙ c.again.ensures in
+    rw (ap puts_in c.in_ok-show.ensures.ok)
+    (tied_shown rows _ (record p { history = c.in-Some.history }) _ c.self.inside.appended (tied_known rows p c.in-Some.history c.self.inside.appended tied all) all left by)

@@ -1,0 +1,5 @@
+use Rattle.published.proofs.tests.refused.refused_publishing.Given as goal
+
+-- the publication that was just begun
+abbrev pub ghosts-grown : goal.ghosts-grown
+ghosts-grown g a = record { book = a.beginning.book }

@@ -1,0 +1,123 @@
+//! A publisher of commits that set one row to their own numbers. It ends itself, so that it may lie under a lock.
+ghost use Rattle.std.specs.Prelude.{◌≡◌, ◌≤◌};
+
+use super::{LAST, commit};
+use crate::{
+    Beginning, Common, Naming, Notice, OpenError, Publisher, ReadSeat, Step, Version, open,
+};
+use btree_store::BTreeStore;
+use left_right::Absorb;
+use schema::Memory;
+use std::alloc::Global;
+use std::marker::Model;
+use std::sync::Wait;
+
+/// The publisher, what it takes to end it, and the gno of the next commit.
+pub struct Desk<'r, J: Naming, R: Wait>
+where
+    Version<BTreeStore, J>: Absorb<Step<J>, State = Common>,
+{
+    rt: &'r R,
+    publisher: Publisher<BTreeStore, J>,
+    next: u64,
+}
+
+impl<'r, J: Naming, R: Wait> Model for Desk<'r, J, R>
+where
+    Version<BTreeStore, J>: Absorb<Step<J>, State = Common>,
+{
+    ghost use Rattle.std.specs.Prelude.{◌≡◌, ◌+◌, ◌^◌, ◌<◌, length};
+    ghost use Rattle.published.specs.History.{commits_in};
+    ghost use Rattle.published.specs.Publication.{Publishing};
+
+    ghost Value = { Publishing };
+
+    ghost view = { λ d. d.publisher };
+
+    ghost invariant = { λ d. (commits_in d.publisher.published + length d.publisher.waiting + 1 ≡ d.next) × (d.next < 2 ^ 63) };
+}
+
+impl<'r, J: Naming, R: Wait> Desk<'r, J, R> {
+    pub fn open(
+        rt: &'r R,
+        alloc: Global,
+        beginning: Beginning,
+        seats: usize,
+    ) -> Result<(Desk<'r, J, R>, Vec<ReadSeat<BTreeStore, J>>), OpenError>
+        requires book { beginning.book ≡ J.book }
+        requires seats { (1 ≤ seats) × (seats ≤ 32) }
+    {
+        let (publisher, seats) = open::<BTreeStore, J, R>(
+            rt,
+            alloc,
+            beginning,
+            BTreeStore::new(alloc),
+            BTreeStore::new(alloc),
+            seats,
+        )?;
+        Ok((
+            Desk {
+                rt,
+                publisher,
+                next: 1,
+            },
+            seats,
+        ))
+    }
+
+    /// The gno of the next commit.
+    pub fn next(&self) -> u64 {
+        self.next
+    }
+
+    /// How many commits are published.
+    pub fn shown(&self) -> u64 {
+        self.tell().upto()
+    }
+
+    /// Appends the next commit.
+    pub fn append(&mut self, alloc: Global) -> Result<(), Memory> {
+        if self.next > LAST {
+            return Err(Memory);
+        }
+        self.publisher.append(&commit(alloc, self.next)?)?;
+        self.next += 1;
+        Ok(())
+    }
+
+    /// Appends the commits up to this one.
+    pub fn append_upto(&mut self, alloc: Global, last: u64) -> Result<(), Memory> {
+        for _ in self.next..last.saturating_add(1) {
+            self.append(alloc)?;
+        }
+        Ok(())
+    }
+
+    pub fn publish(&mut self) -> Result<u64, Memory> {
+        self.publisher.publish(self.rt)
+    }
+
+    /// Appends the next commit, and publishes all that waits.
+    pub fn publish_next(&mut self, alloc: Global) -> Result<u64, Memory> {
+        self.append(alloc)?;
+        self.publish()
+    }
+
+    pub fn tell(&self) -> Notice<J> {
+        self.publisher.tell()
+    }
+}
+
+impl<'r, J: Naming, R: Wait> Drop for Desk<'r, J, R>
+where
+    Version<BTreeStore, J>: Absorb<Step<J>, State = Common>,
+{
+    fn drop(self) {
+        let Desk {
+            rt,
+            publisher,
+            next: _,
+        } = self;
+        drop(publisher.close(rt));
+    }
+}
