@@ -1,5 +1,5 @@
 -- What is answered where a job was executed.
-use Rattle.std.proofs.Common.{◌≡◌, ◌∙◌, sym, ap, refl, ℕ, ℤ, ◌+◌, get_or, List, [], ◌∷◌, map, take, Option, Some, None, is_some, Ok, Err, if◌then◌else◌}
+use Rattle.std.proofs.Common.{◌≡◌, ◌∙◌, sym, ap, refl, ℕ, ℤ, ◌+◌, ◌-◌, arith, slice_get, get_or, List, [], ◌∷◌, map, take, Option, Some, None, is_some, Ok, Err, if◌then◌else◌}
 use Rattle.std.specs.Option.{option_and_then, option_map, option_map_or, option_or}
 use Rattle.std.specs.FinMap.{empty, entries, from_entries, entries-insert, len-empty, len-entries, get, put}
 use Rattle.std.proofs.lemmas.Option.{none-some, same_Some}
@@ -16,11 +16,10 @@ use Rattle.overlay.specs.Pending as overlay
 use Rattle.replica_core.specs.declared.ReplicaFault.{ReplicaFault}
 use Rattle.replica_core.specs.declared.ReplicaFault.TheVariants.{Stopped}
 use Rattle.replica_core.specs.declared.Job.{Job}
-use Rattle.replica_core.specs.declared.Job.TheVariants.{Given}
-use Rattle.replica_core.specs.Calls.{finish_answer}
-use Rattle.replica_core.specs.Core.{IsKept, job_fault, seen_as}
-use Rattle.replica_core.proofs.Commits.{after-next}
-use Rattle.replica_core.proofs.Kept.{next_given}
+use Rattle.replica_core.specs.declared.Job.TheVariants.{Dispatched}
+use Rattle.replica_core.specs.Calls.{finish_answer, job_fault}
+use Rattle.replica_core.specs.Core.{IsKept, dispatched_with, finished_with, seen_as}
+use Rattle.replica_core.proofs.Kept.{next_dispatched}
 
 -- ---- the batch of an overlay
 
@@ -49,12 +48,14 @@ is_some-option_map f None = refl
 is_some-option_map f (Some x) = refl
 
 -- the job of this number is finished where its changes left something
-pub finished : (ts : List Table) (base : List Entry) (accepted : List Record) (committed published gno : ℕ) (job : Job) (stopped : Option ℕ) (rows : Database) (pending : List Op) (next : Record) (changes : List Change) (left : Option (List Entry)) → IsKept ts (put_batch base empty) accepted committed published job rows pending → job ≡ Given → next ≡ get_or accepted committed next → stopped ≡ None → job_fault job committed gno ≡ None → gno ≡ committed + 1 → changes ≡ next.changes → left ≡ option_map (λ leaves. rows_in (writes changes) leaves) (effect ts changes rows) → (answer : Option (List Entry)) → left ≡ answer → finish_answer (seen_as ts base accepted committed published job stopped) gno ≡ (if is_some answer then Ok tt else Err (Stopped gno))
-finished ts base accepted committed published gno job stopped rows pending next changes left h is_given got running given number same made answer is =
-    let here : after ts (put_batch base empty) (take gno accepted) ≡ effect ts next.changes rows =
-    ap (λ n. after ts (put_batch base empty) (take n accepted)) number
-    ∙ after-next ts (put_batch base empty) accepted committed next (next_given ts (put_batch base empty) accepted committed published rows pending job next h is_given got)
+pub finished : (ts : List Table) (base : List Entry) (accepted : List Record) (committed published gno : ℕ) (job : Job) (stopped : Option ℕ) (rows : Database) (waiting : List Op) (next : Record) (changes : List Change) (left : Option (List Entry)) → IsKept ts (put_batch base empty) accepted committed published job rows waiting → job ≡ Dispatched → next ≡ get_or accepted committed next → stopped ≡ None → job_fault (dispatched_with committed job) committed (finished_with committed job) gno ≡ None → gno ≡ committed + 1 → changes ≡ next.changes → left ≡ option_map (λ leaves. rows_in (writes changes) leaves) (effect ts changes rows) → (answer : Option (List Entry)) → left ≡ answer → finish_answer (seen_as ts base accepted committed published job stopped) gno ≡ (if is_some answer then Ok tt else Err (Stopped gno))
+finished ts base accepted committed published gno job stopped rows waiting next changes left h is_dispatched got running allowed number same made answer is =
+    let before : gno - 1 ≡ committed = omega arith in
+    let run : Option Record → Option Database = option_and_then (λ r. option_and_then (effect ts r.changes) (after ts (put_batch base empty) (take committed accepted))) in
+    let here : run (slice_get accepted (gno - 1)) ≡ effect ts next.changes rows =
+    ap (λ n. run (slice_get accepted n)) before
+    ∙ ap run (next_dispatched ts (put_batch base empty) accepted committed published rows waiting job next h is_dispatched got)
     ∙ ap (option_and_then (effect ts next.changes)) h.rows_are in
-    let some : is_some (after ts (put_batch base empty) (take gno accepted)) ≡ is_some answer =
+    let some : is_some (run (slice_get accepted (gno - 1))) ≡ is_some answer =
     ap is_some (here ∙ ap (λ c. effect ts c rows) (sym same)) ∙ sym (is_some-option_map _ (effect ts changes rows)) ∙ ap is_some (sym made ∙ is)
-    in λ i. option_map_or (λ f. Err f) (option_or (option_map_or (λ g. Some (Stopped g)) (running i) None) (given i)) (if some i then Ok tt else Err (Stopped gno))
+    in λ i. option_map_or (λ f. Err f) (option_or (option_map_or (λ g. Some (Stopped g)) (running i) None) (allowed i)) (if some i then Ok tt else Err (Stopped gno))

@@ -13,7 +13,7 @@ use Rattle.store_trait.specs.declared.Op.TheVariants.{Commit}
 use Rattle.record_codec.specs.declared.records.Record.{Record}
 use Rattle.record_codec.specs.Log.{after}
 use Rattle.replica_core.specs.declared.Job.{Job}
-use Rattle.replica_core.specs.declared.Job.TheVariants.{Idle, Given, Done}
+use Rattle.replica_core.specs.declared.Job.TheVariants.{Idle, Dispatched, Done}
 use Rattle.replica_core.specs.Replica.{commits_from}
 use Rattle.record_codec.specs.Group.{AreNumbered}
 use Rattle.replica_core.specs.Core.{IsJob, IsKept, CommitsJob}
@@ -34,7 +34,7 @@ slice_get-push (z ∷ xs) y (suc n) x is = slice_get-push xs y n x is
 
 job-push : (ts : List Table) (rows : Database) (accepted : List Record) (committed : ℕ) (job : Job) (new : Record) → IsJob ts rows accepted committed job → IsJob ts rows (accepted ++ new ∷ []) committed job
 job-push ts rows accepted committed Idle new h = rw length_push (omega arith)
-job-push ts rows accepted committed Given new h = rw length_push (omega arith)
+job-push ts rows accepted committed Dispatched new h = rw length_push (omega arith)
 job-push ts rows accepted committed (Done batch) new h = record {
   next = h.next;
   is_next = slice_get-push accepted new committed h.next h.is_next;
@@ -46,15 +46,15 @@ job-push ts rows accepted committed (Done batch) new h = record {
 -- what is committed was accepted
 pub committed_within : (ts : List Table) (rows : Database) (accepted : List Record) (committed : ℕ) (job : Job) → IsJob ts rows accepted committed job → committed ≤ length accepted
 committed_within ts rows accepted committed Idle h = h
-committed_within ts rows accepted committed Given h = omega arith
+committed_within ts rows accepted committed Dispatched h = omega arith
 committed_within ts rows accepted committed (Done batch) h = omega (arith, slice_get_within accepted committed h.next h.is_next)
 
 option_map_some : {A B : Type 0} (f : A → B) (o : Option A) (y : B) → option_map f o ≡ Some y → (x : A) × (o ≡ Some x) × (f x ≡ y)
 option_map_some f None y is = absurd (none-some y is)
 option_map_some f (Some x) y is = (x, refl, same_Some (f x) y is)
 
-module _ (ts : List Table) (base : Database) (accepted : List Record) (committed published : ℕ) (rows : Database) (pending : List Op) where
-  pub kept-push : (job : Job) (new : Record) → IsKept ts base accepted committed published job rows pending → new.gno ≡ length accepted + 1 → IsKept ts base (accepted ++ new ∷ []) committed published job rows pending
+module _ (ts : List Table) (base : Database) (accepted : List Record) (committed published : ℕ) (rows : Database) (waiting : List Op) where
+  pub kept-push : (job : Job) (new : Record) → IsKept ts base accepted committed published job rows waiting → new.gno ≡ length accepted + 1 → IsKept ts base (accepted ++ new ∷ []) committed published job rows waiting
   kept-push job new h is =
       let within : committed ≤ length accepted = committed_within ts rows accepted committed job h.job_is in
       let same : take committed (accepted ++ new ∷ []) ≡ take committed accepted = take-append-le committed accepted (new ∷ []) within in
@@ -64,19 +64,19 @@ module _ (ts : List Table) (base : Database) (accepted : List Record) (committed
         rows_are = ap (after ts base) same ∙ h.rows_are;
         job_is = job-push ts rows accepted committed job new h.job_is;
         earlier = h.earlier;
-        pending_are = h.pending_are ∙ ap (λ l. drop published (commits_from ts base 1 l)) (sym same);
+        waiting_are = h.waiting_are ∙ ap (λ l. drop published (commits_from ts base 1 l)) (sym same);
       }
 
   -- ---- publishing
 
-  pub length-pending : (job : Job) → IsKept ts base accepted committed published job rows pending → length pending ≡ committed - published
-  length-pending job h =
+  pub length-waiting : (job : Job) → IsKept ts base accepted committed published job rows waiting → length waiting ≡ committed - published
+  length-waiting job h =
       let all = length-committed ts base accepted committed rows (committed_within ts rows accepted committed job h.job_is) h.rows_are in
-      ap length h.pending_are ∙ length-drop published (commits_from ts base 1 (take committed accepted)) ∙ ap (λ n. n - published) all
+      ap length h.waiting_are ∙ length-drop published (commits_from ts base 1 (take committed accepted)) ∙ ap (λ n. n - published) all
 
   -- ---- the next commit
 
-  kept-commit : (batch : List Entry) → IsKept ts base accepted committed published (Done batch) rows pending → IsKept ts base accepted (committed + 1) published Idle (put_batch batch rows) (pending ++ Commit (committed + 1) batch ∷ [])
+  kept-commit : (batch : List Entry) → IsKept ts base accepted committed published (Done batch) rows waiting → IsKept ts base accepted (committed + 1) published Idle (put_batch batch rows) (waiting ++ Commit (committed + 1) batch ∷ [])
   kept-commit batch h =
       let job = h.job_is in
       let within : committed < length accepted = slice_get_within accepted committed job.next job.is_next in
@@ -88,36 +88,36 @@ module _ (ts : List Table) (base : Database) (accepted : List Record) (committed
             ∙ ap (option_and_then (effect ts job.next.changes)) h.rows_are ∙ job.applies ∙ ap Some (sym put);
         job_is = omega arith;
         earlier = (let e = h.earlier in omega arith);
-        pending_are =
-            (λ i. h.pending_are i ++ Commit (committed + 1) (job.batch_is i) ∷ [])
+        waiting_are =
+            (λ i. h.waiting_are i ++ Commit (committed + 1) (job.batch_is i) ∷ [])
             ∙ waiting-next ts base accepted committed published job.next rows job.leaves job.is_next h.rows_are job.applies h.earlier;
       }
 
-  pub kept-commits : (job : Job) (done : Bool) (job' : Job) (rows' : Database) (pending' : List Op) → IsKept ts base accepted committed published job rows pending → done ≡ true → CommitsJob (committed + 1) job rows pending (Ok done) job' rows' pending' → IsKept ts base accepted (committed + 1) published job' rows' pending'
-  kept-commits Idle done job' rows' pending' h is put = absurd (true≢false (sym is ∙ put.0))
-  kept-commits Given done job' rows' pending' h is put = absurd (true≢false (sym is ∙ put.0))
-  kept-commits (Done batch) done job' rows' pending' h is put = rw (put.1, put.2, put.3) (kept-commit batch h)
+  pub kept-commits : (job : Job) (done : Bool) (job' : Job) (rows' : Database) (waiting' : List Op) → IsKept ts base accepted committed published job rows waiting → done ≡ true → CommitsJob (committed + 1) job rows waiting (Ok done) job' rows' waiting' → IsKept ts base accepted (committed + 1) published job' rows' waiting'
+  kept-commits Idle done job' rows' waiting' h is put = absurd (true≢false (sym is ∙ put.0))
+  kept-commits Dispatched done job' rows' waiting' h is put = absurd (true≢false (sym is ∙ put.0))
+  kept-commits (Done batch) done job' rows' waiting' h is put = rw (put.1, put.2, put.3) (kept-commit batch h)
 
   -- ---- what was executed
 
-  pub next_given : (job : Job) (next : Record) → IsKept ts base accepted committed published job rows pending → job ≡ Given → next ≡ get_or accepted committed next → slice_get accepted committed ≡ Some next
-  next_given job next h given got =
-      let within : committed < length accepted = subst (IsJob ts rows accepted committed) given h.job_is in
+  pub next_dispatched : (job : Job) (next : Record) → IsKept ts base accepted committed published job rows waiting → job ≡ Dispatched → next ≡ get_or accepted committed next → slice_get accepted committed ≡ Some next
+  next_dispatched job next h dispatched got =
+      let within : committed < length accepted = subst (IsJob ts rows accepted committed) dispatched h.job_is in
       slice_get_read accepted (length accepted) committed next refl within got
 
-  pub kept-done : (job : Job) (next : Record) (changes : List Change) (left : Option (List Entry)) (batch : List Entry) → IsKept ts base accepted committed published job rows pending → job ≡ Given → next ≡ get_or accepted committed next → changes ≡ next.changes → left ≡ option_map (λ leaves. rows_in (writes changes) leaves) (effect ts changes rows) → left ≡ Some batch → IsKept ts base accepted committed published (Done batch) rows pending
-  kept-done job next changes left batch h given got same made_is some =
+  pub kept-done : (job : Job) (next : Record) (changes : List Change) (left : Option (List Entry)) (batch : List Entry) → IsKept ts base accepted committed published job rows waiting → job ≡ Dispatched → next ≡ get_or accepted committed next → changes ≡ next.changes → left ≡ option_map (λ leaves. rows_in (writes changes) leaves) (effect ts changes rows) → left ≡ Some batch → IsKept ts base accepted committed published (Done batch) rows waiting
+  kept-done job next changes left batch h dispatched got same made_is some =
       let made = option_map_some (λ leaves. rows_in (writes changes) leaves) (effect ts changes rows) batch (sym made_is ∙ some) in
       record {
         numbered = h.numbered;
         rows_are = h.rows_are;
         job_is = record {
           next = next;
-          is_next = next_given job next h given got;
+          is_next = next_dispatched job next h dispatched got;
           leaves = made.0;
           applies = ap (λ c. effect ts c rows) (sym same) ∙ made.1;
           batch_is = sym made.2 ∙ ap (λ c. rows_in (writes c) made.0) same;
         };
         earlier = h.earlier;
-        pending_are = h.pending_are;
+        waiting_are = h.waiting_are;
       }

@@ -1,17 +1,16 @@
 -- What each call of a replica answers, and what it leaves.
-use Rattle.std.specs.Prelude.{ℕ, ◌+◌, Bool, false, not, ◌&&◌, ◌||◌, ◌==◌, nat_lt, nat_le, if◌then◌else◌, List, [], ◌∷◌, ◌++◌, length, filter, slice_get, take, Option, Some, None, is_some, Result, Ok, Err}
-use Rattle.std.specs.Option.{option_map_or, option_or}
+use Rattle.std.specs.Prelude.{ℕ, ◌+◌, ◌-◌, Bool, false, not, ◌&&◌, ◌||◌, ◌==◌, nat_lt, nat_le, if◌then◌else◌, List, [], ◌∷◌, ◌++◌, length, filter, slice_get, Option, Some, None, is_some, Result, Ok, Err}
+use Rattle.std.specs.Option.{option_and_then, option_map_or, option_or}
 use Rattle.std.specs.List.{list_any}
 use Rattle.schema.specs.declared.Table.{Table}
+use Rattle.rows.specs.Database.{effect}
 use Rattle.store_trait.specs.Batch.{Entry}
 use Rattle.record_codec.specs.declared.records.Record.{Record}
-use Rattle.record_codec.specs.Log.{after}
 use Rattle.replica_core.specs.declared.ReplicaFault.{ReplicaFault}
 use Rattle.replica_core.specs.declared.ReplicaFault.TheVariants.{Gap, Malformed, Stopped, Stranger, Double, Memory}
 use Rattle.replica_core.specs.declared.Received.{Received}
 use Rattle.replica_core.specs.declared.Received.TheVariants.{Accepted, Skipped}
-use Rattle.replica_core.specs.Replica.{Replica}
-use Rattle.store_trait.specs.Operation.{loaded}
+use Rattle.replica_core.specs.Replica.{Replica, working_rows}
 
 -- new: nothing is accepted yet
 
@@ -67,21 +66,30 @@ next_job r = if is_eligible r then Some (r.dispatched + 1) else None
 abbrev pub dispatched_next : Replica → Replica
 dispatched_next r = record r { dispatched = r.dispatched + 1 }
 
--- finish: the result of a job that was given and not finished
+-- finish: the result of a record that was dispatched, and whose job was not finished
+
+-- among the first so many, which are committed, or among those whose results were taken
+abbrev pub is_finished : ℕ → List ℕ → ℕ → Bool
+is_finished committed finished gno = nat_le gno committed || list_any (λ n. n == gno) finished
 
 abbrev pub was_finished : Replica → ℕ → Bool
-was_finished r gno = nat_le gno r.committed || list_any (λ n. n == gno) r.finished
+was_finished r gno = is_finished r.committed r.finished gno
+
+-- where so many are dispatched, and so many of these committed
+abbrev pub job_fault : ℕ → ℕ → List ℕ → ℕ → Option ReplicaFault
+job_fault dispatched committed finished gno =
+    if not (nat_le 1 gno && nat_le gno dispatched) then Some Stranger
+    else if is_finished committed finished gno then Some Double
+    else None
 
 abbrev pub finish_fault : Replica → ℕ → Option ReplicaFault
-finish_fault r gno =
-    option_or (stop_fault r)
-    (if not (nat_le 1 gno && nat_le gno r.dispatched) then Some Stranger
-    else if was_finished r gno then Some Double
-    else None)
+finish_fault r gno = option_or (stop_fault r) (job_fault r.dispatched r.committed r.finished gno)
 
--- the changes of the record of this number apply, in order, where its turn is
+-- the changes of the accepted record of this number, counted from 1, apply to the working rows, over which its job was
+-- dispatched. Nothing else is asked of the records before it
 abbrev pub applies : Replica → ℕ → Bool
-applies r gno = is_some (after r.tables (loaded r.base) (take gno r.accepted))
+applies r gno =
+    is_some (option_and_then (λ next. option_and_then (effect r.tables next.changes) (working_rows r)) (slice_get r.accepted (gno - 1)))
 
 abbrev pub with_finished : Replica → ℕ → Replica
 with_finished r gno = record r { finished = r.finished ++ gno ∷ [] }

@@ -1,6 +1,5 @@
 -- What the parts of a replica with one worker keep: at most one record is between dispatch and commit.
-use Rattle.std.specs.Prelude.{◌≡◌, ℕ, ◌+◌, ◌<◌, ◌≤◌, Bool, true, false, not, ◌&&◌, ◌||◌, ◌==◌, nat_le, if◌then◌else◌, List, [], ◌∷◌, ◌++◌, length, take, drop, slice_get, Option, Some, None, Result, Ok, Err}
-use Rattle.std.specs.List.{list_any}
+use Rattle.std.specs.Prelude.{◌≡◌, ℕ, ◌+◌, ◌<◌, ◌≤◌, Bool, true, false, List, [], ◌∷◌, ◌++◌, length, take, drop, slice_get, Option, Some, Result, Ok, Err}
 use Rattle.schema.specs.declared.Memory.{Memory}
 use Rattle.schema.specs.declared.Table.{Table}
 use Rattle.rows.specs.Database.{Database, effect, writes}
@@ -9,28 +8,26 @@ use Rattle.store_trait.specs.declared.Op.{Op}
 use Rattle.store_trait.specs.declared.Op.TheVariants.{Commit}
 use Rattle.record_codec.specs.declared.records.Record.{Record}
 use Rattle.record_codec.specs.Log.{after}
-use Rattle.replica_core.specs.declared.ReplicaFault.{ReplicaFault}
-use Rattle.replica_core.specs.declared.ReplicaFault.TheVariants.{Stranger, Double}
 use Rattle.replica_core.specs.declared.Job.{Job}
-use Rattle.replica_core.specs.declared.Job.TheVariants.{Idle, Given, Done}
-use Rattle.replica_core.specs.Replica.{Replica, commits_from}
+use Rattle.replica_core.specs.declared.Job.TheVariants.{Idle, Dispatched, Done}
+use Rattle.replica_core.specs.Replica.{Replica, commits}
 use Rattle.record_codec.specs.Group.{AreNumbered}
 
 -- how many records are dispatched, where so many are committed
 abbrev pub dispatched_with : ℕ → Job → ℕ
 dispatched_with committed Idle = committed
-dispatched_with committed Given = committed + 1
+dispatched_with committed Dispatched = committed + 1
 dispatched_with committed (Done batch) = committed + 1
 
 abbrev pub is_idle : Job → Bool
 is_idle Idle = true
-is_idle Given = false
+is_idle Dispatched = false
 is_idle (Done batch) = false
 
 -- the numbers of those whose results were taken
 abbrev pub finished_with : ℕ → Job → List ℕ
 finished_with committed Idle = []
-finished_with committed Given = []
+finished_with committed Dispatched = []
 finished_with committed (Done batch) = (committed + 1) ∷ []
 
 -- a replica of these parts
@@ -47,13 +44,6 @@ seen_as ts base accepted committed published job stopped = record {
   stopped = stopped;
 }
 
--- a number whose job was not given, or was finished before
-abbrev pub job_fault : Job → ℕ → ℕ → Option ReplicaFault
-job_fault job committed gno =
-    if not (nat_le 1 gno && nat_le gno (dispatched_with committed job)) then Some Stranger
-    else if nat_le gno committed || list_any (λ n. n == gno) (finished_with committed job) then Some Double
-    else None
-
 -- the changes of the next record apply to the rows, and leave this batch of the rows that they write
 pub record IsDone (ts : List Table) (rows : Database) (accepted : List Record) (committed : ℕ) (batch : List Entry) : Type 0 where
   pub next : Record
@@ -65,23 +55,23 @@ pub record IsDone (ts : List Table) (rows : Database) (accepted : List Record) (
 -- a record that is dispatched was accepted, and what was executed are its changes
 abbrev pub IsJob : List Table → Database → List Record → ℕ → Job → Type 0
 IsJob ts rows accepted committed Idle = committed ≤ length accepted
-IsJob ts rows accepted committed Given = committed < length accepted
+IsJob ts rows accepted committed Dispatched = committed < length accepted
 IsJob ts rows accepted committed (Done batch) = IsDone ts rows accepted committed batch
 
 -- where the job was done its batch was put, and kept as the commit of this number. Else nothing changes
 abbrev pub CommitsJob : ℕ → Job → Database → List Op → Result Bool Memory → Job → Database → List Op → Type 0
-CommitsJob gno (Done batch) rows pending (Ok done) job left kept =
-    (done ≡ true) × (job ≡ Idle) × (left ≡ put_batch batch rows) × (kept ≡ pending ++ Commit gno batch ∷ [])
-CommitsJob gno (Done batch) rows pending (Err memory) job left kept = (job ≡ Done batch) × (left ≡ rows) × (kept ≡ pending)
-CommitsJob gno Idle rows pending (Ok done) job left kept = (done ≡ false) × (job ≡ Idle) × (left ≡ rows) × (kept ≡ pending)
-CommitsJob gno Given rows pending (Ok done) job left kept = (done ≡ false) × (job ≡ Given) × (left ≡ rows) × (kept ≡ pending)
-CommitsJob gno Idle rows pending (Err memory) job left kept = ⊥
-CommitsJob gno Given rows pending (Err memory) job left kept = ⊥
+CommitsJob gno (Done batch) rows waiting (Ok done) job left kept =
+    (done ≡ true) × (job ≡ Idle) × (left ≡ put_batch batch rows) × (kept ≡ waiting ++ Commit gno batch ∷ [])
+CommitsJob gno (Done batch) rows waiting (Err memory) job left kept = (job ≡ Done batch) × (left ≡ rows) × (kept ≡ waiting)
+CommitsJob gno Idle rows waiting (Ok done) job left kept = (done ≡ false) × (job ≡ Idle) × (left ≡ rows) × (kept ≡ waiting)
+CommitsJob gno Dispatched rows waiting (Ok done) job left kept = (done ≡ false) × (job ≡ Dispatched) × (left ≡ rows) × (kept ≡ waiting)
+CommitsJob gno Idle rows waiting (Err memory) job left kept = ⊥
+CommitsJob gno Dispatched rows waiting (Err memory) job left kept = ⊥
 
 -- the rows are those after the committed records, and the operations are the commits that are not published
-pub record IsKept (ts : List Table) (base : Database) (accepted : List Record) (committed published : ℕ) (job : Job) (rows : Database) (pending : List Op) : Type 0 where
+pub record IsKept (ts : List Table) (base : Database) (accepted : List Record) (committed published : ℕ) (job : Job) (rows : Database) (waiting : List Op) : Type 0 where
   pub numbered : AreNumbered 1 accepted
   pub rows_are : after ts base (take committed accepted) ≡ Some rows
   pub job_is : IsJob ts rows accepted committed job
   pub earlier : published ≤ committed
-  pub pending_are : pending ≡ drop published (commits_from ts base 1 (take committed accepted))
+  pub waiting_are : waiting ≡ drop published (commits ts base accepted committed)

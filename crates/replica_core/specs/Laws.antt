@@ -1,10 +1,9 @@
 -- What follows from the definitions of the commits and the operations.
 use Rattle.std.specs.Prelude.{◌≡◌, ℕ, ◌+◌, List, [], ◌∷◌, ◌++◌, length, take, Some}
-use Rattle.std.specs.FinMap.{empty}
 use Rattle.schema.specs.declared.Table.{Table}
 use Rattle.rows.specs.Database.{Database, effect, writes}
-use Rattle.store_trait.specs.Batch.{Entry, put_batch, rows_in}
-use Rattle.store_trait.specs.Operation.{left_by}
+use Rattle.store_trait.specs.Batch.{Entry, rows_in}
+use Rattle.store_trait.specs.Operation.{left_by, loaded}
 use Rattle.store_trait.specs.declared.Op.TheVariants.{Commit}
 use Rattle.record_codec.specs.declared.records.Record.{Record}
 use Rattle.record_codec.specs.Log.{after}
@@ -29,4 +28,4 @@ FirstCommits = (ts : List Table) (db : Database) (gno n : ℕ) (records : List R
 -- the operations of records that apply, put in order into an empty store, leave what the records leave of the base
 abbrev pub OperationsLeaveRows : Type 0
 OperationsLeaveRows = (ts : List Table) (base : List Entry) (accepted : List Record) (n : ℕ) (left : Database) →
-    after ts (put_batch base empty) (take n accepted) ≡ Some left → left_by (operations ts base accepted n) ≡ left
+    after ts (loaded base) (take n accepted) ≡ Some left → left_by (operations ts base accepted n) ≡ left

@@ -1,7 +1,6 @@
 -- What holds of every replica.
-use Rattle.std.specs.Prelude.{◌≡◌, ℕ, ◌+◌, ◌<◌, ◌≤◌, List, [], ◌∷◌, length}
+use Rattle.std.specs.Prelude.{◌+◌, ◌<◌, ◌≤◌, length}
 use Rattle.std.specs.List.{AllByRecursion}
-use Rattle.record_codec.specs.declared.records.Record.{Record}
 use Rattle.record_codec.specs.Group.{AreNumbered}
 use Rattle.replica_core.specs.Replica.{Replica}
 

@@ -1,10 +1,9 @@
 -- What a replica is seen as.
 use Rattle.std.specs.Prelude.{ℕ, ◌+◌, List, [], ◌∷◌, take, drop, Option}
 use Rattle.std.specs.Option.{option_map_or}
-use Rattle.std.specs.FinMap.{empty}
 use Rattle.schema.specs.declared.Table.{Table}
 use Rattle.rows.specs.Database.{Database, effect, writes}
-use Rattle.store_trait.specs.Batch.{Entry, put_batch, rows_in}
+use Rattle.store_trait.specs.Batch.{Entry, rows_in}
 use Rattle.store_trait.specs.declared.Op.{Op}
 use Rattle.store_trait.specs.declared.Op.TheVariants.{Load, Commit}
 use Rattle.record_codec.specs.declared.records.Record.{Record}
@@ -39,10 +38,14 @@ commits_from ts db gno [] = []
 commits_from ts db gno (next ∷ records) =
     option_map_or (λ leaves. Commit gno (rows_in (writes next.changes) leaves) ∷ commits_from ts leaves (gno + 1) records) (effect ts next.changes db) []
 
+-- the commits of the first n of the records of a log
+abbrev pub commits : List Table → Database → List Record → ℕ → List Op
+commits ts db log n = commits_from ts db 1 (take n log)
+
 -- the operations of the first n accepted records: the load of the base, and each commit
 abbrev pub operations : List Table → List Entry → List Record → ℕ → List Op
-operations ts base accepted n = Load base ∷ commits_from ts (put_batch base empty) 1 (take n accepted)
+operations ts base accepted n = Load base ∷ commits ts (loaded base) accepted n
 
 -- the commits that are not published
 abbrev pub waiting : Replica → List Op
-waiting r = drop r.published (commits_from r.tables (loaded r.base) 1 (take r.committed r.accepted))
+waiting r = drop r.published (commits r.tables (loaded r.base) r.accepted r.committed)

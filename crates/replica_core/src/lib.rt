@@ -3,7 +3,7 @@
 //!
 //! A `ReplicaCore` is a plain machine that is stepped by calls; it has no handle and no thread. Contracts see it
 //! as the record `Replica` of `specs/Replica.antt`. It keeps true that its store contains the database after the
-//! committed records, and that its pending operations are their commits past the published ones. What each call
+//! committed records, and that its waiting operations are their commits past the published ones. What each call
 //! answers and leaves is defined in `specs/Calls.antt`. Nothing that is received is trusted: a record is known
 //! to apply once it was executed. It stands on `overlay` for executing, on `store_trait` for the rows, and on
 //! `record_codec` for records.
@@ -50,10 +50,10 @@ pub enum ReplicaFault {
     /// The record of this number could not be applied. Every call answers so from then on.
     #[error("P5 Stopped {0}")]
     Stopped(u64),
-    /// The job of this number was never given.
+    /// The record of this number was never dispatched.
     #[error("P6 Stranger")]
     Stranger,
-    /// The job of this number was finished before.
+    /// The job of this record was finished before.
     #[error("P7 Double")]
     Double,
     /// Memory ran out.
@@ -89,7 +89,7 @@ enum Job {
     /// It is not dispatched.
     Idle,
     /// It is dispatched.
-    Given,
+    Dispatched,
     /// It was executed, and this is what it leaves of the rows that it writes.
     Done(Batch),
 }
@@ -104,7 +104,7 @@ pub struct ReplicaCore<S: RowStore> {
     committed: u64,
     published: u64,
     job: Job,
-    pending: Vec<Op>,
+    waiting: Vec<Op>,
     stopped: Option<u64>,
 }
 
@@ -121,7 +121,7 @@ impl<S: RowStore> Model for ReplicaCore<S> {
 
     ghost invariant = { λ c.
         IsKept c.schema (put_batch c.base empty) c.accepted.items c.committed c.published c.job
-        (S.contents c.store) c.pending.items };
+        (S.contents c.store) c.waiting.items };
 }
 
 impl<S: RowStore> ReplicaCore<S> {
@@ -143,7 +143,7 @@ impl<S: RowStore> ReplicaCore<S> {
             committed: 0,
             published: 0,
             job: Job::Idle,
-            pending: Vec::new(alloc),
+            waiting: Vec::new(alloc),
             stopped: None,
         })
     }
@@ -175,7 +175,7 @@ impl<S: RowStore> ReplicaCore<S> {
         Ok(Received::Accepted)
     }
 
-    /// Gives the next job in log order, and answers its number, once its parent is committed (as MySQL's
+    /// Dispatches the next record in log order, and answers its number, once its parent is committed (as MySQL's
     /// `LOGICAL_CLOCK` has it) and the worker is free. It takes no memory, and constant time.
     pub fn dispatch(&mut self) -> Result<Option<u64>, ReplicaFault>
         ensures answer { result ≡ unless_stopped self.old (next_job self.old) }
@@ -187,13 +187,13 @@ impl<S: RowStore> ReplicaCore<S> {
         if !is_eligible(&self.job, &self.accepted, self.committed) {
             return Ok(None);
         }
-        self.job = Job::Given;
+        self.job = Job::Dispatched;
         Ok(Some(self.committed + 1))
     }
 
     /// Executes the job of this number on the working rows, which stay as they are. Where its changes apply it
-    /// waits for its turn; else the replica stops. The refusals in order: stopped, a job that was never given, one
-    /// that was finished before. With b changes the time is that of 2b look-ups and of sorting b rows.
+    /// waits for its turn; else the replica stops. The refusals in order: stopped, a record that was never dispatched,
+    /// a job that was finished before. With b changes the time is that of 2b look-ups and of sorting b rows.
     pub fn finish(&mut self, gno: u64) -> Result<(), ReplicaFault>
         ensures answer { IsErrOf result ReplicaFault.Memory ⊎ (result ≡ finish_answer self.old gno) }
 
@@ -205,7 +205,7 @@ impl<S: RowStore> ReplicaCore<S> {
         refuse_stopped(self.stopped)?;
         refuse_finish(&self.job, self.committed, gno)?;
         let next = &self.accepted[self.committed as usize];
-        let alloc = *self.pending.allocator();
+        let alloc = *self.waiting.allocator();
         match execute(alloc, &self.schema, &self.store, next.changes.list())? {
             Some(batch) => {
                 self.job = Job::Done(batch);
@@ -219,7 +219,7 @@ impl<S: RowStore> ReplicaCore<S> {
     }
 
     /// Commits the next record in log order, once its job is finished, and answers its number: puts what it leaves
-    /// into the store, and keeps that as a pending operation. So commits come in the order of the source's log, as
+    /// into the store, and keeps that as an operation that waits for `publish`. So commits come in the order of the source's log, as
     /// with MySQL's `replica_preserve_commit_order`. The time is that of putting the rows that the record writes.
     pub fn commit_next(&mut self) -> Result<Option<u64>, ReplicaFault>
         ensures answer { IsErrOf result ReplicaFault.Memory
@@ -234,22 +234,22 @@ impl<S: RowStore> ReplicaCore<S> {
     {
         refuse_stopped(self.stopped)?;
         let gno = self.committed + 1;
-        if !commit_job(&mut self.store, &mut self.pending, &mut self.job, gno)? {
+        if !commit_job(&mut self.store, &mut self.waiting, &mut self.job, gno)? {
             return Ok(None);
         }
         self.committed = gno;
         Ok(Some(gno))
     }
 
-    /// The commits that are not published yet, in order.
+    /// The commits that wait for `publish`, in order.
     pub fn pending(&self) -> &[Op]
         ensures { result.now ≡ waiting self.now }
     {
-        &self.pending
+        &self.waiting
     }
 
-    /// Takes the commits up to this number off the pending ones, as published. It takes no memory. The time is
-    /// that of a walk over the pending operations.
+    /// Takes the commits up to this number off the waiting ones, as published. It takes no memory. The time is
+    /// that of a walk over the waiting operations.
     pub fn publish(&mut self, upto: u64) -> Result<u64, ReplicaFault>
         requires later { self.old.published ≤ upto }
         requires done { upto ≤ self.old.committed }
@@ -258,7 +258,7 @@ impl<S: RowStore> ReplicaCore<S> {
         ensures err { OnErr result (self.new ≡ self.old) }
     {
         refuse_stopped(self.stopped)?;
-        drop_first(&mut self.pending, (upto - self.published) as usize);
+        drop_first(&mut self.waiting, (upto - self.published) as usize);
         self.published = upto;
         Ok(upto)
     }

@@ -4,7 +4,8 @@ ghost use Rattle.std.specs.Prelude.{◌≡◌, ◌≤◌, ◌<◌, ◌+◌, ◌-
 ghost use Rattle.std.specs.Option.{option_map_or, option_map};
 ghost use Rattle.rows.specs.Database.{effect, writes};
 ghost use Rattle.store_trait.specs.Batch.{rows_in};
-ghost use Rattle.replica_core.specs.Core.{is_idle, job_fault, CommitsJob};
+ghost use Rattle.replica_core.specs.Calls.{job_fault};
+ghost use Rattle.replica_core.specs.Core.{is_idle, dispatched_with, finished_with, CommitsJob};
 
 use crate::{Job, ReplicaFault};
 use overlay::run_changes;
@@ -37,23 +38,23 @@ pub fn is_eligible(job: &Job, accepted: &[Record], committed: u64) -> bool
     }
 }
 
-/// Refuses a number whose job was not given, or was finished before. What is left is the record behind the
-/// committed ones, whose job was given.
+/// Refuses a record that was not dispatched, or whose job was finished before. What is left is the record behind
+/// the committed ones, which is dispatched.
 pub fn refuse_finish(job: &Job, committed: u64, gno: u64) -> Result<(), ReplicaFault>
     requires { committed < 2 ^ 64 - 1 }
-    ensures answer { result ≡ option_map_or (λ fault. Err fault) (job_fault job.now committed gno) (Ok tt) }
-    ensures given { OnOk result (job.now ≡ Job.Given) }
+    ensures answer { result ≡ option_map_or (λ fault. Err fault) (job_fault (dispatched_with committed job.now) committed (finished_with committed job.now) gno) (Ok tt) }
+    ensures dispatched { OnOk result (job.now ≡ Job.Dispatched) }
     ensures next { OnOk result (gno ≡ committed + 1) }
 {
-    let given = match job {
+    let dispatched = match job {
         Job::Idle => committed,
-        Job::Given | Job::Done(_) => committed + 1,
+        Job::Dispatched | Job::Done(_) => committed + 1,
     };
-    if gno == 0 || gno > given {
+    if gno == 0 || gno > dispatched {
         return Err(ReplicaFault::Stranger);
     }
     match job {
-        Job::Given if gno > committed => Ok(()),
+        Job::Dispatched if gno > committed => Ok(()),
         _ => Err(ReplicaFault::Double),
     }
 }
@@ -78,23 +79,23 @@ pub fn execute<S: RowStore>(
 /// whether it did. Where memory runs out nothing changes.
 pub fn commit_job<S: RowStore>(
     store: &mut S,
-    pending: &mut Vec<Op>,
+    waiting: &mut Vec<Op>,
     job: &mut Job,
     gno: u64,
 ) -> Result<bool, Memory>
-    ensures { CommitsJob gno job.old (S.contents store.old) pending.old.items result
-        job.new (S.contents store.new) pending.new.items }
+    ensures { CommitsJob gno job.old (S.contents store.old) waiting.old.items result
+        job.new (S.contents store.new) waiting.new.items }
 {
     let Job::Done(batch) = job else {
         return Ok(false);
     };
     // Room first: behind the put nothing may fail.
-    pending.reserve(1)?;
+    waiting.reserve(1)?;
     store.put_all(batch)?;
     let Job::Done(batch) = mem::replace(job, Job::Idle) else {
         unreachable!();
     };
-    pending.push(Op::Commit { gno, batch }).unwrap();
+    waiting.push(Op::Commit { gno, batch }).unwrap();
     Ok(true)
 }
 

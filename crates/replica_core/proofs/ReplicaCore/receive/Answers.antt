@@ -6,4 +6,4 @@ pub invariant_of-self-2 : goal.invariant_of-self-2
 invariant_of-self-2 g c =
     let was = c.self.inside in
     let number : c.in_ok-copy.field-0.gno ≡ length was.accepted.items + 1 = ap (λ r. r.gno) c.in_ok-copy.ensures ∙ omega arith in
-    rw c.in_ok-push.ensures.items (kept-push was.schema _ was.accepted.items was.committed was.published _ was.pending.items was.job _ c.self.invariant number)
+    rw c.in_ok-push.ensures.items (kept-push was.schema _ was.accepted.items was.committed was.published _ was.waiting.items was.job _ c.self.invariant number)
