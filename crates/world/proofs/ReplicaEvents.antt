@@ -1,13 +1,15 @@
 -- The events of the replica.
-use Rattle.std.proofs.Common.{◌≡◌, ◌∙◌, sym, ap, subst, refl, ℕ, zero, suc, ◌+◌, ◌≤◌, Bool, true, false, not, ◌&&◌, ◌==◌, if◌then◌else◌, nat_le, List, [], ◌∷◌, length, min, filter, take, drop, Option, Some, None, Result, Ok, Err, is_some, arith, inl, inr, ◌⊎◌}
-use Rattle.std.specs.Prelude.{ℤ, option_and_then}
+use Rattle.std.proofs.Common.{◌≡◌, ◌∙◌, sym, ap, subst, refl, ℕ, zero, suc, ◌+◌, ◌-◌, ◌<◌, ◌≤◌, Bool, true, false, not, ◌&&◌, ◌==◌, if◌then◌else◌, nat_le, List, [], ◌∷◌, length, min, filter, take, drop, Option, Some, None, Result, Ok, Err, is_some, arith, inl, inr, ◌⊎◌}
+use Rattle.std.specs.Prelude.{ℤ, option_and_then, slice_get, ◌||◌}
 use Rattle.std.specs.List.{list_any}
 use Rattle.std.specs.Option.{option_map_or, option_or}
 use Rattle.std.specs.Result.{OnOk, OnErr, IfOk, IfErr, IsErrOf}
-use Rattle.std.specs.FinMap.{get, empty}
-use Rattle.store_trait.specs.Batch.{put_batch}
-use Rattle.std.proofs.lemmas.List.{take-append-drop}
-use Rattle.rows.specs.Database.{Database}
+use Rattle.std.specs.FinMap.{get}
+use Rattle.std.proofs.lemmas.List.{take-append-drop, take-take}
+use Rattle.std.proofs.lemmas.Bool.{and_parts, leb-true}
+use Rattle.std.proofs.lemmas.Bool.Decides.{nat_tests}
+use Rattle.std.proofs.lemmas.Option.{slice_get_cases}
+use Rattle.rows.specs.Database.{Database, effect}
 use Rattle.schema.specs.declared.RowId.{RowId}
 use Rattle.record_codec.specs.declared.records.Record.{Record}
 use Rattle.record_codec.specs.Log.{after, IsLegalLog}
@@ -15,13 +17,15 @@ use Rattle.record_codec.proofs.Logs.{beginning_leaves}
 use Rattle.source_core.specs.Source.{Source}
 use Rattle.replica_core.specs.declared.ReplicaFault.{ReplicaFault}
 use Rattle.replica_core.specs.declared.ReplicaFault.TheVariants as faults
-use Rattle.replica_core.specs.Replica.{Replica}
-use Rattle.replica_core.specs.Calls.{unless_stopped, next_job, dispatched_next, next_commit, committed_next, finish_fault, finish_answer, with_finished, left_by_fault, applies, was_finished}
+use Rattle.replica_core.specs.Replica.{Replica, working_rows}
+use Rattle.replica_core.specs.Order.{IsInOrder}
+use Rattle.replica_core.proofs.Commits.{after-next}
+use Rattle.replica_core.specs.Calls.{unless_stopped, next_job, dispatched_next, next_commit, committed_next, finish_fault, finish_answer, with_finished, left_by_fault, applies, job_fault}
 use Rattle.world.specs.declared.events.Event.TheVariants as events
 use Rattle.world.specs.declared.events.Reply.TheVariants as replies
 use Rattle.world.specs.Past.{Past, published, replicated, finished}
 use Rattle.world.specs.Legal.{Setup, replica_at, rows_after, job_reply, next_reply}
-use Rattle.world.specs.World.{dispatch_reply, finish_reply, next_commit_reply}
+use Rattle.world.specs.World.{dispatch_reply, finish_reply, finish_refused, next_commit_reply}
 use Rattle.world.specs.State.{World, Extends, IsWorld, Stands, Goes}
 use Rattle.world.proofs.Parts.{replica_is, Extends_itself, take_longer}
 use Rattle.store_trait.specs.Operation.{loaded}
@@ -179,28 +183,48 @@ next_goes {R} contents w answer next h (inr is) ok err =
 pub beginning_leaves_rows : (s : Source) → IsLegalLog s.tables (loaded s.base) s.log → (n : ℕ) → (db : Database) × (after s.tables (loaded s.base) (take n s.log) ≡ Some db)
 beginning_leaves_rows s legal n = beginning_leaves s.tables (loaded s.base) (take n s.log) (drop n s.log) (subst (λ (l : List Record). IsLegalLog s.tables (loaded s.base) l) (sym (take-append-drop n s.log)) legal)
 
--- each record that was accepted applies where its turn is
-pub accepted_applies : {R : Type 0} (contents : R → Database) (w : World R) (gno : ℕ) → IsWorld contents w → applies w.replica gno ≡ true
-accepted_applies contents w gno h =
-    let n = length w.replica.accepted in
-    let front : take gno w.replica.accepted ≡ take (min gno n) w.source.log = ap (take gno) h.accepted ∙ take_take gno n w.source.log in
-    let leaves = beginning_leaves_rows w.source h.sound.legal (min gno n) in
-    let same : after w.replica.tables (loaded w.replica.base) (take gno w.replica.accepted) ≡ Some leaves.0 =
-    (λ i. after (h.tables i) (put_batch (h.base i) empty) (front i)) ∙ leaves.1 in
-    ap is_some same
+-- the changes of each record that was accepted apply behind those before it
+accepted_leaves : {R : Type 0} (contents : R → Database) (w : World R) (n : ℕ) → IsWorld contents w → n ≤ length w.replica.accepted → (db : Database) × (after w.replica.tables (loaded w.replica.base) (take n w.replica.accepted) ≡ Some db)
+accepted_leaves contents w n h within =
+    let front : take n w.replica.accepted ≡ take n w.source.log = ap (take n) h.accepted ∙ take-take n (length w.replica.accepted) w.source.log within in
+    let leaves = beginning_leaves_rows w.source h.sound.legal n in
+    (leaves.0, (λ i. after (h.tables i) (loaded (h.base i)) (front i)) ∙ leaves.1)
+
+-- the record whose result is taken is the next to be committed
+pub record IsDue (r : Replica) (gno : ℕ) : Type 0 where
+  pub some : 1 ≤ gno
+  pub dispatched : gno ≤ r.dispatched
+  pub waits : r.committed < gno
+
+-- its changes apply to the working rows
+due_applies : {R : Type 0} (contents : R → Database) (w : World R) (gno : ℕ) → IsWorld contents w → IsInOrder w.replica → IsDue w.replica gno → applies w.replica gno ≡ true
+due_applies contents w gno h order due =
+    let n = w.replica.committed in
+    let place : gno - 1 ≡ n = omega (arith, due.some, due.dispatched, due.waits, order.busy, h.workers) in
+    let within : n + 1 ≤ length w.replica.accepted = omega (arith, due.dispatched, due.waits, order.dispatched) in
+    let next = found w.replica.accepted n (omega arith) in
+    let left = accepted_leaves contents w (n + 1) h within in
+    ap (λ k. is_some (option_and_then (λ (x : Record). option_and_then (effect w.replica.tables x.changes) (working_rows w.replica)) (slice_get w.replica.accepted k))) place
+    ∙ ap (λ (o : Option Record). is_some (option_and_then (λ (x : Record). option_and_then (effect w.replica.tables x.changes) (working_rows w.replica)) o)) next.1
+    ∙ ap is_some (sym (after-next w.replica.tables (loaded w.replica.base) w.replica.accepted n next.0 next.1) ∙ left.1) where
+      found : (xs : List Record) (k : ℕ) → k < length xs → (x : Record) × (slice_get xs k ≡ Some x)
+      found xs k k_in = elim (slice_get_cases xs k).1 [ inl v ↦ (v.0, v.2) | inr v ↦ absurd (omega (arith, v.0)) ]
 
 -- why a replica that runs does not take a result
-pub refused_finish : (r : Replica) (gno : ℕ) → r.stopped ≡ None → (finish_fault r gno ≡ None) ⊎ ((finish_fault r gno ≡ Some faults.Stranger) ⊎ (finish_fault r gno ≡ Some faults.Double))
+pub refused_finish : (r : Replica) (gno : ℕ) → r.stopped ≡ None → ((finish_fault r gno ≡ None) × IsDue r gno) ⊎ ((finish_fault r gno ≡ Some faults.Stranger) ⊎ (finish_fault r gno ≡ Some faults.Double))
 refused_finish r gno going =
-    let fault : Bool → Bool → Option ReplicaFault = λ given done. if not given then Some faults.Stranger else if done then Some faults.Double else None in
-    let is : finish_fault r gno ≡ fault (nat_le 1 gno && nat_le gno r.dispatched) (was_finished r gno) =
-    ap (λ (o : Option ℕ). option_or (option_map_or (λ n. Some (faults.Stopped n)) o None) (fault (nat_le 1 gno && nat_le gno r.dispatched) (was_finished r gno))) going in
-    cases (nat_le 1 gno && nat_le gno r.dispatched) (was_finished r gno) is where
-      cases : (given done : Bool) → finish_fault r gno ≡ (if not given then Some faults.Stranger else if done then Some faults.Double else None) →
-          (finish_fault r gno ≡ None) ⊎ ((finish_fault r gno ≡ Some faults.Stranger) ⊎ (finish_fault r gno ≡ Some faults.Double))
-      cases false done e = inr (inl e)
-      cases true true e = inr (inr e)
-      cases true false e = inl e
+    let is : finish_fault r gno ≡ job_fault r.dispatched r.committed r.finished gno =
+    ap (λ (o : Option ℕ). option_or (option_map_or (λ n. Some (faults.Stopped n)) o None) (job_fault r.dispatched r.committed r.finished gno)) going in
+    cases (nat_le 1 gno && nat_le gno r.dispatched) refl (nat_le gno r.committed) refl (list_any (λ n. n == gno) r.finished) is where
+      behind : (a b : ℕ) → nat_le a b ≡ false → b < a
+      behind a b e = grind (arith, nat_tests)
+
+      cases : (known : Bool) → (nat_le 1 gno && nat_le gno r.dispatched) ≡ known → (old : Bool) → nat_le gno r.committed ≡ old → (done : Bool) → finish_fault r gno ≡ (if not known then Some faults.Stranger else if old || done then Some faults.Double else None) →
+          ((finish_fault r gno ≡ None) × IsDue r gno) ⊎ ((finish_fault r gno ≡ Some faults.Stranger) ⊎ (finish_fault r gno ≡ Some faults.Double))
+      cases false k old o done e = inr (inl e)
+      cases true k true o done e = inr (inr e)
+      cases true k false o true e = inr (inr e)
+      cases true k false o false e = inl (e, record { some = leb-true 1 gno (and_parts _ _ k).0; dispatched = leb-true gno r.dispatched (and_parts _ _ k).1; waits = behind gno r.committed o })
 
 finish_nothing : {R : Type 0} (contents : R → Database) (w : World R) (gno : ℕ) (fault : ReplicaFault) → IsWorld contents w → finish_fault w.replica gno ≡ Some fault → Goes contents w (events.Finish gno) replies.Nothing w
 finish_nothing contents w gno fault h e = record {
@@ -234,27 +258,20 @@ finish_taken contents w gno h e = record {
       inr (sym (ap (λ (o : Option ReplicaFault). option_map_or (λ f. replies.Nothing) o (replies.Finished gno)) (ap (λ (r : Replica). finish_fault r gno) (replica_is contents setup past w log h st longer) ∙ e)));
 }
 
--- what a finish of a replica that runs answers, and what that leaves
-finish_gives : {R : Type 0} (contents : R → Database) (w : World R) (gno : ℕ) (next : Replica) (fault : Option ReplicaFault) (given : Result (Unit {0}) ReplicaFault) → IsWorld contents w → finish_fault w.replica gno ≡ fault →
-    given ≡ option_map_or (λ f. Err f) fault (Ok tt) → (fault ≡ None) ⊎ ((fault ≡ Some faults.Stranger) ⊎ (fault ≡ Some faults.Double)) →
-    OnOk given (next ≡ with_finished w.replica gno) → IfErr given (λ f. next ≡ left_by_fault w.replica f) → Goes contents w (events.Finish gno) (finish_reply gno given) (with_replica w next)
-finish_gives {R} contents w gno next fault given h e is (inl none) ok err =
-    let taken : given ≡ Ok tt = is ∙ ap (λ (o : Option ReplicaFault). option_map_or (λ f. Err f) o (Ok tt)) none in
-    subst (λ (a : Result (Unit {0}) ReplicaFault). OnOk a (next ≡ with_finished w.replica gno) → Goes {R = R} contents w (events.Finish gno) (finish_reply gno a) (with_replica w next)) (sym taken)
-    (λ left. subst (λ (r : Replica). Goes {R = R} contents w (events.Finish gno) (replies.Finished gno) (with_replica w r)) (sym left) (finish_taken contents w gno h (e ∙ none))) ok
-finish_gives {R} contents w gno next fault given h e is (inr (inl stranger)) ok err =
-    let taken : given ≡ Err faults.Stranger = is ∙ ap (λ (o : Option ReplicaFault). option_map_or (λ f. Err f) o (Ok tt)) stranger in
-    subst (λ (a : Result (Unit {0}) ReplicaFault). IfErr a (λ f. next ≡ left_by_fault w.replica f) → Goes {R = R} contents w (events.Finish gno) (finish_reply gno a) (with_replica w next)) (sym taken)
-    (λ left. subst (λ (r : Replica). Goes {R = R} contents w (events.Finish gno) replies.Nothing (with_replica w r)) (sym left) (finish_nothing contents w gno faults.Stranger h (e ∙ stranger))) err
-finish_gives {R} contents w gno next fault given h e is (inr (inr double)) ok err =
-    let taken : given ≡ Err faults.Double = is ∙ ap (λ (o : Option ReplicaFault). option_map_or (λ f. Err f) o (Ok tt)) double in
-    subst (λ (a : Result (Unit {0}) ReplicaFault). IfErr a (λ f. next ≡ left_by_fault w.replica f) → Goes {R = R} contents w (events.Finish gno) (finish_reply gno a) (with_replica w next)) (sym taken)
-    (λ left. subst (λ (r : Replica). Goes {R = R} contents w (events.Finish gno) replies.Nothing (with_replica w r)) (sym left) (finish_nothing contents w gno faults.Double h (e ∙ double))) err
+-- a finish that is refused tells that there is nothing to do
+finish_refuses : {R : Type 0} (contents : R → Database) (w : World R) (gno : ℕ) (fault : ReplicaFault) (answer : Result (Unit {0}) ReplicaFault) (next : Replica) → IsWorld contents w → finish_fault w.replica gno ≡ Some fault →
+    finish_refused fault ≡ replies.Nothing → left_by_fault w.replica fault ≡ w.replica → answer ≡ finish_answer w.replica gno → IfErr answer (λ f. next ≡ left_by_fault w.replica f) →
+    Goes contents w (events.Finish gno) (finish_reply gno answer) (with_replica w next)
+finish_refuses {R} contents w gno fault answer next h e nothing same is err =
+    let told : answer ≡ Err fault = is ∙ ap (λ (o : Option ReplicaFault). option_map_or (λ f. Err f) o (if applies w.replica gno then Ok tt else Err (faults.Stopped gno))) e in
+    subst (λ (a : Result (Unit {0}) ReplicaFault). IfErr a (λ f. next ≡ left_by_fault w.replica f) → Goes {R = R} contents w (events.Finish gno) (finish_reply gno a) (with_replica w next)) (sym told)
+    (λ left. subst (λ (r : Replica). Goes {R = R} contents w (events.Finish gno) (finish_refused fault) (with_replica w r)) (sym (left ∙ same))
+    (subst (λ r. Goes {R = R} contents w (events.Finish gno) r w) (sym nothing) (finish_nothing contents w gno fault h e))) err
 
 pub finish_goes : {R : Type 0} (contents : R → Database) (w : World R) (gno : ℕ) (answer : Result (Unit {0}) ReplicaFault) (next : Replica) →
-    IsWorld contents w → IsErrOf answer faults.Memory ⊎ (answer ≡ finish_answer w.replica gno) → OnOk answer (next ≡ with_finished w.replica gno) → IfErr answer (λ fault. next ≡ left_by_fault w.replica fault) →
+    IsWorld contents w → IsInOrder w.replica → IsErrOf answer faults.Memory ⊎ (answer ≡ finish_answer w.replica gno) → OnOk answer (next ≡ with_finished w.replica gno) → IfErr answer (λ fault. next ≡ left_by_fault w.replica fault) →
     Goes contents w (events.Finish gno) (finish_reply gno answer) (with_replica w next)
-finish_goes {R} contents w gno answer next h (inl memory) ok err =
+finish_goes {R} contents w gno answer next h order (inl memory) ok err =
     subst (λ (a : Result (Unit {0}) ReplicaFault). IfErr a (λ f. next ≡ left_by_fault w.replica f) → Goes {R = R} contents w (events.Finish gno) (finish_reply gno a) (with_replica w next)) (sym memory)
     (λ same. subst (λ (r : Replica). Goes {R = R} contents w (events.Finish gno) (replies.Replica faults.Memory) (with_replica w r)) (sym same)
     (record {
@@ -263,7 +280,13 @@ finish_goes {R} contents w gno answer next h (inl memory) ok err =
       stands = λ setup past st. record { flushed = st.flushed; source = st.source; accepted = st.accepted; replica = st.replica; unsynced = st.unsynced };
       allowed = λ setup past log st longer. inl refl;
     })) err
-finish_goes contents w gno answer next h (inr is) ok err =
-    let gives : answer ≡ option_map_or (λ f. Err f) (finish_fault w.replica gno) (Ok tt) =
-    is ∙ ap (λ b. option_map_or (λ f. Err f) (finish_fault w.replica gno) (if b then Ok tt else Err (faults.Stopped gno))) (accepted_applies contents w gno h) in
-    finish_gives contents w gno next (finish_fault w.replica gno) answer h refl gives (refused_finish w.replica gno h.going) ok err
+finish_goes {R} contents w gno answer next h order (inr is) ok err =
+    elim (refused_finish w.replica gno h.going) [
+      | inl due ↦
+          let taken : answer ≡ Ok tt =
+          is ∙ (λ i. option_map_or (λ f. Err f) (due.0 i) (if due_applies contents w gno h order due.1 i then Ok tt else Err (faults.Stopped gno))) in
+          subst (λ (a : Result (Unit {0}) ReplicaFault). OnOk a (next ≡ with_finished w.replica gno) → Goes {R = R} contents w (events.Finish gno) (finish_reply gno a) (with_replica w next)) (sym taken)
+          (λ left. subst (λ (r : Replica). Goes {R = R} contents w (events.Finish gno) (replies.Finished gno) (with_replica w r)) (sym left) (finish_taken contents w gno h due.0)) ok
+      | inr (inl stranger) ↦ finish_refuses contents w gno faults.Stranger answer next h stranger refl refl is err
+      | inr (inr double) ↦ finish_refuses contents w gno faults.Double answer next h double refl refl is err
+    ]
