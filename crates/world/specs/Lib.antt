@@ -1,6 +1,6 @@
 pub mod Past
 pub mod Legal
-pub mod World
+pub mod Replies
 pub mod State
 pub mod Seen
 pub mod Appended
