@@ -142,7 +142,7 @@ next_says : (setup : Setup) (log : List Record) (past : Past) (is_finished_ : Bo
 next_says setup log past false h = tt
 next_says setup log past true h = (refl, h refl)
 
--- a record that a worker may be given is accepted
+-- a record that may be dispatched is accepted
 some_within : (got : Option Record) (test : Record → Bool) → option_map_or test got false ≡ true → (x : Record) × (got ≡ Some x)
 some_within None test h = absurd (false≢true h)
 some_within (Some x) test h = (x, refl)

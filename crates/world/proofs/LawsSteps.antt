@@ -60,7 +60,7 @@ AllUpTo-any top one (n ∷ ns) h any =
 -- ---- each moment
 
 -- What holds of the numbers: they are in order, the groups not yet synced are all records from the synced up to the
--- flushed ones, and what is finished was given to a worker.
+-- flushed ones, and what is finished was dispatched.
 pub record InOrder (log : List Record) (flushed_ : ℕ) (groups : List (ℕ × ℕ)) (synced_ source_committed_ accepted_ dispatched_ : ℕ) (done : List ℕ) (replica_committed_ published_ : ℕ) : Type 0 where
   pub follow : Follow synced_ groups flushed_
   pub in_log : flushed_ ≤ length log

@@ -17,9 +17,9 @@ use Rattle.record_codec.proofs.Logs.{beginning_leaves}
 use Rattle.source_core.specs.Source.{Source}
 use Rattle.replica_core.specs.declared.ReplicaFault.{ReplicaFault}
 use Rattle.replica_core.specs.declared.ReplicaFault.TheVariants as faults
-use Rattle.replica_core.specs.Replica.{Replica, working_rows}
+use Rattle.replica_core.specs.Replica.{Replica, working_rows, operations}
 use Rattle.replica_core.specs.Order.{IsInOrder}
-use Rattle.replica_core.proofs.Commits.{after-next}
+use Rattle.replica_core.proofs.Commits.{after-next, left_by-operations}
 use Rattle.replica_core.specs.Calls.{unless_stopped, next_job, dispatched_next, next_commit, committed_next, finish_fault, finish_answer, with_finished, left_by_fault, applies, job_fault}
 use Rattle.world.specs.declared.events.Event.{Event}
 use Rattle.world.specs.declared.events.Event.TheVariants as events
@@ -28,8 +28,9 @@ use Rattle.world.specs.Past.{Past, published, replica_committed, finished}
 use Rattle.world.specs.Legal.{Setup, replica_at, rows_after, taken_reply, lacks_memory, Allowed}
 use Rattle.world.specs.Replies.{dispatch_reply, finish_reply, finish_refused, next_commit_reply}
 use Rattle.world.specs.State.{World, Extends, IsWorld, Stands, Goes}
+use Rattle.world.specs.Run.{ShowsOperations}
 use Rattle.world.proofs.Parts.{replica_is, Extends_itself, take_longer, stays, with_replica}
-use Rattle.store_trait.specs.Operation.{loaded}
+use Rattle.store_trait.specs.Operation.{loaded, left_by}
 
 -- a replica that runs answers what it is asked
 running_answer : {T : Type 0} (r : Replica) (answer : T) → r.stopped ≡ None → unless_stopped r answer ≡ Ok answer
@@ -39,9 +40,9 @@ running_answer r answer e = ap (λ (o : Option ℕ). option_map_or (λ gno. Err 
 stepped : {R : Type 0} (contents : R → Database) (w : World R) (dispatched : ℕ) (finished_ : List ℕ) → IsWorld contents w → IsWorld contents (with_replica w (record w.replica { dispatched = dispatched; finished = finished_ }))
 stepped contents w dispatched finished_ h = record { source = h.source; wire = h.wire; replica = h.replica; readers = h.readers }
 
-dispatch_given : {R : Type 0} (contents : R → Database) (w : World R) (job : Option ℕ) → IsWorld contents w → next_job w.replica ≡ job →
+dispatch_answered : {R : Type 0} (contents : R → Database) (w : World R) (job : Option ℕ) → IsWorld contents w → next_job w.replica ≡ job →
     Goes contents w events.Dispatch (dispatch_reply (Ok job)) (with_replica w (if is_some job then dispatched_next w.replica else w.replica))
-dispatch_given contents w job h e =
+dispatch_answered contents w job h e =
     by_cases job (λ setup past log st longer. inr (ap (λ (o : Option ℕ). dispatch_reply (Ok o)) (sym (ap next_job (replica_is contents setup past w log h st longer) ∙ e)))) where
       by_cases : (o : Option ℕ) → ((setup : Setup) (past : Past) (log : List Record) → Stands setup past w → Extends w.source.log log → Allowed setup log past events.Dispatch (dispatch_reply (Ok o))) →
           Goes contents w events.Dispatch (dispatch_reply (Ok o)) (with_replica w (if is_some o then dispatched_next w.replica else w.replica))
@@ -59,7 +60,11 @@ pub dispatch_goes : {R : Type 0} (contents : R → Database) (w : World R) (answ
 dispatch_goes {R} contents w answer next h is ok =
     let gives : answer ≡ Ok (next_job w.replica) = is ∙ running_answer w.replica (next_job w.replica) h.replica.going in
     subst (λ (a : Result (Option ℕ) ReplicaFault). IfOk a (λ job. next ≡ (if is_some job then dispatched_next w.replica else w.replica)) → Goes {R = R} contents w events.Dispatch (dispatch_reply a) (with_replica w next)) (sym gives)
-    (λ left. subst (λ (r : Replica). Goes {R = R} contents w events.Dispatch (dispatch_reply (Ok (next_job w.replica))) (with_replica w r)) (sym left) (dispatch_given contents w (next_job w.replica) h refl)) ok
+    (λ left. subst (λ (r : Replica). Goes {R = R} contents w events.Dispatch (dispatch_reply (Ok (next_job w.replica))) (with_replica w r)) (sym left) (dispatch_answered contents w (next_job w.replica) h refl)) ok
+
+-- of what is accepted, the first n records are those of the log
+pub accepted_front : {R : Type 0} (contents : R → Database) (w : World R) (n : ℕ) → IsWorld contents w → n ≤ length w.replica.accepted → take n w.replica.accepted ≡ take n w.source.log
+accepted_front contents w n h within = ap (take n) h.wire.front ∙ take-take n (length w.replica.accepted) w.source.log within
 
 -- what readers see is the source's database after the published commits, whichever longer log is meant
 pub shown_rows : {R : Type 0} (contents : R → Database) (setup : Setup) (past : Past) (w : World R) (log : List Record) → IsWorld contents w → Stands setup past w → Extends w.source.log log →
@@ -69,8 +74,17 @@ shown_rows contents setup past w log h st longer =
     let number : published past ≡ n = ap (λ (r : Replica). r.published) (sym st.replica.is) in
     let there : n ≤ length w.replica.accepted = omega (arith, h.readers.later, h.readers.there) in
     let front : take n log ≡ take n w.replica.accepted =
-    take_longer w.source.log log longer n (omega (arith, there, h.wire.within, h.source.sound.synced_within)) ∙ sym (ap (take n) h.wire.front ∙ take-take n (length w.replica.accepted) w.source.log there) in
+    take_longer w.source.log log longer n (omega (arith, there, h.wire.within, h.source.sound.synced_within)) ∙ sym (accepted_front contents w n h there) in
     (λ i. after (sym st.replica.is i).tables (loaded (sym st.replica.is i).base) (take (number i) log)) ∙ ap (after w.replica.tables (loaded w.replica.base)) front ∙ h.readers.rows
+
+-- they are what the operations leave
+pub shows_operations : {R : Type 0} (contents : R → Database) (w : World R) → IsWorld contents w → ShowsOperations contents w
+shows_operations contents w h =
+    let n = w.replica.published in
+    let front = accepted_front contents w n h (omega (arith, h.readers.later, h.readers.there)) in
+    let here : after w.source.tables (loaded w.source.base) (take n w.source.log) ≡ Some (contents w.shown.store) =
+    (λ i. after (sym h.replica.tables i) (loaded (sym h.replica.base i)) (sym front i)) ∙ h.readers.rows in
+    sym (ap (λ k. left_by (operations w.source.tables w.source.base w.source.log k)) h.readers.shows ∙ left_by-operations w.source.tables w.source.base w.source.log n (contents w.shown.store) here)
 
 pub read_goes : {R : Type 0} (contents : R → Database) (w : World R) (id : RowId) (row : Option (List ℤ)) (upto : ℕ) → IsWorld contents w → row ≡ get (contents w.shown.store) id → upto ≡ w.shown.upto →
     Goes contents w (events.Read id) (replies.Read upto row) w
@@ -79,9 +93,9 @@ read_goes {R} contents w id row upto h row_is upto_is = stays contents w _ _ h (
     let found : row ≡ option_and_then (λ db. get db id) (rows_after setup log (published past)) = row_is ∙ sym (ap (option_and_then (λ db. get db id)) (shown_rows contents setup past w log h st longer)) in
     inr (λ i. replies.Read (number i) (found i)))
 
-commit_given : {R : Type 0} (contents : R → Database) (w : World R) (commit : Option ℕ) → IsWorld contents w → next_commit w.replica ≡ commit →
+commit_answered : {R : Type 0} (contents : R → Database) (w : World R) (commit : Option ℕ) → IsWorld contents w → next_commit w.replica ≡ commit →
     Goes contents w events.Next (next_commit_reply (Ok commit)) (with_replica w (if is_some commit then committed_next w.replica else w.replica))
-commit_given contents w commit h e =
+commit_answered contents w commit h e =
     by_cases commit e (λ setup past log st longer. inr (ap (λ (o : Option ℕ). next_commit_reply (Ok o)) (sym (ap next_commit (replica_is contents setup past w log h st longer) ∙ e)))) where
       next_is : (r : Replica) (n : ℕ) → next_commit r ≡ Some n → n ≡ r.committed + 1
       next_is r n k = sym (chosen (list_any (λ m. m == r.committed + 1) r.finished) k) where
@@ -123,7 +137,7 @@ next_goes {R} contents w answer next h (inl memory) ok err =
 next_goes {R} contents w answer next h (inr is) ok err =
     let gives : answer ≡ Ok (next_commit w.replica) = is ∙ running_answer w.replica (next_commit w.replica) h.replica.going in
     subst (λ (a : Result (Option ℕ) ReplicaFault). IfOk a (λ commit. next ≡ (if is_some commit then committed_next w.replica else w.replica)) → Goes {R = R} contents w events.Next (next_commit_reply a) (with_replica w next)) (sym gives)
-    (λ left. subst (λ (r : Replica). Goes {R = R} contents w events.Next (next_commit_reply (Ok (next_commit w.replica))) (with_replica w r)) (sym left) (commit_given contents w (next_commit w.replica) h refl)) ok
+    (λ left. subst (λ (r : Replica). Goes {R = R} contents w events.Next (next_commit_reply (Ok (next_commit w.replica))) (with_replica w r)) (sym left) (commit_answered contents w (next_commit w.replica) h refl)) ok
 
 -- the rows after each beginning of a source's log are there
 beginning_leaves_rows : (s : Source) → IsLegalLog s.tables (loaded s.base) s.log → (n : ℕ) → (db : Database) × (after s.tables (loaded s.base) (take n s.log) ≡ Some db)
@@ -132,7 +146,7 @@ beginning_leaves_rows s legal n = beginning_leaves s.tables (loaded s.base) (tak
 -- the changes of each record that was accepted apply behind those before it
 pub accepted_leaves : {R : Type 0} (contents : R → Database) (w : World R) (n : ℕ) → IsWorld contents w → n ≤ length w.replica.accepted → (db : Database) × (after w.replica.tables (loaded w.replica.base) (take n w.replica.accepted) ≡ Some db)
 accepted_leaves contents w n h within =
-    let front : take n w.replica.accepted ≡ take n w.source.log = ap (take n) h.wire.front ∙ take-take n (length w.replica.accepted) w.source.log within in
+    let front = accepted_front contents w n h within in
     let leaves = beginning_leaves_rows w.source h.source.sound.legal n in
     (leaves.0, (λ i. after (h.replica.tables i) (loaded (h.replica.base i)) (front i)) ∙ leaves.1)
 

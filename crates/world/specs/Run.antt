@@ -1,9 +1,10 @@
 -- How a world came to be.
 use Rattle.std.specs.Prelude.{◌≡◌, List, [], length}
 use Rattle.rows.specs.Database.{Database}
-use Rattle.store_trait.specs.Operation.{loaded}
+use Rattle.store_trait.specs.Operation.{loaded, left_by}
 use Rattle.record_codec.specs.declared.records.Record.{Record}
 use Rattle.record_codec.specs.Log.{IsLegalLog}
+use Rattle.replica_core.specs.Replica.{operations}
 use Rattle.world.specs.declared.events.Event.{Event}
 use Rattle.world.specs.declared.events.Reply.{Reply}
 use Rattle.world.specs.Legal.{Setup, AreLegal}
@@ -19,3 +20,8 @@ pub record HasRun {R : Type 0} (contents : R → Database) (setup : Setup) (even
   -- the replies are legal by the source's own log, and by each longer log that goes on legally from it
   pub legal : AreLegal setup w.source.log events_ replies_
   pub onward : (log : List Record) → Extends w.source.log log → IsLegalLog setup.tables (loaded setup.base) log → AreLegal setup log events_ replies_
+
+-- Readers have the rows that the operations of the published records leave of an empty store: as many of the source's
+-- log as they are told.
+abbrev pub ShowsOperations : {R : Type 0} → (R → Database) → World R → Type 0
+ShowsOperations contents w = contents w.shown.store ≡ left_by (operations w.source.tables w.source.base w.source.log w.shown.upto)
