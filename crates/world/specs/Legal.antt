@@ -88,6 +88,7 @@ abbrev pub sync_reply : List (ℕ × ℕ) → Reply
 sync_reply [] = replies.Nothing
 sync_reply (group ∷ groups) = replies.Synced group.0 group.1
 
+-- all that is synced and not committed
 abbrev pub commit_reply : Past → Reply
 commit_reply past = if source_committed past == synced past then replies.Nothing else replies.Committed (source_committed past + 1) (synced past)
 

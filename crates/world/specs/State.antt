@@ -95,6 +95,7 @@ pub record ReplicaIs (said : Replica) (accepted_ : ℕ) (r : Replica) : Type 0 w
   pub accepted : accepted_ ≡ length r.accepted
   pub is : r ≡ said
 
+-- Each side is as it is said to be. What readers see follows from the replica's side.
 pub record SidesAre (source_ : Source) (flushed_ : ℕ) (unsynced_ : List (ℕ × ℕ)) (replica_ : Replica) (accepted_ : ℕ) (s : Source) (wire_ : Wire) (r : Replica) : Type 0 where
   pub source : SourceIs source_ flushed_ s
   pub wire : WireIs unsynced_ wire_
