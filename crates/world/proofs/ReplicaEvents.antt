@@ -1,4 +1,6 @@
 -- The events of the replica.
+use mathlib.Core.List.{IsPrefix}
+use base.Growing.{prefix_refl}
 use Rattle.std.proofs.Common.{◌≡◌, ◌∙◌, sym, ap, subst, refl, ℕ, ◌+◌, ◌-◌, ◌<◌, ◌≤◌, Bool, true, false, not, ◌&&◌, ◌==◌, if◌then◌else◌, nat_le, List, ◌∷◌, length, filter, take, drop, Option, Some, None, Result, Ok, Err, is_some, arith, inl, inr, ◌⊎◌}
 use Rattle.std.specs.Prelude.{ℤ, option_and_then, slice_get, ◌||◌}
 use Rattle.std.specs.List.{list_any}
@@ -27,9 +29,9 @@ use Rattle.world.specs.declared.events.Reply.TheVariants as replies
 use Rattle.world.specs.Past.{Past, published, replica_committed, finished}
 use Rattle.world.specs.Legal.{Setup, replica_at, rows_after, taken_reply, lacks_memory, Allowed}
 use Rattle.world.specs.Replies.{dispatch_reply, finish_reply, finish_refused, next_commit_reply}
-use Rattle.world.specs.State.{World, Extends, IsWorld, Stands, Goes}
+use Rattle.world.specs.State.{World, IsWorld, Stands, Goes}
 use Rattle.world.specs.Run.{ShowsOperations}
-use Rattle.world.proofs.Parts.{replica_is, Extends_itself, take_longer, stays, with_replica}
+use Rattle.world.proofs.Parts.{replica_is, take_longer, stays, with_replica}
 use Rattle.store_trait.specs.Operation.{loaded, left_by}
 
 -- a replica that runs answers what it is asked
@@ -44,12 +46,12 @@ dispatch_answered : {R : Type 0} (contents : R → Database) (w : World R) (job 
     Goes contents w events.Dispatch (dispatch_reply (Ok job)) (with_replica w (if is_some job then dispatched_next w.replica else w.replica))
 dispatch_answered contents w job h e =
     by_cases job (λ setup past log st longer. inr (ap (λ (o : Option ℕ). dispatch_reply (Ok o)) (sym (ap next_job (replica_is contents setup past w log h st longer) ∙ e)))) where
-      by_cases : (o : Option ℕ) → ((setup : Setup) (past : Past) (log : List Record) → Stands setup past w → Extends w.source.log log → Allowed setup log past events.Dispatch (dispatch_reply (Ok o))) →
+      by_cases : (o : Option ℕ) → ((setup : Setup) (past : Past) (log : List Record) → Stands setup past w → IsPrefix w.source.log log → Allowed setup log past events.Dispatch (dispatch_reply (Ok o))) →
           Goes contents w events.Dispatch (dispatch_reply (Ok o)) (with_replica w (if is_some o then dispatched_next w.replica else w.replica))
       by_cases None allowed = stays contents w events.Dispatch replies.Nothing h (λ setup past st. st) allowed
       by_cases (Some gno) allowed = record {
         world = stepped contents w _ _ h;
-        grows = Extends_itself w.source.log;
+        grows = prefix_refl w.source.log;
         stands = λ setup past st. record { source = st.source; wire = st.wire; replica = record { accepted = st.replica.accepted; is = ap dispatched_next st.replica.is } };
         allowed = allowed;
       }
@@ -67,7 +69,7 @@ pub accepted_front : {R : Type 0} (contents : R → Database) (w : World R) (n :
 accepted_front contents w n h within = ap (take n) h.wire.front ∙ take-take n (length w.replica.accepted) w.source.log within
 
 -- what readers see is the source's database after the published commits, whichever longer log is meant
-pub shown_rows : {R : Type 0} (contents : R → Database) (setup : Setup) (past : Past) (w : World R) (log : List Record) → IsWorld contents w → Stands setup past w → Extends w.source.log log →
+pub shown_rows : {R : Type 0} (contents : R → Database) (setup : Setup) (past : Past) (w : World R) (log : List Record) → IsWorld contents w → Stands setup past w → IsPrefix w.source.log log →
     rows_after setup log (published past) ≡ Some (contents w.shown.store)
 shown_rows contents setup past w log h st longer =
     let n = w.replica.published in
@@ -103,7 +105,7 @@ commit_answered contents w commit h e =
         chosen true q = cc q
         chosen false q = absurd (cc q)
 
-      by_cases : (o : Option ℕ) → next_commit w.replica ≡ o → ((setup : Setup) (past : Past) (log : List Record) → Stands setup past w → Extends w.source.log log → Allowed setup log past events.Next (next_commit_reply (Ok o))) →
+      by_cases : (o : Option ℕ) → next_commit w.replica ≡ o → ((setup : Setup) (past : Past) (log : List Record) → Stands setup past w → IsPrefix w.source.log log → Allowed setup log past events.Next (next_commit_reply (Ok o))) →
           Goes contents w events.Next (next_commit_reply (Ok o)) (with_replica w (if is_some o then committed_next w.replica else w.replica))
       by_cases None k allowed = stays contents w events.Next replies.Nothing h (λ setup past st. st) allowed
       by_cases (Some gno) k allowed = record {
@@ -113,7 +115,7 @@ commit_answered contents w commit h e =
           replica = h.replica;
           readers = record { shows = h.readers.shows; rows = h.readers.rows; upto = h.readers.upto; later = h.readers.later; done = omega (arith, h.readers.done); there = h.readers.there; are = h.readers.are };
         };
-        grows = Extends_itself w.source.log;
+        grows = prefix_refl w.source.log;
         stands = λ setup past st.
             let number : replica_committed past + 1 ≡ gno = ap (λ (r : Replica). r.committed + 1) (sym st.replica.is) ∙ sym (next_is w.replica gno k) in
             let without = λ (n : ℕ). record (replica_at setup w.source.log past) { committed = replica_committed past + 1; finished = filter (λ m. not (m == n)) (finished past) } in
@@ -194,7 +196,7 @@ finish_nothing contents w gno fault h e nothing =
 finish_taken : {R : Type 0} (contents : R → Database) (w : World R) (gno : ℕ) → IsWorld contents w → finish_fault w.replica gno ≡ None → Goes contents w (events.Finish gno) (replies.Finished gno) (with_replica w (with_finished w.replica gno))
 finish_taken contents w gno h e = record {
   world = stepped contents w _ _ h;
-  grows = Extends_itself w.source.log;
+  grows = prefix_refl w.source.log;
   stands = λ setup past st. record { source = st.source; wire = st.wire; replica = record { accepted = st.replica.accepted; is = ap (λ (r : Replica). with_finished r gno) st.replica.is } };
   allowed = λ setup past log st longer.
       inr (sym (ap (λ (r : Replica). taken_reply r gno) (replica_is contents setup past w log h st longer) ∙ ap (λ (o : Option ReplicaFault). finish_reply gno (option_map_or (λ f. Err f) o (Ok tt))) e));

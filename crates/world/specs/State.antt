@@ -1,5 +1,6 @@
 -- How the parts of a world stand together, and to the pairs of event and reply so far.
-use Rattle.std.specs.Prelude.{◌≡◌, ℕ, ◌≤◌, false, List, [], ◌∷◌, ◌++◌, length, map, take, drop, Option, Some, None}
+use mathlib.Core.List.{IsPrefix}
+use Rattle.std.specs.Prelude.{◌≡◌, ℕ, ◌≤◌, false, List, [], ◌∷◌, length, map, take, drop, Option, Some, None}
 use Rattle.rows.specs.Database.{Database}
 use Rattle.store_trait.specs.Operation.{batch_of, loaded}
 use Rattle.record_codec.specs.declared.records.Record.{Record}
@@ -35,10 +36,6 @@ HoldEach [] [] = Unit {0}
 HoldEach (group ∷ groups) (only ∷ records) = AreRecordsOf group (only ∷ []) × HoldEach groups records
 HoldEach [] (only ∷ records) = ⊥
 HoldEach (group ∷ groups) [] = ⊥
-
--- a list begins with another
-abbrev pub Extends : List Record → List Record → Type 0
-Extends log longer = (more : List Record) × (longer ≡ log ++ more)
 
 -- The source is sound, and its log did not fail.
 pub record IsSource (s : Source) : Type 0 where
@@ -110,6 +107,6 @@ Stands setup past w =
 -- for these and the new one, and the reply is allowed by each log that the world's log begins.
 pub record Goes {R : Type 0} (contents : R → Database) (old : World R) (event : Event) (reply : Reply) (new : World R) : Type 0 where
   pub world : IsWorld contents new
-  pub grows : Extends old.source.log new.source.log
+  pub grows : IsPrefix old.source.log new.source.log
   pub stands : (setup : Setup) (past : Past) → Stands setup past old → Stands setup ((event, reply) ∷ past) new
-  pub allowed : (setup : Setup) (past : Past) (log : List Record) → Stands setup past old → Extends new.source.log log → Allowed setup log past event reply
+  pub allowed : (setup : Setup) (past : Past) (log : List Record) → Stands setup past old → IsPrefix new.source.log log → Allowed setup log past event reply
