@@ -1,24 +1,34 @@
 -- What a reply that the pairs so far allow says of them.
-use Rattle.std.proofs.Common.{◌≡◌, sym, subst, refl, ℕ, ◌+◌, ◌<◌, ◌≤◌, Bool, true, false, not, ◌&&◌, ◌==◌, nat_le, List, [], ◌∷◌, map, take, Option, Some, None, inl, inr, slice_get, if◌then◌else◌, arith}
+use Rattle.std.proofs.Common.{◌≡◌, sym, subst, refl, ℕ, ◌+◌, ◌-◌, ◌<◌, ◌≤◌, Bool, true, false, not, ◌&&◌, ◌==◌, nat_le, List, [], ◌∷◌, map, take, length, Option, Some, None, Result, Ok, Err, ◌⊎◌, inl, inr, slice_get, if◌then◌else◌, arith}
 use Rattle.std.specs.Prelude.{ℤ, option_and_then}
 use Rattle.std.specs.Option.{option_map_or}
 use Rattle.std.specs.List.{list_any}
 use Rattle.std.specs.FinMap.{get}
-use Rattle.std.proofs.lemmas.Bool.{false≢true, or_cases, and_parts, leb-true, eqb-true}
+use Rattle.std.proofs.lemmas.Bool.{false≢true, or_cases, and_parts, leb-true}
 use Rattle.std.proofs.lemmas.Option.{slice_get_within}
-use Rattle.std.proofs.lemmas.List.{length-take}
+use Rattle.std.proofs.lemmas.List.{length-take, length-take-le}
 use Rattle.record_codec.specs.declared.records.Record.{Record}
+use Rattle.store_trait.specs.Operation.{loaded}
+use Rattle.record_codec.specs.Log.{IsLegalLog}
+use Rattle.record_codec.proofs.Logs.{place_is_number}
 use Rattle.source_core.specs.declared.fault.SourceFault.{SourceFault}
-use Rattle.source_core.specs.Source.{seen_row, changes_of}
-use Rattle.source_core.specs.Calls.{begin_fault, write_fault, read_fault, prepare_fault, queue_fault, is_empty_list}
+use Rattle.source_core.specs.Source.{seen_row}
+use Rattle.source_core.specs.Calls.{begin_fault, write_fault, read_fault, prepare_fault, prepare_answer, queue_fault}
+use Rattle.source_core.specs.declared.transaction.Prepared.{Prepared as Answer}
+use Rattle.source_core.specs.declared.transaction.Prepared.TheVariants as answers
+use Rattle.replica_core.specs.declared.Received.{Received}
+use Rattle.replica_core.specs.declared.Received.TheVariants.{Accepted, Skipped}
+use Rattle.replica_core.specs.declared.ReplicaFault.{ReplicaFault}
 use Rattle.replica_core.specs.declared.ReplicaFault.TheVariants as replica
-use Rattle.replica_core.specs.Calls.{is_eligible, was_finished}
+use Rattle.replica_core.specs.Calls.{received, is_eligible, was_finished}
 use Rattle.world.specs.declared.events.Event.{Event}
 use Rattle.world.specs.declared.events.Event.TheVariants as events
 use Rattle.world.specs.declared.events.Reply.{Reply}
 use Rattle.world.specs.declared.events.Reply.TheVariants as replies
-use Rattle.world.specs.Past.{Past, flushed, unsynced, synced, committed, queue, accepted, dispatched, finished, replicated, published}
-use Rattle.world.specs.Legal.{Setup, rows_after, source_at, replica_at, refused_or, stamp_of, next_records, FlushAnswers, sync_reply, job_reply, next_reply, Answers, is_source_memory, is_replica_memory, is_codec_memory, lacks_memory, Allowed}
+use Rattle.world.specs.Replies.{received_reply, prepared_reply, dispatch_reply, finish_reply, next_commit_reply}
+use Rattle.world.proofs.Received.{accepts_next, refuses_gaps, synced_place}
+use Rattle.world.specs.Past.{Past, flushed, unsynced, synced, source_committed, queue, accepted, dispatched, finished, replica_committed, published}
+use Rattle.world.specs.Legal.{Setup, rows_after, source_at, replica_at, refused_or, stamp_of, next_records, FlushAnswers, sync_reply, synced_record, Answers, is_source_memory, is_replica_memory, is_codec_memory, lacks_memory, Allowed}
 
 -- the row of a read, after the first so many records
 abbrev pub ReadSays : Setup → List Record → ℕ → Event → Option (List ℤ) → Type 0
@@ -33,65 +43,47 @@ Says setup log past event (replies.Committed first last) = last ≡ synced past
 Says setup log past event replies.Accepted = (gno : ℕ) × (event ≡ events.Deliver gno) × (gno ≤ synced past) × (gno ≡ accepted past + 1)
 Says setup log past event (replies.Job gno) = dispatched past < accepted past
 Says setup log past event (replies.Finished gno) = gno ≤ dispatched past
-Says setup log past event (replies.Commit gno) = (gno ≡ replicated past + 1) × (list_any (λ n. n == replicated past + 1) (finished past) ≡ true)
-Says setup log past event (replies.Published upto) = upto ≡ replicated past
+Says setup log past event (replies.Commit gno) = (gno ≡ replica_committed past + 1) × (list_any (λ n. n == replica_committed past + 1) (finished past) ≡ true)
+Says setup log past event (replies.Published upto) = upto ≡ replica_committed past
 Says setup log past event (replies.Read upto row) = (upto ≡ published past) × ReadSays setup log upto event row
+Says setup log past event (replies.Replica fault) = (fault ≡ replica.Memory) ⊎ ((fault ≡ replica.Gap) × (gno : ℕ) × (event ≡ events.Deliver gno))
 Says setup log past event reply = Unit {0}
 
 -- ---- want of memory
 
-is_fault : Reply → Bool
-is_fault (replies.Source fault) = true
-is_fault (replies.Replica fault) = true
-is_fault (replies.Codec fault) = true
-is_fault replies.NoRoom = true
-is_fault reply = false
+of_source : (setup : Setup) (log : List Record) (past : Past) (event : Event) (reply : Reply) → is_source_memory reply ≡ true → Says setup log past event reply
+of_source setup log past event (replies.Source fault) h = tt
+of_source setup log past event reply h = absurd (false≢true h)
 
-of_source : (reply : Reply) → is_source_memory reply ≡ true → is_fault reply ≡ true
-unfolding is_fault
-of_source (replies.Source fault) h = refl
-of_source reply h = absurd (false≢true h)
+of_replica : (setup : Setup) (log : List Record) (past : Past) (event : Event) (reply : Reply) → is_replica_memory reply ≡ true → Says setup log past event reply
+of_replica setup log past event (replies.Replica fault) h =
+    elim fault as (λ f. is_replica_memory (replies.Replica f) ≡ true → Says setup log past event (replies.Replica f)) [
+      | replica.Memory ↦ λ _. inl refl
+      | _ ↦ λ k. absurd (false≢true k)
+    ] h
+of_replica setup log past event reply h = absurd (false≢true h)
 
-of_replica : (reply : Reply) → is_replica_memory reply ≡ true → is_fault reply ≡ true
-unfolding is_fault
-of_replica (replies.Replica fault) h = refl
-of_replica reply h = absurd (false≢true h)
+of_codec : (setup : Setup) (log : List Record) (past : Past) (event : Event) (reply : Reply) → is_codec_memory reply ≡ true → Says setup log past event reply
+of_codec setup log past event (replies.Codec fault) h = tt
+of_codec setup log past event reply h = absurd (false≢true h)
 
-of_codec : (reply : Reply) → is_codec_memory reply ≡ true → is_fault reply ≡ true
-unfolding is_fault
-of_codec (replies.Codec fault) h = refl
-of_codec reply h = absurd (false≢true h)
+of_sync : (setup : Setup) (log : List Record) (past : Past) (reply : Reply) → lacks_memory events.Sync reply ≡ true → Says setup log past events.Sync reply
+of_sync setup log past replies.NoRoom h = tt
+of_sync setup log past reply h = absurd (false≢true h)
 
-of_sync : (reply : Reply) → lacks_memory events.Sync reply ≡ true → is_fault reply ≡ true
-unfolding is_fault
-of_sync replies.NoRoom h = refl
-of_sync reply h = absurd (false≢true h)
-
-lacking : (event : Event) (reply : Reply) → lacks_memory event reply ≡ true → is_fault reply ≡ true
-lacking (events.Write session change) reply h = of_source reply h
-lacking (events.Prepare session) reply h = of_source reply h
-lacking events.Flush reply h = of_source reply h
-lacking events.Sync reply h = of_sync reply h
-lacking events.Commit reply h = of_source reply h
-lacking (events.Deliver gno) reply h = elim (or_cases (is_replica_memory reply) (is_codec_memory reply) h) [ inl r ↦ of_replica reply r | inr c ↦ of_codec reply c ]
-lacking events.Dispatch reply h = of_replica reply h
-lacking (events.Finish gno) reply h = of_replica reply h
-lacking events.Next reply h = of_replica reply h
-lacking events.Publish reply h = of_replica reply h
-lacking event reply h = absurd (false≢true h)
-
-fault_says : (setup : Setup) (log : List Record) (past : Past) (event : Event) (reply : Reply) → is_fault reply ≡ true → Says setup log past event reply
-unfolding is_fault
-fault_says setup log past event (replies.Flushed first stamps) h = absurd (false≢true h)
-fault_says setup log past event (replies.Synced first last) h = absurd (false≢true h)
-fault_says setup log past event (replies.Committed first last) h = absurd (false≢true h)
-fault_says setup log past event replies.Accepted h = absurd (false≢true h)
-fault_says setup log past event (replies.Job gno) h = absurd (false≢true h)
-fault_says setup log past event (replies.Finished gno) h = absurd (false≢true h)
-fault_says setup log past event (replies.Commit gno) h = absurd (false≢true h)
-fault_says setup log past event (replies.Published upto) h = absurd (false≢true h)
-fault_says setup log past event (replies.Read upto row) h = absurd (false≢true h)
-fault_says setup log past event reply h = tt
+lacking : (setup : Setup) (log : List Record) (past : Past) (event : Event) (reply : Reply) → lacks_memory event reply ≡ true → Says setup log past event reply
+lacking setup log past (events.Write session change) reply h = of_source setup log past _ reply h
+lacking setup log past (events.Prepare session) reply h = of_source setup log past _ reply h
+lacking setup log past events.Flush reply h = of_source setup log past _ reply h
+lacking setup log past events.Sync reply h = of_sync setup log past reply h
+lacking setup log past events.Commit reply h = of_source setup log past _ reply h
+lacking setup log past (events.Deliver gno) reply h =
+    elim (or_cases (is_replica_memory reply) (is_codec_memory reply) h) [ inl r ↦ of_replica setup log past _ reply r | inr c ↦ of_codec setup log past _ reply c ]
+lacking setup log past events.Dispatch reply h = of_replica setup log past _ reply h
+lacking setup log past (events.Finish gno) reply h = of_replica setup log past _ reply h
+lacking setup log past events.Next reply h = of_replica setup log past _ reply h
+lacking setup log past events.Publish reply h = of_replica setup log past _ reply h
+lacking setup log past event reply h = absurd (false≢true h)
 
 -- ---- each event
 
@@ -102,9 +94,9 @@ refused_says : (setup : Setup) (log : List Record) (past : Past) (event : Event)
 refused_says setup log past event None reply says = says
 refused_says setup log past event (Some fault) reply says = tt
 
-prepare_says : (setup : Setup) (log : List Record) (past : Past) (event : Event) (is_empty : Bool) (parent : ℕ) → Says setup log past event (if is_empty then replies.Empty else replies.Prepared parent)
-prepare_says setup log past event true parent = tt
-prepare_says setup log past event false parent = tt
+prepare_says : (setup : Setup) (log : List Record) (past : Past) (event : Event) (answer : Answer) → Says setup log past event (prepared_reply (Ok answer))
+prepare_says setup log past event (answers.Parent parent) = tt
+prepare_says setup log past event answers.Empty = tt
 
 flush_says : (setup : Setup) (log : List Record) (past : Past) (waiting : List ℕ) (reply : Reply) → FlushAnswers setup log past waiting reply → Says setup log past events.Flush reply
 flush_says setup log past [] reply h = by setup log past events.Flush reply replies.Nothing h tt
@@ -114,72 +106,80 @@ sync_says : (setup : Setup) (log : List Record) (past : Past) (groups : List (�
 sync_says setup log past [] e = tt
 sync_says setup log past (group ∷ groups) e = (groups, e)
 
-commit_says : (setup : Setup) (log : List Record) (past : Past) (all : Bool) → Says setup log past events.Commit (if all then replies.Nothing else replies.Committed (committed past + 1) (synced past))
+commit_says : (setup : Setup) (log : List Record) (past : Past) (all : Bool) → Says setup log past events.Commit (if all then replies.Nothing else replies.Committed (source_committed past + 1) (synced past))
 commit_says setup log past true = tt
 commit_says setup log past false = refl
 
-deliver_says : (setup : Setup) (log : List Record) (past : Past) (gno : ℕ) (is_synced was_accepted is_next : Bool) → (is_synced ≡ true → gno ≤ synced past) → (is_next ≡ true → gno ≡ accepted past + 1) →
-    Says setup log past (events.Deliver gno) (if not is_synced then replies.Unsynced else if was_accepted then replies.Skipped else if is_next then replies.Accepted else replies.Replica replica.Gap)
-deliver_says setup log past gno false was_accepted is_next s n = tt
-deliver_says setup log past gno true true is_next s n = tt
-deliver_says setup log past gno true false true s n = (gno, refl, s refl, n refl)
-deliver_says setup log past gno true false false s n = tt
+-- the record that is delivered has its number, and is received
+deliver_says : (setup : Setup) (log : List Record) (past : Past) (gno : ℕ) → IsLegalLog setup.tables (loaded setup.base) log → accepted past ≤ length log → (got : Option Record) → synced_record log past gno ≡ got →
+    Says setup log past (events.Deliver gno) (option_map_or (λ new. received_reply (received (replica_at setup log past) new)) got replies.Unsynced)
+deliver_says setup log past gno legal within None e = tt
+deliver_says setup log past gno legal within (Some new) e = by_answer (received (replica_at setup log past) new) refl where
+  by_answer : (answer : Result Received ReplicaFault) → received (replica_at setup log past) new ≡ answer → Says setup log past (events.Deliver gno) (received_reply answer)
+  by_answer (Ok Accepted) is =
+      let place = synced_place log past gno new e in
+      let number : new.gno ≡ gno = omega (arith, (place_is_number setup.tables (loaded setup.base) log (gno - 1) new legal place.2).gno, place.0) in
+      (gno, refl, place.1, omega (arith, number, accepts_next (replica_at setup log past) new refl is, length-take-le (accepted past) log within))
+  by_answer (Ok Skipped) is = tt
+  by_answer (Err fault) is =
+      let place = synced_place log past gno new e in
+      let number : new.gno ≡ gno = omega (arith, (place_is_number setup.tables (loaded setup.base) log (gno - 1) new legal place.2).gno, place.0) in
+      inr (refuses_gaps (replica_at setup log past) new fault refl (omega (arith, number, place.0)) is, gno, refl)
 
 dispatch_says : (setup : Setup) (log : List Record) (past : Past) (may : Bool) → (may ≡ true → dispatched past < accepted past) →
-    Says setup log past events.Dispatch (job_reply (if may then Some (dispatched past + 1) else None))
+    Says setup log past events.Dispatch (dispatch_reply (Ok (if may then Some (dispatched past + 1) else None)))
 dispatch_says setup log past false h = tt
 dispatch_says setup log past true h = h refl
 
-finish_says : (setup : Setup) (log : List Record) (past : Past) (gno : ℕ) (was_given is_double : Bool) → (was_given ≡ true → gno ≤ dispatched past) →
-    Says setup log past (events.Finish gno) (option_map_or (λ fault. replies.Nothing) (if not was_given then Some replica.Stranger else if is_double then Some replica.Double else None) (replies.Finished gno))
+finish_says : (setup : Setup) (log : List Record) (past : Past) (gno : ℕ) (known is_double : Bool) → (known ≡ true → gno ≤ dispatched past) →
+    Says setup log past (events.Finish gno) (finish_reply gno (option_map_or (λ fault. Err fault) (if not known then Some replica.Stranger else if is_double then Some replica.Double else None) (Ok tt)))
 finish_says setup log past gno false is_double h = tt
 finish_says setup log past gno true true h = tt
 finish_says setup log past gno true false h = h refl
 
-next_says : (setup : Setup) (log : List Record) (past : Past) (is_finished : Bool) → (is_finished ≡ true → list_any (λ n. n == replicated past + 1) (finished past) ≡ true) →
-    Says setup log past events.Next (next_reply (if is_finished then Some (replicated past + 1) else None))
+next_says : (setup : Setup) (log : List Record) (past : Past) (is_finished_ : Bool) → (is_finished_ ≡ true → list_any (λ n. n == replica_committed past + 1) (finished past) ≡ true) →
+    Says setup log past events.Next (next_commit_reply (Ok (if is_finished_ then Some (replica_committed past + 1) else None)))
 next_says setup log past false h = tt
 next_says setup log past true h = (refl, h refl)
 
--- a record that a worker may be given is accepted
+-- a record that may be dispatched is accepted
 some_within : (got : Option Record) (test : Record → Bool) → option_map_or test got false ≡ true → (x : Record) × (got ≡ Some x)
 some_within None test h = absurd (false≢true h)
 some_within (Some x) test h = (x, refl)
 
 eligible : (setup : Setup) (log : List Record) (past : Past) → is_eligible (replica_at setup log past) ≡ true → dispatched past < accepted past
 eligible setup log past h =
-    let got = some_within (slice_get (take (accepted past) log) (dispatched past)) (λ next. nat_le next.parent (replicated past)) (and_parts _ _ h).0 in
+    let got = some_within (slice_get (take (accepted past) log) (dispatched past)) (λ next. nat_le next.parent (replica_committed past)) (and_parts _ _ h).0 in
     let within = slice_get_within (take (accepted past) log) (dispatched past) got.0 got.1 in
     omega (arith, within, length-take (accepted past) log)
 
-answers_say : (setup : Setup) (log : List Record) (past : Past) (event : Event) (reply : Reply) → Answers setup log past event reply → Says setup log past event reply
-answers_say setup log past (events.Begin session) reply h =
+answers_say : (setup : Setup) (log : List Record) (past : Past) (event : Event) (reply : Reply) → IsLegalLog setup.tables (loaded setup.base) log → accepted past ≤ length log → Answers setup log past event reply → Says setup log past event reply
+answers_say setup log past (events.Begin session) reply legal within h =
     by setup log past _ reply _ h (refused_says setup log past _ (begin_fault (source_at setup log past) session) replies.Done tt)
-answers_say setup log past (events.Write session change) reply h =
+answers_say setup log past (events.Write session change) reply legal within h =
     by setup log past _ reply _ h (refused_says setup log past _ (write_fault (source_at setup log past) session change) replies.Done tt)
-answers_say setup log past (events.See session id) reply h =
+answers_say setup log past (events.See session id) reply legal within h =
     by setup log past _ reply _ h (refused_says setup log past _ (read_fault (source_at setup log past) session id) (replies.Seen (seen_row (source_at setup log past) session id)) tt)
-answers_say setup log past (events.Prepare session) reply h =
-    by setup log past _ reply _ h (refused_says setup log past _ (prepare_fault (source_at setup log past) session) _ (prepare_says setup log past _ (is_empty_list (changes_of (source_at setup log past) session)) (committed past)))
-answers_say setup log past (events.Queue session) reply h =
+answers_say setup log past (events.Prepare session) reply legal within h =
+    by setup log past _ reply _ h (refused_says setup log past _ (prepare_fault (source_at setup log past) session) _ (prepare_says setup log past _ (prepare_answer (source_at setup log past) session)))
+answers_say setup log past (events.Queue session) reply legal within h =
     by setup log past _ reply _ h (refused_says setup log past _ (queue_fault (source_at setup log past) session) replies.Done tt)
-answers_say setup log past events.Flush reply h = flush_says setup log past (queue past) reply h
-answers_say setup log past events.Sync reply h = by setup log past _ reply _ h (sync_says setup log past (unsynced past) refl)
-answers_say setup log past events.Commit reply h = by setup log past _ reply _ h (commit_says setup log past (committed past == synced past))
-answers_say setup log past (events.Deliver gno) reply h =
-    by setup log past _ reply _ h (deliver_says setup log past gno (nat_le 1 gno && nat_le gno (synced past)) (nat_le gno (accepted past)) (gno == accepted past + 1)
-    (λ t. leb-true gno (synced past) (and_parts _ _ t).1) (λ t. eqb-true gno (accepted past + 1) t))
-answers_say setup log past events.Dispatch reply h = by setup log past _ reply _ h (dispatch_says setup log past (is_eligible (replica_at setup log past)) (eligible setup log past))
-answers_say setup log past (events.Finish gno) reply h =
+answers_say setup log past events.Flush reply legal within h = flush_says setup log past (queue past) reply h
+answers_say setup log past events.Sync reply legal within h = by setup log past _ reply _ h (sync_says setup log past (unsynced past) refl)
+answers_say setup log past events.Commit reply legal within h = by setup log past _ reply _ h (commit_says setup log past (source_committed past == synced past))
+answers_say setup log past (events.Deliver gno) reply legal within h =
+    by setup log past _ reply _ h (deliver_says setup log past gno legal within (synced_record log past gno) refl)
+answers_say setup log past events.Dispatch reply legal within h = by setup log past _ reply _ h (dispatch_says setup log past (is_eligible (replica_at setup log past)) (eligible setup log past))
+answers_say setup log past (events.Finish gno) reply legal within h =
     by setup log past _ reply _ h (finish_says setup log past gno (nat_le 1 gno && nat_le gno (dispatched past)) (was_finished (replica_at setup log past) gno)
     (λ t. leb-true gno (dispatched past) (and_parts _ _ t).1))
-answers_say setup log past events.Next reply h = by setup log past _ reply _ h (next_says setup log past (list_any (λ n. n == replicated past + 1) (finished past)) (λ t. t))
-answers_say setup log past events.Publish reply h = by setup log past _ reply _ h refl
-answers_say setup log past (events.Read id) reply h = by setup log past _ reply _ h (refl, refl)
+answers_say setup log past events.Next reply legal within h = by setup log past _ reply _ h (next_says setup log past (list_any (λ n. n == replica_committed past + 1) (finished past)) (λ t. t))
+answers_say setup log past events.Publish reply legal within h = by setup log past _ reply _ h refl
+answers_say setup log past (events.Read id) reply legal within h = by setup log past _ reply _ h (refl, refl)
 
-pub says : (setup : Setup) (log : List Record) (past : Past) (event : Event) (reply : Reply) → Allowed setup log past event reply → Says setup log past event reply
-says setup log past event reply allowed =
+pub says : (setup : Setup) (log : List Record) (past : Past) (event : Event) (reply : Reply) → IsLegalLog setup.tables (loaded setup.base) log → accepted past ≤ length log → Allowed setup log past event reply → Says setup log past event reply
+says setup log past event reply legal within allowed =
     elim allowed [
-      | inl lacks ↦ fault_says setup log past event reply (lacking event reply lacks)
-      | inr answers ↦ answers_say setup log past event reply answers
+      | inl lacks ↦ lacking setup log past event reply lacks
+      | inr answers ↦ answers_say setup log past event reply legal within answers
     ]

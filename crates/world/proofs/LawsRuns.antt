@@ -1,17 +1,22 @@
 -- The laws of runs with legal replies.
-use Rattle.std.proofs.Common.{◌≡◌, ◌∙◌, sym, ap, subst, refl, ℕ, zero, suc, ◌+◌, ◌≤◌, List, [], ◌∷◌, take, Some, slice_get, inl, inr, arith, cond, count_by}
+use Rattle.std.proofs.Common.{◌≡◌, ◌∙◌, sym, ap, subst, refl, ℕ, zero, suc, ◌+◌, ◌≤◌, List, [], ◌∷◌, length, take, drop, Some, slice_get, inl, inr, arith, cond, count_by}
 use Rattle.std.proofs.lemmas.Bool.{false≢true}
 use Rattle.std.proofs.lemmas.Option.{none-some, same_Some}
 use Rattle.std.proofs.lemmas.List.Sums.{sum_by-cons}
+use Rattle.std.proofs.lemmas.List.{take-append-drop}
+use Rattle.store_trait.specs.Operation.{loaded}
+use Rattle.record_codec.specs.Log.{IsLegalLog}
+use Rattle.record_codec.proofs.Logs.{beginning_leaves}
+use Rattle.replica_core.proofs.Commits.{left_by-operations}
 use Rattle.record_codec.specs.declared.records.Record.{Record}
 use Rattle.world.specs.declared.events.Event.{Event}
 use Rattle.world.specs.declared.events.Event.TheVariants as events
 use Rattle.world.specs.declared.events.Reply.{Reply}
 use Rattle.world.specs.declared.events.Reply.TheVariants as replies
-use Rattle.world.specs.Past.{Past, replicated}
-use Rattle.world.specs.Legal.{Setup, Allowed, AreAllowed}
-use Rattle.world.specs.Laws.{pairs_after, past_at, is_commit, ReadsArePrefixes, ReadsAreAnswered, ReadsAreSynced, ReadsNeverGoBack, PublishedWithin, NumbersNeverFall, NoneFalls, EachCommitOnceInOrder, NothingUnsyncedIsAccepted}
-use Rattle.world.proofs.LawsReplies.{says}
+use Rattle.world.specs.Past.{Past, accepted, replica_committed, published}
+use Rattle.world.specs.Legal.{Setup, Allowed, AreAllowed, AreLegal}
+use Rattle.world.specs.Laws.{pairs_after, past_at, is_commit, ReadsArePrefixes, ReadsAreAnswered, ReadsAreSynced, ReadsNeverGoBack, PublishedWithin, NumbersNeverFall, NoneFalls, EachCommitOnceInOrder, NothingUnsyncedIsAccepted, RefusesOnlyGaps, OperationsLeaveRows}
+use Rattle.world.proofs.LawsReplies.{Says, says}
 use Rattle.world.proofs.LawsSteps.{Holds, at_first, step, in_order, same, onward, grows}
 
 -- each reply has its event, and is allowed behind the pairs before it
@@ -32,13 +37,41 @@ answered_at setup log past (e ∷ es) [] allowed place event got = absurd allowe
 answered_at setup log past (e ∷ es) (r ∷ rs) allowed zero event got = (r, refl, subst (λ x. Allowed setup log past x r) (same_Some e event got) allowed.0)
 answered_at setup log past (e ∷ es) (r ∷ rs) allowed (suc place) event got = answered_at setup log ((e, r) ∷ past) es rs allowed.1 place event got
 
+-- ---- each moment
+
+-- no more are accepted than the log has
+few : (log : List Record) (past : Past) → Holds log past → accepted past ≤ length log
+few log past h = let o = in_order log past h in omega (arith, o.accepted_within, o.synced_within, o.flushed_within)
+
+-- what a reply says of the pairs before it, at a moment of which the numbers are in order
+said : (setup : Setup) (log : List Record) (past : Past) (event : Event) (reply : Reply) → IsLegalLog setup.tables (loaded setup.base) log → Holds log past → Allowed setup log past event reply → Says setup log past event reply
+said setup log past event reply legal h allowed = says setup log past event reply legal (few log past h) allowed
+
+holds_from : (setup : Setup) (log : List Record) (past : Past) (es : List Event) (rs : List Reply) → IsLegalLog setup.tables (loaded setup.base) log → AreAllowed setup log past es rs → Holds log past → (moment : ℕ) → Holds log (pairs_after past (take moment es) (take moment rs))
+holds_from setup log past es rs legal allowed h zero = h
+holds_from setup log past [] [] legal allowed h (suc moment) = h
+holds_from setup log past [] (r ∷ rs) legal allowed h (suc moment) = absurd allowed
+holds_from setup log past (e ∷ es) [] legal allowed h (suc moment) = absurd allowed
+holds_from setup log past (e ∷ es) (r ∷ rs) legal allowed h (suc moment) =
+    holds_from setup log ((e, r) ∷ past) es rs legal allowed.1 (step setup log past e r (said setup log past e r legal h allowed.0) h) moment
+
+holds_at : (setup : Setup) (log : List Record) (es : List Event) (rs : List Reply) → AreLegal setup log es rs → (moment : ℕ) → Holds log (past_at es rs moment)
+holds_at setup log es rs legal moment = holds_from setup log [] es rs legal.legal legal.allowed (at_first log) moment
+
+-- the event of a reply, and what the reply says of the pairs before it
+said_at : (setup : Setup) (log : List Record) (es : List Event) (rs : List Reply) → AreLegal setup log es rs → (place : ℕ) (reply : Reply) → slice_get rs place ≡ Some reply →
+    (event : Event) × (slice_get es place ≡ Some event) × Says setup log (past_at es rs place) event reply
+said_at setup log es rs legal place reply got =
+    let at = allowed_at setup log [] es rs legal.allowed place reply got in
+    (at.0, at.1, said setup log (past_at es rs place) at.0 reply legal.legal (holds_at setup log es rs legal place) at.2)
+
 -- ---- reads
 
 pub prefixes : ReadsArePrefixes
 prefixes setup log es rs legal place id upto row read answer =
-    let at = allowed_at setup log [] es rs legal.allowed place (replies.Read upto row) answer in
+    let at = said_at setup log es rs legal place (replies.Read upto row) answer in
     let same : at.0 ≡ events.Read id = same_Some at.0 (events.Read id) (sym at.1 ∙ read) in
-    (says setup log (past_at es rs place) (events.Read id) (replies.Read upto row) (subst (λ e. Allowed setup log (past_at es rs place) e (replies.Read upto row)) same at.2)).1
+    (subst (λ e. Says setup log (past_at es rs place) e (replies.Read upto row)) same at.2).1
 
 pub answered : ReadsAreAnswered
 answered setup log es rs legal place id read =
@@ -51,7 +84,7 @@ answered setup log es rs legal place id read =
 -- ---- commits
 
 -- a commit is one more
-one_more : (past : Past) (event : Event) (reply : Reply) → replicated ((event, reply) ∷ past) ≡ replicated past + cond (is_commit reply) 1 0
+one_more : (past : Past) (event : Event) (reply : Reply) → replica_committed ((event, reply) ∷ past) ≡ replica_committed past + cond (is_commit reply) 1 0
 one_more past event (replies.Commit gno) = refl
 one_more past event reply = omega arith
 
@@ -60,79 +93,83 @@ added all before one more h = omega (arith, h)
 
 -- the number committed at a moment is the number of commits before it
 commits_until : (setup : Setup) (log : List Record) (past : Past) (es : List Event) (rs : List Reply) → AreAllowed setup log past es rs → (place : ℕ) →
-    replicated (pairs_after past (take place es) (take place rs)) ≡ replicated past + count_by is_commit (take place rs)
+    replica_committed (pairs_after past (take place es) (take place rs)) ≡ replica_committed past + count_by is_commit (take place rs)
 commits_until setup log past es rs allowed zero = omega arith
 commits_until setup log past [] [] allowed (suc place) = omega arith
 commits_until setup log past [] (r ∷ rs) allowed (suc place) = absurd allowed
 commits_until setup log past (e ∷ es) [] allowed (suc place) = absurd allowed
 commits_until setup log past (e ∷ es) (r ∷ rs) allowed (suc place) =
     commits_until setup log ((e, r) ∷ past) es rs allowed.1 place
-    ∙ added (replicated ((e, r) ∷ past)) (replicated past) (cond (is_commit r) 1 0) (count_by is_commit (take place rs)) (one_more past e r)
-    ∙ ap (λ k. replicated past + k) (sym (sum_by-cons (λ x. cond (is_commit x) 1 0) r (take place rs)))
+    ∙ added (replica_committed ((e, r) ∷ past)) (replica_committed past) (cond (is_commit r) 1 0) (count_by is_commit (take place rs)) (one_more past e r)
+    ∙ ap (λ k. replica_committed past + k) (sym (sum_by-cons (λ x. cond (is_commit x) 1 0) r (take place rs)))
 
 pub in_log_order : EachCommitOnceInOrder
 in_log_order setup log es rs legal place gno got =
-    let at = allowed_at setup log [] es rs legal.allowed place (replies.Commit gno) got in
-    let says_so = says setup log (past_at es rs place) at.0 (replies.Commit gno) at.2 in
-    omega (arith, says_so.0, commits_until setup log [] es rs legal.allowed place)
+    let at = said_at setup log es rs legal place (replies.Commit gno) got in
+    omega (arith, at.2.0, commits_until setup log [] es rs legal.allowed place)
 
--- ---- what is accepted
+-- ---- what is accepted, and what is refused
 
 pub only_synced : NothingUnsyncedIsAccepted
 only_synced setup log es rs legal place got =
-    let at = allowed_at setup log [] es rs legal.allowed place replies.Accepted got in
-    let says_so = says setup log (past_at es rs place) at.0 replies.Accepted at.2 in
-    (says_so.0, at.1 ∙ ap Some says_so.1, says_so.2, says_so.3)
+    let at = said_at setup log es rs legal place replies.Accepted got in
+    (at.2.0, at.1 ∙ ap Some at.2.1, at.2.2, at.2.3)
+
+pub only_gaps : RefusesOnlyGaps
+only_gaps setup log es rs legal place fault got =
+    let at = said_at setup log es rs legal place (replies.Replica fault) got in
+    elim at.2 [
+      | inl memory ↦ inl memory
+      | inr gap ↦ inr (gap.0, gap.1, at.1 ∙ ap Some gap.2)
+    ]
+
+-- ---- the rows that readers have
+
+pub operations_leave : OperationsLeaveRows
+operations_leave setup log es rs legal moment =
+    let upto = published (past_at es rs moment) in
+    let whole = subst (λ (l : List Record). IsLegalLog setup.tables (loaded setup.base) l) (sym (take-append-drop upto log)) legal.legal in
+    let left = beginning_leaves setup.tables (loaded setup.base) (take upto log) (drop upto log) whole in
+    left.1 ∙ ap Some (sym (left_by-operations setup.tables setup.base log upto left.0 left.1))
 
 -- ---- the numbers
 
-holds_from : (setup : Setup) (log : List Record) (past : Past) (es : List Event) (rs : List Reply) → AreAllowed setup log past es rs → Holds log past → (moment : ℕ) → Holds log (pairs_after past (take moment es) (take moment rs))
-holds_from setup log past es rs allowed h zero = h
-holds_from setup log past [] [] allowed h (suc moment) = h
-holds_from setup log past [] (r ∷ rs) allowed h (suc moment) = absurd allowed
-holds_from setup log past (e ∷ es) [] allowed h (suc moment) = absurd allowed
-holds_from setup log past (e ∷ es) (r ∷ rs) allowed h (suc moment) =
-    holds_from setup log ((e, r) ∷ past) es rs allowed.1 (step setup log past e r (says setup log past e r allowed.0) h) moment
-
 pub numbers_in_order : PublishedWithin
-numbers_in_order setup log es rs legal moment = in_order log (past_at es rs moment) (holds_from setup log [] es rs legal.allowed (at_first log) moment)
+numbers_in_order setup log es rs legal moment = in_order log (past_at es rs moment) (holds_at setup log es rs legal moment)
 
 -- from the beginning of these pairs on
-grown_from : (setup : Setup) (log : List Record) (past : Past) (es : List Event) (rs : List Reply) → AreAllowed setup log past es rs → Holds log past → (moment : ℕ) → NoneFalls past (pairs_after past (take moment es) (take moment rs))
-grown_from setup log past es rs allowed h zero = same past
-grown_from setup log past [] [] allowed h (suc moment) = same past
-grown_from setup log past [] (r ∷ rs) allowed h (suc moment) = absurd allowed
-grown_from setup log past (e ∷ es) [] allowed h (suc moment) = absurd allowed
-grown_from setup log past (e ∷ es) (r ∷ rs) allowed h (suc moment) =
-    let said = says setup log past e r allowed.0 in
-    onward past ((e, r) ∷ past) _ (grows setup log past e r said h)
-    (grown_from setup log ((e, r) ∷ past) es rs allowed.1 (step setup log past e r said h) moment)
+grown_from : (setup : Setup) (log : List Record) (past : Past) (es : List Event) (rs : List Reply) → IsLegalLog setup.tables (loaded setup.base) log → AreAllowed setup log past es rs → Holds log past → (moment : ℕ) → NoneFalls past (pairs_after past (take moment es) (take moment rs))
+grown_from setup log past es rs legal allowed h zero = same past
+grown_from setup log past [] [] legal allowed h (suc moment) = same past
+grown_from setup log past [] (r ∷ rs) legal allowed h (suc moment) = absurd allowed
+grown_from setup log past (e ∷ es) [] legal allowed h (suc moment) = absurd allowed
+grown_from setup log past (e ∷ es) (r ∷ rs) legal allowed h (suc moment) =
+    let so = said setup log past e r legal h allowed.0 in
+    onward past ((e, r) ∷ past) _ (grows setup log past e r so h)
+    (grown_from setup log ((e, r) ∷ past) es rs legal allowed.1 (step setup log past e r so h) moment)
 
-grown_between : (setup : Setup) (log : List Record) (past : Past) (es : List Event) (rs : List Reply) → AreAllowed setup log past es rs → Holds log past → (before later : ℕ) → before ≤ later →
+grown_between : (setup : Setup) (log : List Record) (past : Past) (es : List Event) (rs : List Reply) → IsLegalLog setup.tables (loaded setup.base) log → AreAllowed setup log past es rs → Holds log past → (before later : ℕ) → before ≤ later →
     NoneFalls (pairs_after past (take before es) (take before rs)) (pairs_after past (take later es) (take later rs))
-grown_between setup log past es rs allowed h zero later le = grown_from setup log past es rs allowed h later
-grown_between setup log past es rs allowed h (suc before) zero le = absurd (omega (arith, le))
-grown_between setup log past [] [] allowed h (suc before) (suc later) le = same past
-grown_between setup log past [] (r ∷ rs) allowed h (suc before) (suc later) le = absurd allowed
-grown_between setup log past (e ∷ es) [] allowed h (suc before) (suc later) le = absurd allowed
-grown_between setup log past (e ∷ es) (r ∷ rs) allowed h (suc before) (suc later) le =
-    grown_between setup log ((e, r) ∷ past) es rs allowed.1 (step setup log past e r (says setup log past e r allowed.0) h) before later (omega (arith, le))
+grown_between setup log past es rs legal allowed h zero later le = grown_from setup log past es rs legal allowed h later
+grown_between setup log past es rs legal allowed h (suc before) zero le = absurd (omega (arith, le))
+grown_between setup log past [] [] legal allowed h (suc before) (suc later) le = same past
+grown_between setup log past [] (r ∷ rs) legal allowed h (suc before) (suc later) le = absurd allowed
+grown_between setup log past (e ∷ es) [] legal allowed h (suc before) (suc later) le = absurd allowed
+grown_between setup log past (e ∷ es) (r ∷ rs) legal allowed h (suc before) (suc later) le =
+    grown_between setup log ((e, r) ∷ past) es rs legal allowed.1 (step setup log past e r (said setup log past e r legal h allowed.0) h) before later (omega (arith, le))
 
 pub none_falls : NumbersNeverFall
-none_falls setup log es rs legal before later le = grown_between setup log [] es rs legal.allowed (at_first log) before later le
+none_falls setup log es rs legal before later le = grown_between setup log [] es rs legal.legal legal.allowed (at_first log) before later le
 
 pub never_back : ReadsNeverGoBack
 never_back setup log es rs legal before later m n row seen lt first second =
-    let a = allowed_at setup log [] es rs legal.allowed before (replies.Read m row) first in
-    let b = allowed_at setup log [] es rs legal.allowed later (replies.Read n seen) second in
-    let says_first = says setup log (past_at es rs before) a.0 (replies.Read m row) a.2 in
-    let says_second = says setup log (past_at es rs later) b.0 (replies.Read n seen) b.2 in
+    let a = said_at setup log es rs legal before (replies.Read m row) first in
+    let b = said_at setup log es rs legal later (replies.Read n seen) second in
     let up = (none_falls setup log es rs legal before later (omega (arith, lt))).published_rises in
-    omega (arith, says_first.0, says_second.0, up)
+    omega (arith, a.2.0, b.2.0, up)
 
 pub reads_synced : ReadsAreSynced
 reads_synced setup log es rs legal place upto row got =
-    let at = allowed_at setup log [] es rs legal.allowed place (replies.Read upto row) got in
-    let said = says setup log (past_at es rs place) at.0 (replies.Read upto row) at.2 in
+    let at = said_at setup log es rs legal place (replies.Read upto row) got in
     let now = numbers_in_order setup log es rs legal place in
-    omega (arith, said.0, now.published_within, now.replicated_within, now.dispatched_within, now.accepted_within)
+    omega (arith, at.2.0, now.published_within, now.replica_committed_within, now.dispatched_within, now.accepted_within)

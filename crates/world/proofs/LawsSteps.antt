@@ -7,7 +7,7 @@ use Rattle.record_codec.specs.declared.records.Record.{Record}
 use Rattle.world.specs.declared.events.Event.{Event}
 use Rattle.world.specs.declared.events.Reply.{Reply}
 use Rattle.world.specs.declared.events.Reply.TheVariants as replies
-use Rattle.world.specs.Past.{Past, flushed, unsynced, synced, committed, queue, accepted, dispatched, finished, replicated, published}
+use Rattle.world.specs.Past.{Past, flushed, unsynced, synced, source_committed, queue, accepted, dispatched, finished, replica_committed, published}
 use Rattle.world.specs.Legal.{Setup, stamp_of, next_records}
 use Rattle.world.specs.Laws.{AreInOrder, NoneFalls}
 use Rattle.world.proofs.LawsReplies.{Says}
@@ -59,31 +59,33 @@ AllUpTo-any top one (n ∷ ns) h any =
 
 -- ---- each moment
 
--- What holds of the numbers: they are in order, the groups not yet synced are all records from the synced up to the
--- flushed ones, and what is finished was given to a worker.
-pub record InOrder (log : List Record) (flushed_ : ℕ) (groups : List (ℕ × ℕ)) (synced_ committed_ accepted_ dispatched_ : ℕ) (done : List ℕ) (replicated_ published_ : ℕ) : Type 0 where
+-- What holds of the source's numbers: the groups not yet synced are all records from the synced up to the flushed ones.
+pub record SourceInOrder (log : List Record) (flushed_ : ℕ) (groups : List (ℕ × ℕ)) (synced_ source_committed_ : ℕ) : Type 0 where
   pub follow : Follow synced_ groups flushed_
   pub in_log : flushed_ ≤ length log
-  pub committed_within : committed_ ≤ synced_
-  pub accepted_within : accepted_ ≤ synced_
+  pub committed_within : source_committed_ ≤ synced_
+
+-- And of the jobs: what is finished was dispatched, and what is committed too.
+pub record JobsInOrder (accepted_ dispatched_ : ℕ) (done : List ℕ) (replica_committed_ : ℕ) : Type 0 where
   pub dispatched_within : dispatched_ ≤ accepted_
   pub done_within : AllUpTo dispatched_ done
-  pub replicated_within : replicated_ ≤ dispatched_
-  pub published_within : published_ ≤ replicated_
+  pub committed_within : replica_committed_ ≤ dispatched_
+
+pub record InOrder (log : List Record) (flushed_ : ℕ) (groups : List (ℕ × ℕ)) (synced_ source_committed_ accepted_ dispatched_ : ℕ) (done : List ℕ) (replica_committed_ published_ : ℕ) : Type 0 where
+  pub source : SourceInOrder log flushed_ groups synced_ source_committed_
+  pub delivered : accepted_ ≤ synced_
+  pub jobs : JobsInOrder accepted_ dispatched_ done replica_committed_
+  pub shown : published_ ≤ replica_committed_
 
 abbrev pub Holds : List Record → Past → Type 0
-Holds log past = InOrder log (flushed past) (unsynced past) (synced past) (committed past) (accepted past) (dispatched past) (finished past) (replicated past) (published past)
+Holds log past = InOrder log (flushed past) (unsynced past) (synced past) (source_committed past) (accepted past) (dispatched past) (finished past) (replica_committed past) (published past)
 
 pub at_first : (log : List Record) → Holds log []
 at_first log = record {
-  follow = refl;
-  in_log = omega arith;
-  committed_within = omega arith;
-  accepted_within = omega arith;
-  dispatched_within = omega arith;
-  done_within = tt;
-  replicated_within = omega arith;
-  published_within = omega arith;
+  source = record { follow = refl; in_log = omega arith; committed_within = omega arith };
+  delivered = omega arith;
+  jobs = record { dispatched_within = omega arith; done_within = tt; committed_within = omega arith };
+  shown = omega arith;
 }
 
 -- the stamps of a flush are of records in the log
@@ -97,100 +99,50 @@ stamps_in_log log past stamps within are =
 
 -- an allowed reply leaves them in order
 pub step : (setup : Setup) (log : List Record) (past : Past) (event : Event) (reply : Reply) → Says setup log past event reply → Holds log past → Holds log ((event, reply) ∷ past)
-step setup log past event (replies.Flushed first stamps) s h = record {
-  follow = Follow-push (synced past) (unsynced past) (flushed past) first (flushed past + length stamps) h.follow s.0 (omega arith);
-  in_log = stamps_in_log log past stamps h.in_log s.1;
-  committed_within = h.committed_within;
-  accepted_within = h.accepted_within;
-  dispatched_within = h.dispatched_within;
-  done_within = h.done_within;
-  replicated_within = h.replicated_within;
-  published_within = h.published_within;
-}
+step setup log past event (replies.Flushed first stamps) s h =
+    let follow = Follow-push (synced past) (unsynced past) (flushed past) first (flushed past + length stamps) h.source.follow s.0 (omega arith) in
+    let in_log = stamps_in_log log past stamps h.source.in_log s.1 in
+    record { source = record { follow = follow; in_log = in_log; committed_within = h.source.committed_within }; delivered = h.delivered; jobs = h.jobs; shown = h.shown }
 step setup log past event (replies.Synced first last) s h =
-    let all : Follow (synced past) ((first, last) ∷ s.0) (flushed past) = subst (λ g. Follow (synced past) g (flushed past)) s.1 h.follow in
+    let all : Follow (synced past) ((first, last) ∷ s.0) (flushed past) = subst (λ g. Follow (synced past) g (flushed past)) s.1 h.source.follow in
+    let follow = subst (λ g. Follow last (drop 1 g) (flushed past)) (sym s.1) all.2 in
     record {
-      follow = subst (λ g. Follow last (drop 1 g) (flushed past)) (sym s.1) all.2;
-      in_log = h.in_log;
-      committed_within = omega (arith, h.committed_within, all.1);
-      accepted_within = omega (arith, h.accepted_within, all.1);
-      dispatched_within = h.dispatched_within;
-      done_within = h.done_within;
-      replicated_within = h.replicated_within;
-      published_within = h.published_within;
+      source = record { follow = follow; in_log = h.source.in_log; committed_within = omega (arith, h.source.committed_within, all.1) };
+      delivered = omega (arith, h.delivered, all.1);
+      jobs = h.jobs;
+      shown = h.shown;
     }
-step setup log past event (replies.Committed first last) s h = record {
-  follow = h.follow;
-  in_log = h.in_log;
-  committed_within = omega (arith, s);
-  accepted_within = h.accepted_within;
-  dispatched_within = h.dispatched_within;
-  done_within = h.done_within;
-  replicated_within = h.replicated_within;
-  published_within = h.published_within;
-}
-step setup log past event replies.Accepted s h = record {
-  follow = h.follow;
-  in_log = h.in_log;
-  committed_within = h.committed_within;
-  accepted_within = omega (arith, s.2, s.3);
-  dispatched_within = omega (arith, h.dispatched_within);
-  done_within = h.done_within;
-  replicated_within = h.replicated_within;
-  published_within = h.published_within;
-}
-step setup log past event (replies.Job gno) s h = record {
-  follow = h.follow;
-  in_log = h.in_log;
-  committed_within = h.committed_within;
-  accepted_within = h.accepted_within;
-  dispatched_within = omega (arith, s);
-  done_within = AllUpTo-next (dispatched past) (finished past) h.done_within;
-  replicated_within = omega (arith, h.replicated_within);
-  published_within = h.published_within;
-}
-step setup log past event (replies.Finished gno) s h = record {
-  follow = h.follow;
-  in_log = h.in_log;
-  committed_within = h.committed_within;
-  accepted_within = h.accepted_within;
-  dispatched_within = h.dispatched_within;
-  done_within = AllUpTo-push (dispatched past) (finished past) gno h.done_within s;
-  replicated_within = h.replicated_within;
-  published_within = h.published_within;
-}
-step setup log past event (replies.Commit gno) s h = record {
-  follow = h.follow;
-  in_log = h.in_log;
-  committed_within = h.committed_within;
-  accepted_within = h.accepted_within;
-  dispatched_within = h.dispatched_within;
-  done_within = AllUpTo-filter (dispatched past) (λ n. not (n == gno)) (finished past) h.done_within;
-  replicated_within = AllUpTo-any (dispatched past) (replicated past + 1) (finished past) h.done_within s.1;
-  published_within = omega (arith, h.published_within);
-}
-step setup log past event (replies.Published upto) s h = record {
-  follow = h.follow;
-  in_log = h.in_log;
-  committed_within = h.committed_within;
-  accepted_within = h.accepted_within;
-  dispatched_within = h.dispatched_within;
-  done_within = h.done_within;
-  replicated_within = h.replicated_within;
-  published_within = omega (arith, s);
-}
+step setup log past event (replies.Committed first last) s h =
+    record { source = record { follow = h.source.follow; in_log = h.source.in_log; committed_within = omega (arith, s) }; delivered = h.delivered; jobs = h.jobs; shown = h.shown }
+step setup log past event replies.Accepted s h =
+    let jobs : JobsInOrder (accepted past + 1) (dispatched past) (finished past) (replica_committed past) = record { dispatched_within = omega (arith, h.jobs.dispatched_within); done_within = h.jobs.done_within; committed_within = h.jobs.committed_within } in
+    record { source = h.source; delivered = omega (arith, s.2, s.3); jobs = jobs; shown = h.shown }
+step setup log past event (replies.Job gno) s h =
+    let done = AllUpTo-next (dispatched past) (finished past) h.jobs.done_within in
+    let jobs : JobsInOrder (accepted past) (dispatched past + 1) (finished past) (replica_committed past) = record { dispatched_within = omega (arith, s); done_within = done; committed_within = omega (arith, h.jobs.committed_within) } in
+    record { source = h.source; delivered = h.delivered; jobs = jobs; shown = h.shown }
+step setup log past event (replies.Finished gno) s h =
+    let done = AllUpTo-push (dispatched past) (finished past) gno h.jobs.done_within s in
+    let jobs : JobsInOrder (accepted past) (dispatched past) (finished past ++ gno ∷ []) (replica_committed past) = record { dispatched_within = h.jobs.dispatched_within; done_within = done; committed_within = h.jobs.committed_within } in
+    record { source = h.source; delivered = h.delivered; jobs = jobs; shown = h.shown }
+step setup log past event (replies.Commit gno) s h =
+    let done = AllUpTo-filter (dispatched past) (λ n. not (n == gno)) (finished past) h.jobs.done_within in
+    let within = AllUpTo-any (dispatched past) (replica_committed past + 1) (finished past) h.jobs.done_within s.1 in
+    let jobs : JobsInOrder (accepted past) (dispatched past) (filter (λ n. not (n == gno)) (finished past)) (replica_committed past + 1) = record { dispatched_within = h.jobs.dispatched_within; done_within = done; committed_within = within } in
+    record { source = h.source; delivered = h.delivered; jobs = jobs; shown = omega (arith, h.shown) }
+step setup log past event (replies.Published upto) s h = record { source = h.source; delivered = h.delivered; jobs = h.jobs; shown = omega (arith, s) }
 step setup log past event reply s h = h
 
 -- in the words of the law
 pub in_order : (log : List Record) (past : Past) → Holds log past → AreInOrder log past
 in_order log past h = record {
-  published_within = h.published_within;
-  replicated_within = h.replicated_within;
-  dispatched_within = h.dispatched_within;
-  accepted_within = h.accepted_within;
-  committed_within = h.committed_within;
-  synced_within = Follow-le (synced past) (unsynced past) (flushed past) h.follow;
-  flushed_within = h.in_log;
+  published_within = h.shown;
+  replica_committed_within = h.jobs.committed_within;
+  dispatched_within = h.jobs.dispatched_within;
+  accepted_within = h.delivered;
+  source_committed_within = h.source.committed_within;
+  synced_within = Follow-le (synced past) (unsynced past) (flushed past) h.source.follow;
+  flushed_within = h.source.in_log;
 }
 
 -- ---- none falls
@@ -198,10 +150,10 @@ in_order log past h = record {
 pub same : (past : Past) → NoneFalls past past
 same past = record {
   published_rises = omega arith;
-  replicated_rises = omega arith;
+  replica_committed_rises = omega arith;
   dispatched_rises = omega arith;
   accepted_rises = omega arith;
-  committed_rises = omega arith;
+  source_committed_rises = omega arith;
   synced_rises = omega arith;
   flushed_rises = omega arith;
 }
@@ -209,10 +161,10 @@ same past = record {
 pub onward : (a b c : Past) → NoneFalls a b → NoneFalls b c → NoneFalls a c
 onward a b c h k = record {
   published_rises = omega (arith, h.published_rises, k.published_rises);
-  replicated_rises = omega (arith, h.replicated_rises, k.replicated_rises);
+  replica_committed_rises = omega (arith, h.replica_committed_rises, k.replica_committed_rises);
   dispatched_rises = omega (arith, h.dispatched_rises, k.dispatched_rises);
   accepted_rises = omega (arith, h.accepted_rises, k.accepted_rises);
-  committed_rises = omega (arith, h.committed_rises, k.committed_rises);
+  source_committed_rises = omega (arith, h.source_committed_rises, k.source_committed_rises);
   synced_rises = omega (arith, h.synced_rises, k.synced_rises);
   flushed_rises = omega (arith, h.flushed_rises, k.flushed_rises);
 }
@@ -220,20 +172,20 @@ onward a b c h k = record {
 -- the numbers one by one: the published, committed at the replica, dispatched, accepted, committed, synced and flushed
 abbrev RisesTo : Past → Past → Type 0
 RisesTo before later =
-    (published before ≤ published later) × (replicated before ≤ replicated later) × (dispatched before ≤ dispatched later)
-    × (accepted before ≤ accepted later) × (committed before ≤ committed later) × (synced before ≤ synced later)
+    (published before ≤ published later) × (replica_committed before ≤ replica_committed later) × (dispatched before ≤ dispatched later)
+    × (accepted before ≤ accepted later) × (source_committed before ≤ source_committed later) × (synced before ≤ synced later)
     × (flushed before ≤ flushed later)
 
 rise : (setup : Setup) (log : List Record) (past : Past) (event : Event) (reply : Reply) → Says setup log past event reply → Holds log past → RisesTo past past → RisesTo past ((event, reply) ∷ past)
 rise setup log past event (replies.Flushed first stamps) s h o = (o.0, o.1, o.2, o.3, o.4, o.5, omega arith)
 rise setup log past event (replies.Synced first last) s h o =
-    let all : Follow (synced past) ((first, last) ∷ s.0) (flushed past) = subst (λ g. Follow (synced past) g (flushed past)) s.1 h.follow in
+    let all : Follow (synced past) ((first, last) ∷ s.0) (flushed past) = subst (λ g. Follow (synced past) g (flushed past)) s.1 h.source.follow in
     (o.0, o.1, o.2, o.3, o.4, all.1, o.6)
-rise setup log past event (replies.Committed first last) s h o = (o.0, o.1, o.2, o.3, omega (arith, s, h.committed_within), o.5, o.6)
+rise setup log past event (replies.Committed first last) s h o = (o.0, o.1, o.2, o.3, omega (arith, s, h.source.committed_within), o.5, o.6)
 rise setup log past event replies.Accepted s h o = (o.0, o.1, o.2, omega arith, o.4, o.5, o.6)
 rise setup log past event (replies.Job gno) s h o = (o.0, o.1, omega arith, o.3, o.4, o.5, o.6)
 rise setup log past event (replies.Commit gno) s h o = (o.0, omega arith, o.2, o.3, o.4, o.5, o.6)
-rise setup log past event (replies.Published upto) s h o = (omega (arith, s, h.published_within), o.1, o.2, o.3, o.4, o.5, o.6)
+rise setup log past event (replies.Published upto) s h o = (omega (arith, s, h.shown), o.1, o.2, o.3, o.4, o.5, o.6)
 rise setup log past event reply s h o = o
 
 pub grows : (setup : Setup) (log : List Record) (past : Past) (event : Event) (reply : Reply) → Says setup log past event reply → Holds log past → NoneFalls past ((event, reply) ∷ past)
@@ -241,10 +193,10 @@ grows setup log past event reply s h =
     let all = rise setup log past event reply s h (omega arith, omega arith, omega arith, omega arith, omega arith, omega arith, omega arith) in
     record {
       published_rises = all.0;
-      replicated_rises = all.1;
+      replica_committed_rises = all.1;
       dispatched_rises = all.2;
       accepted_rises = all.3;
-      committed_rises = all.4;
+      source_committed_rises = all.4;
       synced_rises = all.5;
       flushed_rises = all.6;
     }

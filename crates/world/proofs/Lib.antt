@@ -1,4 +1,5 @@
 pub mod Parts
+pub mod Received
 pub mod SourceEvents
 pub mod ReplicaEvents
 pub mod LogEvents

@@ -1,48 +1,43 @@
 -- Facts of the parts of a world that every event uses.
-use Rattle.std.proofs.Common.{◌≡◌, ◌∙◌, sym, ap, subst, refl, ℕ, ◌≤◌, List, [], ◌++◌, length, take, arith, append_assoc}
-use Rattle.std.proofs.lemmas.List.{take-append-le, append-nil}
+use mathlib.Core.List.{IsPrefix}
+use base.Growing.{prefix_refl}
+use Rattle.std.proofs.Common.{◌≡◌, ◌∙◌, sym, ap, ℕ, ◌≤◌, List, ◌∷◌, length, take, arith}
+use Rattle.std.proofs.lemmas.List.{take-append-le}
 use Rattle.rows.specs.Database.{Database}
 use Rattle.record_codec.specs.declared.records.Record.{Record}
 use Rattle.source_core.specs.Source.{Source}
+use Rattle.replica_core.specs.Replica.{Replica}
+use Rattle.world.specs.declared.events.Event.{Event}
+use Rattle.world.specs.declared.events.Reply.{Reply}
 use Rattle.world.specs.Past.{Past, flushed, accepted}
-use Rattle.world.specs.Legal.{Setup, source_at, replica_at}
-use Rattle.world.specs.State.{World, Extends, IsWorld, Stands}
+use Rattle.world.specs.Legal.{Setup, source_at, replica_at, Allowed}
+use Rattle.world.specs.State.{World, IsWorld, Stands, Goes}
 
 -- the first records of a longer list are those of the list
-pub take_longer : (log longer : List Record) → Extends log longer → (n : ℕ) → n ≤ length log → take n longer ≡ take n log
-take_longer log longer more n h = ap (λ l. take n l) more.1 ∙ take-append-le n log more.0 h
-
-pub Extends_itself : (log : List Record) → Extends log log
-Extends_itself log = ([], sym (append-nil log))
-
-pub Extends_trans : (a b c : List Record) → Extends a b → Extends b c → Extends a c
-Extends_trans a b c h k = (h.0 ++ k.0, k.1 ∙ ap (λ l. l ++ k.0) h.1 ∙ append_assoc a h.0 k.0)
+pub take_longer : (log longer : List Record) → IsPrefix log longer → (n : ℕ) → n ≤ length log → take n longer ≡ take n log
+take_longer log longer more n h = ap (λ l. take n l) (sym more.1) ∙ take-append-le n log more.0 h
 
 -- whichever longer log is meant, the pairs say that the source stands as it does
-pub source_is : {R : Type 0} (setup : Setup) (past : Past) (w : World R) (log : List Record) → Stands setup past w → Extends w.source.log log → source_at setup log past ≡ w.source
-source_is setup past w log stands longer =
-    let same : take (flushed past) log ≡ take (flushed past) w.source.log = take_longer w.source.log log longer (flushed past) (subst (λ n. n ≤ length w.source.log) (sym stands.flushed) (omega arith)) in
-    ap (λ (l : List Record). record (source_at setup log past) { log = l }) same ∙ sym stands.source
+pub source_is : {R : Type 0} (setup : Setup) (past : Past) (w : World R) (log : List Record) → Stands setup past w → IsPrefix w.source.log log → source_at setup log past ≡ w.source
+source_is setup past w log st longer =
+    let same : take (flushed past) log ≡ take (flushed past) w.source.log = take_longer w.source.log log longer (flushed past) (omega (arith, st.source.flushed)) in
+    ap (λ (l : List Record). record (source_at setup log past) { log = l }) same ∙ sym st.source.is
 
-pub replica_is : {R : Type 0} (contents : R → Database) (setup : Setup) (past : Past) (w : World R) (log : List Record) → IsWorld contents w → Stands setup past w → Extends w.source.log log → replica_at setup log past ≡ w.replica
-replica_is contents setup past w log world stands longer =
-    let within : accepted past ≤ length w.source.log = omega (arith, stands.accepted, world.delivered, world.sound.synced_within) in
+pub replica_is : {R : Type 0} (contents : R → Database) (setup : Setup) (past : Past) (w : World R) (log : List Record) → IsWorld contents w → Stands setup past w → IsPrefix w.source.log log → replica_at setup log past ≡ w.replica
+replica_is contents setup past w log h st longer =
+    let within : accepted past ≤ length w.source.log = omega (arith, st.replica.accepted, h.wire.within, h.source.sound.synced_within) in
     let same : take (accepted past) log ≡ take (accepted past) w.source.log = take_longer w.source.log log longer (accepted past) within in
-    ap (λ (l : List Record). record (replica_at setup log past) { accepted = l }) same ∙ sym stands.replica
+    ap (λ (l : List Record). record (replica_at setup log past) { accepted = l }) same ∙ sym st.replica.is
 
--- the same world, with another source
+-- an event that changes nothing
+pub stays : {R : Type 0} (contents : R → Database) (w : World R) (event : Event) (reply : Reply) → IsWorld contents w →
+    ((setup : Setup) (past : Past) → Stands setup past w → Stands setup ((event, reply) ∷ past) w) →
+    ((setup : Setup) (past : Past) (log : List Record) → Stands setup past w → IsPrefix w.source.log log → Allowed setup log past event reply) → Goes contents w event reply w
+stays contents w event reply h stands allowed = record { world = h; grows = prefix_refl w.source.log; stands = stands; allowed = allowed }
+
+-- the same world, with another source, or with another replica
 abbrev pub with_source : {R : Type 0} → World R → Source → World R
 with_source w s = record w { source = s }
 
--- two sources have the same log, as far as it has come
-pub record SameLog (a b : Source) : Type 0 where
-  pub tables : b.tables ≡ a.tables
-  pub base : b.base ≡ a.base
-  pub limit : b.limit ≡ a.limit
-  pub log : b.log ≡ a.log
-  pub synced : b.synced ≡ a.synced
-  pub committed : b.committed ≡ a.committed
-  pub halted : b.halted ≡ a.halted
-
-pub same_log : (a : Source) → SameLog a a
-same_log a = record { tables = refl; base = refl; limit = refl; log = refl; synced = refl; committed = refl; halted = refl }
+abbrev pub with_replica : {R : Type 0} → World R → Replica → World R
+with_replica w r = record w { replica = r }

@@ -1,13 +1,8 @@
 -- Operations that are appended to the rows that readers see.
-use Rattle.std.specs.Prelude.{◌≡◌, ℕ, ◌+◌, ◌≤◌, List, [], ◌∷◌, ◌++◌, length, map, take}
+use Rattle.std.specs.Prelude.{◌≡◌, ℕ, ◌≤◌, List, ◌++◌, length, map, take}
 use Rattle.store_trait.specs.declared.Op.{Op}
 use Rattle.store_trait.specs.Operation.{batch_of}
-use Rattle.published.specs.Plain.{Shown, IsCommit}
-
--- the operations are the commits behind this number, in order
-abbrev pub AreCommits : ℕ → List Op → Type 0
-AreCommits n [] = Unit {0}
-AreCommits n (op ∷ ops) = IsCommit op (n + 1) × AreCommits (n + 1) ops
+use Rattle.published.specs.Plain.{Shown}
 
 abbrev pub appended_to : {R : Type 0} → Shown R → List Op → Shown R
 appended_to shown ops = record shown { waiting = shown.waiting ++ map batch_of ops }

@@ -15,8 +15,8 @@ setup_of w = record { tables = w.source.tables; base = w.source.base; limit = w.
 pub record IsFresh {R : Type 0} (contents : R → Database) (w : World R) : Type 0 where
   pub source : w.source ≡ new_source w.source.tables w.source.base w.source.limit
   pub replica : w.replica ≡ new_over w.source.tables w.source.base
-  pub groups : w.groups ≡ []
-  pub synced : w.synced ≡ 0
+  pub groups : w.wire.groups ≡ []
+  pub synced : w.wire.synced ≡ 0
   pub upto : w.shown.upto ≡ 0
   pub waiting : w.shown.waiting ≡ []
   pub rows : contents w.shown.store ≡ loaded w.source.base

@@ -1,14 +1,18 @@
 -- What an operator may rely on in each run with legal replies. A place is the index of an event and of its reply, from
 -- 0 on; a moment n is when the first n events are answered.
-use Rattle.std.specs.Prelude.{◌≡◌, ℕ, ℤ, ◌+◌, ◌<◌, ◌≤◌, Bool, true, false, List, [], ◌∷◌, length, take, slice_get, count_by, Option, Some, option_and_then}
+use Rattle.std.specs.Prelude.{◌≡◌, ℕ, ℤ, ◌+◌, ◌<◌, ◌≤◌, Bool, true, false, List, [], ◌∷◌, length, take, slice_get, count_by, Option, Some, option_and_then, ◌⊎◌}
 use Rattle.std.specs.FinMap.{get}
 use Rattle.schema.specs.declared.RowId.{RowId}
+use Rattle.store_trait.specs.Operation.{left_by}
 use Rattle.record_codec.specs.declared.records.Record.{Record}
+use Rattle.replica_core.specs.declared.ReplicaFault.{ReplicaFault}
+use Rattle.replica_core.specs.declared.ReplicaFault.TheVariants as replica
+use Rattle.replica_core.specs.Replica.{operations}
 use Rattle.world.specs.declared.events.Event.{Event}
 use Rattle.world.specs.declared.events.Event.TheVariants as events
 use Rattle.world.specs.declared.events.Reply.{Reply}
 use Rattle.world.specs.declared.events.Reply.TheVariants as replies
-use Rattle.world.specs.Past.{Past, flushed, synced, committed, accepted, dispatched, replicated, published}
+use Rattle.world.specs.Past.{Past, flushed, synced, source_committed, accepted, dispatched, replica_committed, published}
 use Rattle.world.specs.Legal.{Setup, rows_after, AreLegal}
 
 -- these pairs, and behind them those of the events and their replies, the newest first
@@ -47,14 +51,14 @@ ReadsNeverGoBack = (setup : Setup) (log : List Record) (events_ : List Event) (r
     slice_get replies_ before ≡ Some (replies.Read m row) → slice_get replies_ later ≡ Some (replies.Read n seen) → m ≤ n
 
 -- The numbers of records, in order: no more are published than committed at the replica, no more committed there than
--- given to workers, no more given than accepted, no more accepted than synced at the source, no more synced than
+-- dispatched, no more dispatched than accepted, no more accepted than synced at the source, no more synced than
 -- flushed, and all flushed are in the log. And no more are committed at the source than synced.
 pub record AreInOrder (log : List Record) (past : Past) : Type 0 where
-  pub published_within : published past ≤ replicated past
-  pub replicated_within : replicated past ≤ dispatched past
+  pub published_within : published past ≤ replica_committed past
+  pub replica_committed_within : replica_committed past ≤ dispatched past
   pub dispatched_within : dispatched past ≤ accepted past
   pub accepted_within : accepted past ≤ synced past
-  pub committed_within : committed past ≤ synced past
+  pub source_committed_within : source_committed past ≤ synced past
   pub synced_within : synced past ≤ flushed past
   pub flushed_within : flushed past ≤ length log
 
@@ -66,10 +70,10 @@ PublishedWithin = (setup : Setup) (log : List Record) (events_ : List Event) (re
 -- the numbers at a moment, and those at a later one
 pub record NoneFalls (before later : Past) : Type 0 where
   pub published_rises : published before ≤ published later
-  pub replicated_rises : replicated before ≤ replicated later
+  pub replica_committed_rises : replica_committed before ≤ replica_committed later
   pub dispatched_rises : dispatched before ≤ dispatched later
   pub accepted_rises : accepted before ≤ accepted later
-  pub committed_rises : committed before ≤ committed later
+  pub source_committed_rises : source_committed before ≤ source_committed later
   pub synced_rises : synced before ≤ synced later
   pub flushed_rises : flushed before ≤ flushed later
 
@@ -86,6 +90,18 @@ is_commit reply = elim reply [ replies.Commit gno ↦ true | _ ↦ false ]
 abbrev pub EachCommitOnceInOrder : Type 0
 EachCommitOnceInOrder = (setup : Setup) (log : List Record) (events_ : List Event) (replies_ : List Reply) → AreLegal setup log events_ replies_ →
     (place gno : ℕ) → slice_get replies_ place ≡ Some (replies.Commit gno) → gno ≡ count_by is_commit (take place replies_) + 1
+
+-- No call of the replica is refused but for a gap, at a delivery, or for want of memory: it never stops.
+abbrev pub RefusesOnlyGaps : Type 0
+RefusesOnlyGaps = (setup : Setup) (log : List Record) (events_ : List Event) (replies_ : List Reply) → AreLegal setup log events_ replies_ →
+    (place : ℕ) (fault : ReplicaFault) → slice_get replies_ place ≡ Some (replies.Replica fault) →
+    (fault ≡ replica.Memory) ⊎ ((fault ≡ replica.Gap) × (gno : ℕ) × (slice_get events_ place ≡ Some (events.Deliver gno)))
+
+-- At each moment the operations of the published records, put in order into an empty store, leave the rows that readers
+-- have: those of the source after as many records.
+abbrev pub OperationsLeaveRows : Type 0
+OperationsLeaveRows = (setup : Setup) (log : List Record) (events_ : List Event) (replies_ : List Reply) → AreLegal setup log events_ replies_ →
+    (moment : ℕ) → let upto = published (past_at events_ replies_ moment) in rows_after setup log upto ≡ Some (left_by (operations setup.tables setup.base log upto))
 
 -- What the replica accepts is synced at the source before, and is the next record behind those that it has.
 abbrev pub NothingUnsyncedIsAccepted : Type 0

@@ -1,25 +1,26 @@
 -- Legal replies: each reply is the one that the pairs before it and one legal log allow.
-use Rattle.std.specs.Prelude.{◌≡◌, ℕ, ◌+◌, Bool, true, false, not, ◌&&◌, ◌||◌, ◌==◌, nat_le, if◌then◌else◌, List, [], ◌∷◌, length, map, take, drop, Option, Some, None, option_and_then, ◌⊎◌}
+use Rattle.std.specs.Prelude.{◌≡◌, ℕ, ◌+◌, ◌-◌, Bool, true, false, ◌&&◌, ◌||◌, ◌==◌, nat_le, if◌then◌else◌, List, [], ◌∷◌, length, map, take, drop, slice_get, Option, Some, None, Ok, Err, option_and_then, ◌⊎◌}
 use Rattle.std.specs.Option.{option_map_or}
-use Rattle.std.specs.FinMap.{empty, get}
+use Rattle.std.specs.FinMap.{get}
 use Rattle.schema.specs.declared.Table.{Table}
 use Rattle.rows.specs.Database.{Database}
-use Rattle.store_trait.specs.Batch.{Entry, put_batch}
+use Rattle.store_trait.specs.Batch.{Entry}
 use Rattle.record_codec.specs.declared.records.Record.{Record}
 use Rattle.record_codec.specs.declared.fault.CodecFault.TheVariants as codec
 use Rattle.record_codec.specs.Log.{after, IsLegalLog}
 use Rattle.source_core.specs.declared.fault.SourceFault.{SourceFault}
 use Rattle.source_core.specs.declared.fault.SourceFault.TheVariants as source
-use Rattle.source_core.specs.Source.{Source, changes_of, seen_row}
-use Rattle.source_core.specs.Calls.{begin_fault, write_fault, read_fault, prepare_fault, queue_fault, is_empty_list, AreRecordsOf}
+use Rattle.source_core.specs.Source.{Source, seen_row}
+use Rattle.source_core.specs.Calls.{begin_fault, write_fault, read_fault, prepare_fault, prepare_answer, queue_fault, AreRecordsOf}
 use Rattle.replica_core.specs.declared.ReplicaFault.TheVariants as replica
 use Rattle.replica_core.specs.Replica.{Replica}
-use Rattle.replica_core.specs.Calls.{next_job, next_commit, finish_fault}
+use Rattle.replica_core.specs.Calls.{received, unless_stopped, next_job, next_commit, finish_fault}
 use Rattle.world.specs.declared.events.Event.{Event}
 use Rattle.world.specs.declared.events.Event.TheVariants as events
 use Rattle.world.specs.declared.events.Reply.{Reply}
 use Rattle.world.specs.declared.events.Reply.TheVariants as replies
-use Rattle.world.specs.Past.{Past, flushed, unsynced, synced, committed, queue, transaction_of, accepted, dispatched, finished, replicated, published}
+use Rattle.world.specs.Replies.{received_reply, prepared_reply, dispatch_reply, finish_reply, next_commit_reply}
+use Rattle.world.specs.Past.{Past, flushed, unsynced, synced, source_committed, queue, transaction_of, accepted, dispatched, finished, replica_committed, published}
 use Rattle.store_trait.specs.Operation.{loaded}
 
 -- what a run begins with: the schema, the rows that both sides hold, the greatest number of records, and the
@@ -42,7 +43,7 @@ source_at setup log past = record {
   limit = setup.limit;
   log = take (flushed past) log;
   synced = synced past;
-  committed = committed past;
+  committed = source_committed past;
   sessions = transaction_of past 1 ∷ [];
   queue = queue past;
   halted = false;
@@ -56,7 +57,7 @@ replica_at setup log past = record {
   accepted = take (accepted past) log;
   dispatched = dispatched past;
   finished = finished past;
-  committed = replicated past;
+  committed = replica_committed past;
   published = published past;
   workers = setup.workers;
   stopped = None;
@@ -87,24 +88,22 @@ abbrev pub sync_reply : List (ℕ × ℕ) → Reply
 sync_reply [] = replies.Nothing
 sync_reply (group ∷ groups) = replies.Synced group.0 group.1
 
+-- all that is synced and not committed
 abbrev pub commit_reply : Past → Reply
-commit_reply past = if committed past == synced past then replies.Nothing else replies.Committed (committed past + 1) (synced past)
+commit_reply past = if source_committed past == synced past then replies.Nothing else replies.Committed (source_committed past + 1) (synced past)
 
--- only synced records are delivered; the next is accepted, an earlier one skipped, and a later one a gap
-abbrev pub deliver_reply : Past → ℕ → Reply
-deliver_reply past gno =
-    if not (nat_le 1 gno && nat_le gno (synced past)) then replies.Unsynced
-    else if nat_le gno (accepted past) then replies.Skipped
-    else if gno == accepted past + 1 then replies.Accepted
-    else replies.Replica replica.Gap
+-- the record of this number, counted from 1, where it is synced
+abbrev pub synced_record : List Record → Past → ℕ → Option Record
+synced_record log past gno = if nat_le 1 gno && nat_le gno (synced past) then slice_get log (gno - 1) else None
 
-abbrev pub job_reply : Option ℕ → Reply
-job_reply None = replies.Nothing
-job_reply (Some gno) = replies.Job gno
+-- only synced records are delivered, to the replica's `received`
+abbrev pub deliver_reply : Setup → List Record → Past → ℕ → Reply
+deliver_reply setup log past gno =
+    option_map_or (λ new. received_reply (received (replica_at setup log past) new)) (synced_record log past gno) replies.Unsynced
 
-abbrev pub next_reply : Option ℕ → Reply
-next_reply None = replies.Nothing
-next_reply (Some gno) = replies.Commit gno
+-- each job that was dispatched and is not finished is taken, since the changes of a legal log apply
+abbrev pub taken_reply : Replica → ℕ → Reply
+taken_reply r gno = finish_reply gno (option_map_or (λ fault. Err fault) (finish_fault r gno) (Ok tt))
 
 -- The one reply that an event has after these pairs. No other reply is legal.
 abbrev pub Answers : Setup → List Record → Past → Event → Reply → Type 0
@@ -115,19 +114,17 @@ Answers setup log past (events.Write session change) reply =
 Answers setup log past (events.See session id) reply =
     reply ≡ refused_or (read_fault (source_at setup log past) session id) (replies.Seen (seen_row (source_at setup log past) session id))
 Answers setup log past (events.Prepare session) reply =
-    reply ≡ refused_or (prepare_fault (source_at setup log past) session)
-    (if is_empty_list (changes_of (source_at setup log past) session) then replies.Empty else replies.Prepared (committed past))
+    reply ≡ refused_or (prepare_fault (source_at setup log past) session) (prepared_reply (Ok (prepare_answer (source_at setup log past) session)))
 Answers setup log past (events.Queue session) reply =
     reply ≡ refused_or (queue_fault (source_at setup log past) session) replies.Done
 Answers setup log past events.Flush reply = FlushAnswers setup log past (queue past) reply
 Answers setup log past events.Sync reply = reply ≡ sync_reply (unsynced past)
 Answers setup log past events.Commit reply = reply ≡ commit_reply past
-Answers setup log past (events.Deliver gno) reply = reply ≡ deliver_reply past gno
-Answers setup log past events.Dispatch reply = reply ≡ job_reply (next_job (replica_at setup log past))
-Answers setup log past (events.Finish gno) reply =
-    reply ≡ option_map_or (λ fault. replies.Nothing) (finish_fault (replica_at setup log past) gno) (replies.Finished gno)
-Answers setup log past events.Next reply = reply ≡ next_reply (next_commit (replica_at setup log past))
-Answers setup log past events.Publish reply = reply ≡ replies.Published (replicated past)
+Answers setup log past (events.Deliver gno) reply = reply ≡ deliver_reply setup log past gno
+Answers setup log past events.Dispatch reply = let r = replica_at setup log past in reply ≡ dispatch_reply (unless_stopped r (next_job r))
+Answers setup log past (events.Finish gno) reply = reply ≡ taken_reply (replica_at setup log past) gno
+Answers setup log past events.Next reply = let r = replica_at setup log past in reply ≡ next_commit_reply (unless_stopped r (next_commit r))
+Answers setup log past events.Publish reply = reply ≡ replies.Published (replica_committed past)
 Answers setup log past (events.Read id) reply =
     reply ≡ replies.Read (published past) (option_and_then (λ db. get db id) (rows_after setup log (published past)))
 

@@ -1,8 +1,9 @@
 pub mod Past
 pub mod Legal
-pub mod World
+pub mod Replies
 pub mod State
 pub mod Seen
 pub mod Appended
 pub mod Laws
 pub mod Fresh
+pub mod Run

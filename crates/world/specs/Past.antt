@@ -35,9 +35,9 @@ synced [] = 0
 synced (pair ∷ past) = elim pair.1 [ replies.Synced first last ↦ last | _ ↦ synced past ]
 
 -- the number of records committed at the source
-abbrev pub committed : Past → ℕ
-committed [] = 0
-committed (pair ∷ past) = elim pair.1 [ replies.Committed first last ↦ last | _ ↦ committed past ]
+abbrev pub source_committed : Past → ℕ
+source_committed [] = 0
+source_committed (pair ∷ past) = elim pair.1 [ replies.Committed first last ↦ last | _ ↦ source_committed past ]
 
 -- the sessions whose transactions are queued, in order
 abbrev pub queue : Past → List ℕ
@@ -76,7 +76,7 @@ abbrev pub accepted : Past → ℕ
 accepted [] = 0
 accepted (pair ∷ past) = elim pair.1 [ replies.Accepted ↦ accepted past + 1 | _ ↦ accepted past ]
 
--- the number of records given to workers
+-- the number of records dispatched to workers
 abbrev pub dispatched : Past → ℕ
 dispatched [] = 0
 dispatched (pair ∷ past) = elim pair.1 [ replies.Job gno ↦ dispatched past + 1 | _ ↦ dispatched past ]
@@ -91,9 +91,9 @@ finished (pair ∷ past) = elim pair.1 [
 ]
 
 -- the number of records committed at the replica
-abbrev pub replicated : Past → ℕ
-replicated [] = 0
-replicated (pair ∷ past) = elim pair.1 [ replies.Commit gno ↦ replicated past + 1 | _ ↦ replicated past ]
+abbrev pub replica_committed : Past → ℕ
+replica_committed [] = 0
+replica_committed (pair ∷ past) = elim pair.1 [ replies.Commit gno ↦ replica_committed past + 1 | _ ↦ replica_committed past ]
 
 -- the number of commits published at the replica
 abbrev pub published : Past → ℕ

@@ -1,24 +1,31 @@
 -- How the parts of a world stand together, and to the pairs of event and reply so far.
-use Rattle.std.specs.Prelude.{◌≡◌, ℕ, ◌≤◌, false, List, [], ◌∷◌, ◌++◌, length, map, take, drop, Some, None}
+use mathlib.Core.List.{IsPrefix}
+use Rattle.std.specs.Prelude.{◌≡◌, ℕ, ◌≤◌, false, List, [], ◌∷◌, length, map, take, drop, Option, Some, None}
 use Rattle.rows.specs.Database.{Database}
 use Rattle.store_trait.specs.Operation.{batch_of, loaded}
 use Rattle.record_codec.specs.declared.records.Record.{Record}
 use Rattle.record_codec.specs.Group.{GroupValue, AreRecordsOf}
 use Rattle.record_codec.specs.Log.{after}
 use Rattle.source_core.specs.Source.{Source, IsSound}
-use Rattle.replica_core.specs.Replica.{Replica, commits_from}
+use Rattle.schema.specs.declared.Table.{Table}
+use Rattle.store_trait.specs.Batch.{Entry}
+use Rattle.replica_core.specs.Replica.{Replica, commits}
 use Rattle.published.specs.Plain.{Shown}
 use Rattle.world.specs.declared.events.Event.{Event}
 use Rattle.world.specs.declared.events.Reply.{Reply}
 use Rattle.world.specs.Past.{Past, flushed, accepted, unsynced}
 use Rattle.world.specs.Legal.{Setup, source_at, replica_at, Allowed}
 
--- a world as the values of its parts
-pub record World (R : Type 0) : Type 0 where
-  pub source : Source
+-- what lies between the two sides
+pub record Wire : Type 0 where
   -- each group that was flushed, the oldest first; the first so many are on the log
   pub groups : List GroupValue
   pub synced : ℕ
+
+-- a world as the values of its parts
+pub record World (R : Type 0) : Type 0 where
+  pub source : Source
+  pub wire : Wire
   pub replica : Replica
   -- the rows that readers see
   pub shown : Shown R
@@ -30,53 +37,76 @@ HoldEach (group ∷ groups) (only ∷ records) = AreRecordsOf group (only ∷ []
 HoldEach [] (only ∷ records) = ⊥
 HoldEach (group ∷ groups) [] = ⊥
 
--- a list begins with another
-abbrev pub Extends : List Record → List Record → Type 0
-Extends log longer = (more : List Record) × (longer ≡ log ++ more)
+-- The source is sound, and its log did not fail.
+pub record IsSource (s : Source) : Type 0 where
+  pub sound : IsSound s
+  pub running : s.halted ≡ false
 
--- the commits past the published ones, up to some committed one, were appended to the rows that readers see
-pub record IsAppended {R : Type 0} (replica : Replica) (shown : Shown R) : Type 0 where
+-- The wire of a source with this log, of which so many records are synced: the groups are those of the log, one record
+-- each, and the first so many are synced. What came over it is a beginning of the synced log.
+pub record IsWire (log : List Record) (synced_ : ℕ) (accepted_ : List Record) (wire : Wire) : Type 0 where
+  pub groups : HoldEach wire.groups log
+  pub synced : wire.synced ≡ synced_
+  pub front : accepted_ ≡ take (length accepted_) log
+  pub within : length accepted_ ≤ synced_
+
+-- The replica is over the source's schema and base, has one worker, and did not stop.
+pub record IsReplica (ts : List Table) (start : List Entry) (its_tables : List Table) (its_base : List Entry) (workers_ : ℕ) (stopped_ : Option ℕ) : Type 0 where
+  pub tables : its_tables ≡ ts
+  pub base : its_base ≡ start
+  pub workers : workers_ ≡ 1
+  pub going : stopped_ ≡ None
+
+-- Readers see the rows after the replica's published commits. Of the commits behind these, all up to some committed one
+-- were appended to those rows.
+pub record IsShown {R : Type 0} (contents : R → Database) (ts : List Table) (base : List Entry) (accepted_ : List Record) (committed published_ : ℕ) (shown : Shown R) : Type 0 where
+  pub shows : shown.upto ≡ published_
+  pub rows : after ts (loaded base) (take published_ accepted_) ≡ Some (contents shown.store)
   pub upto : ℕ
-  pub later : replica.published ≤ upto
-  pub done : upto ≤ replica.committed
-  pub there : upto ≤ length replica.accepted
-  pub are : shown.waiting ≡ map batch_of (drop replica.published (commits_from replica.tables (loaded replica.base) 1 (take upto replica.accepted)))
+  pub later : published_ ≤ upto
+  pub done : upto ≤ committed
+  pub there : upto ≤ length accepted_
+  pub are : shown.waiting ≡ map batch_of (drop published_ (commits ts (loaded base) accepted_ upto))
 
 -- What is true of every world, whatever came before.
 pub record IsWorld {R : Type 0} (contents : R → Database) (w : World R) : Type 0 where
-  -- the source is sound, and its log did not fail
-  pub sound : IsSound w.source
-  pub running : w.source.halted ≡ false
-  -- the groups are those of the log, one record each, and the first so many are synced
-  pub groups : HoldEach w.groups w.source.log
-  pub synced : w.synced ≡ w.source.synced
-  -- the replica is over the same schema and base, has accepted a beginning of the synced log, and did not stop
-  pub tables : w.replica.tables ≡ w.source.tables
-  pub base : w.replica.base ≡ w.source.base
-  pub workers : w.replica.workers ≡ 1
-  pub going : w.replica.stopped ≡ None
-  pub accepted : w.replica.accepted ≡ take (length w.replica.accepted) w.source.log
-  pub delivered : length w.replica.accepted ≤ w.source.synced
-  -- readers see the rows after the published commits
-  pub upto : w.shown.upto ≡ w.replica.published
-  pub rows : after w.source.tables (loaded w.source.base) (take w.replica.published w.source.log) ≡ Some (contents w.shown.store)
-  pub appended : IsAppended w.replica w.shown
+  pub source : IsSource w.source
+  pub wire : IsWire w.source.log w.source.synced w.replica.accepted w.wire
+  pub replica : IsReplica w.source.tables w.source.base w.replica.tables w.replica.base w.replica.workers w.replica.stopped
+  pub readers : IsShown contents w.replica.tables w.replica.base w.replica.accepted w.replica.committed w.replica.published w.shown
 
 abbrev pub ends_of : GroupValue → ℕ × ℕ
 ends_of group = (group.first, group.last)
 
+-- The source is as it is said to be, with so many records flushed.
+pub record SourceIs (said : Source) (flushed_ : ℕ) (s : Source) : Type 0 where
+  pub flushed : flushed_ ≡ length s.log
+  pub is : s ≡ said
+
+-- These groups are flushed and not synced.
+pub record WireIs (unsynced_ : List (ℕ × ℕ)) (wire : Wire) : Type 0 where
+  pub unsynced : map ends_of (drop wire.synced wire.groups) ≡ unsynced_
+
+-- The replica is as it is said to be, with so many records accepted.
+pub record ReplicaIs (said : Replica) (accepted_ : ℕ) (r : Replica) : Type 0 where
+  pub accepted : accepted_ ≡ length r.accepted
+  pub is : r ≡ said
+
+-- Each side is as it is said to be. What readers see follows from the replica's side.
+pub record SidesAre (source_ : Source) (flushed_ : ℕ) (unsynced_ : List (ℕ × ℕ)) (replica_ : Replica) (accepted_ : ℕ) (s : Source) (wire_ : Wire) (r : Replica) : Type 0 where
+  pub source : SourceIs source_ flushed_ s
+  pub wire : WireIs unsynced_ wire_
+  pub replica : ReplicaIs replica_ accepted_ r
+
 -- the world is the one that the pairs so far leave
-pub record Stands {R : Type 0} (setup : Setup) (past : Past) (w : World R) : Type 0 where
-  pub flushed : flushed past ≡ length w.source.log
-  pub source : w.source ≡ source_at setup w.source.log past
-  pub accepted : accepted past ≡ length w.replica.accepted
-  pub replica : w.replica ≡ replica_at setup w.source.log past
-  pub unsynced : map ends_of (drop w.synced w.groups) ≡ unsynced past
+abbrev pub Stands : {R : Type 0} → Setup → Past → World R → Type 0
+Stands setup past w =
+    SidesAre (source_at setup w.source.log past) (flushed past) (unsynced past) (replica_at setup w.source.log past) (accepted past) w.source w.wire w.replica
 
 -- One event: the world stays one, its log grows at its end, and, whatever pairs the world stood for, it stands
 -- for these and the new one, and the reply is allowed by each log that the world's log begins.
 pub record Goes {R : Type 0} (contents : R → Database) (old : World R) (event : Event) (reply : Reply) (new : World R) : Type 0 where
   pub world : IsWorld contents new
-  pub grows : Extends old.source.log new.source.log
+  pub grows : IsPrefix old.source.log new.source.log
   pub stands : (setup : Setup) (past : Past) → Stands setup past old → Stands setup ((event, reply) ∷ past) new
-  pub allowed : (setup : Setup) (past : Past) (log : List Record) → Stands setup past old → Extends new.source.log log → Allowed setup log past event reply
+  pub allowed : (setup : Setup) (past : Past) (log : List Record) → Stands setup past old → IsPrefix new.source.log log → Allowed setup log past event reply

@@ -30,7 +30,7 @@ pub enum Event {
     Commit,
     /// The record of this number comes to the replica.
     Deliver { gno: u64 },
-    /// The replica's next record is given to a worker.
+    /// The replica's next record is dispatched to a worker.
     Dispatch,
     /// The worker that has this record has done it.
     Finish { gno: u64 },
@@ -97,7 +97,7 @@ pub enum Reply {
     Skipped,
     /// The record is not on the log.
     Unsynced,
-    /// The record of this number was given to a worker.
+    /// The record of this number was dispatched to a worker.
     Job { gno: u64 },
     /// The worker's result of this number was taken.
     Finished { gno: u64 },

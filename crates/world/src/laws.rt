@@ -10,6 +10,8 @@ ghost use Rattle.world.specs.Laws.{
   NumbersNeverFall,
   EachCommitOnceInOrder,
   NothingUnsyncedIsAccepted,
+  RefusesOnlyGaps,
+  OperationsLeaveRows,
 };
 
 /// Each read at the replica is answered, with the row as the source had it after a beginning of its log that is synced.
@@ -39,4 +41,14 @@ pub fn each_commit_once_in_order()
 /// The replica accepts a record only once it is synced at the source, and only the next one.
 pub fn nothing_unsynced_is_accepted()
     ensures { NothingUnsyncedIsAccepted }
+{}
+
+/// The replica refuses no call but the delivery of a record past the next, unless memory runs out. So it never stops.
+pub fn refuses_only_gaps()
+    ensures { RefusesOnlyGaps }
+{}
+
+/// The rows that readers have are what the load of the base and the published commits leave of an empty store.
+pub fn operations_leave_rows()
+    ensures { OperationsLeaveRows }
 {}

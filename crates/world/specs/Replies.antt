@@ -1,4 +1,4 @@
--- What a world is seen as, and how its parts stand to the pairs of event and reply so far.
+-- What each answer of the two sides is replied.
 use Rattle.std.specs.Prelude.{ℕ, List, [], ◌∷◌, Option, Some, None}
 use Rattle.std.specs.Prelude.{ℤ, Result, Ok, Err}
 use Rattle.source_core.specs.declared.fault.SourceFault.{SourceFault}
