@@ -1,3 +1,4 @@
 pub mod NumberTexts
 pub mod WordLists
 pub mod ScriptLines
+pub mod Lines

@@ -4,3 +4,4 @@ pub mod Command
 pub mod Script
 pub mod Options
 pub mod Pair
+pub mod Printing
