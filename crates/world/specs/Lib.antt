@@ -6,3 +6,4 @@ pub mod Seen
 pub mod Appended
 pub mod Laws
 pub mod Fresh
+pub mod Run
