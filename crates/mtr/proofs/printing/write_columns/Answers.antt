@@ -1,6 +1,6 @@
 use Rattle.std.proofs.Common.{◌++◌, ◌∷◌, [], refl, ap}
 use Rattle.std.proofs.KnownBytes.{Appends-nil}
-use Rattle.mtr.proofs.Lines.{piece_more, pieces_all, along, then_text}
+use Rattle.mtr.proofs.Pieces.{piece_more, pieces_all, along, then_text}
 use Rattle.mtr.specs.Printing.{column_text, columns_text}
 use Rattle.mtr.proofs.printing.write_columns.Goals as goal
 
