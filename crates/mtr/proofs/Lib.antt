@@ -1,3 +1,8 @@
 pub mod NumberTexts
 pub mod WordLists
 pub mod ScriptLines
+pub mod Pieces
+pub mod Splits
+pub mod EventLists
+pub mod ReadLines
+pub mod Runs

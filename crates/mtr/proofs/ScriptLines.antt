@@ -1,14 +1,12 @@
 -- Lines of a script.
-use Rattle.std.proofs.Common.{◌≡◌, sym, ap, refl, ℕ, Bool, true, false, cond, eqb, ◌+◌, List, [], ◌∷◌, take, drop, position, ltb, ◌≤◌, inl, inr, arith, ◌<◌, length, All, Some, None, Ok, Err}
+use Rattle.std.proofs.Common.{◌≡◌, ◌∙◌, sym, ap, subst, refl, ℕ, Bool, true, false, cond, eqb, ◌+◌, List, [], ◌∷◌, ◌++◌, length, Option, Some, None, is_some, Ok, Err}
 use Rattle.std.specs.Str.{is_utf8, IsUtf8}
 use Rattle.std.proofs.lemmas.Str.{IsUtf8-from_is_utf8, is_utf8-from_IsUtf8}
-use Rattle.std.specs.List.{slice_split, position_or_len}
-use Rattle.std.proofs.lemmas.List.Splits.{slice_split_none, slice_split_first}
-use Rattle.std.proofs.lemmas.Option.{cond_some}
-use Rattle.std.proofs.lemmas.Bool.{ltb-true, lt-ltb, cases_lt}
-use Rattle.std.proofs.lemmas.List.Sums.{fails_before_first}
-use Rattle.std.specs.Option.{option_map_or}
-use Rattle.mtr.specs.Script.{Said, line_of, text_line, said_with, said_by}
+use Rattle.std.specs.Option.{option_map_or, IfSome}
+use Rattle.std.specs.List.{slice_split}
+use Rattle.mtr.specs.Lines.{line_of, text_line}
+use Rattle.mtr.specs.Script.{Said, added, said_with, said_by, script_of, Knows, LeavesLines}
+use Rattle.mtr.specs.Words.{◌>>=◌}
 
 pub line_of_text : (line : List ℕ) → IsUtf8 line → text_line line ≡ line_of line
 unfolding line_of
@@ -22,31 +20,16 @@ pub line_of_bytes : (line : List ℕ) → ¬ (IsUtf8 line) → None ≡ line_of 
 unfolding line_of
 line_of_bytes line h = sym (ap (λ b. cond b (text_line line) None) (refused (is_utf8 line) (λ e. h (IsUtf8-from_is_utf8 line e))))
 
-found_below : (n k at : ℕ) → Some at ≡ cond (ltb n k) (Some n) None → (n < k) × (at ≡ n)
-found_below n k at e =
-    let found : (ltb n k ≡ true) × (n ≡ at) = cond_some (ltb n k) n at (sym e) in
-    (ltb-true n k found.0, sym found.1)
+-- what a line of text makes of what was said
+pub said_with_text : (s : Said) (line text : List ℕ) → IsUtf8 line → text ≡ line → said_with s line ≡ (text_line text >>= added s)
+said_with_text s line text h same = ap (λ o. o >>= added s) (sym (line_of_text line h)) ∙ ap (λ l. text_line l >>= added s) (sym same)
 
--- the first line of a text, and the lines behind it
-pub line_and_more : (text : List ℕ) (at : ℕ) → Some at ≡ position (λ b. eqb b 10) text → slice_split (λ b. eqb b 10) text ≡ take at text ∷ slice_split (λ b. eqb b 10) (drop (at + 1) text)
-line_and_more text at e =
-    let found : (position_or_len (λ b. eqb b 10) text < length text) × (at ≡ position_or_len (λ b. eqb b 10) text) = found_below _ _ at e in
-    rw found.1 (slice_split_first (λ b. eqb b 10) text 0 found.0)
+pub said_with_bytes : (s : Said) (line : List ℕ) → ¬ (IsUtf8 line) → said_with s line ≡ None
+said_with_bytes s line h = ap (λ o. o >>= added s) (sym (line_of_bytes line h))
 
-not_found : (n k : ℕ) → None ≡ cond (ltb n k) (Some n) None → k ≤ n
-not_found n k e =
-    elim (cases_lt n k) [
-      | inl w ↦ let test : cond (ltb n k) (Some n) None ≡ Some n = rw (lt-ltb n k w) refl in absurd (cc)
-      | inr w ↦ w
-    ]
-
-none_passes : (text : List ℕ) → None ≡ position (λ b. eqb b 10) text → All (λ b. eqb b 10 ≡ false) text
-none_passes text e =
-    let whole : length text ≤ position_or_len (λ b. eqb b 10) text = not_found _ _ e in
-    λ k d l. fails_before_first (λ b. eqb b 10) text k d (omega arith)
-
-pub last_line : (text : List ℕ) → None ≡ position (λ b. eqb b 10) text → slice_split (λ b. eqb b 10) text ≡ text ∷ []
-last_line text e = slice_split_none (λ b. eqb b 10) text (none_passes text e)
+pub none_of : {A : Type 0} (o : Option A) → false ≡ is_some o → o ≡ None
+none_of None e = refl
+none_of (Some x) e = cc
 
 -- the lines from the first on, where it is taken
 pub line_taken : (s more : Said) (n : ℕ) (line : List ℕ) (rest : List (List ℕ)) → said_with s line ≡ Some more → said_by s n (line ∷ rest) ≡ said_by more (n + 1) rest
@@ -61,3 +44,33 @@ line_refused s n line rest e = ap (λ o. option_map_or (λ m. said_by m (n + 1) 
 pub all_said : (s : Said) (n : ℕ) → said_by s n [] ≡ Ok s
 unfolding said_by
 all_said s n = refl
+
+refused_at : (s : Said) (n : ℕ) (rest line : List ℕ) (is_more : Bool) (left : Option (List ℕ)) → LeavesLines rest line is_more left → said_with s line ≡ None → said_by s n (slice_split (λ b. eqb b 10) rest) ≡ Err n
+refused_at s n rest line true left lines none = ap (said_by s n) lines.2 ∙ line_refused s n line _ none
+refused_at s n rest line false left lines none = ap (said_by s n) lines ∙ line_refused s n line [] none
+
+-- where the text is known: its first bad line,
+pub known_refused : (known now left : Option (List ℕ)) (s : Said) (n : ℕ) (line : List ℕ) (is_more : Bool) → Knows known now (λ text rest. said_by s n (slice_split (λ b. eqb b 10) rest) ≡ script_of text) → IfSome now (λ rest. LeavesLines rest line is_more left) → said_with s line ≡ None → IfSome known (λ text. script_of text ≡ Err n)
+known_refused None now left s n line is_more so_far lines none = tt
+known_refused (Some text) None left s n line is_more so_far lines none = absurd so_far
+known_refused (Some text) (Some rest) left s n line is_more so_far lines none = sym so_far ∙ refused_at s n rest line is_more left lines none
+
+-- its last line,
+pub known_last : (known now left : Option (List ℕ)) (s after : Said) (n : ℕ) (line : List ℕ) → Knows known now (λ text rest. said_by s n (slice_split (λ b. eqb b 10) rest) ≡ script_of text) → IfSome now (λ rest. LeavesLines rest line false left) → said_with s line ≡ Some after → IfSome known (λ text. script_of text ≡ Ok after)
+known_last None now left s after n line so_far lines taken = tt
+known_last (Some text) None left s after n line so_far lines taken = absurd so_far
+known_last (Some text) (Some rest) left s after n line so_far lines taken =
+    sym so_far ∙ ap (said_by s n) lines ∙ line_taken s after n line [] taken ∙ all_said after (n + 1)
+
+left_known : (text more : List ℕ) (left : Option (List ℕ)) (s after : Said) (n : ℕ) → left ≡ Some more → said_by after (n + 1) (slice_split (λ b. eqb b 10) more) ≡ script_of text → Knows (Some text) left (λ text rest. said_by after (n + 1) (slice_split (λ b. eqb b 10) rest) ≡ script_of text)
+left_known text more left s after n e h =
+    let P : Option (List ℕ) → Type 0 = λ o. Knows (Some text) o (λ text rest. said_by after (n + 1) (slice_split (λ b. eqb b 10) rest) ≡ script_of text) in
+    subst P (sym e) h
+
+-- and another
+pub known_more : (known now left : Option (List ℕ)) (s after : Said) (n : ℕ) (line : List ℕ) → Knows known now (λ text rest. said_by s n (slice_split (λ b. eqb b 10) rest) ≡ script_of text) → IfSome now (λ rest. LeavesLines rest line true left) → said_with s line ≡ Some after → Knows known left (λ text rest. said_by after (n + 1) (slice_split (λ b. eqb b 10) rest) ≡ script_of text)
+known_more None now left s after n line so_far lines taken = tt
+known_more (Some text) None left s after n line so_far lines taken = absurd so_far
+known_more (Some text) (Some rest) left s after n line so_far lines taken =
+    left_known text lines.0 left s after n lines.1
+    (sym (line_taken s after n line (slice_split (λ b. eqb b 10) lines.0) taken) ∙ ap (said_by s n) (sym lines.2) ∙ so_far)

@@ -1,44 +1,30 @@
 -- Words taken off the front of a text.
 use Rattle.std.proofs.Common.{◌≡◌, ◌∙◌, sym, ap, refl, ℕ, ◌+◌, ◌<◌, Bool, true, false, eqb, List, [], ◌∷◌, length, Option, Some, None, is_some, not, get_or, ◌≢◌, ℤ, ◌++◌, take, append_assoc, append-nil, length-append, cond, leb, ◌&&◌, add-one, arith}
 use Rattle.std.specs.Borrow.{Bor}
-use Rattle.std.specs.List.{before_first, after_first, All}
-use Rattle.std.proofs.lemmas.List.Splits.{slice_split_none, slice_split_first, length-slice_split}
-use Rattle.std.proofs.lemmas.Str.Pattern.{IsSplitOnceResult, split_once_first, split_parts}
-use Rattle.std.proofs.lemmas.List.Elements.{All-from_get_or}
+use Rattle.std.proofs.lemmas.List.Splits.{length-slice_split}
+use Rattle.std.proofs.lemmas.Str.Pattern.{IsSplitOnceResult}
 use Rattle.std.proofs.lemmas.Bool.Decides.{nat_tests}
 use Rattle.std.specs.Option.{option_map, option_map_or}
 use Rattle.std.proofs.Math.Seq.{take-suc-set}
 use Rattle.std.proofs.Math.ListN.{set}
+use Rattle.mtr.proofs.Splits.{cut_at, cut_nowhere, is_byte}
 use Rattle.mtr.specs.Number.{integer}
 use Rattle.mtr.specs.Words.{Word, words_of, words_left, first_word, integers, row_in, ◌>>=◌}
 
-abbrev is_space : ℕ → Bool
-is_space b = eqb b 32
-
-not_same : (a b : ℕ) → a ≢ b → eqb a b ≡ false
-not_same a b h = grind (arith, nat_tests)
-
 pub word_and_more : (text : List ℕ) (x : Bor (List ℕ) × Bor (List ℕ)) → IsSplitOnceResult 32 text (Some x) → first_word (words_of text) ≡ Some (x.0.now, words_of x.1.now)
-word_and_more text x h =
-    let at = split_once_first 32 text (Some x) h (omega arith) in
-    let cut : words_of text ≡ before_first is_space text ∷ words_of (after_first is_space text) = slice_split_first is_space text 0 at.0 in
-    ap first_word cut ∙ (λ i. Some (sym at.1 i, words_of (sym at.2 i)))
+word_and_more text x h = ap first_word (cut_at 32 text x (omega arith) h)
 
 pub last_word : (text : List ℕ) → IsSplitOnceResult 32 text None → first_word (words_of text) ≡ Some (text, [])
-last_word text h =
-    let none : (i : ℕ) → i < length text → get_or text i 0 ≢ 32 = split_parts 32 text None h (omega arith) in
-    let all : All (λ b. is_space b ≡ false) text = All-from_get_or (λ b. is_space b ≡ false) text 0 (λ i l. not_same (get_or text i 0) 32 (none i l)) in
-    let cut : words_of text ≡ text ∷ [] = slice_split_none is_space text all in
-    ap first_word cut
+last_word text h = ap first_word (cut_nowhere 32 text (omega arith) h)
 
-not_nothing : (n k : ℕ) → n ≡ k + 1 → eqb n 0 ≡ false
+pub not_nothing : (n k : ℕ) → n ≡ k + 1 → eqb n 0 ≡ false
 not_nothing n k e = grind (arith, nat_tests)
 
 pub none_left : (rest : Option (Bor (List ℕ))) (r : Bool) → is_some rest ≡ not r → r ≡ eqb (length (words_left rest)) 0
 none_left None true e = refl
 none_left None false e = cc
 none_left (Some text) true e = cc
-none_left (Some text) false e = sym (not_nothing _ _ (length-slice_split is_space text.now))
+none_left (Some text) false e = sym (not_nothing _ _ (length-slice_split (is_byte 32) text.now))
 
 -- the words after the first, from what taking it off gave
 pub words_are : (words rest : List Word) (word : Word) → first_word words ≡ Some (word, rest) → words ≡ word ∷ rest

@@ -1,6 +1,10 @@
 pub mod Number
 pub mod Words
 pub mod Command
+pub mod Lines
+pub mod Events
 pub mod Script
 pub mod Options
 pub mod Pair
+pub mod Printing
+pub mod Ending

@@ -1,6 +1,8 @@
--- What the pair of a source and a replica answers.
-use Rattle.std.specs.Prelude.{ℤ, List, Some}
+-- What the pair of a source and a replica answers, and what is printed of it.
+use Rattle.std.specs.Prelude.{◌≡◌, ℕ, ℤ, List, [], ◌++◌, map, Option, Some, Ok, IsPermutation}
 use Rattle.std.specs.FinMap.{empty}
+use Rattle.std.specs.Io.KnownBytes.{Appends}
+use Rattle.rows.specs.Database.{Database}
 use Rattle.schema.specs.declared.RowId.{RowId}
 use Rattle.schema.specs.declared.Table.{Table}
 use Rattle.store_trait.specs.Batch.{Entry, put_batch, all_rows}
@@ -8,6 +10,10 @@ use Rattle.record_codec.specs.declared.records.Record.{Record}
 use Rattle.world.specs.declared.events.Event.{Event}
 use Rattle.world.specs.declared.events.Reply.{Reply}
 use Rattle.world.specs.Legal.{Setup, AreLegal}
+use Rattle.world.specs.Run.{HasRun}
+use Rattle.world.specs.State.{World}
+use Rattle.mtr.specs.Printing.{lines_of}
+use Rattle.mtr.specs.Script.{Said, script_of}
 
 -- the row is there
 abbrev pub present : RowId × List ℤ → Entry
@@ -17,6 +23,26 @@ present row = (row.0, Some row.1)
 abbrev pub setup_of : List Table → List Entry → Setup
 setup_of ts base = record { tables = ts; base = all_rows (put_batch base empty); limit = 9223372036854775807; workers = 1 }
 
--- there is one legal log by which the replies are legal
-abbrev pub HasLegalRun : List Table → List Entry → List Event → List Reply → Type 0
-HasLegalRun ts base events replies = (log : List Record) × AreLegal (setup_of ts base) log events replies
+-- The world goes on by these events from whatever runs it came by, by the source's own log, and the lines of
+-- the replies are appended, in order.
+pub record GoesOn {R : Type 0} (contents : R → Database) (old new : World R) (events : List Event) (before printed : Option (List ℕ)) : Type 0 where
+  pub replies : List Reply
+  pub goes_on : (setup : Setup) (es : List Event) (rs : List Reply) → HasRun contents setup es rs old → HasRun contents setup (es ++ events) (rs ++ replies) new
+  pub lines : Appends before printed (lines_of replies)
+
+-- What a script prints: over a pair that begins with its tables and its rows, one reply to each of its events.
+-- They are legal over one log that is legal over the rows: each read at the replica answers as the source's
+-- database after one beginning of that log. Their lines are appended, in order.
+pub record Prints (script : Said) (before printed : Option (List ℕ)) : Type 0 where
+  pub base : List Entry
+  pub given : IsPermutation (map present script.base) base
+  pub replies : List Reply
+  pub log : List Record
+  pub legal : AreLegal (setup_of script.tables base) log script.events replies
+  pub lines : Appends before printed (lines_of replies)
+
+-- what a text prints that is a script
+pub record PrintsText (text : List ℕ) (before printed : Option (List ℕ)) : Type 0 where
+  pub script : Said
+  pub says : script_of text ≡ Ok script
+  pub prints : Prints script before printed

@@ -1,55 +1,17 @@
--- Scripts: which lines say what, in which order they may come, and what a text says line by line.
-use Rattle.std.specs.Prelude.{◌≡◌, ℕ, ◌+◌, ◌^◌, ℤ, Bool, true, ◌==◌, ◌&&◌, if◌then◌else◌, List, [], ◌∷◌, ◌++◌, length, codes, Option, Some, None, option_map, Result, Ok, Err}
-use Rattle.std.specs.Borrow.{Bor}
-use Rattle.std.specs.List.{slice_split}
+-- Scripts: in which order lines may come, and what a text says line by line.
+use Rattle.std.specs.Prelude.{◌≡◌, ℕ, ◌+◌, ℤ, Bool, true, false, ◌==◌, ◌&&◌, if◌then◌else◌, List, [], ◌∷◌, ◌++◌, length, Option, Some, None, Result, Ok, Err}
+use Rattle.std.specs.List.{All, slice_split}
 use Rattle.std.specs.Option.{option_map_or}
-use Rattle.std.specs.Str.{bytes_eq, is_utf8}
 use Rattle.schema.specs.declared.RowId.{RowId}
 use Rattle.schema.specs.declared.Table.{Table}
 use Rattle.world.specs.declared.events.Event.{Event}
+use Rattle.mtr.specs.declared.ending.Stop.{Stop}
+use Rattle.mtr.specs.declared.ending.Stop.TheVariants as stops
 use Rattle.mtr.specs.declared.script.Line.{Line}
 use Rattle.mtr.specs.declared.script.Line.TheVariants as lines
 use Rattle.mtr.specs.declared.script.Script.{Script}
-use Rattle.mtr.specs.declared.script.ScriptFault.{ScriptFault}
-use Rattle.mtr.specs.declared.script.ScriptFault.TheVariants as faults
-use Rattle.mtr.specs.Words.{Word, ◌>>=◌, first_word, words_of, number_in, row_id_in, row_in}
-use Rattle.mtr.specs.Command.{alone, verb_of, event_of}
-
--- a table without a parent: its id, its number of columns, and the word `keyed`
-unfoldable pub table_of : List Word → Option Table
-table_of words = do
-  id ← number_in (2 ^ 16) words
-  columns ← number_in (2 ^ 8) id.1
-  kind ← alone (first_word columns.1)
-  if bytes_eq kind (codes "keyed") then Some (record { id = id.0; columns = columns.0; keyed = true; parent = None }) else None
-
--- a row of the base: its table, its key, and its columns
-unfoldable pub base_of : List Word → Option (RowId × List ℤ)
-base_of words = do
-  id ← row_id_in words
-  columns ← row_in id.1
-  Some (id.0, columns)
-
--- what the words of a line say
-unfoldable pub command_of : List Word → Option Line
-command_of words = do
-  name ← first_word words
-  if bytes_eq name.0 (codes "table") then option_map (λ t. lines.Table t) (table_of name.1)
-      else if bytes_eq name.0 (codes "base") then option_map (λ b. lines.Base b.0 b.1) (base_of name.1)
-      else option_map (λ e. lines.Event e) (verb_of name.0 >>= λ verb. event_of verb name.1)
-
--- an empty line, or one that begins with `#`, which is 35
-abbrev pub is_skipped : List ℕ → Bool
-is_skipped [] = true
-is_skipped (c ∷ cs) = c == 35
-
--- what a line of text says, where it says something
-unfoldable pub text_line : List ℕ → Option Line
-text_line line = if is_skipped line then Some lines.Skipped else command_of (words_of line)
-
--- what a line of bytes says: they have to be text
-unfoldable pub line_of : List ℕ → Option Line
-line_of line = if is_utf8 line then text_line line else None
+use Rattle.mtr.specs.Words.{◌>>=◌}
+use Rattle.mtr.specs.Lines.{line_of}
 
 -- a script as its lists
 pub record Said : Type 0 where
@@ -58,7 +20,7 @@ pub record Said : Type 0 where
   pub events : List Event
 
 abbrev pub said : Script → Said
-said script = record { tables = script.tables.items; base = script.base.items; events = script.events.items }
+said script = record { tables = script.tables.items; base = script.base.items; events = script.events }
 
 abbrev pub nothing : Said
 nothing = record { tables = []; base = []; events = [] }
@@ -83,13 +45,31 @@ said_by s n (line ∷ rest) = option_map_or (λ more. said_by more (n + 1) rest)
 abbrev pub script_of : List ℕ → Result Said ℕ
 script_of text = said_by nothing 1 (slice_split (λ b. b == 10) text)
 
--- a script is what the text says, and a bad line is its first; nothing is said where memory ran out
-abbrev pub Says : List ℕ → Result Script ScriptFault → Type 0
+-- a script is what the text says, and a bad line is its first; nothing is said where the reading stopped otherwise
+abbrev pub Says : List ℕ → Result Script Stop → Type 0
 Says text (Ok script) = script_of text ≡ Ok (said script)
-Says text (Err (faults.BadCommand line)) = script_of text ≡ Err line
-Says text (Err faults.Memory) = Unit {0}
+Says text (Err (stops.BadCommand line)) = script_of text ≡ Err line
+Says text (Err stops.Memory) = Unit {0}
+Says text (Err stops.Stream) = Unit {0}
+Says text (Err stops.BadBase) = ⊥
+Says text (Err (stops.Schema fault)) = ⊥
 
--- the lines of the rest of a text, where there is one
-abbrev pub lines_of : Option (Bor (List ℕ)) → List (List ℕ)
-lines_of None = []
-lines_of (Some text) = slice_split (λ b. b == 10) text.now
+-- one line: it has no LF
+abbrev pub IsLine : List ℕ → Type 0
+IsLine line = All (λ b. (b == 10) ≡ false) line
+
+-- the text is this line and, where there is more, these bytes behind its LF
+abbrev pub LeavesLines : List ℕ → List ℕ → Bool → Option (List ℕ) → Type 0
+LeavesLines text line true rest = (more : List ℕ) × (rest ≡ Some more) × (slice_split (λ b. b == 10) text ≡ line ∷ slice_split (λ b. b == 10) more)
+LeavesLines text line false rest = slice_split (λ b. b == 10) text ≡ line ∷ []
+
+-- the LF at the end was taken off; or there is none
+abbrev pub TakesEnd : List ℕ → List ℕ → Bool → Type 0
+TakesEnd old new true = old ≡ new ++ 10 ∷ []
+TakesEnd old new false = (new ≡ old) × ((front : List ℕ) → old ≡ front ++ 10 ∷ [] → ⊥)
+
+-- a fact of the text that was known, and of what is left of it
+abbrev pub Knows : Option (List ℕ) → Option (List ℕ) → (List ℕ → List ℕ → Type 0) → Type 0
+Knows None rest fact = Unit {0}
+Knows (Some text) None fact = ⊥
+Knows (Some text) (Some rest) fact = fact text rest

@@ -1,18 +1,41 @@
 //! The command line.
 
-ghost use Rattle.std.specs.Prelude.{◌≡◌, ◌≢◌, [], ◌∷◌, map, codes, option_map, IfOk, IfErr, IfSome, IfNone, Some};
-ghost use Rattle.clap.specs.Words.{app_of, kind_of};
-ghost use Rattle.mtr.specs.Options.{program, subcommand, subcommand_for};
+ghost use Rattle.std.specs.Prelude.{◌≡◌, ◌≢◌, [], ◌∷◌, false, map, codes, option_map, IfOk, IfErr, IfSome, IfNone, MatchResult, Some};
+ghost use Rattle.clap.specs.Words.{app_of, kind_of, shape_of, fault_of};
+ghost use Rattle.clap.specs.declared.builder.command.Command.TheViews.{out-Command as fields_of};
+ghost use Rattle.mtr.specs.Options.{program, run_shape, subcommand, subcommand_for, IsOfKind, IsOfWords};
 
 use crate::options::{LineFault, Options};
 use clap::Command;
 use clap::error::ErrorKind;
 use std::alloc::{AllocError, Global};
+use std::env::Args;
+
+/// What `--version` prints behind the program's name.
+const VERSION: &str = "1.0.0";
+
+/// What is told of a word that is not UTF-8.
+pub const NOT_UTF8: &str = "\
+error: invalid UTF-8 was detected in one or more arguments
+
+Usage: mtr <COMMAND>
+
+For more information, try '--help'.
+";
+
+/// What the words of a command line ask for, of which the first is the program's name.
+pub fn asked(alloc: Global, words: Args) -> Result<Options, LineFault> {
+    let words: Vec<String> = words.skip(1).collect(alloc)?;
+    let texts: Vec<&str> = words.iter().map(|word| word.as_str()).collect(alloc)?;
+    options(alloc, &texts)
+}
 
 /// What the words behind the program's name ask for.
 pub fn options<'a>(alloc: Global, words: &'a [&'a str]) -> Result<Options, LineFault>
     // What is answered is what the words name.
     ensures named { IfOk result (λ asked. subcommand (map (λ w. w.now) words.entry.now) ≡ Some (subcommand_for asked)) }
+    // Help and the version are told where the words ask for them, and faults of the command line where they don't.
+    ensures told { MatchResult result (λ _. fault_of program (map (λ w. w.now) words.entry.now) ≡ []) (IsOfWords (map (λ w. w.now) words.entry.now)) }
     // The words `run` alone are refused for want of memory only.
     ensures run { IfErr result (λ fault. map (λ w. w.now) words.entry.now ≡ codes "run" ∷ [] → fault ≡ LineFault.Memory) }
 {
@@ -43,20 +66,33 @@ fn command<'a>(alloc: Global) -> Result<Command<'a>, AllocError>
 {
     Command::new(alloc, "mtr")
         .about("A source with group commit, and a replica that applies its log in parallel")
+        .version(VERSION)
+        .propagate_version(true)
         .no_binary_name(true)
+        .bin_name("mtr")?
         .subcommand_required(true)
-        .subcommand(Command::new(alloc, "run").about("Runs the script on standard input"))
+        .subcommand(run_command(alloc))
+}
+
+/// `run`; each option's help has its range and its default.
+fn run_command<'a>(alloc: Global) -> Command<'a>
+    ensures shape { shape_of result ≡ run_shape }
+    ensures local { (fields_of result).has_globals ≡ false }
+{
+    Command::new(alloc, "run").about("Runs the script on standard input")
 }
 
 /// The fault that `clap` tells.
 fn fault_of(alloc: Global, error: &clap::Error) -> LineFault
-    ensures { kind_of error.now ≡ ErrorKind.OutOfMemory → result ≡ LineFault.Memory }
+    ensures memory { kind_of error.now ≡ ErrorKind.OutOfMemory → result ≡ LineFault.Memory }
+    ensures stream { IsOfKind (kind_of error.now) result }
 {
     if error.kind() == ErrorKind::OutOfMemory {
         return LineFault::Memory;
     }
     match format!(in alloc; "{error}") {
-        Ok(text) => LineFault::Line(text),
+        Ok(text) if error.use_stderr() => LineFault::Line(text),
+        Ok(text) => LineFault::Asked(text),
         Err(_) => LineFault::Memory,
     }
 }
@@ -90,6 +126,5 @@ mod tests {
         assert!(rt; is_refused(alloc, &["decode"]));
         assert!(rt; is_refused(alloc, &["run", "x"]));
         assert!(rt; is_refused(alloc, &["run", "--fail", "5"]));
-        assert!(rt; is_refused(alloc, &["--help"]));
     }
 }

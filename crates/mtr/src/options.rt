@@ -13,10 +13,12 @@ pub enum Options {
 /// Why the words ask for nothing.
 #[derive(Debug, Drop, Error)]
 pub enum LineFault {
-    /// The words are no command line of the program; or they ask for help. This is the text for the user, which
-    /// ends with LF.
+    /// The words are no command line of the program. This is the text for the user, which ends with LF.
     #[error("{0}")]
     Line(String),
+    /// The words ask for help or for the version. This is the text, which ends with LF.
+    #[error("{0}")]
+    Asked(String),
     /// Memory ran out.
     #[error("no memory")]
     Memory,

@@ -1,13 +1,13 @@
 //! A source and a replica over one schema and equal rows.
 
-ghost use Rattle.std.specs.Prelude.{◌≡◌, map, IfOk, IfSome, IfNone, IsPermutation};
-ghost use Rattle.record_codec.specs.declared.records.Record.{Record as ARecord};
+ghost use Rattle.std.specs.Prelude.{◌≡◌, [], map, IfOk, IfSome, IfNone, IsPermutation};
 ghost use Rattle.schema.specs.Flags.{IsFlat};
 ghost use Rattle.store_trait.specs.Batch.{put_batch};
 ghost use Rattle.store_trait.specs.Fits.{Fits};
 ghost use Rattle.std.specs.FinMap.{empty};
-ghost use Rattle.world.specs.Legal.{Setup, AreLegal};
-ghost use Rattle.mtr.specs.Pair.{HasLegalRun, present};
+ghost use Rattle.world.specs.Run.{HasRun};
+ghost use Rattle.world.specs.Seen.{seen};
+ghost use Rattle.mtr.specs.Pair.{present, setup_of};
 
 use btree_store::BTreeStore;
 use published::plain::Plain;
@@ -17,7 +17,7 @@ use schema::{Memory, RowId, Schema};
 use source_core::SourceCore;
 use std::alloc::{AllocError, Global};
 use store_trait::{Batch, RowStore, fits};
-use world::{Event, Reply, World};
+use world::World;
 
 /// The greatest number of records of a log.
 const MAX_RECORDS: u64 = 9223372036854775807;
@@ -46,18 +46,16 @@ fn store_of(alloc: Global, base: &Batch) -> Result<BTreeStore, Memory>
     Ok(store)
 }
 
-/// The replies of a new source and a new replica that hold these rows; `None` exactly where the schema has tables
-/// without keys or with parents, or the rows do not fit it. The replies are legal, over one log that is legal over the
-/// rows: each read at the replica answers as the source's database after one beginning of that log.
-pub fn run_pair(
+/// A new source and a new replica that hold these rows; `None` exactly where the schema has tables without keys or
+/// with parents, or the rows do not fit it.
+pub fn new_pair(
     alloc: Global,
     schema: Schema,
     base: Batch,
-    events: &[Event],
-) -> Result<Option<Vec<Reply>>, Memory>
-    ensures legal { IfOk result (λ ran. IfSome ran (λ replies. HasLegalRun schema base events.now replies.items)) }
-    ensures fits { IfOk result (λ ran. IfSome ran (λ _. IsFlat schema × Fits schema (put_batch base empty))) }
-    ensures refused { IfOk result (λ ran. IfNone ran (¬ (IsFlat schema × Fits schema (put_batch base empty)))) }
+) -> Result<Option<World<BTreeStore, BTreeStore>>, Memory>
+    ensures starts { IfOk result (λ made. IfSome made (λ pair. HasRun (λ rows. rows) (setup_of schema base) [] [] (seen pair))) }
+    ensures fits { IfOk result (λ made. IfSome made (λ _. IsFlat schema × Fits schema (put_batch base empty))) }
+    ensures refused { IfOk result (λ made. IfNone made (¬ (IsFlat schema × Fits schema (put_batch base empty)))) }
 {
     let store = store_of(alloc, &base)?;
     if !schema.is_flat() || !fits(&schema, &store) {
@@ -66,6 +64,5 @@ pub fn run_pair(
     let source = SourceCore::new(alloc, schema.copy()?, store, MAX_RECORDS)?;
     let replica = ReplicaCore::new(alloc, schema, store_of(alloc, &base)?)?;
     let shown = Plain::new(alloc, BTreeStore::new(alloc), base)?;
-    let mut world = World::new(alloc, source, replica, shown);
-    Ok(Some(world.run(alloc, events)?))
+    Ok(Some(World::new(alloc, source, replica, shown)))
 }

@@ -1,53 +1,36 @@
 //! Scripts: the tables, the rows at the start, and the events that happen.
 //!
-//! A script is read as a whole, before anything is done. Its lines end with LF; an empty line and one that
-//! begins with `#` say nothing. All tables come first, then the rows of the base, then the events. Any other
-//! line is bad, and the first bad line is told.
+//! A script is read and checked as a whole before anything is done, line by line as it comes. Its lines end with
+//! LF; an empty line and one that begins with `#` say nothing. All tables come first, then the rows of the base,
+//! then the events. Any other line is bad; the first bad line ends the reading, and what is behind it is not kept.
+//! Of the events the text alone is kept (`events`).
 
-ghost use Rattle.std.specs.Prelude.{◌≡◌, ◌+◌, ◌<◌, ◌≤◌, ◌==◌, ◌∷◌, true, length, position, IfOk, IfSome, OnOk, Some, is_some};
+ghost use Rattle.std.specs.Prelude.{◌≡◌, ◌++◌, ◌∷◌, [], ◌==◌, true, false, length, IfOk, IfSome, OnOk, Some, is_some};
 ghost use Rattle.std.specs.Bool.{then_some};
-ghost use Rattle.std.specs.List.{slice_split};
-ghost use Rattle.mtr.specs.Script.{table_of, base_of, command_of, is_skipped, text_line, line_of, lines_of, said, said_with, added, Says};
+ghost use Rattle.std.specs.List.{All};
+ghost use Rattle.mtr.specs.Lines.{table_of, base_of, command_of, is_skipped, text_line};
+ghost use Rattle.mtr.specs.Script.{said, said_with, added, Says, IsLine, LeavesLines, TakesEnd};
 
 use crate::command::{Verb, alone, event_of};
+use crate::ending::Stop;
+use crate::events::EventLines;
 use crate::words::Words;
-use rows::{Change, Row};
+use rows::Row;
 use schema::{Memory, RowId, Table};
 use std::alloc::Global;
-use thiserror::Error;
+use std::io;
+use std::io::BufRead;
 use world::Event;
 
 /// What a script says.
-#[derive(Debug, Drop)]
+#[derive(Drop)]
 pub struct Script {
     /// The tables, in the order of their lines.
     pub tables: Vec<Table>,
     /// The rows that source and replica hold at the start, in the order of their lines.
     pub base: Vec<(RowId, Row)>,
-    /// What happens, in order.
-    pub events: Vec<Event>,
-}
-
-/// Why there is no script.
-#[derive(Clone, Copy, Debug, PartialEq, Eq, Error)]
-pub enum ScriptFault {
-    /// The first line, counted from 1, that says nothing known, or that stands behind one that it has to precede.
-    #[error("line {line}: bad command")]
-    BadCommand { line: usize },
-    /// Memory ran out.
-    #[error("no memory")]
-    Memory,
-}
-
-impl From<Memory> for ScriptFault {
-    ghost use Rattle.std.specs.Prelude.{◌≡◌};
-    ghost use Rattle.mtr.specs.declared.script.ScriptFault.TheVariants as faults;
-
-    ghost from_gives = { λ _ e. e ≡ faults.Memory };
-
-    fn from(_error: Memory) -> ScriptFault {
-        ScriptFault::Memory
-    }
+    /// The lines of what happens, in order.
+    pub events: EventLines,
 }
 
 /// What one line says.
@@ -64,42 +47,44 @@ pub enum Line {
 }
 
 impl Script {
-    /// What a text says: the whole of it is read before anything is done. The time is that of a walk over the
-    /// text.
-    pub fn read(alloc: Global, text: &[u8]) -> Result<Script, ScriptFault>
-        ensures { Says text.now result }
+    /// What the text of a reader says: the whole of it is read before anything is done, and no more than its
+    /// first bad line. The time is that of a walk over the text, and the lines of events alone are kept.
+    pub fn read<R: BufRead>(alloc: Global, input: &mut R) -> Result<Script, Stop>
+        ensures { IfSome (R.remaining input.old) (λ text. Says text result) }
     {
         let mut script = Script {
             tables: Vec::new(alloc),
             base: Vec::new(alloc),
-            events: Vec::new(alloc),
+            events: EventLines::new(alloc),
         };
-        let mut rest = text;
-        let mut lines = 0;
-        loop {
-            let (line, more) = first_line(rest);
-            if !script.add(line)? {
-                return Err(ScriptFault::BadCommand { line: lines + 1 });
+        let mut line = Vec::new(alloc);
+        for number in 1..usize::MAX {
+            let is_more = read_line(input, &mut line)?;
+            if !script.add(&line)? {
+                return Err(Stop::BadCommand { line: number });
             }
-            match more {
-                Some(more) => rest = more,
-                None => return Ok(script),
+            if !is_more {
+                return Ok(script);
             }
-            lines += 1;
         }
+        Err(Stop::Memory)
     }
 
     /// Takes what a line says. `false`, and nothing is taken, where the line is bad or comes too late.
     fn add(&mut self, line: &[u8]) -> Result<bool, Memory>
+        requires { IsLine line.now }
         ensures said { IfOk result (λ is_good. said_with (said self.old) line.now ≡ then_some is_good (said self.new)) }
     {
-        let Some(line) = line_of(line) else {
+        let Ok(text) = str::from_utf8(line) else {
+            return Ok(false);
+        };
+        let Some(line) = text_line(text) else {
             return Ok(false);
         };
         if !self.takes(&line) {
             return Ok(false);
         }
-        self.push(&line)?;
+        self.push(text, &line)?;
         Ok(true)
     }
 
@@ -117,34 +102,48 @@ impl Script {
 
     /// Takes what a line says that may come.
     #[tactic(auto, unfolding(crate::specs::Script::added))]
-    fn push(&mut self, line: &Line) -> Result<(), Memory>
-        requires { is_some (added (said self.old) line.now) ≡ true }
+    fn push(&mut self, text: &str, line: &Line) -> Result<(), Memory>
+        requires line { IsLine text.now }
+        requires says { text_line text.now ≡ Some line.now }
+        requires may_come { is_some (added (said self.old) line.now) ≡ true }
         ensures { OnOk result (added (said self.old) line.now ≡ Some (said self.new)) }
     {
-        // The check finds the parts of an `Event` only where `Change` is named.
-        let _named: Option<Change> = None;
         match line {
             Line::Skipped => {}
             Line::Table(table) => self.tables.push(*table)?,
             Line::Base(id, row) => self.base.push((*id, *row))?,
-            Line::Event(event) => self.events.push(*event)?,
+            Line::Event(_) => self.events.push(text)?,
         }
         Ok(())
     }
 }
 
-/// What a line without its LF says; `None` where it is bad.
-fn line_of(line: &[u8]) -> Option<Line>
-    ensures { result ≡ line_of line.now }
+/// Reads a line in the place of another. `false` where it is the last, as no LF ends it.
+fn read_line<R: BufRead>(input: &mut R, line: &mut Vec<u8>) -> io::Result<bool>
+    ensures one { OnOk result (IsLine line.new.items) }
+    ensures known { IfOk result (λ is_more. IfSome (R.remaining input.old) (λ text. LeavesLines text line.new.items is_more (R.remaining input.new))) }
 {
-    match str::from_utf8(line) {
-        Ok(line) => text_line(line),
-        Err(_) => None,
+    line.clear();
+    input.read_until(b'\n', line)?;
+    Ok(take_end(line))
+}
+
+/// Takes the LF off that ends a line; `false` where none does.
+fn take_end(line: &mut Vec<u8>) -> bool
+    ensures { TakesEnd line.old.items line.new.items result }
+{
+    match line.last() {
+        Some(b'\n') => {
+            line.pop();
+            true
+        }
+        _ => false,
     }
 }
 
-#[tactic(auto, unfolding(crate::specs::Script::text_line))]
-fn text_line(line: &str) -> Option<Line>
+/// What a line of text says; `None` where it is bad.
+#[tactic(auto, unfolding(crate::specs::Lines::text_line))]
+pub fn text_line(line: &str) -> Option<Line>
     ensures { result ≡ text_line line.now }
 {
     if is_skipped(line) {
@@ -164,7 +163,7 @@ fn is_skipped(line: &str) -> bool
     }
 }
 
-#[tactic(auto, unfolding(crate::specs::Script::command_of))]
+#[tactic(auto, unfolding(crate::specs::Lines::command_of))]
 fn command_of(words: Words) -> Option<Line>
     ensures { result ≡ command_of words.entry }
 {
@@ -179,7 +178,7 @@ fn command_of(words: Words) -> Option<Line>
     }
 }
 
-#[tactic(auto, unfolding(crate::specs::Script::table_of))]
+#[tactic(auto, unfolding(crate::specs::Lines::table_of))]
 fn table_of(words: Words) -> Option<Table>
     ensures { result ≡ table_of words.entry }
 {
@@ -198,31 +197,13 @@ fn table_of(words: Words) -> Option<Table>
     }
 }
 
-#[tactic(auto, unfolding(crate::specs::Script::base_of))]
+#[tactic(auto, unfolding(crate::specs::Lines::base_of))]
 fn base_of(words: Words) -> Option<(RowId, Row)>
     ensures { result ≡ base_of words.entry }
 {
     let (id, words) = words.row_id()?;
     let row = words.row()?;
     Some((id, row))
-}
-
-/// The first line of a text, and what stands behind its LF, where it has one.
-fn first_line(text: &[u8]) -> (&[u8], Option<&[u8]>)
-    ensures lines { slice_split (λ b. b == 10) text.now ≡ result.0.now ∷ lines_of result.1 }
-    ensures within { length result.0.now ≤ length text.now }
-    ensures shorter { IfSome result.1 (λ rest. length rest.now < length text.now) }
-{
-    match line_end(text) {
-        Some(end) => (&text[..end], Some(&text[end + 1..])),
-        None => (text, None),
-    }
-}
-
-fn line_end(text: &[u8]) -> Option<usize>
-    ensures { result ≡ position (λ b. b == 10) text.now }
-{
-    text.iter().position(|b| *b == b'\n')
 }
 
 #[cfg(test)]

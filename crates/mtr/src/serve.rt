@@ -1,142 +1,87 @@
 //! The program's work, over any reader and two writers.
 
-use crate::options::Options;
-use crate::pair::{base_of, run_pair};
-use crate::printing::write_reply;
-use crate::script::{Script, ScriptFault};
-use schema::{Memory, Schema, SchemaFault};
+ghost use Rattle.std.specs.Prelude.{◌≡◌, ◌≢◌, ◌∷◌, [], ◌++◌, IfSome, OnOk, string_bytes};
+ghost use Rattle.std.specs.Io.KnownBytes.{Appends, Keeps};
+ghost use Rattle.mtr.specs.Ending.{status_of};
+ghost use Rattle.mtr.specs.Pair.{PrintsText};
+
+use crate::command_line::{NOT_UTF8, asked};
+use crate::ending::{Ending, Stop};
+use crate::options::{LineFault, Options};
+use crate::run::run_text;
 use std::alloc::Global;
+use std::env::Args;
 use std::io;
-use std::io::{BufWriter, Read, Write};
-use world::Reply;
+use std::io::{BufReader, ErrorKind, Read, Write};
 
-/// How the program ends.
-#[derive(Clone, Copy, Debug, PartialEq, Eq)]
-pub enum Ending {
-    /// All was done.
-    Done,
-    /// The command line is none.
-    CommandLine,
-    /// The script, its schema or its base rows are bad.
-    BadScript,
-    /// Memory ran out outside an event.
-    NoMemory,
-    /// A stream could not be read or written.
-    Stream,
+/// As many bytes are read at once.
+const CHUNK: usize = 65536;
+
+/// Does what the words of a command line ask for, of which the first is the program's name, and answers the exit
+/// status. Help and the version go to the output, and faults of the command line to `errors`.
+pub fn run_program<R: Read, W: Write, E: Write>(
+    alloc: Global,
+    words: io::Result<Args>,
+    input: &mut R,
+    output: &mut W,
+    errors: &mut E,
+) -> u8 {
+    let ending = match words {
+        Ok(words) => match asked(alloc, words) {
+            Ok(options) => serve(alloc, &options, input, output, errors),
+            Err(LineFault::Asked(text)) => show(&text, output, Ending::Done),
+            Err(LineFault::Line(text)) => show(&text, errors, Ending::CommandLine),
+            Err(LineFault::Memory) => Stop::Memory.tell(errors),
+        },
+        Err(error) => match error.kind() {
+            ErrorKind::OutOfMemory => Stop::Memory.tell(errors),
+            _ => show(NOT_UTF8, errors, Ending::CommandLine),
+        },
+    };
+    ending.status()
 }
 
-impl Ending {
-    /// The exit status.
-    pub fn status(self) -> u8 {
-        match self {
-            Ending::Done => 0,
-            Ending::CommandLine => 2,
-            Ending::BadScript => 3,
-            Ending::NoMemory => 5,
-            Ending::Stream => 7,
-        }
+/// Writes a text.
+fn show<W: Write>(text: &str, out: &mut W, ending: Ending) -> Ending
+    ensures ending { result ≢ Ending.Stream → result ≡ ending }
+    ensures text { result ≢ Ending.Stream → Appends (W.contents out.old) (W.contents out.new) text.now }
+{
+    match write_text(text, out) {
+        Ok(()) => ending,
+        Err(_) => Ending::Stream,
     }
 }
 
-/// Why a script is not run.
-#[derive(Clone, Copy, Debug, PartialEq, Eq)]
-enum Refusal {
-    Script(ScriptFault),
-    Schema(SchemaFault),
-    BadBase,
-    Memory,
+fn write_text<W: Write>(text: &str, out: &mut W) -> io::Result<()>
+    ensures { OnOk result (Appends (W.contents out.old) (W.contents out.new) text.now) }
+{
+    out.write_all(text.as_bytes())?;
+    out.flush()
 }
 
-impl From<Memory> for Refusal {
-    fn from(_memory: Memory) -> Refusal {
-        Refusal::Memory
-    }
-}
-
-/// Does what the options ask for, and answers the exit status. The whole script is read and checked before the
-/// first event; then each event's reply is a line on the output. A fault is one line on `errors`, and nothing
-/// is written to the output then; a stream that fails has no line.
-pub fn serve<R: Read, W: Write, E: Write>(
+/// Does what the options ask for. A fault is one line on `errors`, and nothing is written to the output then,
+/// but where memory or a stream fails after a beginning of the events; a stream that fails has no line.
+fn serve<R: Read, W: Write, E: Write>(
     alloc: Global,
     options: &Options,
     input: &mut R,
     output: &mut W,
     errors: &mut E,
-) -> u8 {
-    let ending = match options {
-        Options::Run => serve_run(alloc, input, output, errors),
-    };
-    ending.status()
-}
-
-fn serve_run<R: Read, W: Write, E: Write>(
-    alloc: Global,
-    input: &mut R,
-    output: &mut W,
-    errors: &mut E,
 ) -> Ending {
-    let mut text = Vec::new(alloc);
-    match input.read_to_end(&mut text) {
-        Ok(_) => {}
-        Err(error) if error.kind() == io::ErrorKind::OutOfMemory => {
-            return tell(Refusal::Memory, errors);
-        }
-        Err(_) => return Ending::Stream,
-    }
-    match run_script(alloc, &text) {
-        Ok(replies) => match print(alloc, &replies, output) {
+    match options {
+        Options::Run => match run(alloc, input, output) {
             Ok(()) => Ending::Done,
-            Err(error) if error.kind() == io::ErrorKind::OutOfMemory => {
-                tell(Refusal::Memory, errors)
-            }
-            Err(_) => Ending::Stream,
+            Err(stop) => stop.tell(errors),
         },
-        Err(refusal) => tell(refusal, errors),
     }
 }
 
-/// The replies to the events of a script.
-fn run_script(alloc: Global, text: &[u8]) -> Result<Vec<Reply>, Refusal> {
-    let script = Script::read(alloc, text).map_err(Refusal::Script)?;
-    let Script {
-        tables,
-        base,
-        events,
-    } = script;
-    let schema = Schema::new(tables).map_err(Refusal::Schema)?;
-    let base = base_of(alloc, &base)?.ok_or(Refusal::BadBase)?;
-    run_pair(alloc, schema, base, &events)?.ok_or(Refusal::BadBase)
-}
-
-/// Writes each reply as a line, over a buffer.
-fn print<W: Write>(alloc: Global, replies: &[Reply], output: &mut W) -> io::Result<()> {
-    let mut out = BufWriter::new(alloc, output)?;
-    for reply in replies {
-        write_reply(&mut out, reply)?;
-    }
-    out.flush()
-}
-
-/// Tells why a script is not run.
-fn tell<E: Write>(refusal: Refusal, errors: &mut E) -> Ending {
-    let told = match refusal {
-        Refusal::Script(ScriptFault::Memory)
-        | Refusal::Schema(SchemaFault::Memory)
-        | Refusal::Memory => writeln!(errors, "no memory"),
-        Refusal::Script(fault) => writeln!(errors, "{fault}"),
-        Refusal::Schema(fault) => writeln!(errors, "{fault}"),
-        Refusal::BadBase => writeln!(errors, "bad base"),
-    };
-    match (told, refusal) {
-        (Err(_), _) => Ending::Stream,
-        (
-            Ok(()),
-            Refusal::Script(ScriptFault::Memory)
-            | Refusal::Schema(SchemaFault::Memory)
-            | Refusal::Memory,
-        ) => Ending::NoMemory,
-        (Ok(()), _) => Ending::BadScript,
-    }
+/// Runs the script of a reader.
+fn run<R: Read, W: Write>(alloc: Global, input: &mut R, output: &mut W) -> Result<(), Stop>
+    ensures { OnOk result (IfSome (R.remaining input.old) (λ text. PrintsText text (W.contents output.old) (W.contents output.new))) }
+{
+    let mut input = BufReader::with_capacity(alloc, CHUNK, input)?;
+    run_text(alloc, &mut input, output)
 }
 
 #[cfg(test)]

@@ -1,7 +1,6 @@
-//! The scripts of `examples/`, and every text and status that a bad one ends with, over memory.
+//! The scripts of `examples/`, every text and status that the program ends with, and streams and memory that fail.
 
 use super::*;
-use std::io::ErrorKind;
 use std::process::Abort;
 use std::test::Fail;
 
@@ -216,29 +215,48 @@ empty
 nothing
 ";
 
-/// The status, and what is printed and told.
-fn served(alloc: Global, script: &[u8]) -> (u8, Vec<u8>, Vec<u8>) {
-    let mut input = script;
+/// How a run of the program ended: its status, what it printed, and what it told.
+type Ran = (u8, Vec<u8>, Vec<u8>);
+
+/// A list of words as the program is given them.
+fn args(alloc: Global, words: &[&str]) -> io::Result<Args> {
+    let mut list = Vec::new(alloc);
+    for word in words {
+        list.push(String::from_str(alloc, word)?)
+            .map_err(|_| io::Error::from(ErrorKind::OutOfMemory))?;
+    }
+    Ok(list.into_iter())
+}
+
+/// The program over memory: words, and a reader.
+fn ran<R: Read>(alloc: Global, words: io::Result<Args>, input: &mut R) -> Ran {
     let mut printed = Vec::new(alloc);
     let mut told = Vec::new(alloc);
-    let status = serve(alloc, &Options::Run, &mut input, &mut printed, &mut told);
+    let status = run_program(alloc, words, input, &mut printed, &mut told);
     (status, printed, told)
+}
+
+/// `mtr run` over a script.
+fn served(alloc: Global, script: &[u8]) -> Ran {
+    let mut input = script;
+    ran(alloc, args(alloc, &["mtr", "run"]), &mut input)
+}
+
+/// It ended so.
+fn ends(rt: &impl Abort, ran: Ran, status: u8, printed: &str, told: &str) {
+    assert_eq!(rt; str::from_utf8(&ran.1).ok(), Some(printed), "{told}");
+    assert_eq!(rt; str::from_utf8(&ran.2).ok(), Some(told), "{printed}");
+    assert_eq!(rt; ran.0, status, "{printed}{told}");
 }
 
 /// A script that is run prints this, and tells nothing.
 fn prints(rt: &impl Abort, alloc: Global, script: &[u8], want: &str) {
-    let (status, printed, told) = served(alloc, script);
-    assert_eq!(rt; str::from_utf8(&printed).ok(), Some(want));
-    assert_eq!(rt; str::from_utf8(&told).ok(), Some(""));
-    assert_eq!(rt; status, 0);
+    ends(rt, served(alloc, script), 0, want, "");
 }
 
 /// A bad script tells this, prints nothing, and has the status of one.
 fn tells(rt: &impl Abort, alloc: Global, script: &[u8], want: &str) {
-    let (status, printed, told) = served(alloc, script);
-    assert_eq!(rt; str::from_utf8(&told).ok(), Some(want));
-    assert_eq!(rt; printed.len(), 0, "{want}");
-    assert_eq!(rt; status, 3, "{want}");
+    ends(rt, served(alloc, script), 3, "", want);
 }
 
 #[test]
@@ -285,6 +303,28 @@ fn a_bad_schema_is_told(rt: HostRuntime) {
     ] {
         tells(&rt, rt.alloc(), script.as_bytes(), want);
     }
+}
+
+#[test]
+fn base_rows_come_in_any_order(rt: HostRuntime) {
+    let script =
+        b"table 2 1 keyed\ntable 1 1 keyed\nbase 2 20 1\nbase 1 10 2\nbase 2 -5 3\nbase 1 -5 4\nbase 2 10 5\nread 1 -5\nread 1 10\nread 2 -5\nread 2 10\nread 2 20\n";
+    prints(&rt, rt.alloc(), script, "0: 4\n0: 2\n0: 3\n0: 5\n0: 1\n");
+    let script =
+        b"table 1 1 keyed\nbase 1 20 1\nbase 1 10 2\nbase 1 -5 3\nread 1 20\nread 1 10\nread 1 -5\n";
+    prints(&rt, rt.alloc(), script, "0: 1\n0: 2\n0: 3\n");
+}
+
+#[test]
+fn a_row_has_up_to_sixteen_columns_and_the_ends_of_i64(rt: HostRuntime) {
+    let script =
+        b"table 1 16 keyed\nbase 1 9223372036854775807 1 2 3 4 5 6 7 8 9 10 11 12 13 14 -9223372036854775808 9223372036854775807\nbegin 1\nsee 1 1 9223372036854775807\nread 1 9223372036854775807\nread 1 -9223372036854775808\n";
+    prints(
+        &rt,
+        rt.alloc(),
+        script,
+        "ok\nrow 1 2 3 4 5 6 7 8 9 10 11 12 13 14 -9223372036854775808 9223372036854775807\n0: 1 2 3 4 5 6 7 8 9 10 11 12 13 14 -9223372036854775808 9223372036854775807\n0: none\n",
+    );
 }
 
 #[test]
@@ -350,61 +390,214 @@ fn the_first_bad_line_is_told(rt: HostRuntime) {
     );
 }
 
-/// A stream that fails at its first call, with this kind.
-#[derive(Drop)]
-struct Broken(ErrorKind);
-
-impl Read for Broken {
-    fn read(&mut self, _: &mut [u8]) -> io::Result<usize> {
-        Err(io::Error::from(self.0))
+/// A script of so many reads of a row that is not there.
+fn many_reads(alloc: Global, reads: usize) -> Result<Vec<u8>, Fail> {
+    let mut script = Vec::new(alloc);
+    write!(&mut script, "table 1 1 keyed\n")?;
+    for _ in 0..reads {
+        write!(&mut script, "read 1 10\n")?;
     }
-}
-
-impl Write for Broken {
-    fn write(&mut self, _: &[u8]) -> io::Result<usize> {
-        Err(io::Error::from(self.0))
-    }
-
-    fn flush(&mut self) -> io::Result<()> {
-        Err(io::Error::from(self.0))
-    }
+    Ok(script)
 }
 
 #[test]
-fn a_stream_that_fails_has_its_status(rt: HostRuntime) -> Result<(), Fail> {
+fn a_long_script_is_run_to_its_end(rt: HostRuntime) -> Result<(), Fail> {
     let alloc = rt.alloc();
-    let mut printed: Vec<u8> = Vec::new(alloc);
-    let mut told: Vec<u8> = Vec::new(alloc);
-    let broken = || Broken(ErrorKind::BrokenPipe);
-    let run = &Options::Run;
+    let script = many_reads(alloc, 25000)?;
+    assert!(rt; script.len() > 200000);
+    let (status, printed, told) = served(alloc, &script);
+    let lines = printed.iter().filter(|c| **c == b'\n').count();
     assert_eq!(rt;
-        serve(alloc, run, &mut broken(), &mut printed, &mut told),
-        7
+        (status, lines, printed.len(), told.len()),
+        (0, 25000, 8 * 25000, 0)
     );
-    let mut script = ONE_INSERT.as_bytes();
-    assert_eq!(rt; serve(alloc, run, &mut script, &mut broken(), &mut told), 7);
-    let mut script: &[u8] = b"x";
-    assert_eq!(rt;
-        serve(alloc, run, &mut script, &mut printed, &mut broken()),
-        7
-    );
-    assert_eq!(rt; (printed.len(), told.len()), (0, 0));
-    let mut input = Broken(ErrorKind::OutOfMemory);
-    assert_eq!(rt; serve(alloc, run, &mut input, &mut printed, &mut told), 5);
-    assert_eq!(rt; str::from_utf8(&told).ok(), Some("no memory\n"));
     Ok(())
 }
 
-#[test]
-fn want_of_memory_has_its_text(rt: HostRuntime) {
-    let alloc = rt.alloc();
-    for refusal in [
-        Refusal::Memory,
-        Refusal::Script(ScriptFault::Memory),
-        Refusal::Schema(SchemaFault::Memory),
-    ] {
-        let mut told: Vec<u8> = Vec::new(alloc);
-        assert_eq!(rt; tell(refusal, &mut told), Ending::NoMemory);
-        assert_eq!(rt; str::from_utf8(&told).ok(), Some("no memory\n"));
+/// A stream that takes or gives some bytes, some at a time, and then fails with this kind.
+#[derive(Drop)]
+struct BadStream<'a> {
+    left: &'a [u8],
+    calls: usize,
+    kind: ErrorKind,
+}
+
+impl<'a> Read for BadStream<'a> {
+    fn read(&mut self, buf: &mut [u8]) -> io::Result<usize> {
+        match self.left.split_first() {
+            Some((byte, left)) if !buf.is_empty() => {
+                buf[0] = *byte;
+                self.left = left;
+                Ok(1)
+            }
+            _ => Err(io::Error::from(self.kind)),
+        }
     }
+}
+
+impl<'a> Write for BadStream<'a> {
+    fn write(&mut self, bytes: &[u8]) -> io::Result<usize> {
+        if self.calls == 0 {
+            return Err(io::Error::from(self.kind));
+        }
+        self.calls -= 1;
+        Ok(bytes.len())
+    }
+
+    fn flush(&mut self) -> io::Result<()> {
+        if self.calls == 0 {
+            return Err(io::Error::from(self.kind));
+        }
+        self.calls -= 1;
+        Ok(())
+    }
+}
+
+/// A stream that gives these bytes, or takes as many calls, and then fails.
+fn failing(left: &[u8], calls: usize, kind: ErrorKind) -> BadStream<'_> {
+    BadStream { left, calls, kind }
+}
+
+#[test]
+fn a_read_that_fails_runs_nothing(rt: HostRuntime) {
+    let alloc = rt.alloc();
+    let run = || args(alloc, &["mtr", "run"]);
+    let mut input = failing(ONE_INSERT.as_bytes(), 0, ErrorKind::BrokenPipe);
+    ends(&rt, ran(alloc, run(), &mut input), 7, "", "");
+    let mut input = failing(ONE_INSERT.as_bytes(), 0, ErrorKind::OutOfMemory);
+    ends(&rt, ran(alloc, run(), &mut input), 5, "", "no memory\n");
+    // What stands behind a first bad line is not read.
+    let mut input = failing(b"x\n", 0, ErrorKind::BrokenPipe);
+    ends(
+        &rt,
+        ran(alloc, run(), &mut input),
+        3,
+        "",
+        "line 1: bad command\n",
+    );
+}
+
+#[test]
+fn a_write_that_fails_is_told_by_the_status(rt: HostRuntime) -> Result<(), Fail> {
+    let alloc = rt.alloc();
+    // Three pieces are printed in a write and a flush each.
+    let script = many_reads(alloc, 2500)?;
+    for calls in 0..6 {
+        let mut input = script.as_slice();
+        let mut output = failing(b"", calls, ErrorKind::BrokenPipe);
+        let mut told: Vec<u8> = Vec::new(alloc);
+        let words = args(alloc, &["mtr", "run"]);
+        let status = run_program(alloc, words, &mut input, &mut output, &mut told);
+        assert_eq!(rt; (status, told.len()), (7, 0), "{calls}");
+    }
+    let mut input = script.as_slice();
+    let mut output = failing(b"", 6, ErrorKind::BrokenPipe);
+    let mut told: Vec<u8> = Vec::new(alloc);
+    let words = args(alloc, &["mtr", "run"]);
+    assert_eq!(rt;
+        run_program(alloc, words, &mut input, &mut output, &mut told),
+        0
+    );
+    // Memory that runs out while printing is no stream that fails.
+    let mut input = script.as_slice();
+    let mut output = failing(b"", 2, ErrorKind::OutOfMemory);
+    let mut told: Vec<u8> = Vec::new(alloc);
+    let words = args(alloc, &["mtr", "run"]);
+    assert_eq!(rt;
+        run_program(alloc, words, &mut input, &mut output, &mut told),
+        5
+    );
+    assert_eq!(rt; str::from_utf8(&told).ok(), Some("no memory\n"));
+    let mut script: &[u8] = b"x";
+    let mut output: Vec<u8> = Vec::new(alloc);
+    let mut errors = failing(b"", 0, ErrorKind::OutOfMemory);
+    let words = args(alloc, &["mtr", "run"]);
+    assert_eq!(rt;
+        run_program(alloc, words, &mut script, &mut output, &mut errors),
+        7
+    );
+    assert_eq!(rt; output.len(), 0);
+    Ok(())
+}
+
+const HELP: &str = "\
+A source with group commit, and a replica that applies its log in parallel
+
+Usage: mtr <COMMAND>
+
+Commands:
+  run   Runs the script on standard input
+  help  Print this message or the help of the given subcommand(s)
+
+Options:
+  -h, --help     Print help
+  -V, --version  Print version
+";
+
+const RUN_HELP: &str = "\
+Runs the script on standard input
+
+Usage: mtr run
+
+Options:
+  -h, --help     Print help
+  -V, --version  Print version
+";
+
+/// The program with these words, and nothing to read.
+fn asked_of(alloc: Global, words: &[&str]) -> Ran {
+    let mut input: &[u8] = b"";
+    ran(alloc, args(alloc, words), &mut input)
+}
+
+#[test]
+fn help_and_version_go_to_the_output(rt: HostRuntime) {
+    let alloc = rt.alloc();
+    for words in [["mtr", "--help"], ["mtr", "-h"], ["mtr", "help"]] {
+        ends(&rt, asked_of(alloc, &words), 0, HELP, "");
+    }
+    for words in [
+        ["mtr", "run", "--help"],
+        ["mtr", "run", "-h"],
+        ["mtr", "help", "run"],
+    ] {
+        ends(&rt, asked_of(alloc, &words), 0, RUN_HELP, "");
+    }
+    for words in [["mtr", "--version"], ["mtr", "-V"]] {
+        ends(&rt, asked_of(alloc, &words), 0, "mtr 1.0.0\n", "");
+    }
+    for words in [["mtr", "run", "--version"], ["mtr", "run", "-V"]] {
+        ends(&rt, asked_of(alloc, &words), 0, "mtr-run 1.0.0\n", "");
+    }
+}
+
+#[test]
+fn faults_of_the_command_line_are_told(rt: HostRuntime) {
+    let alloc = rt.alloc();
+    ends(
+        &rt,
+        asked_of(alloc, &["mtr", "run", "--fail", "5"]),
+        2,
+        "",
+        "error: unexpected argument '--fail' found\n\nUsage: mtr run\n\nFor more information, try '--help'.\n",
+    );
+    ends(
+        &rt,
+        asked_of(alloc, &["mtr", "Run"]),
+        2,
+        "",
+        "error: unrecognized subcommand 'Run'\n\n  tip: a similar subcommand exists: 'run'\n\nUsage: mtr <COMMAND>\n\nFor more information, try '--help'.\n",
+    );
+    ends(
+        &rt,
+        asked_of(alloc, &["mtr"]),
+        2,
+        "",
+        "error: 'mtr' requires a subcommand but one was not provided\n  [subcommands: run, help]\n\nUsage: mtr <COMMAND>\n\nFor more information, try '--help'.\n",
+    );
+    let mut input: &[u8] = b"";
+    let words = Err(io::Error::from(ErrorKind::InvalidData));
+    ends(&rt, ran(alloc, words, &mut input), 2, "", NOT_UTF8);
+    let words = Err(io::Error::from(ErrorKind::OutOfMemory));
+    ends(&rt, ran(alloc, words, &mut input), 5, "", "no memory\n");
 }

@@ -1,45 +1,38 @@
-use Rattle.std.proofs.Common.{◌≡◌, ◌∙◌, ◌+◌, ◌<◌, ap, sym, length, Some, None, arith}
+use Rattle.std.proofs.Common.{◌≡◌, ◌∙◌, ◌+◌, ap, sym, Some, None, true, false, Bool, List, ℕ, Option, subst}
 use Rattle.std.specs.Bool.{then_some}
-use Rattle.std.proofs.lemmas.Result.{err_from_is_err_and}
-use Rattle.mtr.specs.Script.{said, said_with, said_by, lines_of}
-use Rattle.mtr.proofs.ScriptLines.{line_taken, line_refused, all_said}
+use Rattle.std.specs.Option.{IfSome}
+use Rattle.mtr.specs.Script.{Said, said, said_with, LeavesLines}
+use Rattle.mtr.proofs.ScriptLines.{known_refused, known_last, known_more}
 use Rattle.mtr.proofs.script.Script.read.Goals as goal
 
-pub returns-in_err-add : goal.returns-in_err-add
-returns-in_err-add c = let p = err_from_is_err_and c.from_residual.result c.from_residual.ensures.1 in rw (p.1, p.2) tt
+is_good : (s after : Said) (line read : List ℕ) (good : Bool) → read ≡ line → said_with s read ≡ then_some good after → good ≡ true → said_with s line ≡ Some after
+is_good s after line read good same e g = ap (said_with s) (sym same) ∙ e ∙ ap (λ b. then_some b after) g
+
+is_bad : (s after : Said) (line read : List ℕ) (good : Bool) → read ≡ line → said_with s read ≡ then_some good after → good ≡ false → said_with s line ≡ None
+is_bad s after line read good same e g = ap (said_with s) (sym same) ∙ e ∙ ap (λ b. then_some b after) g
+
+lines_at : (now left : Option (List ℕ)) (line : List ℕ) (is_more b : Bool) → is_more ≡ b → IfSome now (λ rest. LeavesLines rest line is_more left) → IfSome now (λ rest. LeavesLines rest line b left)
+lines_at now left line is_more b e h = let P : Bool → Type 0 = λ x. IfSome now (λ rest. LeavesLines rest line x left) in subst P e h
 
 pub returns-then-not-branch : goal.returns-then-not-branch
-returns-then-not-branch c =
-    let before = said c.loop-script.script in
-    let line = c.first_line.result.0.now in
-    let refused : said_with before line ≡ None = c.in_ok-add.ensures.said ∙ ap (λ b. then_some b (said c.add.new.self)) c.if-not-branch.true in
-    sym c.loop-script.invariant.so_far
-    ∙ ap (said_by before (c.loop-script.lines + 1)) c.first_line.ensures.lines
-    ∙ line_refused before (c.loop-script.lines + 1) line _ refused
+returns-then-not-branch g c =
+    let remaining = g.R.Read.remaining in
+    known_refused (remaining c.args.input.now) (remaining c.loop-number.input) (remaining c.read_line.new.input) (said c.loop-number.script) c.loop-number.number c.read_line.new.line.items c.in_ok-is_more.is_more
+    c.loop-number.invariant c.in_ok-is_more.ensures.known
+    (is_bad (said c.loop-number.script) (said c.add.new.self) _ _ _ c.deref.ensures.value c.in_ok-add.ensures.said c.if-not-branch.true)
 
-pub returns-in-None : goal.returns-in-None
-returns-in-None c =
-    let before = said c.loop-script.script in
-    let after = said c.add.new.self in
-    let line = c.first_line.result.0.now in
-    let taken : said_with before line ≡ Some after = c.in_ok-add.ensures.said ∙ ap (λ b. then_some b after) c.if-not-branch.false in
-    sym c.loop-script.invariant.so_far
-    ∙ ap (said_by before (c.loop-script.lines + 1)) c.first_line.ensures.lines
-    ∙ line_taken before after (c.loop-script.lines + 1) line _ taken
-    ∙ ap (λ o. said_by after (c.loop-script.lines + 1 + 1) (lines_of o)) c.in-None.is
-    ∙ all_said after (c.loop-script.lines + 1 + 1)
+pub returns-then-not-is_more : goal.returns-then-not-is_more
+returns-then-not-is_more g c =
+    let remaining = g.R.Read.remaining in
+    known_last (remaining c.args.input.now) (remaining c.loop-number.input) (remaining c.read_line.new.input) (said c.loop-number.script) (said c.add.new.self) c.loop-number.number c.read_line.new.line.items
+    c.loop-number.invariant
+    (lines_at (remaining c.loop-number.input) (remaining c.read_line.new.input) c.read_line.new.line.items c.in_ok-is_more.is_more false c.if-not-is_more.true c.in_ok-is_more.ensures.known)
+    (is_good (said c.loop-number.script) (said c.add.new.self) _ _ _ c.deref.ensures.value c.in_ok-add.ensures.said c.if-not-branch.false)
 
-pub loop-script-preserved : goal.loop-script-preserved
-loop-script-preserved c =
-    let before = said c.loop-script.script in
-    let after = said c.add.new.self in
-    let line = c.first_line.result.0.now in
-    let taken : said_with before line ≡ Some after = c.in_ok-add.ensures.said ∙ ap (λ b. then_some b after) c.if-not-branch.false in
-    record {
-      within = let shorter : length c.in-Some.more.now < length c.loop-script.rest.now = rw c.in-Some.is at c.first_line.ensures.shorter in omega arith;
-      so_far =
-          ap (λ o. said_by after (c.loop-script.lines + 1 + 1) (lines_of o)) (sym c.in-Some.is)
-          ∙ sym (line_taken before after (c.loop-script.lines + 1) line _ taken)
-          ∙ ap (said_by before (c.loop-script.lines + 1)) (sym c.first_line.ensures.lines)
-          ∙ c.loop-script.invariant.so_far;
-    }
+pub loop-number-preserved : goal.loop-number-preserved
+loop-number-preserved g c =
+    let remaining = g.R.Read.remaining in
+    known_more (remaining c.args.input.now) (remaining c.loop-number.input) (remaining c.read_line.new.input) (said c.loop-number.script) (said c.add.new.self) c.loop-number.number c.read_line.new.line.items
+    c.loop-number.invariant
+    (lines_at (remaining c.loop-number.input) (remaining c.read_line.new.input) c.read_line.new.line.items c.in_ok-is_more.is_more true c.if-not-is_more.false c.in_ok-is_more.ensures.known)
+    (is_good (said c.loop-number.script) (said c.add.new.self) _ _ _ c.deref.ensures.value c.in_ok-add.ensures.said c.if-not-branch.false)

@@ -1,0 +1,47 @@
+-- The events that lines say, kept behind one another.
+use Rattle.std.proofs.Common.{◌≡◌, ◌∙◌, sym, ap, refl, ℕ, ◌+◌, eqb, false, List, [], ◌∷◌, ◌++◌, length, length-append, append_assoc, append-nil, arith, Some, Result, Ok, Err}
+use Rattle.std.specs.Result.{OnErr}
+use Rattle.std.specs.List.{flat_map, slice_split, All}
+use Rattle.std.proofs.lemmas.Grind.{flat_map-append}
+use Rattle.std.proofs.lemmas.List.Splits.{slice_split_none}
+use Rattle.std.proofs.lemmas.Bool.Decides.{nat_tests}
+use Rattle.world.specs.declared.events.Event.{Event}
+use Rattle.mtr.specs.declared.script.Line.TheVariants as lines
+use Rattle.mtr.specs.Lines.{text_line}
+use Rattle.mtr.specs.Events.{event_in, event_of_line, events_of}
+use Rattle.mtr.proofs.Splits.{split_behind, is_byte}
+
+pub no_event : events_of [] ≡ []
+unfolding text_line
+no_event = refl
+
+-- lines behind an LF
+pub events_behind : (text lines : List ℕ) → events_of ((text ++ 10 ∷ []) ++ lines) ≡ events_of text ++ events_of lines
+events_behind text lines =
+    let cut : slice_split (is_byte 10) ((text ++ 10 ∷ []) ++ lines) ≡ slice_split (is_byte 10) text ++ slice_split (is_byte 10) lines =
+    ap (slice_split (is_byte 10)) (append_assoc text (10 ∷ []) lines) ∙ split_behind (is_byte 10) text 10 lines refl in
+    ap (flat_map event_of_line) cut ∙ flat_map-append event_of_line (slice_split (is_byte 10) text) (slice_split (is_byte 10) lines)
+
+-- an LF alone
+pub events_before_end : (text : List ℕ) → events_of (text ++ 10 ∷ []) ≡ events_of text
+events_before_end text =
+    ap events_of (sym (append-nil (text ++ 10 ∷ []))) ∙ events_behind text [] ∙ ap (λ es. events_of text ++ es) no_event ∙ append-nil (events_of text)
+
+not_zero : (n k : ℕ) → n ≡ k + 1 → eqb n 0 ≡ false
+not_zero n k e = grind (arith, nat_tests)
+
+pub some_behind : (events more : List Event) → length more ≡ 1 → eqb (length (events ++ more)) 0 ≡ false
+some_behind events more one =
+    let n : length (events ++ more) ≡ length events + 1 = omega (arith, length-append events more) in
+    not_zero _ _ n
+
+-- what one line says
+pub events_of_one : (line : List ℕ) → All (λ b. eqb b 10 ≡ false) line → events_of line ≡ event_of_line line
+events_of_one line h = ap (flat_map event_of_line) (slice_split_none (is_byte 10) line h) ∙ append-nil (event_of_line line)
+
+pub on_err_always : {T E P : Type 0} (r : Result T E) → P → OnErr r P
+on_err_always (Ok v) h = tt
+on_err_always (Err e) h = h
+
+pub event_alone : (line : List ℕ) (e : Event) → All (λ b. eqb b 10 ≡ false) line → text_line line ≡ Some (lines.Event e) → events_of line ≡ e ∷ []
+event_alone line e h says = events_of_one line h ∙ ap event_in says

@@ -1,0 +1,85 @@
+-- Runs that go on from one another.
+use Rattle.std.proofs.Common.{◌≡◌, ◌∙◌, sym, ap, ℕ, ◌<◌, ◌+◌, List, [], ◌∷◌, ◌++◌, refl, map, ℤ, Result, Ok, Err, Option, append_assoc, append-nil, subst, ◌≢◌, length, length-append, arith}
+use Rattle.std.specs.Io.KnownBytes.{Appends}
+use Rattle.std.proofs.KnownBytes.{Appends-trans, Appends-nil}
+use Rattle.std.proofs.lemmas.Grind.{flat_map-append}
+use Rattle.rows.specs.Database.{Database}
+use Rattle.world.specs.declared.events.Event.{Event}
+use Rattle.world.specs.declared.events.Reply.{Reply}
+use Rattle.world.specs.Legal.{Setup}
+use Rattle.world.specs.Run.{HasRun}
+use Rattle.world.specs.State.{World}
+use Rattle.std.specs.Prelude.{IsPermutation}
+use Rattle.std.specs.Result.{OnOk}
+use Rattle.schema.specs.declared.RowId.{RowId}
+use Rattle.schema.specs.declared.Table.{Table}
+use Rattle.store_trait.specs.Batch.{Entry}
+use Rattle.mtr.specs.Script.{Said}
+use Rattle.mtr.specs.Pair.{GoesOn, Prints, present, setup_of}
+use Rattle.mtr.specs.Printing.{line_of, lines_of}
+use Rattle.mtr.proofs.Pieces.{along}
+
+run_along : {R : Type 0} (contents : R → Database) (setup : Setup) (es fs : List Event) (rs ss : List Reply) (w : World R) → es ≡ fs → rs ≡ ss → HasRun contents setup es rs w → HasRun contents setup fs ss w
+run_along contents setup es fs rs ss w e r h =
+    let P : List Event → Type 0 = λ x. HasRun contents setup x ss w in
+    let Q : List Reply → Type 0 = λ x. HasRun contents setup es x w in
+    subst P e (subst Q r h)
+
+-- nothing was done
+pub goes_nowhere : {R : Type 0} (contents : R → Database) (w : World R) (before : Option (List ℕ)) → GoesOn contents w w [] before before
+goes_nowhere contents w before = record {
+  replies = [];
+  goes_on = λ setup es rs h. run_along contents setup es (es ++ []) rs (rs ++ []) w (sym (append-nil es)) (sym (append-nil rs)) h;
+  lines = Appends-nil before;
+}
+
+-- one piece more
+pub goes_further : {R : Type 0} (contents : R → Database) (old now new : World R) (events piece : List Event) (replies : List Reply) (before printed after : Option (List ℕ))
+    → GoesOn contents old now events before printed
+    → ((setup : Setup) (es : List Event) (rs : List Reply) → HasRun contents setup es rs now → HasRun contents setup (es ++ piece) (rs ++ replies) new)
+    → Appends printed after (lines_of replies)
+    → GoesOn contents old new (events ++ piece) before after
+goes_further contents old now new events piece replies before printed after so_far more lines = record {
+  replies = so_far.replies ++ replies;
+  goes_on = λ setup es rs h.
+      run_along contents setup ((es ++ events) ++ piece) (es ++ (events ++ piece)) ((rs ++ so_far.replies) ++ replies) (rs ++ (so_far.replies ++ replies)) new
+      (append_assoc es events piece) (append_assoc rs so_far.replies replies)
+      (more setup (es ++ events) (rs ++ so_far.replies) (so_far.goes_on setup es rs h));
+  lines = along before after _ _ (sym (flat_map-append line_of so_far.replies replies)) (Appends-trans before printed after _ _ so_far.lines lines);
+}
+
+pub goes_to : {R : Type 0} (contents : R → Database) (old new : World R) (events all : List Event) (before after : Option (List ℕ)) → events ≡ all → GoesOn contents old new events before after → GoesOn contents old new all before after
+goes_to contents old new events all before after e h = let P : List Event → Type 0 = λ es. GoesOn contents old new es before after in subst P e h
+
+pub behind_piece : (events rest piece behind all : List Event) → events ++ rest ≡ all → rest ≡ piece ++ behind → (events ++ piece) ++ behind ≡ all
+behind_piece events rest piece behind all e cut = append_assoc events piece behind ∙ ap (λ r. events ++ r) (sym cut) ∙ e
+
+some_length : (piece : List Event) → piece ≢ [] → 0 < length piece
+some_length [] h = absurd (h refl)
+some_length (e ∷ es) h = omega arith
+
+pub shorter : (rest piece behind : List Event) → rest ≡ piece ++ behind → piece ≢ [] → length behind < length rest
+shorter rest piece behind e some = omega (arith, some_length piece some, ap length e, length-append piece behind)
+
+prints_it : {R : Type 0} (contents : R → Database) (script : Said) (base : List Entry) (old new : World R) (events : List Event) (before after : Option (List ℕ)) → IsPermutation (map present script.base) base → HasRun contents (setup_of script.tables base) [] [] old → events ≡ script.events → GoesOn contents old new events before after → Prints script before after
+prints_it contents script base old new events before after given starts all goes =
+    let to = goes_to contents old new events script.events before after all goes in
+    record {
+      base = base;
+      given = given;
+      replies = to.replies;
+      log = new.source.log;
+      legal = (to.goes_on (setup_of script.tables base) [] [] starts).legal;
+      lines = to.lines;
+    }
+
+-- what a new pair prints
+pub prints : {R T E : Type 0} (contents : R → Database) (r : Result T E) (script : Said) (base : List Entry) (old new : World R) (events : List Event) (before after : Option (List ℕ)) → IsPermutation (map present script.base) base → HasRun contents (setup_of script.tables base) [] [] old → events ≡ script.events → OnOk r (GoesOn contents old new events before after) → OnOk r (Prints script before after)
+prints contents (Ok v) script base old new events before after given starts all goes = prints_it contents script base old new events before after given starts all goes
+prints contents (Err e) script base old new events before after given starts all goes = goes
+
+pub given_along : (rows given : List (RowId × List ℤ)) (base : List Entry) → given ≡ rows → IsPermutation (map present given) base → IsPermutation (map present rows) base
+given_along rows given base e h = let P : List (RowId × List ℤ) → Type 0 = λ x. IsPermutation (map present x) base in subst P e h
+
+pub starts_along : {R : Type 0} (contents : R → Database) (tables given : List Table) (base : List Entry) (w : World R) → given ≡ tables → HasRun contents (setup_of given base) [] [] w → HasRun contents (setup_of tables base) [] [] w
+starts_along contents tables given base w e h = let P : List Table → Type 0 = λ x. HasRun contents (setup_of x base) [] [] w in subst P e h

@@ -1,0 +1,42 @@
+-- How the program ends, and what it tells then.
+use Rattle.std.specs.Prelude.{ℕ, List, ◌++◌, codes}
+use Rattle.std.specs.Fmt.{decimal}
+use Rattle.schema.specs.declared.SchemaFault.{SchemaFault}
+use Rattle.schema.specs.declared.SchemaFault.TheVariants as schema
+use Rattle.mtr.specs.declared.ending.Ending.{Ending}
+use Rattle.mtr.specs.declared.ending.Ending.TheVariants as endings
+use Rattle.mtr.specs.declared.ending.Stop.{Stop}
+use Rattle.mtr.specs.declared.ending.Stop.TheVariants as stops
+
+-- the exit status
+abbrev pub status_of : Ending → ℕ
+status_of endings.Done = 0
+status_of endings.CommandLine = 2
+status_of endings.BadScript = 3
+status_of endings.NoMemory = 5
+status_of endings.Stream = 7
+
+-- how the program ends where its work stopped
+abbrev pub ending_of : Stop → Ending
+ending_of (stops.BadCommand line) = endings.BadScript
+ending_of (stops.Schema fault) = endings.BadScript
+ending_of stops.BadBase = endings.BadScript
+ending_of stops.Memory = endings.NoMemory
+ending_of stops.Stream = endings.Stream
+
+-- the number and name of the schema's first fault
+abbrev pub schema_text : SchemaFault → List ℕ
+schema_text schema.Count = codes "B1 Count"
+schema_text schema.Id = codes "B2 Id"
+schema_text schema.Columns = codes "B3 Columns"
+schema_text schema.Twice = codes "B4 Twice"
+schema_text schema.Parent = codes "B5 Parent"
+schema_text schema.Memory = codes "B6 Memory"
+
+-- what is told; a stream that fails has no text
+abbrev pub stop_text : Stop → List ℕ
+stop_text (stops.BadCommand line) = codes "line " ++ decimal line ++ codes ": bad command"
+stop_text (stops.Schema fault) = schema_text fault
+stop_text stops.BadBase = codes "bad base"
+stop_text stops.Memory = codes "no memory"
+stop_text stops.Stream = codes ""

@@ -1,0 +1,146 @@
+//! How the program ends, and what it tells then.
+
+ghost use Rattle.std.specs.Prelude.{◌≡◌, ◌≢◌, ◌∷◌, [], ◌++◌, codes};
+ghost use Rattle.std.specs.Io.KnownBytes.{Appends};
+ghost use Rattle.mtr.specs.Ending.{status_of, ending_of, schema_text, stop_text};
+
+use schema::{Memory, SchemaFault};
+use std::alloc::AllocError;
+use std::io;
+use std::io::{ErrorKind, Write};
+
+/// How the program ends.
+#[derive(Clone, Copy, Debug, PartialEq, Eq)]
+pub enum Ending {
+    /// All was done.
+    Done,
+    /// The command line is none.
+    CommandLine,
+    /// The script, its schema or its base rows are bad.
+    BadScript,
+    /// Memory ran out outside an event.
+    NoMemory,
+    /// A stream could not be read or written.
+    Stream,
+}
+
+impl Ending {
+    /// The exit status.
+    pub fn status(self) -> u8
+        ensures { result ≡ status_of self }
+    {
+        match self {
+            Ending::Done => 0,
+            Ending::CommandLine => 2,
+            Ending::BadScript => 3,
+            Ending::NoMemory => 5,
+            Ending::Stream => 7,
+        }
+    }
+}
+
+/// Why the program's work stopped.
+#[derive(Clone, Copy, Debug, PartialEq, Eq)]
+pub enum Stop {
+    /// The first line of the script, counted from 1, that says nothing known, or that stands behind one that it
+    /// has to precede.
+    BadCommand { line: usize },
+    /// The tables are no schema. It is never `SchemaFault::Memory`.
+    Schema(SchemaFault),
+    /// The base rows do not fit the schema, or one comes twice.
+    BadBase,
+    /// Memory ran out.
+    Memory,
+    /// A stream could not be read or written.
+    Stream,
+}
+
+impl From<Memory> for Stop {
+    ghost use Rattle.std.specs.Prelude.{◌≡◌};
+    ghost use Rattle.mtr.specs.declared.ending.Stop.TheVariants as stops;
+
+    ghost from_gives = { λ _ stop. stop ≡ stops.Memory };
+
+    fn from(_memory: Memory) -> Stop {
+        Stop::Memory
+    }
+}
+
+impl From<AllocError> for Stop {
+    ghost use Rattle.std.specs.Prelude.{◌≡◌};
+    ghost use Rattle.mtr.specs.declared.ending.Stop.TheVariants as stops;
+
+    ghost from_gives = { λ _ stop. stop ≡ stops.Memory };
+
+    fn from(_error: AllocError) -> Stop {
+        Stop::Memory
+    }
+}
+
+impl From<io::Error> for Stop {
+    ghost use Rattle.std.specs.Prelude.{◌≡◌, ◌⊎◌};
+    ghost use Rattle.mtr.specs.declared.ending.Stop.TheVariants as stops;
+
+    ghost from_gives = { λ _ stop. (stop ≡ stops.Memory) ⊎ (stop ≡ stops.Stream) };
+
+    fn from(error: io::Error) -> Stop {
+        match error.kind() {
+            ErrorKind::OutOfMemory => Stop::Memory,
+            _ => Stop::Stream,
+        }
+    }
+}
+
+impl From<SchemaFault> for Stop {
+    fn from(fault: SchemaFault) -> Stop {
+        match fault {
+            SchemaFault::Memory => Stop::Memory,
+            fault => Stop::Schema(fault),
+        }
+    }
+}
+
+impl Stop {
+    /// How the program ends then.
+    pub fn ending(self) -> Ending
+        ensures { result ≡ ending_of self }
+    {
+        match self {
+            Stop::BadCommand { .. } | Stop::Schema(_) | Stop::BadBase => Ending::BadScript,
+            Stop::Memory => Ending::NoMemory,
+            Stop::Stream => Ending::Stream,
+        }
+    }
+
+    /// Tells it, in a line. A stream that fails has no text.
+    pub fn tell<E: Write>(self, errors: &mut E) -> Ending
+        ensures ending { result ≢ Ending.Stream → result ≡ ending_of self }
+        ensures text { result ≢ Ending.Stream → Appends (E.contents errors.old) (E.contents errors.new) (stop_text self ++ 10 ∷ []) }
+    {
+        let told = match self {
+            Stop::BadCommand { line } => writeln!(errors, "line {line}: bad command"),
+            Stop::Schema(fault) => writeln!(errors, "{}", schema_text(fault)),
+            Stop::BadBase => writeln!(errors, "bad base"),
+            Stop::Memory => writeln!(errors, "no memory"),
+            Stop::Stream => return Ending::Stream,
+        };
+        match told {
+            Ok(()) => self.ending(),
+            Err(_) => Ending::Stream,
+        }
+    }
+}
+
+/// The number and name of the schema's first fault.
+fn schema_text(fault: SchemaFault) -> &'static str
+    ensures { result.now ≡ schema_text fault }
+{
+    match fault {
+        SchemaFault::Count => "B1 Count",
+        SchemaFault::Id => "B2 Id",
+        SchemaFault::Columns => "B3 Columns",
+        SchemaFault::Twice => "B4 Twice",
+        SchemaFault::Parent => "B5 Parent",
+        SchemaFault::Memory => "B6 Memory",
+    }
+}

@@ -1,0 +1,86 @@
+//! A script's events, run piece by piece: each piece's replies are printed before the next is run.
+
+ghost use Rattle.std.specs.Prelude.{◌≡◌, ◌++◌, [], IfSome, OnOk};
+ghost use Rattle.std.specs.Io.KnownBytes.{Appends};
+ghost use Rattle.world.specs.State.{IsWorld};
+ghost use Rattle.world.specs.Seen.{seen};
+ghost use Rattle.mtr.specs.Script.{said};
+ghost use Rattle.mtr.specs.Printing.{lines_of};
+ghost use Rattle.mtr.specs.Pair.{GoesOn, Prints, PrintsText};
+
+use crate::ending::Stop;
+use crate::events::Pieces;
+use crate::pair::{base_of, new_pair};
+use crate::printing::write_replies;
+use crate::script::Script;
+use schema::Schema;
+use std::alloc::Global;
+use std::io::{BufRead, Write};
+use store_trait::RowStore;
+use world::{Reply, World};
+
+/// Reads a script, and runs it over a new pair. The whole of it is read and checked before the first event: the
+/// first bad line, then the tables, then the rows at the start. Each event's reply is a line of the output; where
+/// the work stops after a beginning of the events, so does the output, after a whole line.
+pub fn run_text<R: BufRead, W: Write>(
+    alloc: Global,
+    input: &mut R,
+    output: &mut W,
+) -> Result<(), Stop>
+    ensures { OnOk result (IfSome (R.remaining input.old) (λ text. PrintsText text (W.contents output.old) (W.contents output.new))) }
+{
+    run_script(alloc, Script::read(alloc, input)?, output)
+}
+
+/// Runs a script over a new pair.
+fn run_script<W: Write>(alloc: Global, script: Script, output: &mut W) -> Result<(), Stop>
+    ensures { OnOk result (Prints (said script) (W.contents output.old) (W.contents output.new)) }
+{
+    let Script {
+        tables,
+        base,
+        events,
+    } = script;
+    let schema = Schema::new(tables)?;
+    let Some(batch) = base_of(alloc, &base)? else {
+        return Err(Stop::BadBase);
+    };
+    let Some(mut world) = new_pair(alloc, schema, batch)? else {
+        return Err(Stop::BadBase);
+    };
+    drop(base);
+    run_pieces(alloc, &mut world, events.pieces(), output)
+}
+
+/// Runs the events that are left in pieces, over a world that goes on from what was done before. At most one
+/// piece's events and replies are kept at a time.
+fn run_pieces<S: RowStore, R: RowStore, W: Write>(
+    alloc: Global,
+    world: &mut World<S, R>,
+    events: Pieces,
+    output: &mut W,
+) -> Result<(), Stop>
+    requires { IsWorld R.contents (seen world.old) }
+    ensures { OnOk result (GoesOn R.contents (seen world.old) (seen world.new) events.entry (W.contents output.old) (W.contents output.new)) }
+{
+    let mut text = Vec::new(alloc);
+    let mut rest = events;
+    while let Some((piece, behind)) = rest.next(alloc)? {
+        let replies = world.run(alloc, &piece)?;
+        print(&mut text, &replies, output)?;
+        rest = behind;
+    }
+    Ok(())
+}
+
+/// Prints the lines of replies. They are put together first, so that no part of a line is printed where memory
+/// runs out.
+fn print<W: Write>(text: &mut Vec<u8>, replies: &[Reply], output: &mut W) -> Result<(), Stop>
+    ensures { OnOk result (Appends (W.contents output.old) (W.contents output.new) (lines_of replies.now)) }
+{
+    text.clear();
+    write_replies(text, replies)?;
+    output.write_all(text)?;
+    output.flush()?;
+    Ok(())
+}
