@@ -2,3 +2,4 @@ pub mod Rows
 pub mod Counts
 pub mod Moves
 pub mod Tied
+pub mod Sessions

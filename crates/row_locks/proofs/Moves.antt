@@ -22,6 +22,7 @@ still_counted held held' counts counts' counted moves =
   where
     least_of : (w w' n n' : ℕ) → w ≤ n → n' + w ≡ n + w' → w' ≤ n'
     least_of w w' n n' h e = omega arith
+
     greatest_of : (w w' n n' : ℕ) → n ≤ w + 256 → n' + w ≡ n + w' → n' ≤ w' + 256
     greatest_of w w' n n' h e = omega arith
 

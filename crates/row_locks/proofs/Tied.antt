@@ -66,9 +66,9 @@ module _ (row : RowId) (mode : Mode) where
       let here : get_or (set locks i empty) j empty ≡ get_or locks j empty = get_or-set_other locks i j empty empty apart in
       elim (ltb_tells j (length (set locks i empty))) [
         | inl within ↦ elim (cases_Bool (clashing (get_or locks j empty))) [
-            | inl clash ↦ absurd (true≢false (sym (list_any_at clashing (set locks i empty) j empty within.1 (ap clashing here ∙ clash)) ∙ clear))
-            | inr none ↦ none
-          ]
+          | inl clash ↦ absurd (true≢false (sym (list_any_at clashing (set locks i empty) j empty within.1 (ap clashing here ∙ clash)) ∙ clear))
+          | inr none ↦ none
+        ]
         | inr past ↦ ap clashing (sym here ∙ get_or_past (set locks i empty) j empty past.1) ∙ nothing_clashes
       ]
 
@@ -132,6 +132,7 @@ module _ (locks : Locks) (counts : Counts) (session : ℕ) (least : 1 ≤ sessio
     where
       le : (others own all : ℕ) {n : ℕ} → others + own ≡ all → n ≡ all → own ≤ n
       le others own all e f = omega arith
+
       ge : (all own n : ℕ) {l : ℕ} → all ≤ l → l ≡ 256 → n ≡ all → n ≤ own + 256
       ge all own n h e f = omega arith
 
@@ -169,6 +170,7 @@ all_clear p held (lock ∷ rest) own none =
     strong None e this = this
     strong (Some Share) e this = this
     strong (Some Exclusive) e this = own lock.0 Exclusive e
+
     with_one : p lock.0 lock.1 ≡ false → (row : RowId) (mode : Mode) → get (insert held lock.0 (stronger (get held lock.0) lock.1)) row ≡ Some mode → p row mode ≡ false
     with_one this row mode is =
         let was = sym (get-insert row_total held lock.0 (stronger (get held lock.0) lock.1) row) ∙ is in

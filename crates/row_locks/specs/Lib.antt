@@ -3,3 +3,4 @@ pub mod Locks
 pub mod Held
 pub mod Tally
 pub mod Tied
+pub mod Laws

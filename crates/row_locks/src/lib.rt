@@ -18,6 +18,7 @@ ghost use Rattle.row_locks.specs.Locks.{no_locks, clashes_with, any_clashes, als
 ghost use Rattle.row_locks.specs.Tied.{IsCounted, MovesAlike};
 
 mod held;
+pub mod laws;
 mod tally;
 
 use held::Held;
@@ -130,7 +131,8 @@ impl LockTable {
         requires greatest { session ≤ 256 }
         ensures { result ≡ any_clashes self.now session rows.now }
     {
-        rows.iter().any(|lock| self.clashes(session, lock.0, lock.1))
+        rows.iter()
+            .any(|lock| self.clashes(session, lock.0, lock.1))
     }
 
     /// Frees each lock of the session. It takes no memory; the time is that of a look-up for each row that the
@@ -156,11 +158,7 @@ fn empty_places(alloc: Global) -> Result<Vec<Held>, Memory>
 }
 
 /// Takes each lock of the list for the session that holds these rows, or none where there is no room for all.
-fn lock_all(
-    held: &mut Held,
-    tally: &mut Tally,
-    rows: &[(RowId, Mode)],
-) -> Result<(), Memory>
+fn lock_all(held: &mut Held, tally: &mut Tally, rows: &[(RowId, Mode)]) -> Result<(), Memory>
     requires { IsCounted held.old.rows tally.old.rows }
     ensures ok { OnOk result (held.new.rows ≡ also_held held.old.rows rows.now) }
     ensures err { OnErr result (held.new.rows ≡ held.old.rows) }
@@ -219,3 +217,6 @@ fn weight(held: Option<Mode>, mode: Mode) -> u16
         (Some(Mode::Exclusive), _) | (Some(Mode::Share), Mode::Exclusive) => 1,
     }
 }
+
+#[cfg(test)]
+mod tests;
