@@ -142,8 +142,8 @@ impl LockTable {
         requires greatest { session ≤ 256 }
         ensures { self.new ≡ released self.old session }
     {
-        let place = &mut self.places[session as usize - 1];
-        unlock_all(place, &mut self.tally);
+        let freed = &mut self.places[session as usize - 1];
+        unlock_all(freed, &mut self.tally);
     }
 }
 

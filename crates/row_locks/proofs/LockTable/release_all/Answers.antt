@@ -11,14 +11,14 @@ pub unlock_all-requires : goal.unlock_all-requires
 unlock_all-requires c =
     let locks = rows_in c.self.inside.places.items in
     let counts = c.self.inside.tally.rows in
-    let own = place_rows c.self.inside.places.items counts c.args.session c.index_mut-place.result.now c.requires.least c.requires.greatest c.self.invariant c.index_mut-place.ensures.value in
+    let own = place_rows c.self.inside.places.items counts c.args.session c.index_mut-freed.result.now c.requires.least c.requires.greatest c.self.invariant c.index_mut-freed.ensures.value in
     rw own (counted_own locks counts c.args.session c.requires.least c.requires.greatest c.self.invariant)
 
 pub invariant_of-self : goal.invariant_of-self
 invariant_of-self c =
     let locks = rows_in c.self.inside.places.items in
     let counts = c.self.inside.tally.rows in
-    let own = place_rows c.self.inside.places.items counts c.args.session c.index_mut-place.result.now c.requires.least c.requires.greatest c.self.invariant c.index_mut-place.ensures.value in
+    let own = place_rows c.self.inside.places.items counts c.args.session c.index_mut-freed.result.now c.requires.least c.requires.greatest c.self.invariant c.index_mut-freed.ensures.value in
     let moves : MovesAlike (held_by locks c.args.session) counts empty c.unlock_all.new.tally.rows = rw (own, c.unlock_all.ensures.held) at c.unlock_all.ensures.counts in
     rw (map-set, c.unlock_all.ensures.held) (tied-released locks counts c.args.session c.requires.least c.requires.greatest c.self.invariant c.unlock_all.new.tally.rows moves)
 
