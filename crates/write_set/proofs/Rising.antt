@@ -75,8 +75,8 @@ pub rising_is : (ns ms : List ℕ) → IsStrictlySortedBy nat_cmp ms → ((q : �
 rising_is ns ms sorted same =
     let up = T_from_true _ (sorted_entries ms sorted) in
     let maps : from_sorted (entries_of ms) ≡ set_of ns = same_map nat_cmp_total nat_cmp-IsAntisymmetric (from_sorted (entries_of ms)) (set_of ns) (λ q.
-        found (get (from_sorted (entries_of ms)) q) (get (set_of ns) q)
-        (ap is_some (get-from_sorted nat_cmp (entries_of ms) q up) ∙ member ms q ∙ same q ∙ sym (has ns q))) in
+    found (get (from_sorted (entries_of ms)) q) (get (set_of ns) q)
+    (ap is_some (get-from_sorted nat_cmp (entries_of ms) q up) ∙ member ms q ∙ same q ∙ sym (has ns q))) in
     sym (ap (map (λ (e : ℕ × Unit {0}). e.0)) (entries-from_sorted nat_cmp (entries_of ms) up) ∙ keys_of ms) ∙ ap keys maps
 
 all_above : (n : ℕ) (es : List (ℕ × Unit {0})) → below_all nat_cmp n es ≡ true → AllByRecursion (λ m. nat_cmp n m ≡ Less) (map (λ (e : ℕ × Unit {0}). e.0) es)

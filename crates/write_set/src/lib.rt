@@ -2,8 +2,8 @@
 //!
 //! The digest of a row is a number of 64 bits: its key's bits, xor its table's id in the upper 16. A `WriteSet`
 //! is the digests of the rows that a transaction writes in keyed tables, each once, in rising order: its type
-//! keeps that they rise. Rows of keyless tables have none. Rows of different tables may have one digest, and
-//! are then one to whom compares write sets; a row has one digest wherever it stands.
+//! keeps that they rise. Rows of keyless tables have none. Rows of different tables may share a digest: whoever
+//! compares write sets takes them for one row, so it finds no conflict too few.
 //!
 //! `specs/Digest.antt` defines digests and sets of them. The crate stands on `schema`, which says which tables
 //! are keyed, and on `log_index`, whose footprints have the written rows.
@@ -103,4 +103,94 @@ fn digest(row: RowId) -> u64
     ensures { result ≡ digest_of row }
 {
     row.key.cast_unsigned() ^ ((row.table as u64) << 48)
+}
+
+#[cfg(test)]
+mod tests {
+    use super::*;
+    use log_index::Rows;
+    use schema::Table;
+    use std::test::Fail;
+
+    fn row(table: u16, key: i64) -> RowId {
+        RowId { table, key }
+    }
+
+    /// Tables 1 to 3, of which 3 is keyless.
+    fn schema(alloc: Global) -> Result<Schema, Fail> {
+        let mut tables = Vec::with_capacity(alloc, 3)?;
+        for id in 1..=3 {
+            tables.push(Table {
+                id,
+                columns: 1,
+                keyed: id != 3,
+                parent: None,
+            })?;
+        }
+        Ok(Schema::new(tables)?)
+    }
+
+    /// The write set of these rows and its copy, each made where one of two tries has memory.
+    fn set_of(alloc: Global, rows: &[RowId]) -> Result<WriteSet, Fail> {
+        let schema = schema(alloc)?;
+        let writes = Rows::new(rows.to_vec(alloc)?);
+        let refs = Rows::new(Vec::new(alloc));
+        let footprint = Footprint::new(&schema, writes, refs);
+        let set = match digests(alloc, &schema, &footprint) {
+            Ok(set) => set,
+            Err(Memory) => digests(alloc, &schema, &footprint)?,
+        };
+        match set.copy() {
+            Ok(copy) => Ok(copy),
+            Err(Memory) => Ok(set.copy()?),
+        }
+    }
+
+    #[test]
+    fn worked_values(rt: HostRuntime) -> Result<(), Fail> {
+        for (id, digest) in [
+            (row(1, 0), 0x0001000000000000),
+            (row(2, 844424930131968), 0x0001000000000000),
+            (row(1, 10), 0x000100000000000a),
+            (row(1, -1), 0xfffeffffffffffff),
+        ] {
+            let set = set_of(rt.alloc(), &[id])?;
+            assert_eq!(rt; set.digests(), [digest].as_slice(), "{id:?}");
+        }
+        Ok(())
+    }
+
+    // Written twice, with a digest in common, in a keyless table, in a table that the schema lacks.
+    #[test]
+    fn each_digest_once(rt: HostRuntime) -> Result<(), Fail> {
+        let rows = [
+            row(1, -1),
+            row(2, 844424930131968),
+            row(3, 7),
+            row(1, 10),
+            row(1, 0),
+            row(4, 7),
+            row(1, -1),
+        ];
+        let set = set_of(rt.alloc(), &rows)?;
+        let rising = [0x0001000000000000, 0x000100000000000a, 0xfffeffffffffffff];
+        assert_eq!(rt; set.digests(), rising.as_slice());
+        assert_eq!(rt; (set.len(), set.is_empty()), (3, false));
+        let none = set_of(rt.alloc(), &[row(3, 7)])?;
+        assert_eq!(rt; (none.len(), none.is_empty()), (0, true));
+        Ok(())
+    }
+
+    #[test]
+    fn many_rows(rt: HostRuntime) -> Result<(), Fail> {
+        let mut rows = Vec::new(rt.alloc());
+        for key in 0..1024 {
+            rows.push(row(2, 1023 - key))?;
+        }
+        let set = set_of(rt.alloc(), &rows)?;
+        assert_eq!(rt; set.len(), 1024);
+        assert_eq!(rt; set.digests().first(), Some(&0x0002000000000000));
+        assert_eq!(rt; set.digests().last(), Some(&0x00020000000003ff));
+        Ok(())
+    }
 }
