@@ -184,8 +184,8 @@ mod tests {
     #[test]
     fn many_rows(rt: HostRuntime) -> Result<(), Fail> {
         let mut rows = Vec::new(rt.alloc());
-        for key in 0..1024 {
-            rows.push(row(2, 1023 - key))?;
+        for key in (0..1024).rev() {
+            rows.push(row(2, key))?;
         }
         let set = set_of(rt.alloc(), &rows)?;
         assert_eq!(rt; set.len(), 1024);
