@@ -1,0 +1,5 @@
+pub mod Rows
+pub mod Counts
+pub mod Moves
+pub mod Tied
+pub mod Sessions

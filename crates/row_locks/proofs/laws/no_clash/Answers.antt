@@ -1,0 +1,5 @@
+use Rattle.row_locks.proofs.Sessions.{holders_share}
+use Rattle.row_locks.proofs.laws.no_clash.Goals as goal
+
+pub returns : goal.returns
+returns c = holders_share

@@ -1,0 +1,12 @@
+use Rattle.std.proofs.Common.{◌∙◌, sym, ap}
+use Rattle.std.specs.Prelude.{unwrap_or}
+use Rattle.std.specs.FinMap.{get}
+use Rattle.row_locks.specs.Tally.{Sheet, Counts, opposing, nobody}
+use Rattle.row_locks.proofs.Rows.{get_row}
+use Rattle.row_locks.proofs.Counts.{found_or_nobody}
+use Rattle.row_locks.proofs.tally.Tally.count.Goals as goal
+
+pub returns : goal.returns
+returns c = λ mode.
+    let found = c.copied.ensures ∙ c.get.ensures.value ∙ sym (get_row c.self.inside.rows.entries c.args.row) ∙ ap (λ (s : Sheet). get s.rows c.args.row) c.self.view_is in
+    ap (λ count. opposing count mode) (c.unwrap_or.ensures ∙ ap (λ o. unwrap_or o nobody) found) ∙ found_or_nobody (get c.args.self.now.rows c.args.row) mode

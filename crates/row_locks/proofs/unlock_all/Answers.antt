@@ -1,0 +1,15 @@
+use Rattle.std.proofs.Common.{◌<◌, ◌≤◌, ◌+◌, subst, sym, arith}
+use Rattle.std.specs.FinMap.{len}
+use Rattle.row_locks.specs.Locks.{Holding}
+use Rattle.row_locks.proofs.Moves.{fewer, moves-removed, moves_on}
+use Rattle.row_locks.proofs.unlock_all.Goals as goal
+
+pub loop-row-smaller : goal.loop-row-smaller
+loop-row-smaller c =
+    let less : len c.pop.new.self.rows + 1 ≤ len c.loop-row.held.rows = rw c.in-Some.ensures.left (fewer c.loop-row.held.rows c.in-Some.row c.in-Some.mode c.in-Some.ensures.held) in
+    omega (arith, less)
+
+pub loop-row-preserved : goal.loop-row-preserved
+loop-row-preserved c =
+    let step = moves-removed c.loop-row.held.rows c.loop-row.tally.rows c.recount.new.self.rows c.in-Some.row c.in-Some.mode c.in-Some.ensures.held c.recount.ensures.counts in
+    rw c.in-Some.ensures.left (moves_on c.args.held.now.rows c.loop-row.held.rows _ c.args.tally.now.rows c.loop-row.tally.rows c.recount.new.self.rows c.loop-row.invariant step)

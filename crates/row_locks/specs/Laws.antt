@@ -1,0 +1,34 @@
+-- What follows from the definitions.
+use Rattle.std.specs.Prelude.{◌≡◌, ◌≢◌, ℕ, ◌≤◌, ◌&&◌, ◌||◌, ◌==◌, if◌then◌else◌, List, Some, length}
+use Rattle.std.specs.List.{list_any}
+use Rattle.std.specs.FinMap.{empty, get}
+use Rattle.schema.specs.declared.RowId.{RowId}
+use Rattle.schema.specs.RowId.{same_row}
+use Rattle.row_locks.specs.declared.Mode.{Mode}
+use Rattle.row_locks.specs.declared.Mode.TheVariants.{Share}
+use Rattle.row_locks.specs.Mode.{opposes}
+use Rattle.row_locks.specs.Locks.{Holding, Locks, held_by, also_held, taken, released, NoClash}
+
+-- what each session holds once one of them took a list of locks
+abbrev pub TakenByOne : Type 0
+TakenByOne =
+    (locks : Locks) (session other : ℕ) (rows : List (RowId × Mode)) → 1 ≤ session → session ≤ length locks → 1 ≤ other →
+    held_by (taken locks session rows) other ≡ (if other == session then also_held (held_by locks session) rows else held_by locks other)
+
+-- what each session holds once one of them released its locks
+abbrev pub ReleasedByOne : Type 0
+ReleasedByOne =
+    (locks : Locks) (session other : ℕ) → 1 ≤ session → session ≤ length locks → 1 ≤ other →
+    held_by (released locks session) other ≡ (if other == session then empty else held_by locks other)
+
+-- what a session holds clashes with a lock of another where what it held did, or a lock of its list does
+abbrev pub HeldAsListed : Type 0
+HeldAsListed =
+    (held : Holding) (rows : List (RowId × Mode)) (row : RowId) (mode : Mode) →
+    opposes (get (also_held held rows) row) mode ≡ (opposes (get held row) mode || list_any (λ lock. same_row row lock.0 && opposes (Some lock.1) mode) rows)
+
+-- where no two sessions clash, two that hold one row share it
+abbrev pub HoldersShare : Type 0
+HoldersShare =
+    (locks : Locks) → NoClash locks → (session other : ℕ) (row : RowId) (mode mode' : Mode) → 1 ≤ session → 1 ≤ other → session ≢ other →
+    get (held_by locks session) row ≡ Some mode → get (held_by locks other) row ≡ Some mode' → (mode ≡ Share) × (mode' ≡ Share)

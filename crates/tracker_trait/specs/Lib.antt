@@ -1,0 +1,4 @@
+pub mod Kind
+pub mod History
+pub mod Parent
+pub mod Law

@@ -1,0 +1,69 @@
+//! What a dependency tracker is.
+//!
+//! A tracker gives each transaction of a log its parent: the sequence number up to which a replica has to have
+//! committed before it may apply the transaction. The smaller the parents, the more transactions a replica applies
+//! side by side. `Mode` has the three ways in which MySQL's `binlog_transaction_dependency_tracking` finds them.
+//!
+//! `specs/Parent.antt` says which parent each mode gives, read off the log alone, and `specs/Law.antt` what every
+//! tracker promises: the parent covers each conflicting transaction that is numbered above where the tracker's law
+//! begins, and is at most the order parent. The crate stands on `log_index`, which has what trackers see of a log,
+//! and on `write_set`, which has the digests of written rows.
+#![tactic(auto)]
+
+ghost use Rattle.std.specs.Prelude.{◌≡◌, ℕ, ◌≤◌, List};
+ghost use Rattle.schema.specs.declared.Table.{Table};
+ghost use Rattle.log_index.specs.declared.Entry.{Entry};
+ghost use Rattle.log_index.specs.Footprint.{touched};
+ghost use Rattle.tracker_trait.specs.Kind.{Kind};
+ghost use Rattle.tracker_trait.specs.Parent.{parent_of};
+ghost use Rattle.tracker_trait.specs.Law.{CoversAbove, IsOrderParent, IsOfTables, stamped};
+
+use log_index::{Footprint, Log};
+use write_set::WriteSet;
+
+/// How parents are found: MySQL's `binlog_transaction_dependency_tracking`.
+#[derive(Clone, Copy, Debug, PartialEq, Eq)]
+pub enum Mode {
+    /// The parent is the order parent: the number of transactions committed when this one was prepared.
+    CommitOrder,
+    /// The parent is that of the last transaction that wrote one of the same rows, where the history of written rows
+    /// goes back to it; and never after the order parent.
+    Writeset,
+    /// The same, and not before the session's own last transaction.
+    WritesetSession,
+}
+
+/// It gives transactions their parents, in log order. What it promises it promises for each schema of whose log it has
+/// seen all, and of whose tables the transaction's flags and write set are.
+pub trait Tracker {
+    /// The mode, and the size of the history, that it was made for.
+    ghost kind: { Self → Kind };
+
+    /// It has seen just this log of a schema of these tables.
+    ghost agrees: { Self → List Table → List Entry → Type 0 };
+
+    /// The number above which its law speaks of this log.
+    ghost begins: { Self → List Table → List Entry → ℕ };
+
+    /// The parent of the next transaction, which has this footprint and write set and comes from this session. The
+    /// order parent is the number of transactions that were committed when it was prepared. It takes no memory.
+    fn stamp(
+        &mut self,
+        log: &Log,
+        t: &Footprint,
+        w: &WriteSet,
+        session: u16,
+        order_parent: u64,
+    ) -> u64
+        requires order { IsOrderParent log.now.entries t.now session order_parent }
+        requires least { 1 ≤ session }
+        requires greatest { session ≤ 256 }
+        ensures exact { (ts : List Table) → agrees self.old ts log.now.entries → IsOfTables ts t.now w.now →
+            result ≡ parent_of (kind self.old) ts log.now.entries t.now session order_parent }
+        ensures covers { (ts : List Table) → agrees self.old ts log.now.entries → IsOfTables ts t.now w.now →
+            CoversAbove (begins self.old ts log.now.entries) log.now.entries (touched t.now) result }
+        ensures goes_on { (ts : List Table) → agrees self.old ts log.now.entries → IsOfTables ts t.now w.now →
+            agrees self.new ts (stamped log.now.entries t.now session result) }
+        ensures within { result ≤ order_parent }
+        ensures same { kind self.new ≡ kind self.old };
+}

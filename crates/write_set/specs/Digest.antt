@@ -1,0 +1,25 @@
+-- The digests of rows, and sets of them.
+use Rattle.std.specs.Prelude.{ℕ, ◌*◌, ◌^◌, Bool, false, List, map, filter, bit_xor}
+use Rattle.std.specs.Int.{w64, cast_unsigned}
+use Rattle.std.specs.Ordering.{nat_cmp}
+use Rattle.std.specs.Option.{option_map_or}
+use Rattle.std.specs.FinMap.{from_entries, keys}
+use Rattle.schema.specs.declared.Table.{Table}
+use Rattle.schema.specs.declared.RowId.{RowId}
+use Rattle.schema.specs.Schema.{table_at}
+
+-- the bits of the row's key, xor its table's id in the upper 16 of the 64 bits
+abbrev pub digest_of : RowId → ℕ
+digest_of row = bit_xor (cast_unsigned w64 row.key) (row.table * 2 ^ 48)
+
+-- the row is in a keyed table of the schema
+abbrev pub is_keyed : List Table → RowId → Bool
+is_keyed tables row = option_map_or (λ t. t.keyed) (table_at tables row.table) false
+
+-- these numbers in rising order, each once
+abbrev pub rising : List ℕ → List ℕ
+rising numbers = keys (from_entries {R = nat_cmp} (map (λ n. (n, tt {0})) numbers))
+
+-- the digests of those of the rows that are in keyed tables, in rising order, each once
+abbrev pub digest_set : List Table → List RowId → List ℕ
+digest_set tables rows = rising (map digest_of (filter (is_keyed tables) rows))

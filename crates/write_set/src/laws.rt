@@ -1,0 +1,9 @@
+//! What follows from the definitions alone. Each function states laws by its contract, and does nothing.
+
+ghost use Rattle.write_set.specs.Laws.{HasJustTheDigests, DigestsRise};
+
+/// A set of digests has just the digests of the rows in keyed tables, each once and in rising order.
+pub fn digest_sets()
+    ensures members { HasJustTheDigests }
+    ensures rising { DigestsRise }
+{}
