@@ -1,9 +1,9 @@
-use Rattle.std.proofs.Common.{◌≡◌, ◌∙◌, ap, sym, set, map, ◌-◌}
+use Rattle.std.proofs.Common.{◌∙◌, ap, set, ◌-◌}
 use Rattle.std.specs.FinMap.{empty}
 use Rattle.std.proofs.lemmas.List.{map-set}
 use Rattle.row_locks.specs.Held.{Place}
-use Rattle.row_locks.specs.Locks.{Locks, Holding, held_by, released}
-use Rattle.row_locks.specs.Tied.{IsCounted, IsTied, MovesAlike}
+use Rattle.row_locks.specs.Locks.{Locks, held_by, released}
+use Rattle.row_locks.specs.Tied.{MovesAlike}
 use Rattle.row_locks.proofs.Tied.{place_rows, counted_own, tied-released, rows_in}
 use Rattle.row_locks.proofs.LockTable.release_all.Goals as goal
 

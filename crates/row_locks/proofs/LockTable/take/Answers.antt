@@ -1,12 +1,11 @@
-use Rattle.std.proofs.Common.{◌≡◌, ◌∙◌, ap, sym, set, map, ◌-◌, Bool, true, false, true≢false, Result, Ok, Err, OnErr, refl}
+use Rattle.std.proofs.Common.{◌≡◌, ◌∙◌, ap, sym, set, ◌-◌, false, true≢false}
 use Rattle.std.proofs.lemmas.List.{map-set, set-get_or}
 use Rattle.std.proofs.lemmas.Result.{err_from_is_err_and}
 use Rattle.std.specs.FinMap.{empty}
-use Rattle.row_locks.specs.declared.LockFault.{LockFault}
 use Rattle.row_locks.specs.declared.LockFault.TheVariants as faults
 use Rattle.row_locks.specs.Held.{Place}
-use Rattle.row_locks.specs.Locks.{Locks, Holding, held_by, any_clashes, also_held, taken}
-use Rattle.row_locks.specs.Tied.{IsCounted, IsTied, MovesAlike}
+use Rattle.row_locks.specs.Locks.{Locks, held_by, any_clashes, also_held, taken}
+use Rattle.row_locks.specs.Tied.{MovesAlike}
 use Rattle.row_locks.proofs.Tied.{place_rows, counted_own, tied-taken, tied-kept, rows_in}
 use Rattle.row_locks.proofs.LockTable.take.Goals as goal
 
