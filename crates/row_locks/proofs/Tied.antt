@@ -240,3 +240,8 @@ pub place_rows : (places : List Place) (counts : Counts) (session : ℕ) (place 
 place_rows places counts session place least greatest tied is =
     let within : session - 1 < length places = omega (arith, tied.places, length-map places (λ (p : Place). p.rows)) in
     ap (λ (p : Place). p.rows) is ∙ sym (get_or-map (λ (p : Place). p.rows) places (session - 1) place empty within)
+
+-- the session's own rows are counted
+pub counted_place : (places : List Place) (counts : Counts) (session : ℕ) (place : Place) → 1 ≤ session → session ≤ 256 → IsTied (rows_in places) counts → place ≡ get_or places (session - 1) place → IsCounted place.rows counts
+counted_place places counts session place least greatest tied is =
+    rw (place_rows places counts session place least greatest tied is) (counted_own (rows_in places) counts session least greatest tied)
