@@ -1,10 +1,10 @@
 -- The counts of rows move as what one session holds does.
-use Rattle.std.proofs.Common.{◌≡◌, ◌∙◌, sym, ap, refl, ℕ, zero, suc, ◌+◌, ◌-◌, ◌<◌, ◌≤◌, length, take, get_or, ◌⊎◌, arith, is_some, Bool, true, false, cond, Option, Some, None, List, [], ◌∷◌, ◌++◌, inl, inr}
-use Rattle.std.specs.FinMap.{get, insert, remove, empty, len, get-insert, get-remove, get-empty, len-remove, empty_of_len}
+use Rattle.std.proofs.Common.{◌≡◌, ◌∙◌, sym, ap, refl, ℕ, zero, suc, ◌+◌, ◌-◌, ◌<◌, ◌≤◌, length, take, get_or, ◌⊎◌, arith, is_some, cond, Option, Some, None, List, [], ◌∷◌, ◌++◌, inl, inr}
+use Rattle.std.specs.FinMap.{get, insert, remove, len, get-insert, get-remove, get-empty, len-remove, empty_of_len}
 use Rattle.std.proofs.lemmas.Bool.{cases_Bool}
 use Rattle.std.proofs.lemmas.List.{take_more}
 use Rattle.schema.specs.declared.RowId.{RowId}
-use Rattle.schema.specs.RowId.{row_cmp, same_row, row_total, exact_row}
+use Rattle.schema.specs.RowId.{row_cmp, same_row, row_total}
 use Rattle.row_locks.specs.declared.Mode.{Mode}
 use Rattle.row_locks.specs.Mode.{weight, stronger}
 use Rattle.row_locks.specs.Locks.{Holding, also_held}

@@ -1,16 +1,15 @@
 -- The laws that callers cite.
-use Rattle.std.proofs.Common.{◌≡◌, ◌≢◌, ◌∙◌, sym, ap, refl, ℕ, ◌-◌, ◌<◌, ◌≤◌, arith, length, get_or, set, nat_eq, Bool, true, false, ◌&&◌, ◌||◌, ◌⊎◌, cond, Option, Some, None, List, [], ◌∷◌, inl, inr}
+use Rattle.std.proofs.Common.{◌≡◌, ◌≢◌, ◌∙◌, sym, ap, refl, ℕ, ◌-◌, ◌<◌, ◌≤◌, arith, length, get_or, set, nat_eq, Bool, true, false, ◌&&◌, ◌||◌, ◌⊎◌, cond, Option, Some, None, [], ◌∷◌, inl, inr}
 use Rattle.std.specs.List.{list_any}
 use Rattle.std.specs.FinMap.{get, insert, empty, get-insert}
 use Rattle.std.proofs.lemmas.Bool.{cases_Bool}
 use Rattle.std.proofs.lemmas.Bool.Decides.{eqb_tells}
 use Rattle.std.proofs.lemmas.List.{get_or-set_same, get_or-set_other}
-use Rattle.schema.specs.declared.RowId.{RowId}
 use Rattle.schema.specs.RowId.{same_row, row_total}
 use Rattle.row_locks.specs.declared.Mode.{Mode}
 use Rattle.row_locks.specs.declared.Mode.TheVariants.{Share, Exclusive}
 use Rattle.row_locks.specs.Mode.{opposes, stronger}
-use Rattle.row_locks.specs.Locks.{Holding, Locks, held_by, also_held, taken, released, NoClash}
+use Rattle.row_locks.specs.Locks.{Holding, Locks, held_by, also_held}
 use Rattle.row_locks.specs.Laws.{TakenByOne, ReleasedByOne, HeldAsListed, HoldersShare}
 use Rattle.row_locks.proofs.Counts.{row_is}
 use Rattle.row_locks.proofs.Tied.{no_other}

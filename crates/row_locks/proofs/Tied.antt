@@ -1,6 +1,6 @@
 -- What ties the counts of rows to what the sessions hold, and that no two sessions clash.
-use Rattle.std.proofs.Common.{◌≡◌, ◌≢◌, ◌∙◌, sym, ap, subst, refl, ℕ, zero, suc, ◌+◌, ◌-◌, ◌*◌, ◌<◌, ◌≤◌, arith, length, get_or, set, replicate, nat_lt, Bool, true, false, true≢false, ◌||◌, cond, Option, Some, None, List, [], ◌∷◌, map, ◌⊎◌, inl, inr}
-use Rattle.std.specs.List.{All, list_any, count_by, sum_by}
+use Rattle.std.proofs.Common.{◌≡◌, ◌≢◌, ◌∙◌, sym, ap, refl, ℕ, suc, ◌+◌, ◌-◌, ◌*◌, ◌<◌, ◌≤◌, arith, length, get_or, set, replicate, nat_lt, Bool, true, false, true≢false, ◌||◌, cond, Option, Some, None, List, [], ◌∷◌, map, ◌⊎◌, inl, inr}
+use Rattle.std.specs.List.{list_any, count_by}
 use Rattle.std.specs.FinMap.{get, insert, empty, get-empty, get-insert}
 use Rattle.std.proofs.lemmas.Bool.{cases_Bool, or_parts}
 use Rattle.std.proofs.lemmas.Bool.Decides.{leb_tells, eqb_tells}
@@ -19,6 +19,7 @@ use Rattle.std.specs.Option.{option_map_or}
 use Rattle.row_locks.specs.Held.{Place}
 use Rattle.row_locks.specs.Tally.{Counts, count_at, opposing}
 use Rattle.row_locks.specs.Tied.{IsTied, IsCounted, MovesAlike}
+use Rattle.row_locks.specs.Laws.{NothingHeld}
 use Rattle.row_locks.proofs.Counts.{row_is}
 
 -- ---- counting over plain lists
@@ -209,6 +210,10 @@ times_none n = omega arith
 none_counted : (row : RowId) (mode : Mode) → count_at empty row mode ≡ 0
 none_counted row mode = ap (λ o. option_map_or (λ count. opposing count mode) o 0) (get-empty row_cmp row)
 
+pub nothing_held : NothingHeld
+unfolding no_locks
+nothing_held = (length-replicate 256 (empty {X = Mode} {R = row_cmp}), λ session. nothing_at 256 (session - 1))
+
 pub tied-none : IsTied no_locks empty
 unfolding no_locks
 tied-none = none_of 256 refl
@@ -235,3 +240,8 @@ pub place_rows : (places : List Place) (counts : Counts) (session : ℕ) (place 
 place_rows places counts session place least greatest tied is =
     let within : session - 1 < length places = omega (arith, tied.places, length-map places (λ (p : Place). p.rows)) in
     ap (λ (p : Place). p.rows) is ∙ sym (get_or-map (λ (p : Place). p.rows) places (session - 1) place empty within)
+
+-- the session's own rows are counted
+pub counted_place : (places : List Place) (counts : Counts) (session : ℕ) (place : Place) → 1 ≤ session → session ≤ 256 → IsTied (rows_in places) counts → place ≡ get_or places (session - 1) place → IsCounted place.rows counts
+counted_place places counts session place least greatest tied is =
+    rw (place_rows places counts session place least greatest tied is) (counted_own (rows_in places) counts session least greatest tied)

@@ -7,7 +7,11 @@ use Rattle.schema.specs.RowId.{same_row}
 use Rattle.row_locks.specs.declared.Mode.{Mode}
 use Rattle.row_locks.specs.declared.Mode.TheVariants.{Share}
 use Rattle.row_locks.specs.Mode.{opposes}
-use Rattle.row_locks.specs.Locks.{Holding, Locks, held_by, also_held, taken, released, NoClash}
+use Rattle.row_locks.specs.Locks.{Holding, Locks, no_locks, held_by, also_held, taken, released, NoClash}
+
+-- no session of a new table holds a row
+abbrev pub NothingHeld : Type 0
+NothingHeld = (length no_locks ≡ 256) × ((session : ℕ) → held_by no_locks session ≡ empty)
 
 -- what each session holds once one of them took a list of locks
 abbrev pub TakenByOne : Type 0

@@ -1,6 +1,11 @@
 //! What follows from the definitions alone. Each function states laws by its contract, and does nothing.
 
-ghost use Rattle.row_locks.specs.Laws.{TakenByOne, ReleasedByOne, HeldAsListed, HoldersShare};
+ghost use Rattle.row_locks.specs.Laws.{NothingHeld, TakenByOne, ReleasedByOne, HeldAsListed, HoldersShare};
+
+/// In a new table there are 256 sessions, and none of them holds a row.
+pub fn new_table()
+    ensures { NothingHeld }
+{}
 
 /// To take and to release change what one session holds, and no other.
 pub fn one_session()

@@ -96,7 +96,7 @@ impl LockTable {
     }
 
     /// Whether another session holds the row in a way that clashes with a lock of this mode. It takes no memory,
-    /// and the time of two look-ups.
+    /// and expected constant time.
     pub fn clashes(&self, session: u16, row: RowId, mode: Mode) -> bool
         requires least { 1 ≤ session }
         requires greatest { session ≤ 256 }
@@ -110,7 +110,7 @@ impl LockTable {
 
     /// Takes each lock of the list for the session. It is refused with `Clash` where a row of the list clashes with
     /// another session's lock, and else with `Memory` where there is no room for the whole list; then nothing is
-    /// taken. With n locks the time is that of n look-ups.
+    /// taken. With n locks the time is that of n look-ups, and the memory that of n rows; it stays for later locks.
     pub fn take(&mut self, session: u16, rows: &[(RowId, Mode)]) -> Result<(), LockFault>
         requires least { 1 ≤ session }
         requires greatest { session ≤ 256 }

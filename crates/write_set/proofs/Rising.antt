@@ -1,15 +1,15 @@
 -- Rising lists of numbers, and the one that has the numbers of a list.
-use Rattle.std.proofs.Common.{◌≡◌, ◌∙◌, sym, ap, subst, refl, ℕ, Bool, true, false, true≢false, ◌&&◌, ◌||◌, cond, eqb, T, is_lt, Ordering, Less, Equal, Greater, List, [], ◌∷◌, map, Option, Some, None, is_some, nat_cmp, inl, inr, IsPermutation}
+use Rattle.std.proofs.Common.{◌≡◌, ◌∙◌, sym, ap, subst, refl, ℕ, Bool, true, false, true≢false, ◌&&◌, ◌||◌, cond, eqb, T, is_lt, Ordering, Less, Equal, Greater, List, [], ◌∷◌, map, Option, Some, None, is_some, nat_cmp, IsPermutation}
 use Rattle.std.specs.List.{list_any, filter, dedup, AllByRecursion}
 use Rattle.std.specs.List.Sorted.{IsSorted, IsStrictlySortedBy, IsStrictlyIncreasing}
 use Rattle.std.specs.Ordering.{eq_by_cmp}
 use Rattle.std.specs.Cmp.{unsigned_tied, nat_cmp_total, nat_eq_equiv}
 use Rattle.std.specs.FinMap.{FinMap, get, find, keys, entries, entries_sorted, from_entries, from_sorted, entries-from_sorted, get-from_entries, get-from_sorted, contains_key-keys, same_map, is_sorted, nat_cmp-IsAntisymmetric}
 use Rattle.std.specs.FinMap.Entries.{below_all, is_some-find}
-use Rattle.std.proofs.lemmas.Bool.{and_from, and_parts, cases_Bool}
+use Rattle.std.proofs.lemmas.Bool.{and_from, and_parts}
 use Rattle.std.proofs.lemmas.List.Kept.{IsStrictlySortedBy-dedup, Contains-dedup_nat, Contains-from_dedup}
 use Rattle.std.proofs.lemmas.List.Sorted.{list_any-IsPermutation}
-use Rattle.std.proofs.lemmas.Map.Keys.{sorted_head, sorted_tail, sorted_from_strictly_increasing, IsStrictlyIncreasing-from_sorted, IsStrictlyIncreasing-dedup}
+use Rattle.std.proofs.lemmas.Map.Keys.{sorted_head, sorted_tail, IsStrictlyIncreasing-from_sorted}
 use Rattle.std.proofs.lemmas.Map.Views.{Contains-from_any, list_any-from_Contains}
 use Rattle.std.proofs.lemmas.Bool.{eqb-true}
 use Rattle.schema.specs.declared.Table.{Table}

@@ -1,6 +1,6 @@
-use Rattle.std.proofs.Common.{arith, ◌≡◌, ◌∙◌, ap, ℕ, replicate}
+use Rattle.std.proofs.Common.{arith, ◌≡◌, ◌∙◌, ap, replicate}
 use Rattle.std.specs.FinMap.{empty}
-use Rattle.row_locks.specs.Locks.{Locks, no_locks}
+use Rattle.row_locks.specs.Locks.{no_locks}
 use Rattle.row_locks.proofs.empty_places.Goals as goal
 
 pub returns : goal.returns

@@ -1,6 +1,5 @@
-use Rattle.std.proofs.Common.{◌<◌, ◌≤◌, ◌+◌, subst, sym, arith}
+use Rattle.std.proofs.Common.{◌≤◌, ◌+◌, arith}
 use Rattle.std.specs.FinMap.{len}
-use Rattle.row_locks.specs.Locks.{Holding}
 use Rattle.row_locks.proofs.Moves.{fewer, moves-removed, moves_on}
 use Rattle.row_locks.proofs.unlock_all.Goals as goal
 

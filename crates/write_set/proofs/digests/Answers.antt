@@ -3,7 +3,7 @@ use Rattle.std.specs.List.{dedup}
 use Rattle.std.proofs.lemmas.List.Filters.{dedup_is}
 use Rattle.std.proofs.lemmas.Map.Keys.{IsStrictlyIncreasing-dedup}
 use Rattle.schema.specs.declared.RowId.{RowId}
-use Rattle.write_set.specs.Digest.{digest_of, is_keyed, rising, digest_set}
+use Rattle.write_set.specs.Digest.{rising, digest_set}
 use Rattle.write_set.proofs.Rising.{sorted_once}
 use Rattle.write_set.proofs.digests.Goals as goal
 

@@ -1,8 +1,7 @@
-use Rattle.std.proofs.Common.{◌≡◌, ◌∙◌, ap, nat_lt, ℕ}
+use Rattle.std.proofs.Common.{◌≡◌, ◌∙◌, ap}
 use Rattle.std.specs.FinMap.{get}
 use Rattle.row_locks.specs.Mode.{weight}
 use Rattle.row_locks.specs.Locks.{Locks, Holding, held_by, clashes_with}
-use Rattle.row_locks.specs.Tally.{count_at}
 use Rattle.row_locks.proofs.Tied.{place_rows, clashes_exactly, rows_in}
 use Rattle.row_locks.proofs.LockTable.clashes.Goals as goal
 

@@ -1,18 +1,15 @@
-use Rattle.std.proofs.Common.{◌≡◌, ◌∙◌, ap, sym, set, map, ◌-◌}
+use Rattle.std.proofs.Common.{◌∙◌, ap, set, ◌-◌}
 use Rattle.std.specs.FinMap.{empty}
 use Rattle.std.proofs.lemmas.List.{map-set}
 use Rattle.row_locks.specs.Held.{Place}
-use Rattle.row_locks.specs.Locks.{Locks, Holding, held_by, released}
-use Rattle.row_locks.specs.Tied.{IsCounted, IsTied, MovesAlike}
-use Rattle.row_locks.proofs.Tied.{place_rows, counted_own, tied-released, rows_in}
+use Rattle.row_locks.specs.Locks.{Locks, held_by, released}
+use Rattle.row_locks.specs.Tied.{MovesAlike}
+use Rattle.row_locks.proofs.Tied.{place_rows, counted_place, tied-released, rows_in}
 use Rattle.row_locks.proofs.LockTable.release_all.Goals as goal
 
 pub unlock_all-requires : goal.unlock_all-requires
 unlock_all-requires c =
-    let locks = rows_in c.self.inside.places.items in
-    let counts = c.self.inside.tally.rows in
-    let own = place_rows c.self.inside.places.items counts c.args.session c.index_mut-freed.result.now c.requires.least c.requires.greatest c.self.invariant c.index_mut-freed.ensures.value in
-    rw own (counted_own locks counts c.args.session c.requires.least c.requires.greatest c.self.invariant)
+    counted_place c.self.inside.places.items c.self.inside.tally.rows c.args.session c.index_mut-freed.result.now c.requires.least c.requires.greatest c.self.invariant c.index_mut-freed.ensures.value
 
 pub invariant_of-self : goal.invariant_of-self
 invariant_of-self c =

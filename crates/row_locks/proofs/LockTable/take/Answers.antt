@@ -1,21 +1,17 @@
-use Rattle.std.proofs.Common.{◌≡◌, ◌∙◌, ap, sym, set, map, ◌-◌, Bool, true, false, true≢false, Result, Ok, Err, OnErr, refl}
+use Rattle.std.proofs.Common.{◌≡◌, ◌∙◌, ap, sym, set, ◌-◌, false, true≢false}
 use Rattle.std.proofs.lemmas.List.{map-set, set-get_or}
 use Rattle.std.proofs.lemmas.Result.{err_from_is_err_and}
 use Rattle.std.specs.FinMap.{empty}
-use Rattle.row_locks.specs.declared.LockFault.{LockFault}
 use Rattle.row_locks.specs.declared.LockFault.TheVariants as faults
 use Rattle.row_locks.specs.Held.{Place}
-use Rattle.row_locks.specs.Locks.{Locks, Holding, held_by, any_clashes, also_held, taken}
-use Rattle.row_locks.specs.Tied.{IsCounted, IsTied, MovesAlike}
-use Rattle.row_locks.proofs.Tied.{place_rows, counted_own, tied-taken, tied-kept, rows_in}
+use Rattle.row_locks.specs.Locks.{Locks, held_by, any_clashes, also_held, taken}
+use Rattle.row_locks.specs.Tied.{MovesAlike}
+use Rattle.row_locks.proofs.Tied.{place_rows, counted_place, tied-taken, tied-kept, rows_in}
 use Rattle.row_locks.proofs.LockTable.take.Goals as goal
 
 pub lock_all-requires : goal.lock_all-requires
 lock_all-requires c =
-    let locks = rows_in c.self.inside.places.items in
-    let counts = c.self.inside.tally.rows in
-    let own = place_rows c.self.inside.places.items counts c.args.session c.index_mut-place.result.now c.requires.least c.requires.greatest c.self.invariant c.index_mut-place.ensures.value in
-    rw own (counted_own locks counts c.args.session c.requires.least c.requires.greatest c.self.invariant)
+    counted_place c.self.inside.places.items c.self.inside.tally.rows c.args.session c.index_mut-place.result.now c.requires.least c.requires.greatest c.self.invariant c.index_mut-place.ensures.value
 
 -- nothing is taken: the place has what it had
 kept : (c : goal.After-from_residual) → rows_in (set c.self.inside.places.items (c.args.session - 1) c.lock_all.new.held) ≡ rows_in c.self.inside.places.items

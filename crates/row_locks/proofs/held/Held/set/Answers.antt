@@ -1,5 +1,3 @@
-use Rattle.std.proofs.Common.{◌<◌, subst, ap}
-use Rattle.row_locks.specs.Held.{Place}
 use Rattle.row_locks.proofs.Rows.{rows-inserted}
 use Rattle.row_locks.proofs.held.Held.set.Goals as goal
 

@@ -1,4 +1,4 @@
-use Rattle.std.proofs.Common.{◌≡◌, ◌∙◌, ap, sym, None}
+use Rattle.std.proofs.Common.{◌≡◌, ◌∙◌, ap, None}
 use Rattle.std.specs.FinMap.{get, get-empty}
 use Rattle.schema.specs.RowId.{row_cmp}
 use Rattle.row_locks.proofs.Rows.{rows_of}

@@ -1,10 +1,8 @@
-use Rattle.std.proofs.Common.{◌≡◌, ◌∙◌, ◌+◌, ◌≤◌, ◌<◌, ap, sym, IsNone, ℕ}
+use Rattle.std.proofs.Common.{◌≡◌, ◌∙◌, ◌+◌, ◌≤◌, ◌<◌, ap, sym, IsNone}
 use Rattle.std.specs.FinMap.{insert, remove}
-use Rattle.schema.specs.declared.RowId.{RowId}
-use Rattle.row_locks.specs.declared.Mode.{Mode}
 use Rattle.row_locks.specs.declared.Mode.TheVariants.{Exclusive}
 use Rattle.row_locks.specs.Mode.{weight}
-use Rattle.row_locks.specs.Tally.{Sheet, Counts, count_at, opposing, AllAreHeld}
+use Rattle.row_locks.specs.Tally.{Sheet, count_at, opposing}
 use Rattle.row_locks.proofs.Rows.{rows_of, rows-removed}
 use Rattle.row_locks.proofs.Counts.{count-set, count-removed, count-inserted, held-set, held-removed, is_nobody, not_nobody}
 use Rattle.indexmap.specs.IndexMap.{spare}
