@@ -1,8 +1,8 @@
 -- Lines as a reader gives them.
-use Rattle.std.proofs.Common.{◌≡◌, ◌∙◌, sym, ap, refl, ℕ, Bool, true, false, cond, eqb, ◌+◌, ◌-◌, ◌<◌, ◌≤◌, ◌≢◌, List, [], ◌∷◌, ◌++◌, take, drop, inl, inr, ◌⊎◌, arith, length, length-append, Option, Some, None, append_assoc, subst}
+use Rattle.std.proofs.Common.{◌≡◌, ◌∙◌, sym, ap, refl, ℕ, Bool, true, false, cond, eqb, ◌-◌, ◌≢◌, List, [], ◌∷◌, ◌++◌, take, inl, inr, ◌⊎◌, arith, length, length-append, Option, Some, None, append_assoc, subst}
 use Rattle.std.specs.List.{slice_split, All}
 use Rattle.std.specs.Prelude.{IfSome}
-use Rattle.std.specs.Io.{StopsAt, appended_bytes}
+use Rattle.std.specs.Io.{StopsAt}
 use Rattle.std.specs.Io.BufRead.{take_through, drop_through, DropsThrough}
 use Rattle.std.proofs.lemmas.List.{take-append-le, take_all}
 use Rattle.std.proofs.lemmas.List.Elements.{All-append, All-cons, All-nil, All-head, All-tail}

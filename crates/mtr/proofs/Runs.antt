@@ -1,5 +1,5 @@
 -- Runs that go on from one another.
-use Rattle.std.proofs.Common.{◌≡◌, ◌∙◌, sym, ap, ℕ, ◌<◌, ◌+◌, List, [], ◌∷◌, ◌++◌, refl, map, ℤ, Result, Ok, Err, Option, append_assoc, append-nil, subst, ◌≢◌, length, length-append, arith}
+use Rattle.std.proofs.Common.{◌≡◌, ◌∙◌, sym, ap, ℕ, ◌<◌, List, [], ◌∷◌, ◌++◌, refl, map, ℤ, Result, Ok, Err, Option, append_assoc, append-nil, subst, ◌≢◌, length, length-append, arith}
 use Rattle.std.specs.Io.KnownBytes.{Appends}
 use Rattle.std.proofs.KnownBytes.{Appends-trans, Appends-nil}
 use Rattle.std.proofs.lemmas.Grind.{flat_map-append}

@@ -1,7 +1,7 @@
 -- Texts that are cut at a byte.
 use Rattle.std.proofs.Common.{◌≡◌, ◌∙◌, sym, ap, refl, ℕ, ◌+◌, ◌<◌, Bool, true, false, eqb, List, [], ◌∷◌, ◌++◌, length, Some, None, get_or, ◌≢◌, cond, arith}
 use Rattle.std.specs.Borrow.{Bor}
-use Rattle.std.specs.List.{before_first, after_first, All, slice_split, onto_first}
+use Rattle.std.specs.List.{slice_split, onto_first}
 use Rattle.std.proofs.lemmas.List.Splits.{slice_split_none, slice_split_first, length-slice_split}
 use Rattle.std.proofs.lemmas.Str.Pattern.{IsSplitOnceResult, split_once_first, split_parts}
 use Rattle.std.proofs.lemmas.List.Elements.{All-from_get_or}

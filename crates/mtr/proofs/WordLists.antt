@@ -1,5 +1,5 @@
 -- Words taken off the front of a text.
-use Rattle.std.proofs.Common.{◌≡◌, ◌∙◌, sym, ap, refl, ℕ, ◌+◌, ◌<◌, Bool, true, false, eqb, List, [], ◌∷◌, length, Option, Some, None, is_some, not, get_or, ◌≢◌, ℤ, ◌++◌, take, append_assoc, append-nil, length-append, cond, leb, ◌&&◌, add-one, arith}
+use Rattle.std.proofs.Common.{◌≡◌, ◌∙◌, sym, ap, refl, ℕ, ◌+◌, ◌<◌, Bool, true, false, eqb, List, [], ◌∷◌, length, Option, Some, None, is_some, not, ℤ, ◌++◌, take, append_assoc, append-nil, length-append, cond, leb, ◌&&◌, add-one, arith}
 use Rattle.std.specs.Borrow.{Bor}
 use Rattle.std.proofs.lemmas.List.Splits.{length-slice_split}
 use Rattle.std.proofs.lemmas.Str.Pattern.{IsSplitOnceResult}

@@ -148,7 +148,10 @@ fn faults(rt: HostRuntime) -> Result<(), Fail> {
         (LockFault::Clash, "a row is locked"),
         (LockFault::Memory, "no memory"),
     ] {
-        let said = format!(in rt.alloc(); "{fault}")?;
+        let said = match format!(in rt.alloc(); "{fault}") {
+            Ok(said) => said,
+            Err(_) => format!(in rt.alloc(); "{fault}")?,
+        };
         assert_eq!(rt; said.as_str(), text);
     }
     Ok(())

@@ -116,9 +116,17 @@ mod tests {
         RowId { table, key }
     }
 
+    /// An empty vector with room, where one of two tries has memory.
+    fn with_room<T: Drop>(alloc: Global, room: usize) -> Result<Vec<T>, Memory> {
+        match Vec::with_capacity(alloc, room) {
+            Ok(list) => Ok(list),
+            Err(_) => Ok(Vec::with_capacity(alloc, room)?),
+        }
+    }
+
     /// Tables 1 to 3, of which 3 is keyless.
     fn schema(alloc: Global) -> Result<Schema, Fail> {
-        let mut tables = Vec::with_capacity(alloc, 3)?;
+        let mut tables = with_room(alloc, 3)?;
         for id in 1..=3 {
             tables.push(Table {
                 id,
@@ -133,7 +141,11 @@ mod tests {
     /// The write set of these rows and its copy, each made where one of two tries has memory.
     fn set_of(alloc: Global, rows: &[RowId]) -> Result<WriteSet, Fail> {
         let schema = schema(alloc)?;
-        let writes = Rows::new(rows.to_vec(alloc)?);
+        let mut writes = with_room(alloc, rows.len())?;
+        for id in rows {
+            writes.push(*id)?;
+        }
+        let writes = Rows::new(writes);
         let refs = Rows::new(Vec::new(alloc));
         let footprint = Footprint::new(&schema, writes, refs);
         let set = match digests(alloc, &schema, &footprint) {
@@ -183,7 +195,7 @@ mod tests {
 
     #[test]
     fn many_rows(rt: HostRuntime) -> Result<(), Fail> {
-        let mut rows = Vec::new(rt.alloc());
+        let mut rows = with_room(rt.alloc(), 1024)?;
         for key in (0..1024).rev() {
             rows.push(row(2, key))?;
         }

@@ -1,4 +1,4 @@
-use Rattle.std.proofs.Common.{◌++◌, ◌∷◌, [], refl, ap}
+use Rattle.std.proofs.Common.{◌∷◌, [], refl, ap}
 use Rattle.std.proofs.KnownBytes.{Appends-nil}
 use Rattle.mtr.proofs.Pieces.{piece_more, pieces_all, along, then_text}
 use Rattle.mtr.specs.Printing.{column_text, columns_text}

@@ -1,6 +1,6 @@
 use Rattle.std.proofs.Common.{◌∷◌, [], refl}
 use Rattle.std.proofs.KnownBytes.{Appends-nil}
-use Rattle.mtr.proofs.Pieces.{piece_more, pieces_all, along, then_text}
+use Rattle.mtr.proofs.Pieces.{piece_more, pieces_all, then_text}
 use Rattle.mtr.specs.Printing.{stamp_text, stamps_text}
 use Rattle.mtr.proofs.printing.write_stamps.Goals as goal
 

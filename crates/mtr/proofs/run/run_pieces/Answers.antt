@@ -1,4 +1,4 @@
-use Rattle.std.proofs.Common.{◌≡◌, ◌∙◌, sym, ap, ◌++◌, [], refl, append-nil}
+use Rattle.std.proofs.Common.{◌∙◌, sym, ap, ◌++◌, [], refl, append-nil}
 use Rattle.world.specs.Seen.{seen}
 use Rattle.mtr.proofs.Runs.{goes_nowhere, goes_further, goes_to, behind_piece}
 use Rattle.mtr.specs.Printing.{lines_of}

@@ -1,4 +1,3 @@
-use Rattle.std.proofs.Common.{sym, ◌∙◌}
 use Rattle.rows.specs.Database.{Database}
 use Rattle.world.specs.Seen.{seen}
 use Rattle.mtr.specs.Script.{said}

@@ -1,4 +1,4 @@
-use Rattle.std.proofs.Common.{◌≡◌, ◌∙◌, ◌+◌, ap, sym, Some, None, true, false, Bool, List, ℕ, Option, subst}
+use Rattle.std.proofs.Common.{◌≡◌, ◌∙◌, ap, sym, Some, None, true, false, Bool, List, ℕ, Option, subst}
 use Rattle.std.specs.Bool.{then_some}
 use Rattle.std.specs.Option.{IfSome}
 use Rattle.mtr.specs.Script.{Said, said, said_with, LeavesLines}
