@@ -2,7 +2,7 @@
 //!
 //! Only the rows whose ids are new take memory. They are inserted first, and the list of their ids has its room
 //! before the first of them. Where one is refused, they are taken out again. Then rows are overwritten and removed,
-//! which takes none.
+//! which takes none. A batch of one row needs no list: the map takes it or not.
 
 ghost use Rattle.std.specs.Prelude.{◌≡◌, IsSome, OnOk, OnErr, FitsSigned};
 ghost use Rattle.std.specs.List.{AllByRecursion};
@@ -28,12 +28,44 @@ pub(crate) fn put_whole(
     ensures err { OnErr result (contents_of rows.new ≡ contents_of rows.old) }
     ensures keys { KeysFit (contents_of rows.old) → KeysFit (contents_of rows.new) }
 {
+    match entries {
+        [(id, row)] => put_one(rows, *id, *row),
+        several => put_several(alloc, rows, several),
+    }
+}
+
+/// Puts these entries, or, where memory runs out, none.
+fn put_several(
+    alloc: Global,
+    rows: &mut Rows,
+    entries: &[(RowId, Option<Row>)],
+) -> Result<(), Memory>
+    requires { IsRising entries.now }
+    ensures ok { OnOk result (contents_of rows.new ≡ put_batch entries.now (contents_of rows.old)) }
+    ensures err { OnErr result (contents_of rows.new ≡ contents_of rows.old) }
+    ensures keys { KeysFit (contents_of rows.old) → KeysFit (contents_of rows.new) }
+{
     let mut fresh = Vec::with_capacity(alloc, entries.len())?;
     if let Err(refused) = insert_absent(rows, entries, &mut fresh) {
         take_out(rows, fresh);
         return Err(refused);
     }
     set_rows(rows, entries);
+    Ok(())
+}
+
+/// Puts one row, or removes it, with one look-up: where that is refused nothing is changed.
+fn put_one(rows: &mut Rows, id: RowId, row: Option<Row>) -> Result<(), Memory>
+    ensures ok { OnOk result (contents_of rows.new ≡ put_row (contents_of rows.old) id row) }
+    ensures err { OnErr result (contents_of rows.new ≡ contents_of rows.old) }
+    ensures keys { KeysFit (contents_of rows.old) → KeysFit (contents_of rows.new) }
+{
+    match row {
+        None => set_row(rows, id, None),
+        Some(row) => {
+            rows.insert(id, row)?;
+        }
+    }
     Ok(())
 }
 

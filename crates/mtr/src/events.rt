@@ -95,7 +95,7 @@ impl<'a> Pieces<'a> {
     pub fn next(self, alloc: Global) -> Result<Option<(Vec<Event>, Pieces<'a>)>, Memory>
         ensures { IfOk result (λ next. MatchOption next (self.entry ≡ []) (λ piece. (self.entry ≡ piece.0.items ++ piece.1) × (piece.0.items ≢ []))) }
     {
-        let mut events = Vec::new(alloc);
+        let mut events = Vec::with_capacity(alloc, PIECE)?;
         let mut rest = self.rest;
         while let Some(text) = rest
             && events.len() < PIECE

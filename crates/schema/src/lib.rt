@@ -61,7 +61,10 @@ impl Ord for RowId {
     ghost matches_eq = { alike };
 
     fn cmp(&self, other: &RowId) -> Ordering {
-        self.table.cmp(&other.table).then(self.key.cmp(&other.key))
+        match self.table.cmp(&other.table) {
+            Ordering::Equal => self.key.cmp(&other.key),
+            unequal => unequal,
+        }
     }
 }
 

@@ -1,7 +1,7 @@
 use Rattle.std.proofs.Common.{◌∙◌, sym, subst}
 use Rattle.btree_store.specs.Contents.{contents_of, KeysFit}
 use Rattle.btree_store.proofs.Steps.{KeysFit-put_batch}
-use Rattle.btree_store.proofs.put.put_whole.Goals as goal
+use Rattle.btree_store.proofs.put.put_several.Goals as goal
 
 pub returns-clause-keys : goal.returns-clause-keys
 returns-clause-keys c = λ before.
