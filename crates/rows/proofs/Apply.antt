@@ -1,8 +1,9 @@
 -- What one change does, said for every kind of change. Each law here is by cases on the change, and the laws
 -- on lists of changes stand on these alone.
-use Rattle.std.proofs.Common.{◌≡◌, sym, ap, ◌∙◌, refl, inl, inr, Bool, true, false, ◌&&◌, cond, List, ◌++◌, ℕ, ℤ, Option, Some, None, is_some, is_none, Result, Ok}
+use Rattle.std.proofs.Common.{◌≡◌, sym, ap, ◌∙◌, refl, inl, inr, Bool, true, false, ◌&&◌, cond, List, ◌++◌, ℕ, ℤ, Option, Some, None, is_some, is_none, Result, Ok, Err}
 use Rattle.std.specs.Prelude.{not, ◌||◌, slice_get, option_and_then, option_to_list}
 use Rattle.std.specs.Option.{option_map, option_map_or, ok_or}
+use Rattle.std.specs.Result.{result_ok}
 use Rattle.std.specs.Ordering.{is_eq}
 use Rattle.std.specs.declared.cmp.Ordering.{Ordering}
 use Rattle.std.specs.declared.cmp.Ordering.TheVariants.{Less, Equal, Greater}
@@ -22,8 +23,8 @@ use Rattle.rows.specs.declared.ChangeFault.{ChangeFault}
 use Rattle.rows.specs.declared.ChangeFault.TheVariants.{Columns}
 use Rattle.rows.specs.Naming.{Naming, names_column, assigned}
 use Rattle.rows.specs.Change.{changed}
-use Rattle.rows.specs.Database.{Database, target, parent_of, parent_in, has_parent, names_parent, apply, ChildrenHaveParents, HasChild, DeletesNoParent}
-use Rattle.rows.specs.Effect.{row_has_parent, sets_parent, parent_stands, FitsWhereItApplies, ParentStandsWhereItApplies, HasParentWhereItApplies, AppliesWhereItFits}
+use Rattle.rows.specs.Database.{Database, put_row, target, parent_of, parent_in, has_parent, names_parent, apply, ChildrenHaveParents, HasChild, DeletesNoParent}
+use Rattle.rows.specs.Effect.{row_has_parent, sets_parent, parent_stands, AppliesByRow, FitsWhereItApplies, ParentStandsWhereItApplies, HasParentWhereItApplies, AppliesWhereItFits}
 use Rattle.rows.proofs.Assigned.{assigned_keeps}
 
 equal_from : (o : Ordering) → is_eq o ≡ true → o ≡ Equal
@@ -44,17 +45,18 @@ has_row-left xs ys q h = list_any-append (same_row q) xs ys ∙ or_left _ _ h
 pub has_row-right : (xs ys : List RowId) (q : RowId) → has_row ys q ≡ true → has_row (xs ++ ys) q ≡ true
 has_row-right xs ys q h = list_any-append (same_row q) xs ys ∙ or_right _ _ h
 
--- a database with one row set or removed
-abbrev pub left_row : Database → RowId → Option (List ℤ) → Database
-left_row db row None = remove db row
-left_row db row (Some columns) = insert db row columns
-
-pub get-left_row : (db : Database) (row q : RowId) (left : Option (List ℤ)) → get (left_row db row left) q ≡ cond (same_row q row) left (get db q)
-get-left_row db row q None = get-remove row_total db row q
-get-left_row db row q (Some columns) = get-insert row_total db row columns q
+pub get-put_row : (db : Database) (row q : RowId) (left : Option (List ℤ)) → get (put_row db row left) q ≡ cond (same_row q row) left (get db q)
+get-put_row db row q None = get-remove row_total db row q
+get-put_row db row q (Some columns) = get-insert row_total db row columns q
 
 some_is_not_none : {A : Type 0} {x : A} → ◌≡◌ {A = Option A} (Some x) None → ⊥
 some_is_not_none e = cc
+
+true_is_not_false : true ≡ false → ⊥
+true_is_not_false e = cc
+
+ok_is_not_err : {A E : Type 0} {x : A} {e : E} → ◌≡◌ {A = Result A E} (Ok x) (Err e) → ⊥
+ok_is_not_err e = cc
 
 same_ok : {A E : Type 0} {x y : A} → ◌≡◌ {A = Result A E} (Ok x) (Ok y) → x ≡ y
 same_ok e = cc
@@ -68,7 +70,7 @@ pub record Applied (ts : List Table) (change : Change) (db after : Database) : T
   pub left : Option (List ℤ)
   pub fits : changed change (get db (target change)) ≡ Ok left
   pub stands : parent_stands ts change db left ≡ true
-  pub is : left_row db (target change) left ≡ after
+  pub is : put_row db (target change) left ≡ after
 
 insert_applied : (ts : List Table) (row : RowId) (columns : List ℤ) (db after : Database) (before : Option (List ℤ)) → get db row ≡ before →
     cond (is_none before && has_parent ts db row.table columns) (Some (insert db row columns)) None ≡ Some after → Applied ts (Insert row columns) db after
@@ -112,47 +114,66 @@ applied_from ts (Update row named) db after h = update_applied_at ts row named d
 applied_from ts (Delete row) db after h = delete_applied ts row db after (get db row) refl h
 
 insert_applies : (ts : List Table) (row : RowId) (columns : List ℤ) (db : Database) (before left : Option (List ℤ)) → changed (Insert row columns) before ≡ Ok left → parent_stands ts (Insert row columns) db left ≡ true →
-    cond (is_none before && has_parent ts db row.table columns) (Some (insert db row columns)) None ≡ Some (left_row db row left)
+    cond (is_none before && has_parent ts db row.table columns) (Some (insert db row columns)) None ≡ Some (put_row db row left)
 insert_applies ts row columns db None left fit stands =
     let e : Some columns ≡ left = same_ok fit in
     let there : has_parent ts db row.table columns ≡ true = ap (row_has_parent ts db row.table) e ∙ stands in
-    ap (λ b. cond b (Some (insert db row columns)) None) there ∙ ap (λ l. Some (left_row db row l)) e
+    ap (λ b. cond b (Some (insert db row columns)) None) there ∙ ap (λ l. Some (put_row db row l)) e
 insert_applies ts row columns db (Some there) left fit stands = cc
 
 update_applies : (ts : List Table) (row : RowId) (named : Naming) (db : Database) (o left : Option (List ℤ)) → ◌≡◌ {A = Result (Option (List ℤ)) ChangeFault} (ok_or (option_map (λ columns. Some columns) o) Columns) (Ok left) → parent_stands ts (Update row named) db left ≡ true →
-    updated ts row named db o ≡ Some (left_row db row left)
+    updated ts row named db o ≡ Some (put_row db row left)
 update_applies ts row named db None left fit stands = cc
 update_applies ts row named db (Some columns) left fit stands =
     let e : Some columns ≡ left = same_ok fit in
     let there : (not (names_parent ts row.table named.mask) || has_parent ts db row.table columns) ≡ true = ap (parent_stands ts (Update row named) db) e ∙ stands in
-    ap (λ b. cond b (Some (insert db row columns)) None) there ∙ ap (λ l. Some (left_row db row l)) e
+    ap (λ b. cond b (Some (insert db row columns)) None) there ∙ ap (λ l. Some (put_row db row l)) e
 
 update_applies_at : (ts : List Table) (row : RowId) (named : Naming) (db : Database) (before left : Option (List ℤ)) → changed (Update row named) before ≡ Ok left → parent_stands ts (Update row named) db left ≡ true →
-    updated ts row named db (option_and_then (assigned named) before) ≡ Some (left_row db row left)
+    updated ts row named db (option_and_then (assigned named) before) ≡ Some (put_row db row left)
 update_applies_at ts row named db None left fit stands = cc
 update_applies_at ts row named db (Some there) left fit stands = update_applies ts row named db (assigned named there) left fit stands
 
 delete_applies : (row : RowId) (db : Database) (before left : Option (List ℤ)) → changed (Delete row) before ≡ Ok left →
-    cond (is_some before) (Some (remove db row)) None ≡ Some (left_row db row left)
+    cond (is_some before) (Some (remove db row)) None ≡ Some (put_row db row left)
 delete_applies row db None left fit = cc
-delete_applies row db (Some there) left fit = ap (λ l. Some (left_row db row l)) (same_ok fit)
+delete_applies row db (Some there) left fit = ap (λ l. Some (put_row db row l)) (same_ok fit)
 
 -- a change that fits its row applies, where the parent that it gives the row is there
-pub applies_from : (ts : List Table) (change : Change) (db : Database) (left : Option (List ℤ)) → changed change (get db (target change)) ≡ Ok left → parent_stands ts change db left ≡ true → apply ts change db ≡ Some (left_row db (target change) left)
+pub applies_from : (ts : List Table) (change : Change) (db : Database) (left : Option (List ℤ)) → changed change (get db (target change)) ≡ Ok left → parent_stands ts change db left ≡ true → apply ts change db ≡ Some (put_row db (target change) left)
 applies_from ts (Insert row columns) db left fit stands = insert_applies ts row columns db (get db row) left fit stands
 applies_from ts (Update row named) db left fit stands = update_applies_at ts row named db (get db row) left fit stands
 applies_from ts (Delete row) db left fit stands = delete_applies row db (get db row) left fit
 
+-- what a change does, by what it does to its row
+pub apply_by_row : AppliesByRow
+apply_by_row ts change db = by (changed change (get db (target change))) refl
+  where
+    nothing : (o : Option Database) → ((after : Database) → o ≡ Some after → ⊥) → o ≡ None
+    nothing None no_more = refl
+    nothing (Some after) no_more = absurd (no_more after refl)
+
+    fitting : (left : Option (List ℤ)) (stands : Bool) → changed change (get db (target change)) ≡ Ok left → parent_stands ts change db left ≡ stands → apply ts change db ≡ cond stands (Some (put_row db (target change) left)) None
+    fitting left true fit stands = applies_from ts change db left fit stands
+    fitting left false fit stands = nothing (apply ts change db) (λ after h.
+        let a = applied_from ts change db after h in
+        let same : a.left ≡ left = same_ok (sym a.fits ∙ fit) in
+        true_is_not_false (sym a.stands ∙ ap (parent_stands ts change db) same ∙ stands))
+
+    by : (r : Result (Option (List ℤ)) ChangeFault) → changed change (get db (target change)) ≡ r → apply ts change db ≡ option_and_then (λ left. cond (parent_stands ts change db left) (Some (put_row db (target change) left)) None) (result_ok r)
+    by (Ok left) fit = fitting left (parent_stands ts change db left) fit refl
+    by (Err fault) unfit = nothing (apply ts change db) (λ after h. let a = applied_from ts change db after h in ok_is_not_err (sym a.fits ∙ unfit))
+
 -- the row that a change left
 pub left_there : {ts : List Table} {change : Change} {db after : Database} → (a : Applied ts change db after) → get after (target change) ≡ a.left
 left_there {change = change} {db = db} a =
-    ap (λ (m : Database). get m (target change)) (sym a.is) ∙ get-left_row db (target change) (target change) a.left ∙ ap (λ b. cond b a.left (get db (target change))) (same_row_itself (target change))
+    ap (λ (m : Database). get m (target change)) (sym a.is) ∙ get-put_row db (target change) (target change) a.left ∙ ap (λ b. cond b a.left (get db (target change))) (same_row_itself (target change))
 
 -- the rows that the change is not of stay
 pub apply_stays : (ts : List Table) (change : Change) (db after : Database) (q : RowId) → apply ts change db ≡ Some after → same_row q (target change) ≡ false → get after q ≡ get db q
 apply_stays ts change db after q h other =
     let a = applied_from ts change db after h in
-    ap (λ (m : Database). get m q) (sym a.is) ∙ get-left_row db (target change) q a.left ∙ ap (λ b. cond b a.left (get db q)) other
+    ap (λ (m : Database). get m q) (sym a.is) ∙ get-put_row db (target change) q a.left ∙ ap (λ b. cond b a.left (get db q)) other
 
 -- the row that it is of is changed
 pub apply_changes : FitsWhereItApplies
@@ -168,7 +189,7 @@ stands_where ts change db after h =
 
 -- a change that fits its row applies, where the parent that it gives the row is there
 pub applies_where : AppliesWhereItFits
-applies_where ts change db left fit stands = (left_row db (target change) left, applies_from ts change db left fit stands)
+applies_where ts change db left fit stands = (put_row db (target change) left, applies_from ts change db left fit stands)
 
 -- the parent that the columns name, where they name one, is there
 parent_there : (ts : List Table) (db : Database) (id : ℕ) (columns : List ℤ) (p : RowId) → parent_of ts id columns ≡ Some p → contains_key db p ≡ true → has_parent ts db id columns ≡ true
@@ -252,7 +273,7 @@ apply_alike ts change a b after h same parents =
     let x = applied_from ts change a after h in
     let alike : (p : RowId) → has_row (option_to_list (option_and_then (parent_of ts (target change).table) x.left)) p ≡ true → get a p ≡ get b p =
     λ p is. parents p (ap (λ o. has_row (option_to_list (option_and_then (parent_of ts (target change).table) o)) p) (left_there x) ∙ is) in
-    (left_row b (target change) x.left, applies_from ts change b x.left (ap (changed change) (sym same) ∙ x.fits) (stands_alike ts change a b x.left alike x.stands))
+    (put_row b (target change) x.left, applies_from ts change b x.left (ap (changed change) (sym same) ∙ x.fits) (stands_alike ts change a b x.left alike x.stands))
 
 -- a change does the same to two databases at each row where they are the same, and at its own row
 pub apply_agrees : (ts : List Table) (change : Change) (a b after left : Database) (q : RowId) → apply ts change a ≡ Some after → apply ts change b ≡ Some left → get a (target change) ≡ get b (target change) → ((same_row q (target change) ≡ false) → get a q ≡ get b q) → get after q ≡ get left q

@@ -1,5 +1,6 @@
 pub mod RowShape
 pub mod NamedShape
+pub mod Collected
 pub mod Assigned
 pub mod Apply
 pub mod Effect

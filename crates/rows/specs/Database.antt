@@ -14,6 +14,11 @@ use Rattle.rows.specs.Naming.{names_column, assigned}
 abbrev pub Database : Type 0
 Database = FinMap row_cmp (List ℤ)
 
+-- the database with one row set, or removed
+abbrev pub put_row : Database → RowId → Option (List ℤ) → Database
+put_row db row None = remove db row
+put_row db row (Some columns) = insert db row columns
+
 -- the row that a change is of
 abbrev pub target : Change → RowId
 target (Insert row columns) = row

@@ -1,5 +1,5 @@
 -- What one change does to its row, and what follows from that for the effect of a list of changes.
-use Rattle.std.specs.Prelude.{◌≡◌, ℕ, ℤ, Bool, true, false, not, ◌||◌, if◌then◌else◌, List, [], ◌∷◌, ◌++◌, Option, Some, Ok, option_and_then}
+use Rattle.std.specs.Prelude.{◌≡◌, ℕ, ℤ, Bool, true, false, not, ◌||◌, if◌then◌else◌, List, [], ◌∷◌, ◌++◌, Option, Some, None, Ok, option_and_then}
 use Rattle.std.specs.Option.{option_map_or}
 use Rattle.std.specs.Result.{result_ok}
 use Rattle.std.specs.FinMap.{get}
@@ -11,7 +11,7 @@ use Rattle.schema.specs.Flags.{IsFlat}
 use Rattle.rows.specs.declared.Change.{Change}
 use Rattle.rows.specs.declared.Change.TheVariants.{Insert, Update, Delete}
 use Rattle.rows.specs.Change.{changed}
-use Rattle.rows.specs.Database.{Database, target, writes, has_parent, names_parent, apply, effect, kin, ChildrenHaveParents, LeavesNoOrphan}
+use Rattle.rows.specs.Database.{Database, put_row, target, writes, has_parent, names_parent, apply, effect, kin, ChildrenHaveParents, LeavesNoOrphan}
 use Rattle.rows.specs.Frame.{AgreeOn}
 
 -- a row of the table may be so: it is not there, or has its parent there
@@ -34,6 +34,11 @@ abbrev pub row_after : List Change → RowId → Option (List ℤ) → Option (O
 row_after [] q row = Some row
 row_after (change ∷ changes) q row =
     if same_row q (target change) then option_and_then (row_after changes q) (result_ok (changed change row)) else row_after changes q row
+
+-- a change applies where it fits its row and the parent that it gives the row is there, and puts the row that it leaves
+abbrev pub AppliesByRow : Type 0
+AppliesByRow = (ts : List Table) (change : Change) (db : Database) →
+    apply ts change db ≡ option_and_then (λ left. if parent_stands ts change db left then Some (put_row db (target change) left) else None) (result_ok (changed change (get db (target change))))
 
 -- a change that applies fits its row, and leaves there what it says
 abbrev pub FitsWhereItApplies : Type 0

@@ -1,6 +1,6 @@
 //! What follows from the definitions alone. Each function states laws by its contract, and does nothing.
 
-ghost use Rattle.rows.specs.Effect.{FitsWhereItApplies, ParentStandsWhereItApplies, HasParentWhereItApplies, AppliesWhereItFits, WritesOfJoined, EffectOfJoined, KinOfJoined, RowAfterJoined, EachRowIsLeft, EffectIsItsRows, ChildrenKeepParents, FlatLeavesNoOrphan};
+ghost use Rattle.rows.specs.Effect.{AppliesByRow, FitsWhereItApplies, ParentStandsWhereItApplies, HasParentWhereItApplies, AppliesWhereItFits, WritesOfJoined, EffectOfJoined, KinOfJoined, RowAfterJoined, EachRowIsLeft, EffectIsItsRows, ChildrenKeepParents, FlatLeavesNoOrphan};
 ghost use Rattle.rows.specs.Frame.{ChangesOnlyWrites, LooksOnlyAtWritesAndKin};
 
 /// The frame law: a list of changes changes only the rows that it writes, and looks only at these and at
@@ -12,6 +12,7 @@ pub fn frame()
 
 /// When a change applies to a database: where it fits its row, and the parent that it gives the row is there.
 pub fn one_change()
+    ensures by_row { AppliesByRow }
     ensures fits { FitsWhereItApplies }
     ensures stands { ParentStandsWhereItApplies }
     ensures has_parent { HasParentWhereItApplies }

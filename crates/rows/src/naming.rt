@@ -1,7 +1,7 @@
 //! Named columns with their values: what an update writes.
 
-ghost use Rattle.std.specs.Prelude.{◌≡◌, ◌≤◌, count_ones, length, SomeIff, if◌then◌else◌};
-ghost use Rattle.rows.specs.Naming.{names_column, assigned, assigned_from};
+ghost use Rattle.std.specs.Prelude.{◌≡◌, ◌≤◌, count_ones, length, IsTrue, SomeIff, if◌then◌else◌};
+ghost use Rattle.rows.specs.Naming.{names_column, rise_from, naming_from, assigned, assigned_from};
 
 use crate::Row;
 use std::marker::Model;
@@ -43,6 +43,25 @@ impl Named {
         let mut all = [0; 16];
         all[..values.len()].copy_from_slice(values);
         Some(Named { mask, values: all })
+    }
+
+    /// These columns with these values; `None` where there are none, a column is over 15, or the columns do not
+    /// strictly rise. It takes no memory.
+    pub fn of(pairs: &[(u8, i64)]) -> Option<Named>
+        ensures { SomeIff result ((1 ≤ length pairs.now) × IsTrue (rise_from 0 pairs.now)) (naming_from pairs.now) }
+    {
+        let mut mask = 0;
+        let mut values = [0; 16];
+        let mut least = 0;
+        for (i, pair) in pairs.iter().enumerate() {
+            if pair.0 < least || pair.0 > 15 {
+                return None;
+            }
+            mask += 1 << pair.0;
+            values[i] = pair.1;
+            least = pair.0 + 1;
+        }
+        Named::new(mask, &values[..pairs.len()])
     }
 
     /// The mask: bit c is set where column c is named.

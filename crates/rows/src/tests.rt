@@ -77,6 +77,40 @@ fn a_value_for_each_named_column(rt: HostRuntime) {
 }
 
 #[test]
+fn names_columns_pair_by_pair(rt: HostRuntime) -> Result<(), Fail> {
+    let pairs = [(0, i64::MAX), (3, -4), (15, i64::MIN)];
+    let some = Named::of(&pairs).ok_or("three rising columns")?;
+    assert_eq!(rt; some.mask(), 0b1000_0000_0000_1001);
+    assert_eq!(rt; some.values(), [i64::MAX, -4, i64::MIN].as_slice());
+    let all = [
+        (0, 1),
+        (1, 2),
+        (2, 3),
+        (3, 4),
+        (4, 5),
+        (5, 6),
+        (6, 7),
+        (7, 8),
+        (8, 9),
+        (9, 10),
+        (10, 11),
+        (11, 12),
+        (12, 13),
+        (13, 14),
+        (14, 15),
+        (15, 16),
+    ];
+    let all = Named::of(&all).ok_or("sixteen rising columns")?;
+    assert_eq!(rt; all.mask(), u16::MAX);
+    assert_eq!(rt; Named::of(&[]), None);
+    assert_eq!(rt; Named::of(&[(3, 1), (3, 2)]), None);
+    assert_eq!(rt; Named::of(&[(3, 1), (2, 2)]), None);
+    assert_eq!(rt; Named::of(&[(3, 1), (16, 2)]), None);
+    assert_eq!(rt; Named::of(&[(255, 1)]), None);
+    Ok(())
+}
+
+#[test]
 fn faults_have_their_texts(rt: HostRuntime) -> Result<(), Fail> {
     let texts = [
         (ChangeFault::Present, "F1 Present"),

@@ -1,5 +1,8 @@
-use Rattle.rows.proofs.Apply.{apply_changes, stands_where, has_parent_where, applies_where}
+use Rattle.rows.proofs.Apply.{apply_by_row, apply_changes, stands_where, has_parent_where, applies_where}
 use Rattle.rows.proofs.laws.one_change.Goals as goal
+
+pub returns-clause-by_row : goal.returns-clause-by_row
+returns-clause-by_row c = apply_by_row
 
 pub returns-clause-fits : goal.returns-clause-fits
 returns-clause-fits c = apply_changes
