@@ -1,5 +1,5 @@
 -- Columns of a row that are named, and the row that has them replaced.
-use Rattle.std.specs.Prelude.{ℕ, ℤ, pos, ◌+◌, ◌/◌, ◌%◌, ◌^◌, ◌==◌, nat_le, nat_lt, ◌&&◌, sum_by, map, Bool, true, if◌then◌else◌, List, [], ◌∷◌, drop, slice_index_or, Option, Some, None}
+use Rattle.std.specs.Prelude.{◌≡◌, ℕ, ℤ, pos, ◌+◌, ◌/◌, ◌%◌, ◌^◌, ◌==◌, nat_le, nat_lt, ◌&&◌, sum_by, map, count_ones, length, is_some, slice_get, Bool, true, false, if◌then◌else◌, List, [], ◌∷◌, drop, slice_index_or, Option, Some, None}
 use Rattle.std.specs.Option.{option_map}
 use Rattle.std.specs.Int.{bit_at}
 
@@ -31,3 +31,22 @@ assigned_from mask values (column ∷ columns) =
 -- the columns of a row with the named ones replaced, where it has each of them
 abbrev pub assigned : Naming → List ℤ → Option (List ℤ)
 assigned named columns = assigned_from named.mask named.values columns
+
+-- an update fits a row that has each column named
+abbrev pub AssignsWhatIsThere : Type 0
+AssignsWhatIsThere = (named : Naming) (columns : List ℤ) → is_some (assigned named columns) ≡ nat_lt named.mask (2 ^ length columns)
+
+-- the row has as many columns as before
+abbrev pub KeepsWidth : Type 0
+KeepsWidth = (named : Naming) (columns new : List ℤ) → assigned named columns ≡ Some new → length new ≡ length columns
+
+-- the columns that are not named stay
+abbrev pub OthersStay : Type 0
+OthersStay = (named : Naming) (columns new : List ℤ) (c : ℕ) →
+    assigned named columns ≡ Some new → names_column named.mask c ≡ false → slice_get new c ≡ slice_get columns c
+
+-- a named column takes its value, which stands behind those of the lower columns named
+abbrev pub NamedTakeTheirs : Type 0
+NamedTakeTheirs = (named : Naming) (columns new : List ℤ) (c : ℕ) →
+    length named.values ≡ count_ones named.mask → assigned named columns ≡ Some new → names_column named.mask c ≡ true →
+    slice_get new c ≡ slice_get named.values (count_ones (named.mask % 2 ^ c))

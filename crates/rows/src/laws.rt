@@ -1,6 +1,7 @@
 //! What follows from the definitions alone. Each function states laws by its contract, and does nothing.
 
 ghost use Rattle.rows.specs.Effect.{AppliesByRow, FitsWhereItApplies, ParentStandsWhereItApplies, HasParentWhereItApplies, AppliesWhereItFits, WritesOfJoined, EffectOfJoined, KinOfJoined, RowAfterJoined, EachRowIsLeft, EffectIsItsRows, ChildrenKeepParents, FlatLeavesNoOrphan};
+ghost use Rattle.rows.specs.Naming.{AssignsWhatIsThere, KeepsWidth, OthersStay, NamedTakeTheirs};
 ghost use Rattle.rows.specs.Frame.{ChangesOnlyWrites, LooksOnlyAtWritesAndKin};
 
 /// The frame law: a list of changes changes only the rows that it writes, and looks only at these and at
@@ -8,6 +9,14 @@ ghost use Rattle.rows.specs.Frame.{ChangesOnlyWrites, LooksOnlyAtWritesAndKin};
 pub fn frame()
     ensures changes_only { ChangesOnlyWrites }
     ensures looks_only { LooksOnlyAtWritesAndKin }
+{}
+
+/// What an update leaves of the columns of its row.
+pub fn columns()
+    ensures there { AssignsWhatIsThere }
+    ensures width { KeepsWidth }
+    ensures others { OthersStay }
+    ensures named { NamedTakeTheirs }
 {}
 
 /// When a change applies to a database: where it fits its row, and the parent that it gives the row is there.
