@@ -101,7 +101,8 @@ impl Overlay {
         self.changes.is_empty()
     }
 
-    /// Each row that the changes are of with what they leave of it. With b such rows the time is b log b.
+    /// Each row that the changes are of with what they leave of it; a row inserted and deleted again is there as
+    /// removed. With b such rows the time is b log b.
     pub fn batch(&self, alloc: Global) -> Result<Batch, Memory>
         ensures { IfOk result (λ batch. batch ≡ self.now.left) }
     {
