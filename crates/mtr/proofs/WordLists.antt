@@ -1,5 +1,5 @@
 -- Words taken off the front of a text.
-use Rattle.std.proofs.Common.{◌≡◌, ◌∙◌, sym, ap, refl, ℕ, ◌+◌, ◌<◌, Bool, true, false, eqb, List, [], ◌∷◌, length, Option, Some, None, is_some, not, ℤ, ◌++◌, take, append_assoc, append-nil, length-append, cond, leb, ◌&&◌, add-one, arith}
+use Rattle.std.proofs.Common.{◌≡◌, ◌∙◌, sym, ap, refl, ℕ, ◌+◌, ◌<◌, ◌≤◌, Bool, true, false, eqb, List, [], ◌∷◌, length, Option, Some, None, is_some, not, ℤ, ◌++◌, take, append_assoc, append-nil, length-append, cond, leb, ◌&&◌, add-one, arith}
 use Rattle.std.specs.Borrow.{Bor}
 use Rattle.std.proofs.lemmas.List.Splits.{length-slice_split}
 use Rattle.std.proofs.lemmas.Str.Pattern.{IsSplitOnceResult}
@@ -9,7 +9,8 @@ use Rattle.std.proofs.Math.Seq.{take-suc-set}
 use Rattle.std.proofs.Math.ListN.{set}
 use Rattle.mtr.proofs.Splits.{cut_at, cut_nowhere, is_byte}
 use Rattle.mtr.specs.Number.{integer}
-use Rattle.mtr.specs.Words.{Word, words_of, words_left, first_word, integers, row_in, ◌>>=◌}
+use Rattle.rows.specs.Naming.{rise_from, naming_from}
+use Rattle.mtr.specs.Words.{Word, words_of, words_left, first_word, alone, all_in, row_in, sides_of, assignment, naming_in, ◌>>=◌}
 
 pub word_and_more : (text : List ℕ) (x : Bor (List ℕ) × Bor (List ℕ)) → IsSplitOnceResult 32 text (Some x) → first_word (words_of text) ≡ Some (x.0.now, words_of x.1.now)
 word_and_more text x h = ap first_word (cut_at 32 text x (omega arith) h)
@@ -35,50 +36,109 @@ pub none_are : (words : List Word) → first_word words ≡ None → words ≡ [
 none_are [] e = refl
 none_are (w ∷ ws) e = cc
 
-grown : (front : List ℤ) (z : ℤ) (o : Option (List ℤ)) → option_map (λ r. (front ++ z ∷ []) ++ r) o ≡ option_map (λ r. front ++ r) (o >>= λ zs. Some (z ∷ zs))
-grown front z None = refl
-grown front z (Some r) = ap Some (append_assoc front (z ∷ []) r)
+grown : {A : Type 0} (front : List A) (x : A) (o : Option (List A)) → option_map (λ r. (front ++ x ∷ []) ++ r) o ≡ option_map (λ r. front ++ r) (o >>= λ xs. Some (x ∷ xs))
+grown front x None = refl
+grown front x (Some r) = ap Some (append_assoc front (x ∷ []) r)
 
--- one number more
-pub column_more : (columns : List ℤ) (count : ℕ) (word : Word) (z written : ℤ) (rest : List Word) → count < length columns → written ≡ z → integer word ≡ Some z → option_map (λ r. take (count + 1) (set columns count written) ++ r) (integers rest) ≡ option_map (λ r. take count columns ++ r) (integers (word ∷ rest))
-unfolding integers
-column_more columns count word z written rest below same e =
-    let front : take (count + 1) (set columns count written) ≡ take count columns ++ z ∷ [] = rw (same, add-one, take-suc-set columns count z below) refl in
-    ap (λ f. option_map (λ (r : List ℤ). f ++ r) (integers rest)) front
-    ∙ grown (take count columns) z (integers rest)
-    ∙ ap (λ o. option_map (λ (r : List ℤ). take count columns ++ r) (o >>= λ z'. integers rest >>= λ zs. Some (z' ∷ zs))) (sym e)
+-- the items so far, and then those of the words that are left
+abbrev pub then_rest : {A : Type 0} → (Word → Option A) → List A → List Word → Option (List A)
+then_rest {A} read front words = option_map (λ (r : List A). front ++ r) (all_in read words)
 
--- a word that is no number, and one behind sixteen
-pub no_column : (columns : List ℤ) (words rest : List Word) (word : Word) → integer word ≡ None → option_map (λ r. columns ++ r) (integers (word ∷ rest)) ≡ integers words → row_in words ≡ None
-unfolding integers row_in
-no_column columns words rest word none e =
-    let refused : integers (word ∷ rest) ≡ None = rw none refl in
-    let all : integers words ≡ None = sym e ∙ ap (option_map (λ r. columns ++ r)) refused in
-    rw all refl
+-- one item more
+pub item_more : {A : Type 0} (read : Word → Option A) (items : List A) (count : ℕ) (word : Word) (x written : A) (rest : List Word) → count < length items → written ≡ x → read word ≡ Some x → then_rest read (take (count + 1) (set items count written)) rest ≡ then_rest read (take count items) (word ∷ rest)
+unfolding all_in
+item_more {A} read items count word x written rest below same e =
+    let front : take (count + 1) (set items count written) ≡ take count items ++ x ∷ [] = rw (same, add-one, take-suc-set items count x below) refl in
+    ap (λ f. option_map (λ (r : List A). f ++ r) (all_in read rest)) front
+    ∙ grown (take count items) x (all_in read rest)
+    ∙ ap (λ o. option_map (λ (r : List A). take count items ++ r) (o >>= λ x'. all_in read rest >>= λ xs. Some (x' ∷ xs))) (sym e)
 
-row_from : Option (List ℤ) → Option (List ℤ)
-row_from o = o >>= λ columns. cond (leb 1 (length columns) && leb (length columns) 16) (Some columns) None
+-- a word that is no item
+pub no_item : {A : Type 0} (read : Word → Option A) (front : List A) (words rest : List Word) (word : Word) → read word ≡ None → then_rest read front (word ∷ rest) ≡ all_in read words → all_in read words ≡ None
+unfolding all_in
+no_item {A} read front words rest word none e =
+    let refused : all_in read (word ∷ rest) ≡ None = rw none refl in
+    sym e ∙ ap (option_map (λ (r : List A). front ++ r)) refused
 
-above_sixteen : (n k : ℕ) → n ≡ 17 + k → (leb 1 n && leb n 16) ≡ false
-above_sixteen n k e = grind (arith, nat_tests)
+past : {A : Type 0} (front : List A) (first : Option A) (o : Option (List A)) (all : List A) → option_map (λ r. front ++ r) (first >>= λ x. o >>= λ xs. Some (x ∷ xs)) ≡ Some all → length front < length all
+past front None o all e = cc
+past front (Some x) None all e = cc
+past {A} front (Some x) (Some r) all e =
+    let same : front ++ x ∷ r ≡ all = ap (λ (o : Option (List A)). option_map_or (λ p. p) o all) e in
+    let wide : length (front ++ x ∷ r) ≡ length all = ap length same in
+    omega (arith, length-append front (x ∷ r), wide)
 
-past_sixteen : (columns : List ℤ) (z : ℤ) (o : Option (List ℤ)) → length columns ≡ 16 → row_from (option_map (λ r. columns ++ r) (o >>= λ zs. Some (z ∷ zs))) ≡ None
-unfolding row_from
-past_sixteen columns z None full = refl
-past_sixteen columns z (Some r) full =
-    let wide : length (columns ++ z ∷ r) ≡ 17 + length r = omega (arith, length-append columns (z ∷ r)) in
-    ap (λ b. cond b (Some (columns ++ z ∷ r)) None) (above_sixteen _ _ wide)
-
-past : (columns : List ℤ) (first : Option ℤ) (o : Option (List ℤ)) → length columns ≡ 16 → row_from (option_map (λ r. columns ++ r) (first >>= λ z. o >>= λ zs. Some (z ∷ zs))) ≡ None
-unfolding row_from
-past columns None o full = refl
-past columns (Some z) o full = past_sixteen columns z o full
-
-pub too_many : (columns : List ℤ) (words rest : List Word) (word : Word) → length columns ≡ 16 → option_map (λ r. columns ++ r) (integers (word ∷ rest)) ≡ integers words → row_in words ≡ None
-unfolding integers row_in row_from
-too_many columns words rest word full e = ap row_from (sym e) ∙ past columns (integer word) (integers rest) full
+-- an item behind these
+pub item_past : {A : Type 0} (read : Word → Option A) (front : List A) (words rest : List Word) (word : Word) (all : List A) → then_rest read front (word ∷ rest) ≡ all_in read words → all_in read words ≡ Some all → length front < length all
+unfolding all_in
+item_past read front words rest word all e is = past front (read word) (all_in read rest) all (e ∙ is)
 
 -- no word is left
-pub all_read : (columns : List ℤ) (words initial : List Word) → words ≡ [] → option_map (λ r. columns ++ r) (integers words) ≡ integers initial → integers initial ≡ Some columns
-unfolding integers
-all_read columns words initial none e = sym e ∙ ap (λ ws. option_map (λ r. columns ++ r) (integers ws)) none ∙ ap Some (append-nil columns)
+pub all_read : {A : Type 0} (read : Word → Option A) (front : List A) (words initial : List Word) → words ≡ [] → then_rest read front words ≡ all_in read initial → all_in read initial ≡ Some front
+unfolding all_in
+all_read {A} read front words initial none e = sym e ∙ ap (λ ws. then_rest read front ws) none ∙ ap Some (append-nil front)
+
+above_sixteen : (n : ℕ) → 16 < n → (leb 1 n && leb n 16) ≡ false
+above_sixteen n e = grind (arith, nat_tests)
+
+wide_row : (o : Option (List ℤ)) → ((all : List ℤ) → o ≡ Some all → 16 < length all) → (o >>= λ columns. cond (leb 1 (length columns) && leb (length columns) 16) (Some columns) None) ≡ None
+wide_row None wide = refl
+wide_row (Some all) wide = ap (λ b. cond b (Some all) None) (above_sixteen (length all) (wide all refl))
+
+-- more than sixteen columns
+pub no_row : (words : List Word) (n : ℕ) → n ≡ 16 → ((all : List ℤ) → all_in integer words ≡ Some all → n < length all) → None ≡ row_in words
+unfolding row_in
+no_row words n e wide = sym (wide_row (all_in integer words) (λ all is. omega (arith, e, wide all is)))
+
+-- strictly rising columns below 16 are few
+rising_few : (least : ℕ) (pairs : List (ℕ × ℤ)) → least ≤ 16 → rise_from least pairs ≡ true → least + length pairs ≤ 16
+rising_few least [] few e = omega (arith, few)
+rising_few least (pair ∷ pairs) few e =
+    let risen : rise_from (pair.0 + 1) pairs ≡ true = grind (arith, e) in
+    let within : pair.0 + 1 ≤ 16 = grind (arith, nat_tests, e) in
+    let behind : pair.0 + 1 + length pairs ≤ 16 = rising_few (pair.0 + 1) pairs within risen in
+    let from : least ≤ pair.0 = grind (arith, nat_tests, e) in
+    omega (arith, behind, from)
+
+not_rising : (all : List (ℕ × ℤ)) (b : Bool) → rise_from 0 all ≡ b → 16 < length all → b ≡ false
+not_rising all true e wide = absurd (omega (arith, rising_few 0 all (omega arith) e))
+not_rising all false e wide = refl
+
+and_false : (a b : Bool) → b ≡ false → (a && b) ≡ false
+and_false true b e = e
+and_false false b e = refl
+
+wide_naming : (o : Option (List (ℕ × ℤ))) → ((all : List (ℕ × ℤ)) → o ≡ Some all → 16 < length all) → (o >>= λ pairs. cond (leb 1 (length pairs) && rise_from 0 pairs) (Some (naming_from pairs)) None) ≡ None
+wide_naming None wide = refl
+wide_naming (Some all) wide =
+    ap (λ b. cond b (Some (naming_from all)) None) (and_false (leb 1 (length all)) (rise_from 0 all) (not_rising all (rise_from 0 all) refl (wide all refl)))
+
+-- more than sixteen pairs
+pub no_naming : (words : List Word) (n : ℕ) → n ≡ 16 → ((all : List (ℕ × ℤ)) → all_in assignment words ≡ Some all → n < length all) → None ≡ naming_in words
+unfolding naming_in
+no_naming words n e wide = sym (wide_naming (all_in assignment words) (λ all is. omega (arith, e, wide all is)))
+
+pair_of_sides : List Word → Option (Word × Word)
+pair_of_sides parts = first_word parts >>= λ left. alone (first_word left.1) >>= λ right. Some (left.0, right)
+
+-- no `=`
+pub no_sides : (word : Word) → IsSplitOnceResult 61 word None → None ≡ sides_of word
+unfolding sides_of pair_of_sides
+no_sides word h = sym (ap pair_of_sides (cut_nowhere 61 word (omega arith) h))
+
+-- one `=`
+pub two_sides : (word : Word) (x : Bor (List ℕ) × Bor (List ℕ)) → IsSplitOnceResult 61 word (Some x) → IsSplitOnceResult 61 x.1.now None → Some (x.0.now, x.1.now) ≡ sides_of word
+unfolding sides_of pair_of_sides
+two_sides word x h none =
+    sym (ap pair_of_sides (cut_at 61 word x (omega arith) h ∙ ap (λ (parts : List Word). x.0.now ∷ parts) (cut_nowhere 61 x.1.now (omega arith) none)))
+
+third_side : (left middle : Word) (rest : List Word) (k : ℕ) → length rest ≡ k + 1 → pair_of_sides (left ∷ middle ∷ rest) ≡ None
+unfolding pair_of_sides
+third_side left middle rest k e = rw (not_nothing (length rest) k e) refl
+
+-- two `=`
+pub many_sides : (word : Word) (x y : Bor (List ℕ) × Bor (List ℕ)) → IsSplitOnceResult 61 word (Some x) → IsSplitOnceResult 61 x.1.now (Some y) → None ≡ sides_of word
+unfolding sides_of pair_of_sides
+many_sides word x y h more =
+    sym (ap pair_of_sides (cut_at 61 word x (omega arith) h ∙ ap (λ (parts : List Word). x.0.now ∷ parts) (cut_at 61 x.1.now y (omega arith) more))
+    ∙ third_side x.0.now y.0.now _ _ (length-slice_split (is_byte 61) y.1.now))

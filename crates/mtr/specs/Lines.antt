@@ -5,8 +5,8 @@ use Rattle.schema.specs.declared.RowId.{RowId}
 use Rattle.schema.specs.declared.Table.{Table}
 use Rattle.mtr.specs.declared.script.Line.{Line}
 use Rattle.mtr.specs.declared.script.Line.TheVariants as lines
-use Rattle.mtr.specs.Words.{Word, ◌>>=◌, first_word, words_of, number_in, row_id_in, row_in}
-use Rattle.mtr.specs.Command.{alone, verb_of, event_of}
+use Rattle.mtr.specs.Words.{Word, ◌>>=◌, alone, first_word, words_of, number_in, row_id_in, row_in}
+use Rattle.mtr.specs.Command.{verb_of, event_of}
 
 -- a table without a parent: its id, its number of columns, and the word `keyed`
 unfoldable pub table_of : List Word → Option Table

@@ -1,8 +1,9 @@
 -- The words of a line, and the numbers, row ids and rows that they are.
-use Rattle.std.specs.Prelude.{◌≡◌, ℕ, ◌^◌, ℤ, ◌==◌, ◌&&◌, nat_le, if◌then◌else◌, ◌≤◌, List, [], ◌∷◌, length, take, Option, Some, None}
+use Rattle.std.specs.Prelude.{◌≡◌, ℕ, ◌^◌, ℤ, ◌==◌, ◌&&◌, nat_le, if◌then◌else◌, ◌≤◌, ◌<◌, List, [], ◌∷◌, length, take, Option, Some, None}
 use Rattle.std.specs.Borrow.{Bor}
 use Rattle.std.specs.List.{slice_split}
 use Rattle.schema.specs.declared.RowId.{RowId}
+use Rattle.rows.specs.Naming.{Naming, rise_from, naming_from}
 use Rattle.mtr.specs.Number.{number, integer}
 
 abbrev pub Word : Type 0
@@ -26,6 +27,10 @@ abbrev pub first_word : List Word → Option (Word × List Word)
 first_word [] = None
 first_word (word ∷ words) = Some (word, words)
 
+-- what was read, where nothing stands behind it
+abbrev pub alone : {A : Type 0} → Option (A × List Word) → Option A
+alone found = found >>= λ x. if length x.1 == 0 then Some x.0 else None
+
 -- a number below the bound, and the words behind it
 unfoldable pub number_in : ℕ → List Word → Option (ℕ × List Word)
 number_in bound words = do
@@ -47,22 +52,43 @@ row_id_in words = do
   key ← integer_in table.1
   Some (record { table = table.0; key = key.0 }, key.1)
 
--- the numbers that all of the words are
-unfoldable pub integers : List Word → Option (List ℤ)
-integers [] = Some []
-integers (word ∷ words) = do
-  z ← integer word
-  zs ← integers words
-  Some (z ∷ zs)
+-- what each of the words is read as, where all of them are
+unfoldable pub all_in : {A : Type 0} → (Word → Option A) → List Word → Option (List A)
+all_in read [] = Some []
+all_in read (word ∷ words) = do
+  x ← read word
+  xs ← all_in read words
+  Some (x ∷ xs)
 
 -- a row of one to sixteen columns, to the end of the line
 unfoldable pub row_in : List Word → Option (List ℤ)
 row_in words = do
-  columns ← integers words
+  columns ← all_in integer words
   if nat_le 1 (length columns) && nat_le (length columns) 16 then Some columns else None
 
--- the first of these columns are the numbers that all of the words are; nothing is told only where the words are
--- no row
-abbrev pub AreColumns : List Word → List ℤ → Option ℕ → Type 0
-AreColumns words columns (Some count) = (count ≤ length columns) × (integers words ≡ Some (take count columns))
-AreColumns words columns None = row_in words ≡ None
+-- what stands on either side of the one `=` of a word; 61 is `=`
+unfoldable pub sides_of : Word → Option (Word × Word)
+sides_of word = do
+  left ← first_word (slice_split (λ b. b == 61) word)
+  right ← alone (first_word left.1)
+  Some (left.0, right)
+
+-- a column and its value, `COL=V`
+unfoldable pub assignment : Word → Option (ℕ × ℤ)
+assignment word = do
+  sides ← sides_of word
+  column ← number (2 ^ 8) sides.0
+  value ← integer sides.1
+  Some (column, value)
+
+-- at least one column with its value, to the end of the line; the columns strictly rise, and are at most 15
+unfoldable pub naming_in : List Word → Option Naming
+naming_in words = do
+  pairs ← all_in assignment words
+  if nat_le 1 (length pairs) && rise_from 0 pairs then Some (naming_from pairs) else None
+
+-- the first of these items are what all of the words are read as; nothing is told only where the words are no
+-- such list or one of more items
+abbrev pub AreAll : {A : Type 0} → (Word → Option A) → List Word → List A → Option ℕ → Type 0
+AreAll read words items (Some count) = (count ≤ length items) × (all_in read words ≡ Some (take count items))
+AreAll {A} read words items None = (all : List A) → all_in read words ≡ Some all → length items < length all

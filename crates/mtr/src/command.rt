@@ -1,10 +1,12 @@
 //! The event that a line's words are.
 
 ghost use Rattle.std.specs.Prelude.{◌≡◌};
-ghost use Rattle.mtr.specs.Command.{verb_of, alone, bare, event_of};
+ghost use Rattle.mtr.specs.Words.{alone};
+ghost use Rattle.mtr.specs.Command.{verb_of, bare, at_row, event_of};
 
 use crate::words::Words;
 use rows::Change;
+use schema::RowId;
 use world::Event;
 
 /// The first word of an event's line.
@@ -12,9 +14,12 @@ use world::Event;
 pub enum Verb {
     Begin,
     Insert,
+    Set,
+    Delete,
     See,
     Prepare,
     Queue,
+    Abort,
     Flush,
     Sync,
     Commit,
@@ -35,9 +40,12 @@ impl Verb {
         match name {
             "begin" => Some(Verb::Begin),
             "insert" => Some(Verb::Insert),
+            "set" => Some(Verb::Set),
+            "delete" => Some(Verb::Delete),
             "see" => Some(Verb::See),
             "prepare" => Some(Verb::Prepare),
             "queue" => Some(Verb::Queue),
+            "abort" => Some(Verb::Abort),
             "flush" => Some(Verb::Flush),
             "sync" => Some(Verb::Sync),
             "commit" => Some(Verb::Commit),
@@ -67,9 +75,12 @@ pub fn event_of(verb: Verb, words: Words) -> Option<Event>
     match verb {
         Verb::Begin => alone(words.u16()).map(|session| Event::Begin { session }),
         Verb::Insert => insert_of(words),
-        Verb::See => see_of(words),
+        Verb::Set => set_of(words),
+        Verb::Delete => delete_of(words),
+        Verb::See => at_row(words).map(|(session, row)| Event::See { session, row }),
         Verb::Prepare => alone(words.u16()).map(|session| Event::Prepare { session }),
         Verb::Queue => alone(words.u16()).map(|session| Event::Queue { session }),
+        Verb::Abort => alone(words.u16()).map(|session| Event::Abort { session }),
         Verb::Flush => bare(Event::Flush, words),
         Verb::Sync => bare(Event::Sync, words),
         Verb::Commit => bare(Event::Commit, words),
@@ -101,10 +112,33 @@ fn insert_of(words: Words) -> Option<Event>
     })
 }
 
-fn see_of(words: Words) -> Option<Event>
-    ensures { result ≡ event_of Verb.See words.entry }
+fn set_of(words: Words) -> Option<Event>
+    ensures { result ≡ event_of Verb.Set words.entry }
+{
+    let (session, words) = words.u16()?;
+    let (row, words) = words.row_id()?;
+    let columns = words.named()?;
+    Some(Event::Write {
+        session,
+        change: Change::Update { row, columns },
+    })
+}
+
+fn delete_of(words: Words) -> Option<Event>
+    ensures { result ≡ event_of Verb.Delete words.entry }
+{
+    let (session, row) = at_row(words)?;
+    Some(Event::Write {
+        session,
+        change: Change::Delete { row },
+    })
+}
+
+/// A session and a row, to the end of the line.
+fn at_row(words: Words) -> Option<(u16, RowId)>
+    ensures { result ≡ at_row words.entry }
 {
     let (session, words) = words.u16()?;
     let row = alone(words.row_id())?;
-    Some(Event::See { session, row })
+    Some((session, row))
 }

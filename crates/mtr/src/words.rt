@@ -4,10 +4,11 @@
 //! makes a word without a character, which is no number and no name.
 
 ghost use Rattle.std.specs.Prelude.{◌≡◌, ◌^◌, option_map, length, ◌==◌, is_some};
-ghost use Rattle.mtr.specs.Words.{words_of, first_word, number_in, integer_in, row_id_in, row_in, AreColumns};
+ghost use Rattle.mtr.specs.Words.{words_of, first_word, number_in, integer_in, row_id_in, row_in, naming_in, sides_of, assignment, AreAll};
+ghost use Rattle.mtr.specs.Number.{integer};
 
 use crate::number::{i64_of, u8_of, u16_of, u64_of};
-use rows::Row;
+use rows::{Named, Row};
 use schema::RowId;
 use std::marker::Model;
 
@@ -107,12 +108,22 @@ impl<'a> Words<'a> {
         let count = columns_of(self, &mut columns)?;
         Row::new(&columns[..count])
     }
+
+    /// Columns with a value each, `COL=V`, of all words that are left; `None` where there are none, a word is no
+    /// such pair, a column is over 15, or the columns do not strictly rise.
+    #[tactic(auto, unfolding(crate::specs::Words::naming_in))]
+    pub fn named(self) -> Option<Named>
+        ensures { result ≡ naming_in self.entry }
+    {
+        let mut pairs = [(0, 0); 16];
+        let count = assignments_of(self, &mut pairs)?;
+        Named::of(&pairs[..count])
+    }
 }
 
 /// Writes the numbers that all of the words are, and tells how many there are; `None` where they are too many.
 fn columns_of(words: Words, columns: &mut [i64]) -> Option<usize>
-    requires { length columns.old ≡ 16 }
-    ensures { AreColumns words.entry columns.new result }
+    ensures { AreAll integer words.entry columns.new result }
 {
     let mut words = words;
     let mut count = 0;
@@ -125,4 +136,41 @@ fn columns_of(words: Words, columns: &mut [i64]) -> Option<usize>
         words = rest;
     }
     Some(count)
+}
+
+/// The same of pairs `COL=V`.
+fn assignments_of(words: Words, pairs: &mut [(u8, i64)]) -> Option<usize>
+    ensures { AreAll assignment words.entry pairs.new result }
+{
+    let mut words = words;
+    let mut count = 0;
+    while let Some((word, rest)) = words.first() {
+        if count == pairs.len() {
+            return None;
+        }
+        pairs[count] = assignment_of(word)?;
+        count += 1;
+        words = rest;
+    }
+    Some(count)
+}
+
+/// A column and its value.
+#[tactic(auto, unfolding(crate::specs::Words::assignment))]
+fn assignment_of(word: &str) -> Option<(u8, i64)>
+    ensures { result ≡ assignment word.now }
+{
+    let (column, value) = sides_of(word)?;
+    Some((u8_of(column)?, i64_of(value)?))
+}
+
+/// What stands on either side of the one `=` of a word.
+fn sides_of(word: &str) -> Option<(&str, &str)>
+    ensures { option_map (λ x. (x.0.now, x.1.now)) result ≡ sides_of word.now }
+{
+    let (left, right) = word.split_once('=')?;
+    match right.split_once('=') {
+        Some(_) => None,
+        None => Some((left, right)),
+    }
 }

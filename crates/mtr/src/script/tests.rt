@@ -1,7 +1,7 @@
 //! Whole texts and what the reader makes of them.
 
 use super::*;
-use rows::Change;
+use rows::{Change, Named};
 use std::test::Fail;
 
 /// The events that a script keeps, of which there are a thousand at most.
@@ -73,6 +73,31 @@ fn reads_what_a_script_says(rt: HostRuntime) -> Result<(), Fail> {
 }
 
 #[test]
+fn reads_updates_deletes_and_aborts(rt: HostRuntime) -> Result<(), Fail> {
+    let alloc = rt.alloc();
+    let mut text: &[u8] = b"set 1 2 -3 0=7 9=-8 15=0\ndelete 65535 2 -3\nabort 7";
+    let script = Script::read(alloc, &mut text)?;
+    let row = RowId { table: 2, key: -3 };
+    let columns = Named::of(&[(0, 7), (9, -8), (15, 0)]).ok_or("rising columns")?;
+    assert_eq!(rt;
+        events_of(alloc, &script)?.as_slice(),
+        [
+            Event::Write {
+                session: 1,
+                change: Change::Update { row, columns }
+            },
+            Event::Write {
+                session: 65535,
+                change: Change::Delete { row }
+            },
+            Event::Abort { session: 7 },
+        ]
+        .as_slice()
+    );
+    Ok(())
+}
+
+#[test]
 fn takes_good_lines(rt: HostRuntime) {
     for (text, want) in [
         ("", (0, 0, 0)),
@@ -89,6 +114,15 @@ fn takes_good_lines(rt: HostRuntime) {
             "insert 1 1 10 1 2 3 4 5 6 7 8 9 10 11 12 13 14 15 16",
             (0, 0, 1),
         ),
+        (
+            "set 1 1 10 0=9223372036854775807\nset 1 1 10 15=-9223372036854775808",
+            (0, 0, 2),
+        ),
+        (
+            "set 1 1 10 0=0 1=1 2=2 3=3 4=4 5=5 6=6 7=7 8=8 9=9 10=10 11=11 12=12 13=13 14=14 15=15",
+            (0, 0, 1),
+        ),
+        ("delete 0 0 0\nabort 0\nabort 65535", (0, 0, 3)),
         ("table 0 0 keyed\ntable 65535 255 keyed", (2, 0, 0)),
         (
             "table 1 1 keyed\n\nbase 1 10 -1\n# events\nflush",
@@ -196,13 +230,73 @@ fn refuses_other_numbers(rt: HostRuntime) {
 }
 
 #[test]
+fn refuses_other_updates_deletes_and_aborts(rt: HostRuntime) {
+    for text in [
+        "set",
+        "set 1",
+        "set 1 1",
+        "set 1 1 10",
+        "set 1 1 10 5",
+        "set 1 1 10 =",
+        "set 1 1 10 =5",
+        "set 1 1 10 0=",
+        "set 1 1 10 0==5",
+        "set 1 1 10 0=5=",
+        "set 1 1 10 =0=5",
+        "set 1 1 10 0=5=6",
+        "set 1 1 10 0 =5",
+        "set 1 1 10 0= 5",
+        "set 1 1 10 0 = 5",
+        "set 1 1 10 0=5 ",
+        "set 1 1 10  0=5",
+        "set 1 1 10 0=5  1=6",
+        "set 1 1 10 0=5,1=6",
+        "set 1 1 10 0=5 1",
+        "set 1 1 10 0=5 x=6",
+        "set 1 1 10 0=x",
+        "set 1 1 10 0=-0",
+        "set 1 1 10 0=05",
+        "set 1 1 10 0=+5",
+        "set 1 1 10 0=9223372036854775808",
+        "set 1 1 10 0=-9223372036854775809",
+        "set 1 1 10 00=5",
+        "set 1 1 10 01=5",
+        "set 1 1 10 -0=5",
+        "set 1 1 10 -1=5",
+        "set 1 1 10 16=5",
+        "set 1 1 10 255=5",
+        "set 1 1 10 256=5",
+        "set 1 1 10 0=5 0=6",
+        "set 1 1 10 1=5 0=6",
+        "set 1 1 10 0=5 2=6 1=7",
+        "set 1 1 10 0=0 1=1 2=2 3=3 4=4 5=5 6=6 7=7 8=8 9=9 10=10 11=11 12=12 13=13 14=14 15=15 16=16",
+        "set 1 1 10 0=0 1=1 2=2 3=3 4=4 5=5 6=6 7=7 8=8 9=9 10=10 11=11 12=12 13=13 14=14 15=15 15=15",
+        "set 65536 1 10 0=5",
+        "set 1 65536 10 0=5",
+        "Set 1 1 10 0=5",
+        "delete",
+        "delete 1",
+        "delete 1 1",
+        "delete 1 1 10 5",
+        "delete 1 1 10 0=5",
+        "delete 1 1 10 ",
+        "delete 65536 1 10",
+        "abort",
+        "abort ",
+        "abort 1 1",
+        "abort x",
+        "abort 65536",
+        "abort 01",
+    ] {
+        assert_eq!(rt; counts(rt.alloc(), text.as_bytes()), bad(1), "{text:?}");
+    }
+}
+
+#[test]
 fn refuses_what_comes_later(rt: HostRuntime) {
     for text in [
         "table 1 2 keyless",
         "table 1 2 keyed parent 0 3",
-        "set 1 1 10 0=5",
-        "delete 1 1 10",
-        "abort 1",
         "log",
         "executed",
     ] {

@@ -215,6 +215,144 @@ empty
 nothing
 ";
 
+// `examples/updates_and_deletes.mtr`, and what it prints.
+const UPDATES_AND_DELETES: &str = "\
+# Rows inserted, set and deleted, refused changes, and a transaction that ends without a trace.
+table 1 2 keyed
+base 1 20 1 2
+begin 1
+insert 1 1 10 5 6
+prepare 1
+queue 1
+flush
+sync
+commit
+begin 1
+set 1 1 10 0=7
+see 1 1 10
+prepare 1
+queue 1
+flush
+sync
+commit
+deliver 1
+dispatch
+finish 1
+next
+publish
+read 1 10
+deliver 2
+dispatch
+finish 2
+next
+publish
+read 1 10
+begin 1
+set 1 1 30 0=1
+delete 1 1 30
+set 1 1 10 2=1
+insert 1 1 11 8 9
+see 1 1 11
+abort 1
+begin 1
+see 1 1 11
+delete 1 1 10
+see 1 1 10
+prepare 1
+queue 1
+flush
+sync
+commit
+deliver 3
+dispatch
+finish 3
+next
+publish
+read 1 10
+begin 1
+set 1 1 20 0=-3 1=4
+see 1 1 20
+prepare 1
+queue 1
+flush
+sync
+commit
+read 1 20
+deliver 4
+dispatch
+finish 4
+next
+publish
+read 1 20
+";
+
+const UPDATES_AND_DELETES_PRINTS: &str = "\
+ok
+ok
+prepared 0
+ok
+flushed 1-1 (1,0)
+synced 1-1
+committed 1-1
+ok
+ok
+row 7 6
+prepared 1
+ok
+flushed 2-2 (2,1)
+synced 2-2
+committed 2-2
+accepted
+job 1
+finished 1
+commit 1
+published 1
+1: 5 6
+accepted
+job 2
+finished 2
+commit 2
+published 2
+2: 7 6
+ok
+S8 NoRow
+S8 NoRow
+S5 WrongColumns
+ok
+row 8 9
+ok
+ok
+none
+ok
+none
+prepared 2
+ok
+flushed 3-3 (3,2)
+synced 3-3
+committed 3-3
+accepted
+job 3
+finished 3
+commit 3
+published 3
+3: none
+ok
+ok
+row -3 4
+prepared 3
+ok
+flushed 4-4 (4,3)
+synced 4-4
+committed 4-4
+3: 1 2
+accepted
+job 4
+finished 4
+commit 4
+published 4
+4: -3 4
+";
+
 /// How a run of the program ended: its status, what it printed, and what it told.
 type Ran = (u8, Vec<u8>, Vec<u8>);
 
@@ -274,6 +412,16 @@ fn the_examples_print_what_stands_beside_them(rt: HostRuntime) {
         rt.alloc(),
         REFUSED_WRITES.as_bytes(),
         REFUSED_WRITES_PRINTS,
+    );
+}
+
+#[test]
+fn sets_and_deletes_rows(rt: HostRuntime) {
+    prints(
+        &rt,
+        rt.alloc(),
+        UPDATES_AND_DELETES.as_bytes(),
+        UPDATES_AND_DELETES_PRINTS,
     );
 }
 

@@ -1,25 +1,25 @@
-use Rattle.std.proofs.Common.{◌≡◌, ◌∙◌, sym, ap, ◌++◌, ◌<◌, ◌∷◌, ℤ, List, length, take, rules, arith, FitsSigned, w64}
-use Rattle.std.specs.Option.{option_map}
+use Rattle.std.proofs.Common.{◌≡◌, ◌∙◌, sym, ap, ◌<◌, ◌∷◌, ℤ, List, length, take, rules, arith, FitsSigned, w64}
 use Rattle.std.proofs.lemmas.List.{length-take-le}
 use Rattle.std.proofs.lemmas.Int.{to_z-of_z}
 use Rattle.std.proofs.Math.ListN.{length-set}
-use Rattle.mtr.specs.Words.{Word, integers}
-use Rattle.mtr.proofs.WordLists.{words_are, none_are, column_more, no_column, too_many, all_read}
+use Rattle.mtr.specs.Number.{integer}
+use Rattle.mtr.specs.Words.{Word}
+use Rattle.mtr.proofs.WordLists.{words_are, none_are, then_rest, item_more, no_item, item_past, all_read}
 use Rattle.mtr.proofs.words.columns_of.Goals as goal
 
 pub returns-then-count-columns : goal.returns-then-count-columns
-returns-then-count-columns c =
+returns-then-count-columns c = λ all is.
     let words : c.loop-word.words ≡ c.in-Some.word.now ∷ c.in-Some.rest = words_are _ _ _ (sym c.in-Some.ensures) in
-    too_many (take c.loop-word.count c.loop-word.columns) c.args.words c.in-Some.rest c.in-Some.word.now
-    (omega (arith, length-take-le c.loop-word.count c.loop-word.columns (omega arith)))
-    (ap (λ (ws : List Word). option_map (λ (r : List ℤ). take c.loop-word.count c.loop-word.columns ++ r) (integers ws)) (sym words) ∙ c.loop-word.invariant.so_far)
+    let past = item_past integer (take c.loop-word.count c.loop-word.columns) c.args.words c.in-Some.rest c.in-Some.word.now all
+    (ap (λ (ws : List Word). then_rest integer (take c.loop-word.count c.loop-word.columns) ws) (sym words) ∙ c.loop-word.invariant.so_far) is in
+    omega (arith, length-take-le c.loop-word.count c.loop-word.columns (omega arith), past)
 
 pub returns-in_err-columns : goal.returns-in_err-columns
 returns-in_err-columns c =
     let words : c.loop-word.words ≡ c.in-Some.word.now ∷ c.in-Some.rest = words_are _ _ _ (sym c.in-Some.ensures) in
-    rw c.from_residual.ensures (no_column (take c.loop-word.count c.loop-word.columns) c.args.words c.in-Some.rest c.in-Some.word.now
-    (sym c.in_err-columns.ensures.exact)
-    (ap (λ (ws : List Word). option_map (λ (r : List ℤ). take c.loop-word.count c.loop-word.columns ++ r) (integers ws)) (sym words) ∙ c.loop-word.invariant.so_far))
+    let none = no_item integer (take c.loop-word.count c.loop-word.columns) c.args.words c.in-Some.rest c.in-Some.word.now (sym c.in_err-columns.ensures.exact)
+    (ap (λ (ws : List Word). then_rest integer (take c.loop-word.count c.loop-word.columns) ws) (sym words) ∙ c.loop-word.invariant.so_far) in
+    rw c.from_residual.ensures (λ all is. absurd (cc (none, is)))
 
 pub loop-word-preserved : goal.loop-word-preserved
 loop-word-preserved c =
@@ -28,13 +28,12 @@ loop-word-preserved c =
     let below : c.loop-word.count < length c.loop-word.columns = omega arith in
     record {
       few = omega (arith, length-set {A = ℤ});
-      wide = omega (arith, length-set {A = ℤ});
       so_far =
-          column_more c.loop-word.columns c.loop-word.count c.in-Some.word.now c.in_ok-columns.field-0 _ c.in-Some.rest below (to_z-of_z w64 _ fits) (sym c.in_ok-columns.ensures.exact)
-          ∙ ap (λ (ws : List Word). option_map (λ (r : List ℤ). take c.loop-word.count c.loop-word.columns ++ r) (integers ws)) (sym words)
+          item_more integer c.loop-word.columns c.loop-word.count c.in-Some.word.now c.in_ok-columns.field-0 _ c.in-Some.rest below (to_z-of_z w64 _ fits) (sym c.in_ok-columns.ensures.exact)
+          ∙ ap (λ (ws : List Word). then_rest integer (take c.loop-word.count c.loop-word.columns) ws) (sym words)
           ∙ c.loop-word.invariant.so_far;
     }
 
 pub returns : goal.returns
 returns c =
-    (c.loop-word.invariant.few, all_read (take c.loop-word.count c.loop-word.columns) c.loop-word.words c.args.words (none_are _ (sym c.in_default.ensures)) c.loop-word.invariant.so_far)
+    (c.loop-word.invariant.few, all_read integer (take c.loop-word.count c.loop-word.columns) c.loop-word.words c.args.words (none_are _ (sym c.in_default.ensures)) c.loop-word.invariant.so_far)

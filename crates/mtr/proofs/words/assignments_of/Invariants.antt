@@ -1,0 +1,12 @@
+use Rattle.std.proofs.Common.{◌≡◌, ◌≤◌, length, take}
+use Rattle.mtr.specs.Words.{assignment}
+use Rattle.mtr.specs.Words.{all_in}
+use Rattle.mtr.proofs.WordLists.{then_rest}
+use Rattle.mtr.proofs.words.assignments_of.Given as goal
+
+-- the items so far, and then those of the words that are left
+abbrev pub invariant-loop-word : goal.invariant-loop-word
+invariant-loop-word l = record { few : l.count ≤ length l.pairs; so_far : then_rest assignment (take l.count l.pairs) l.words ≡ all_in assignment l.fn.words }
+
+abbrev pub decreases-loop-word : goal.decreases-loop-word
+decreases-loop-word l = length l.words
