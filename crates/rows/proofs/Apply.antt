@@ -1,14 +1,15 @@
 -- What one change does, said for every kind of change. Each law here is by cases on the change, and the laws
 -- on lists of changes stand on these alone.
-use Rattle.std.proofs.Common.{◌≡◌, sym, ap, ◌∙◌, refl, inl, inr, Bool, true, false, ◌&&◌, cond, List, ◌++◌, ℕ, ℤ, Option, Some, None, is_some, is_none, Result, Ok}
-use Rattle.std.specs.Prelude.{not, option_and_then, option_to_list}
-use Rattle.std.specs.Option.{option_map_or}
+use Rattle.std.proofs.Common.{◌≡◌, sym, ap, ◌∙◌, refl, inl, inr, Bool, true, false, ◌&&◌, cond, List, ◌++◌, ℕ, ℤ, Option, Some, None, is_some, is_none, Result, Ok, Err}
+use Rattle.std.specs.Prelude.{not, ◌||◌, slice_get, option_and_then, option_to_list}
+use Rattle.std.specs.Option.{option_map, option_map_or, ok_or}
+use Rattle.std.specs.Result.{result_ok}
 use Rattle.std.specs.Ordering.{is_eq}
 use Rattle.std.specs.declared.cmp.Ordering.{Ordering}
 use Rattle.std.specs.declared.cmp.Ordering.TheVariants.{Less, Equal, Greater}
-use Rattle.std.specs.FinMap.{get, insert, contains_key, get-insert}
+use Rattle.std.specs.FinMap.{get, insert, remove, contains_key, get-insert, get-remove}
 use Rattle.std.specs.Cmp.{eq_by_cmp_equiv}
-use Rattle.std.proofs.lemmas.Bool.{cases_Bool, and_parts, and_from, or_cases, or_left, or_right}
+use Rattle.std.proofs.lemmas.Bool.{cases_Bool, or_cases, or_left, or_right}
 use Rattle.std.proofs.lemmas.Option.{cond_some, same_Some}
 use Rattle.std.proofs.lemmas.List.Folds.{list_any-append}
 use Rattle.schema.specs.declared.Table.{Table}
@@ -17,10 +18,14 @@ use Rattle.schema.specs.RowId.{row_cmp, same_row, exact_row, row_total}
 use Rattle.schema.specs.Rows.{has_row}
 use Rattle.schema.specs.Schema.{link_of}
 use Rattle.rows.specs.declared.Change.{Change}
-use Rattle.rows.specs.declared.Change.TheVariants.{Insert}
+use Rattle.rows.specs.declared.Change.TheVariants.{Insert, Update, Delete}
+use Rattle.rows.specs.declared.ChangeFault.{ChangeFault}
+use Rattle.rows.specs.declared.ChangeFault.TheVariants.{Columns}
+use Rattle.rows.specs.Naming.{Naming, names_column, assigned}
 use Rattle.rows.specs.Change.{changed}
-use Rattle.rows.specs.Database.{Database, target, parent_of, parent_in, has_parent, apply, ChildrenHaveParents}
-use Rattle.rows.specs.Effect.{row_has_parent, FitsWhereItApplies, HasParentWhereItApplies, AppliesWhereItFits}
+use Rattle.rows.specs.Database.{Database, put_row, target, parent_of, parent_in, has_parent, names_parent, apply, ChildrenHaveParents, HasChild, DeletesNoParent}
+use Rattle.rows.specs.Effect.{row_has_parent, sets_parent, parent_stands, AppliesByRow, FitsWhereItApplies, ParentStandsWhereItApplies, HasParentWhereItApplies, AppliesWhereItFits}
+use Rattle.rows.proofs.Assigned.{assigned_keeps}
 
 equal_from : (o : Ordering) → is_eq o ≡ true → o ≡ Equal
 equal_from Less h = cc
@@ -40,13 +45,18 @@ has_row-left xs ys q h = list_any-append (same_row q) xs ys ∙ or_left _ _ h
 pub has_row-right : (xs ys : List RowId) (q : RowId) → has_row ys q ≡ true → has_row (xs ++ ys) q ≡ true
 has_row-right xs ys q h = list_any-append (same_row q) xs ys ∙ or_right _ _ h
 
--- what is there after an insert
-pub get-inserted : (db : Database) (row q : RowId) (columns : List ℤ) → get (insert db row columns) q ≡ cond (same_row q row) (Some columns) (get db q)
-get-inserted db row q columns = get-insert row_total db row columns q
+pub get-put_row : (db : Database) (row q : RowId) (left : Option (List ℤ)) → get (put_row db row left) q ≡ cond (same_row q row) left (get db q)
+get-put_row db row q None = get-remove row_total db row q
+get-put_row db row q (Some columns) = get-insert row_total db row columns q
 
-none_from : {A : Type 0} (o : Option A) → is_none o ≡ true → o ≡ None
-none_from None h = refl
-none_from (Some x) h = cc
+some_is_not_none : {A : Type 0} {x : A} → ◌≡◌ {A = Option A} (Some x) None → ⊥
+some_is_not_none e = cc
+
+true_is_not_false : true ≡ false → ⊥
+true_is_not_false e = cc
+
+ok_is_not_err : {A E : Type 0} {x : A} {e : E} → ◌≡◌ {A = Result A E} (Ok x) (Err e) → ⊥
+ok_is_not_err e = cc
 
 same_ok : {A E : Type 0} {x y : A} → ◌≡◌ {A = Result A E} (Ok x) (Ok y) → x ≡ y
 same_ok e = cc
@@ -55,43 +65,131 @@ option_map_or_true : {A : Type 0} (test : A → Bool) (o : Option A) → option_
 option_map_or_true test None h = cc
 option_map_or_true test (Some x) h = (x, refl, h)
 
--- why an insert applied, and what it left
-pub record Inserts (ts : List Table) (row : RowId) (columns : List ℤ) (db after : Database) : Type 0 where
-  pub absent : get db row ≡ None
-  pub parent : has_parent ts db row.table columns ≡ true
-  pub left : insert db row columns ≡ after
+-- why a change applied, and what it left
+pub record Applied (ts : List Table) (change : Change) (db after : Database) : Type 0 where
+  pub left : Option (List ℤ)
+  pub fits : changed change (get db (target change)) ≡ Ok left
+  pub stands : parent_stands ts change db left ≡ true
+  pub is : put_row db (target change) left ≡ after
 
-pub inserts_from : (ts : List Table) (row : RowId) (columns : List ℤ) (db after : Database) → apply ts (Insert row columns) db ≡ Some after → Inserts ts row columns db after
-inserts_from ts row columns db after h =
-    let parts = cond_some (is_none (get db row) && has_parent ts db row.table columns) (insert db row columns) after h in
-    let both = and_parts (is_none (get db row)) (has_parent ts db row.table columns) parts.0 in
-    record { absent = none_from (get db row) both.0; parent = both.1; left = parts.1 }
+insert_applied : (ts : List Table) (row : RowId) (columns : List ℤ) (db after : Database) (before : Option (List ℤ)) → get db row ≡ before →
+    cond (is_none before && has_parent ts db row.table columns) (Some (insert db row columns)) None ≡ Some after → Applied ts (Insert row columns) db after
+insert_applied ts row columns db after None was h =
+    let parts = cond_some (has_parent ts db row.table columns) (insert db row columns) after h in
+    record { left = Some columns; fits = ap (changed (Insert row columns)) was; stands = parts.0; is = parts.1 }
+insert_applied ts row columns db after (Some there) was h = cc
 
--- an insert fits where its row is absent, and leaves its columns
-insert_fits : (row : RowId) (columns : List ℤ) (before left : Option (List ℤ)) → changed (Insert row columns) before ≡ Ok left → (before ≡ None) × (Some columns ≡ left)
-insert_fits row columns None left h = (refl, same_ok h)
-insert_fits row columns (Some there) left h = cc
+-- what an update leaves of a database, given what it leaves of its row
+abbrev updated : List Table → RowId → Naming → Database → Option (List ℤ) → Option Database
+updated ts row named db left =
+    option_and_then (λ columns. cond (not (names_parent ts row.table named.mask) || has_parent ts db row.table columns) (Some (insert db row columns)) None) left
 
--- an insert of an absent row whose parent is there applies
-pub insert_applies : (ts : List Table) (row : RowId) (columns : List ℤ) (db : Database) → get db row ≡ None → has_parent ts db row.table columns ≡ true → apply ts (Insert row columns) db ≡ Some (insert db row columns)
-insert_applies ts row columns db absent parent =
-    ap (λ b. cond b (Some (insert db row columns)) None) (and_from (is_none (get db row)) (has_parent ts db row.table columns) (ap is_none absent) parent)
+update_applied : (ts : List Table) (row : RowId) (named : Naming) (db after : Database) (there : List ℤ) (left : Option (List ℤ)) → get db row ≡ Some there → assigned named there ≡ left →
+    updated ts row named db left ≡ Some after → Applied ts (Update row named) db after
+update_applied ts row named db after there None was e h = cc
+update_applied ts row named db after there (Some columns) was e h =
+    let parts = cond_some (not (names_parent ts row.table named.mask) || has_parent ts db row.table columns) (insert db row columns) after h in
+    record {
+      left = Some columns;
+      fits = ap (changed (Update row named)) was ∙ ap (λ (o : Option (List ℤ)). ok_or (option_map (λ c. Some c) o) Columns) e;
+      stands = parts.0;
+      is = parts.1;
+    }
 
--- the row that an insert left
-pub get-inserts : {ts : List Table} {row : RowId} {columns : List ℤ} {db after : Database} → Inserts ts row columns db after → get after row ≡ Some columns
-get-inserts {row = row} {columns = columns} {db = db} i =
-    ap (λ (m : Database). get m row) (sym i.left) ∙ get-inserted db row row columns ∙ ap (λ b. cond b (Some columns) (get db row)) (same_row_itself row)
+update_applied_at : (ts : List Table) (row : RowId) (named : Naming) (db after : Database) (before : Option (List ℤ)) → get db row ≡ before →
+    updated ts row named db (option_and_then (assigned named) before) ≡ Some after → Applied ts (Update row named) db after
+update_applied_at ts row named db after None was h = cc
+update_applied_at ts row named db after (Some there) was h = update_applied ts row named db after there (assigned named there) was refl h
+
+delete_applied : (ts : List Table) (row : RowId) (db after : Database) (before : Option (List ℤ)) → get db row ≡ before →
+    cond (is_some before) (Some (remove db row)) None ≡ Some after → Applied ts (Delete row) db after
+delete_applied ts row db after None was h = cc
+delete_applied ts row db after (Some there) was h =
+    record { left = None; fits = ap (changed (Delete row)) was; stands = refl; is = same_Some (remove db row) after h }
+
+-- a change that applies fits its row, and the parent that it gives the row is there
+pub applied_from : (ts : List Table) (change : Change) (db after : Database) → apply ts change db ≡ Some after → Applied ts change db after
+applied_from ts (Insert row columns) db after h = insert_applied ts row columns db after (get db row) refl h
+applied_from ts (Update row named) db after h = update_applied_at ts row named db after (get db row) refl h
+applied_from ts (Delete row) db after h = delete_applied ts row db after (get db row) refl h
+
+insert_applies : (ts : List Table) (row : RowId) (columns : List ℤ) (db : Database) (before left : Option (List ℤ)) → changed (Insert row columns) before ≡ Ok left → parent_stands ts (Insert row columns) db left ≡ true →
+    cond (is_none before && has_parent ts db row.table columns) (Some (insert db row columns)) None ≡ Some (put_row db row left)
+insert_applies ts row columns db None left fit stands =
+    let e : Some columns ≡ left = same_ok fit in
+    let there : has_parent ts db row.table columns ≡ true = ap (row_has_parent ts db row.table) e ∙ stands in
+    ap (λ b. cond b (Some (insert db row columns)) None) there ∙ ap (λ l. Some (put_row db row l)) e
+insert_applies ts row columns db (Some there) left fit stands = cc
+
+update_applies : (ts : List Table) (row : RowId) (named : Naming) (db : Database) (o left : Option (List ℤ)) → ◌≡◌ {A = Result (Option (List ℤ)) ChangeFault} (ok_or (option_map (λ columns. Some columns) o) Columns) (Ok left) → parent_stands ts (Update row named) db left ≡ true →
+    updated ts row named db o ≡ Some (put_row db row left)
+update_applies ts row named db None left fit stands = cc
+update_applies ts row named db (Some columns) left fit stands =
+    let e : Some columns ≡ left = same_ok fit in
+    let there : (not (names_parent ts row.table named.mask) || has_parent ts db row.table columns) ≡ true = ap (parent_stands ts (Update row named) db) e ∙ stands in
+    ap (λ b. cond b (Some (insert db row columns)) None) there ∙ ap (λ l. Some (put_row db row l)) e
+
+update_applies_at : (ts : List Table) (row : RowId) (named : Naming) (db : Database) (before left : Option (List ℤ)) → changed (Update row named) before ≡ Ok left → parent_stands ts (Update row named) db left ≡ true →
+    updated ts row named db (option_and_then (assigned named) before) ≡ Some (put_row db row left)
+update_applies_at ts row named db None left fit stands = cc
+update_applies_at ts row named db (Some there) left fit stands = update_applies ts row named db (assigned named there) left fit stands
+
+delete_applies : (row : RowId) (db : Database) (before left : Option (List ℤ)) → changed (Delete row) before ≡ Ok left →
+    cond (is_some before) (Some (remove db row)) None ≡ Some (put_row db row left)
+delete_applies row db None left fit = cc
+delete_applies row db (Some there) left fit = ap (λ l. Some (put_row db row l)) (same_ok fit)
+
+-- a change that fits its row applies, where the parent that it gives the row is there
+pub applies_from : (ts : List Table) (change : Change) (db : Database) (left : Option (List ℤ)) → changed change (get db (target change)) ≡ Ok left → parent_stands ts change db left ≡ true → apply ts change db ≡ Some (put_row db (target change) left)
+applies_from ts (Insert row columns) db left fit stands = insert_applies ts row columns db (get db row) left fit stands
+applies_from ts (Update row named) db left fit stands = update_applies_at ts row named db (get db row) left fit stands
+applies_from ts (Delete row) db left fit stands = delete_applies row db (get db row) left fit
+
+-- what a change does, by what it does to its row
+pub apply_by_row : AppliesByRow
+apply_by_row ts change db = by (changed change (get db (target change))) refl
+  where
+    nothing : (o : Option Database) → ((after : Database) → o ≡ Some after → ⊥) → o ≡ None
+    nothing None no_more = refl
+    nothing (Some after) no_more = absurd (no_more after refl)
+
+    fitting : (left : Option (List ℤ)) (stands : Bool) → changed change (get db (target change)) ≡ Ok left → parent_stands ts change db left ≡ stands → apply ts change db ≡ cond stands (Some (put_row db (target change) left)) None
+    fitting left true fit stands = applies_from ts change db left fit stands
+    fitting left false fit stands = nothing (apply ts change db) (λ after h.
+        let a = applied_from ts change db after h in
+        let same : a.left ≡ left = same_ok (sym a.fits ∙ fit) in
+        true_is_not_false (sym a.stands ∙ ap (parent_stands ts change db) same ∙ stands))
+
+    by : (r : Result (Option (List ℤ)) ChangeFault) → changed change (get db (target change)) ≡ r → apply ts change db ≡ option_and_then (λ left. cond (parent_stands ts change db left) (Some (put_row db (target change) left)) None) (result_ok r)
+    by (Ok left) fit = fitting left (parent_stands ts change db left) fit refl
+    by (Err fault) unfit = nothing (apply ts change db) (λ after h. let a = applied_from ts change db after h in ok_is_not_err (sym a.fits ∙ unfit))
+
+-- the row that a change left
+pub left_there : {ts : List Table} {change : Change} {db after : Database} → (a : Applied ts change db after) → get after (target change) ≡ a.left
+left_there {change = change} {db = db} a =
+    ap (λ (m : Database). get m (target change)) (sym a.is) ∙ get-put_row db (target change) (target change) a.left ∙ ap (λ b. cond b a.left (get db (target change))) (same_row_itself (target change))
 
 -- the rows that the change is not of stay
 pub apply_stays : (ts : List Table) (change : Change) (db after : Database) (q : RowId) → apply ts change db ≡ Some after → same_row q (target change) ≡ false → get after q ≡ get db q
-apply_stays ts (Insert row columns) db after q h other =
-    ap (λ (m : Database). get m q) (sym (inserts_from ts row columns db after h).left) ∙ get-inserted db row q columns ∙ ap (λ b. cond b (Some columns) (get db q)) other
+apply_stays ts change db after q h other =
+    let a = applied_from ts change db after h in
+    ap (λ (m : Database). get m q) (sym a.is) ∙ get-put_row db (target change) q a.left ∙ ap (λ b. cond b a.left (get db q)) other
 
 -- the row that it is of is changed
 pub apply_changes : FitsWhereItApplies
-apply_changes ts (Insert row columns) db after h =
-    let i = inserts_from ts row columns db after h in
-    ap (changed (Insert row columns)) i.absent ∙ ap Ok (sym (get-inserts i))
+apply_changes ts change db after h =
+    let a = applied_from ts change db after h in
+    a.fits ∙ ap Ok (sym (left_there a))
+
+-- the parent that it gives its row is there
+pub stands_where : ParentStandsWhereItApplies
+stands_where ts change db after h =
+    let a = applied_from ts change db after h in
+    ap (parent_stands ts change db) (left_there a) ∙ a.stands
+
+-- a change that fits its row applies, where the parent that it gives the row is there
+pub applies_where : AppliesWhereItFits
+applies_where ts change db left fit stands = (put_row db (target change) left, applies_from ts change db left fit stands)
 
 -- the parent that the columns name, where they name one, is there
 parent_there : (ts : List Table) (db : Database) (id : ℕ) (columns : List ℤ) (p : RowId) → parent_of ts id columns ≡ Some p → contains_key db p ≡ true → has_parent ts db id columns ≡ true
@@ -108,15 +206,74 @@ parent_alike ts a b id columns same h =
           parent_there ts b id columns named.0 named.1 (same named.0 named.1 named.2)
     ]
 
+-- the parent row that the columns name by this link
+abbrev pub named_by : List ℤ → ℕ × ℕ → Option RowId
+named_by columns link = option_map (λ key. record { table = link.1; key = key }) (slice_get columns link.0)
+
+-- the parent is the same one, where the column that names it stays
+same_parent : (ts : List Table) (id mask : ℕ) (there new : List ℤ) → ((c : ℕ) → names_column mask c ≡ false → slice_get new c ≡ slice_get there c) → names_parent ts id mask ≡ false → parent_of ts id new ≡ parent_of ts id there
+same_parent ts id mask there new same apart = by (link_of ts id) apart
+  where
+    by : (o : Option (ℕ × ℕ)) → option_map_or (λ link. names_column mask link.0) o false ≡ false → option_and_then (named_by new) o ≡ option_and_then (named_by there) o
+    by None h = refl
+    by (Some link) h =
+        let parent : Option ℤ → Option RowId = option_map (λ key. record { table = link.1; key = key }) in
+        ap parent (same link.0 h)
+
+-- an update that does not name the parent column leaves the row with the parent that it had
+update_keeps : (ts : List Table) (row : RowId) (named : Naming) (db : Database) (there : List ℤ) (o left : Option (List ℤ)) → assigned named there ≡ o → ◌≡◌ {A = Result (Option (List ℤ)) ChangeFault} (ok_or (option_map (λ columns. Some columns) o) Columns) (Ok left) →
+    names_parent ts row.table named.mask ≡ false → has_parent ts db row.table there ≡ true → row_has_parent ts db row.table left ≡ true
+update_keeps ts row named db there None left e fit apart had = cc
+update_keeps ts row named db there (Some new) left e fit apart had =
+    let same = same_parent ts row.table named.mask there new (λ c other. assigned_keeps c named.mask named.values there new e other) apart in
+    ap (row_has_parent ts db row.table) (sym (same_ok fit))
+    ∙ ap (λ p. not (is_some (link_of ts row.table)) || option_map_or (contains_key db) p false) same ∙ had
+
+update_keeps_at : (ts : List Table) (row : RowId) (named : Naming) (db : Database) (before left : Option (List ℤ)) → ChildrenHaveParents ts db → get db row ≡ before → changed (Update row named) before ≡ Ok left →
+    names_parent ts row.table named.mask ≡ false → row_has_parent ts db row.table left ≡ true
+update_keeps_at ts row named db None left kept was fit apart = cc
+update_keeps_at ts row named db (Some there) left kept was fit apart = update_keeps ts row named db there (assigned named there) left refl fit apart (kept row there was)
+
+delete_keeps : (ts : List Table) (row : RowId) (db : Database) (before left : Option (List ℤ)) → changed (Delete row) before ≡ Ok left → row_has_parent ts db row.table left ≡ true
+delete_keeps ts row db None left fit = cc
+delete_keeps ts row db (Some there) left fit = ap (row_has_parent ts db row.table) (sym (same_ok fit))
+
+-- where each child has its parent, the row that a change leaves has its own
+left_has_parent : (ts : List Table) (change : Change) (db : Database) (left : Option (List ℤ)) → ChildrenHaveParents ts db → changed change (get db (target change)) ≡ Ok left → parent_stands ts change db left ≡ true → row_has_parent ts db (target change).table left ≡ true
+left_has_parent ts (Insert row columns) db left kept fit stands = stands
+left_has_parent ts (Update row named) db left kept fit stands =
+    elim (cases_Bool (names_parent ts row.table named.mask)) [
+      | inl names ↦ sym (ap (λ b. not b || row_has_parent ts db row.table left) names) ∙ stands
+      | inr apart ↦ update_keeps_at ts row named db (get db row) left kept refl fit apart
+    ]
+left_has_parent ts (Delete row) db left kept fit stands = delete_keeps ts row db (get db row) left fit
+
+pub has_parent_where : HasParentWhereItApplies
+has_parent_where ts change db after kept h =
+    let a = applied_from ts change db after h in
+    ap (row_has_parent ts db (target change).table) (left_there a) ∙ left_has_parent ts change db a.left kept a.fits a.stands
+
+-- a row that has its parent in one database has it in another that has the same there
+row_alike : (ts : List Table) (a b : Database) (id : ℕ) (left : Option (List ℤ)) → ((p : RowId) → has_row (option_to_list (option_and_then (parent_of ts id) left)) p ≡ true → get a p ≡ get b p) → row_has_parent ts a id left ≡ true → row_has_parent ts b id left ≡ true
+row_alike ts a b id None same h = refl
+row_alike ts a b id (Some columns) same h =
+    parent_alike ts a b id columns (λ p names there. ap is_some (sym (same p (ap (λ o. has_row (option_to_list o) p) names ∙ or_left _ _ (same_row_itself p)))) ∙ there) h
+
+stands_alike : (ts : List Table) (change : Change) (a b : Database) (left : Option (List ℤ)) → ((p : RowId) → has_row (option_to_list (option_and_then (parent_of ts (target change).table) left)) p ≡ true → get a p ≡ get b p) → parent_stands ts change a left ≡ true → parent_stands ts change b left ≡ true
+stands_alike ts change a b left same h =
+    elim (or_cases (not (sets_parent ts change)) (row_has_parent ts a (target change).table left) h) [
+      | inl none ↦ or_left _ _ none
+      | inr has ↦ or_right (not (sets_parent ts change)) _ (row_alike ts a b (target change).table left same has)
+    ]
+
 -- a change that applies to a database applies to another one that has the same at its row and at the parent
 -- that it leaves there
 pub apply_alike : (ts : List Table) (change : Change) (a b after : Database) → apply ts change a ≡ Some after → get a (target change) ≡ get b (target change) → ((p : RowId) → has_row (parent_in ts after (target change)) p ≡ true → get a p ≡ get b p) → (left : Database) × (apply ts change b ≡ Some left)
-apply_alike ts (Insert row columns) a b after h same parents =
-    let i = inserts_from ts row columns a after h in
-    let now : get after row ≡ Some columns = get-inserts i in
-    let named : (p : RowId) → parent_of ts row.table columns ≡ Some p → contains_key a p ≡ true → contains_key b p ≡ true =
-    λ p names there. ap is_some (sym (parents p (ap (λ o. has_row (option_to_list (option_and_then (parent_of ts row.table) o)) p) now ∙ ap (λ o. has_row (option_to_list o) p) names ∙ or_left _ _ (same_row_itself p)))) ∙ there in
-    (insert b row columns, insert_applies ts row columns b (sym same ∙ i.absent) (parent_alike ts a b row.table columns named i.parent))
+apply_alike ts change a b after h same parents =
+    let x = applied_from ts change a after h in
+    let alike : (p : RowId) → has_row (option_to_list (option_and_then (parent_of ts (target change).table) x.left)) p ≡ true → get a p ≡ get b p =
+    λ p is. parents p (ap (λ o. has_row (option_to_list (option_and_then (parent_of ts (target change).table) o)) p) (left_there x) ∙ is) in
+    (put_row b (target change) x.left, applies_from ts change b x.left (ap (changed change) (sym same) ∙ x.fits) (stands_alike ts change a b x.left alike x.stands))
 
 -- a change does the same to two databases at each row where they are the same, and at its own row
 pub apply_agrees : (ts : List Table) (change : Change) (a b after left : Database) (q : RowId) → apply ts change a ≡ Some after → apply ts change b ≡ Some left → get a (target change) ≡ get b (target change) → ((same_row q (target change) ≡ false) → get a q ≡ get b q) → get after q ≡ get left q
@@ -128,37 +285,47 @@ apply_agrees ts change a b after left q ha hb same rest =
       | inr other ↦ apply_stays ts change a after q ha other ∙ rest other ∙ sym (apply_stays ts change b left q hb other)
     ]
 
--- an insert takes no row away
-pub still_there : (db : Database) (row q : RowId) (columns : List ℤ) → contains_key db q ≡ true → contains_key (insert db row columns) q ≡ true
-still_there db row q columns h =
-    elim (cases_Bool (same_row q row)) [
-      | inl here ↦ ap is_some (get-inserted db row q columns ∙ ap (λ b. cond b (Some columns) (get db q)) here)
-      | inr other ↦ ap is_some (get-inserted db row q columns ∙ ap (λ b. cond b (Some columns) (get db q)) other) ∙ h
+-- a change that removes its row deletes it
+removes_no_parent : (ts : List Table) (db : Database) (change : Change) (before : Option (List ℤ)) → changed change before ≡ Ok None → DeletesNoParent ts change db → ¬ HasChild ts db (target change)
+removes_no_parent ts db (Insert row columns) None h none = λ child. absurd (some_is_not_none (same_ok h))
+removes_no_parent ts db (Insert row columns) (Some there) h none = cc
+removes_no_parent ts db (Update row named) None h none = cc
+removes_no_parent ts db (Update row named) (Some there) h none = by (assigned named there) h
+  where
+    by : (o : Option (List ℤ)) → ◌≡◌ {A = Result (Option (List ℤ)) ChangeFault} (ok_or (option_map (λ columns. Some columns) o) Columns) (Ok None) → ¬ HasChild ts db row
+    by None h = cc
+    by (Some columns) h = λ child. absurd (some_is_not_none (same_ok h))
+removes_no_parent ts db (Delete row) before h none = none
+
+-- a parent that stands before the change stands after it, unless the change deletes it
+parent_stays : (ts : List Table) (change : Change) (db after : Database) (id p : RowId) (there : List ℤ) → DeletesNoParent ts change db → apply ts change db ≡ Some after → get after id ≡ Some there → parent_of ts id.table there ≡ Some p → contains_key db p ≡ true → contains_key after p ≡ true
+parent_stays ts change db after id p there none h is names e =
+    elim (cases_Bool (same_row p (target change))) [
+      | inl here ↦ let same = row_is p (target change) here in by x.left refl same
+      | inr other ↦ ap is_some (apply_stays ts change db after p h other) ∙ e
     ]
+  where
+    x : Applied ts change db after
+    x = applied_from ts change db after h
 
--- the row that a change leaves has its parent
-pub has_parent_where : HasParentWhereItApplies
-has_parent_where ts (Insert row columns) db after kept h =
-    let i = inserts_from ts row columns db after h in
-    ap (λ o. row_has_parent ts db row.table o) (get-inserts i) ∙ i.parent
+    by : (left : Option (List ℤ)) → x.left ≡ left → p ≡ target change → contains_key after p ≡ true
+    by None gone same =
+        let removed : get after (target change) ≡ None = left_there x ∙ gone in
+        elim (cases_Bool (same_row id (target change))) [
+          | inl itself ↦ absurd (some_is_not_none (sym is ∙ ap (get after) (row_is id (target change) itself) ∙ removed))
+          | inr apart ↦ absurd (removes_no_parent ts db change (get db (target change)) (x.fits ∙ ap Ok gone) none (id, there, sym (apply_stays ts change db after id h apart) ∙ is, names ∙ ap Some same))
+        ]
+    by (Some columns) stays same = ap is_some (ap (get after) same ∙ left_there x ∙ stays)
 
--- a change that fits its row, and leaves one that has its parent, applies
-pub applies_where : AppliesWhereItFits
-applies_where ts (Insert row columns) db left fit parent =
-    let is = insert_fits row columns (get db row) left fit in
-    (insert db row columns, insert_applies ts row columns db is.0 (ap (λ o. row_has_parent ts db row.table o) is.1 ∙ parent))
-
--- a change that applies leaves each child its parent
-pub apply_keeps_parents : (ts : List Table) (change : Change) (db after : Database) → ChildrenHaveParents ts db → apply ts change db ≡ Some after → ChildrenHaveParents ts after
-apply_keeps_parents ts (Insert row columns) db after kept h id there is =
-    let i = inserts_from ts row columns db after h in
-    let stays : (p : RowId) → contains_key db p ≡ true → contains_key after p ≡ true =
-    λ p e. ap (λ (m : Database). contains_key m p) (sym i.left) ∙ still_there db row p columns e in
-    let had : has_parent ts db id.table there ≡ true = elim (cases_Bool (same_row id row)) [
+-- a change that applies leaves each child its parent, unless it deletes one
+pub apply_keeps_parents : (ts : List Table) (change : Change) (db after : Database) → ChildrenHaveParents ts db → DeletesNoParent ts change db → apply ts change db ≡ Some after → ChildrenHaveParents ts after
+apply_keeps_parents ts change db after kept none h id there is =
+    let x = applied_from ts change db after h in
+    let had : has_parent ts db id.table there ≡ true = elim (cases_Bool (same_row id (target change))) [
       | inl here ↦
-          let e = row_is id row here in
-          let same : columns ≡ there = same_Some columns there (sym (get-inserts i) ∙ ap (get after) (sym e) ∙ is) in
-          ap (λ (r : RowId). has_parent ts db r.table there) e ∙ ap (has_parent ts db row.table) (sym same) ∙ i.parent
-      | inr other ↦ kept id there (sym (apply_stays ts (Insert row columns) db after id h other) ∙ is)
+          let e = row_is id (target change) here in
+          let left : x.left ≡ Some there = sym (left_there x) ∙ ap (get after) (sym e) ∙ is in
+          ap (λ (r : RowId). has_parent ts db r.table there) e ∙ sym (ap (row_has_parent ts db (target change).table) left) ∙ left_has_parent ts change db x.left kept x.fits x.stands
+      | inr other ↦ kept id there (sym (apply_stays ts change db after id h other) ∙ is)
     ] in
-    parent_alike ts db after id.table there (λ p names e. stays p e) had
+    parent_alike ts db after id.table there (λ p names e. parent_stays ts change db after id p there none h is names e) had

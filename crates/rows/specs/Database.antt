@@ -1,21 +1,29 @@
 -- Databases, what a change does to one, and what a list of changes does.
 use Rattle.std.specs.Prelude.{◌≡◌, ℕ, ℤ, Bool, true, false, not, ◌&&◌, ◌||◌, if◌then◌else◌, List, [], ◌∷◌, ◌++◌, map, slice_get, Option, Some, None, is_some, is_none, option_and_then, option_to_list}
 use Rattle.std.specs.Option.{option_map_or, option_map}
-use Rattle.std.specs.FinMap.{FinMap, get, insert, contains_key}
+use Rattle.std.specs.FinMap.{FinMap, get, insert, remove, contains_key}
 use Rattle.schema.specs.declared.Table.{Table}
 use Rattle.schema.specs.declared.RowId.{RowId}
 use Rattle.schema.specs.RowId.{row_cmp}
 use Rattle.schema.specs.Schema.{link_of}
 use Rattle.rows.specs.declared.Change.{Change}
-use Rattle.rows.specs.declared.Change.TheVariants.{Insert}
+use Rattle.rows.specs.declared.Change.TheVariants.{Insert, Update, Delete}
+use Rattle.rows.specs.Naming.{names_column, assigned}
 
 -- a finite map from row ids to rows
 abbrev pub Database : Type 0
 Database = FinMap row_cmp (List ℤ)
 
+-- the database with one row set, or removed
+abbrev pub put_row : Database → RowId → Option (List ℤ) → Database
+put_row db row None = remove db row
+put_row db row (Some columns) = insert db row columns
+
 -- the row that a change is of
 abbrev pub target : Change → RowId
-target (Insert row values) = row
+target (Insert row columns) = row
+target (Update row named) = row
+target (Delete row) = row
 
 -- the rows that a list of changes writes
 abbrev pub writes : List Change → List RowId
@@ -31,11 +39,20 @@ abbrev pub has_parent : List Table → Database → ℕ → List ℤ → Bool
 has_parent ts db id columns =
     not (is_some (link_of ts id)) || option_map_or (contains_key db) (parent_of ts id columns) false
 
+-- whether this mask names the column of the table that names the parent row
+abbrev pub names_parent : List Table → ℕ → ℕ → Bool
+names_parent ts id mask = option_map_or (λ link. names_column mask link.0) (link_of ts id) false
+
 -- What a change leaves, where it applies. An insert applies where the row is absent and its parent, if the
--- table has one, is there.
+-- table has one, is there. An update applies where the row is there and has each column named and, where it names
+-- the parent column, the new parent is there; the columns not named stay. A delete applies where the row is there.
 abbrev pub apply : List Table → Change → Database → Option Database
 apply ts (Insert row columns) db =
     if is_none (get db row) && has_parent ts db row.table columns then Some (insert db row columns) else None
+apply ts (Update row named) db =
+    option_and_then (λ columns. if not (names_parent ts row.table named.mask) || has_parent ts db row.table columns then Some (insert db row columns) else None)
+    (option_and_then (assigned named) (get db row))
+apply ts (Delete row) db = if is_some (get db row) then Some (remove db row) else None
 
 -- what the changes leave, one after another, where each of them applies
 abbrev pub effect : List Table → List Change → Database → Option Database
@@ -55,3 +72,19 @@ kin ts (change ∷ changes) db =
 -- each row of a child table has its parent
 abbrev pub ChildrenHaveParents : List Table → Database → Type 0
 ChildrenHaveParents ts db = (id : RowId) (columns : List ℤ) → get db id ≡ Some columns → has_parent ts db id.table columns ≡ true
+
+-- a row of the database names this row as its parent
+abbrev pub HasChild : List Table → Database → RowId → Type 0
+HasChild ts db row = (id : RowId) × (columns : List ℤ) × (get db id ≡ Some columns) × (parent_of ts id.table columns ≡ Some row)
+
+-- the change deletes no row that has a child
+abbrev pub DeletesNoParent : List Table → Change → Database → Type 0
+DeletesNoParent ts (Insert row columns) db = Unit {0}
+DeletesNoParent ts (Update row named) db = Unit {0}
+DeletesNoParent ts (Delete row) db = ¬ HasChild ts db row
+
+-- none of the changes, applied one after another, deletes a row that has a child at that moment
+abbrev pub LeavesNoOrphan : List Table → List Change → Database → Type 0
+LeavesNoOrphan ts [] db = Unit {0}
+LeavesNoOrphan ts (change ∷ changes) db =
+    DeletesNoParent ts change db × ((after : Database) → apply ts change db ≡ Some after → LeavesNoOrphan ts changes after)

@@ -1,5 +1,5 @@
 -- What one change does to its row, and what follows from that for the effect of a list of changes.
-use Rattle.std.specs.Prelude.{◌≡◌, ℕ, ℤ, Bool, true, false, if◌then◌else◌, List, [], ◌∷◌, ◌++◌, Option, Some, Ok, option_and_then}
+use Rattle.std.specs.Prelude.{◌≡◌, ℕ, ℤ, Bool, true, false, not, ◌||◌, if◌then◌else◌, List, [], ◌∷◌, ◌++◌, Option, Some, None, Ok, option_and_then}
 use Rattle.std.specs.Option.{option_map_or}
 use Rattle.std.specs.Result.{result_ok}
 use Rattle.std.specs.FinMap.{get}
@@ -7,14 +7,26 @@ use Rattle.schema.specs.declared.Table.{Table}
 use Rattle.schema.specs.declared.RowId.{RowId}
 use Rattle.schema.specs.RowId.{same_row}
 use Rattle.schema.specs.Rows.{has_row}
+use Rattle.schema.specs.Flags.{IsFlat}
 use Rattle.rows.specs.declared.Change.{Change}
+use Rattle.rows.specs.declared.Change.TheVariants.{Insert, Update, Delete}
 use Rattle.rows.specs.Change.{changed}
-use Rattle.rows.specs.Database.{Database, target, writes, has_parent, apply, effect, kin, ChildrenHaveParents}
+use Rattle.rows.specs.Database.{Database, put_row, target, writes, has_parent, names_parent, apply, effect, kin, ChildrenHaveParents, LeavesNoOrphan}
 use Rattle.rows.specs.Frame.{AgreeOn}
 
 -- a row of the table may be so: it is not there, or has its parent there
 abbrev pub row_has_parent : List Table → Database → ℕ → Option (List ℤ) → Bool
 row_has_parent ts db id row = option_map_or (has_parent ts db id) row true
+
+-- whether the change says which parent its row has: an insert does, and an update that names the parent column
+abbrev pub sets_parent : List Table → Change → Bool
+sets_parent ts (Insert row columns) = true
+sets_parent ts (Update row named) = names_parent ts row.table named.mask
+sets_parent ts (Delete row) = false
+
+-- the parent that the change gives its row, which it leaves so, is there, if it gives one
+abbrev pub parent_stands : List Table → Change → Database → Option (List ℤ) → Bool
+parent_stands ts change db left = not (sets_parent ts change) || row_has_parent ts db (target change).table left
 
 -- what those of the changes that are of one row leave there, one after another, given the row before them;
 -- undefined where one of them does not fit
@@ -23,20 +35,30 @@ row_after [] q row = Some row
 row_after (change ∷ changes) q row =
     if same_row q (target change) then option_and_then (row_after changes q) (result_ok (changed change row)) else row_after changes q row
 
+-- a change applies where it fits its row and the parent that it gives the row is there, and puts the row that it leaves
+abbrev pub AppliesByRow : Type 0
+AppliesByRow = (ts : List Table) (change : Change) (db : Database) →
+    apply ts change db ≡ option_and_then (λ left. if parent_stands ts change db left then Some (put_row db (target change) left) else None) (result_ok (changed change (get db (target change))))
+
 -- a change that applies fits its row, and leaves there what it says
 abbrev pub FitsWhereItApplies : Type 0
 FitsWhereItApplies = (ts : List Table) (change : Change) (db after : Database) →
     apply ts change db ≡ Some after → changed change (get db (target change)) ≡ Ok (get after (target change))
+
+-- and the parent that it gives its row is there
+abbrev pub ParentStandsWhereItApplies : Type 0
+ParentStandsWhereItApplies = (ts : List Table) (change : Change) (db after : Database) →
+    apply ts change db ≡ Some after → parent_stands ts change db (get after (target change)) ≡ true
 
 -- and where each child has its parent, the row that it leaves has its own
 abbrev pub HasParentWhereItApplies : Type 0
 HasParentWhereItApplies = (ts : List Table) (change : Change) (db after : Database) →
     ChildrenHaveParents ts db → apply ts change db ≡ Some after → row_has_parent ts db (target change).table (get after (target change)) ≡ true
 
--- a change applies where it fits its row and the row that it leaves has its parent there
+-- a change applies where it fits its row and the parent that it gives the row is there
 abbrev pub AppliesWhereItFits : Type 0
-AppliesWhereItFits = (ts : List Table) (change : Change) (db : Database) (row : Option (List ℤ)) →
-    changed change (get db (target change)) ≡ Ok row → row_has_parent ts db (target change).table row ≡ true → (after : Database) × (apply ts change db ≡ Some after)
+AppliesWhereItFits = (ts : List Table) (change : Change) (db : Database) (left : Option (List ℤ)) →
+    changed change (get db (target change)) ≡ Ok left → parent_stands ts change db left ≡ true → (after : Database) × (apply ts change db ≡ Some after)
 
 -- one list of changes behind another
 abbrev pub WritesOfJoined : Type 0
@@ -65,7 +87,11 @@ EffectIsItsRows = (ts : List Table) (changes : List Change) (before after other 
     effect ts changes before ≡ Some after → AgreeOn (writes changes) after other →
     ((q : RowId) → has_row (writes changes) q ≡ false → get other q ≡ get before q) → other ≡ after
 
--- where each child has its parent, each has it after the changes
+-- where each child has its parent and no parent of a row is deleted, each has it after the changes
 abbrev pub ChildrenKeepParents : Type 0
 ChildrenKeepParents = (ts : List Table) (changes : List Change) (before after : Database) →
-    ChildrenHaveParents ts before → effect ts changes before ≡ Some after → ChildrenHaveParents ts after
+    ChildrenHaveParents ts before → LeavesNoOrphan ts changes before → effect ts changes before ≡ Some after → ChildrenHaveParents ts after
+
+-- where no table has a parent, no parent of a row is deleted
+abbrev pub FlatLeavesNoOrphan : Type 0
+FlatLeavesNoOrphan = (ts : List Table) (changes : List Change) (before : Database) → IsFlat ts → LeavesNoOrphan ts changes before

@@ -1,6 +1,7 @@
 //! What follows from the definitions alone. Each function states laws by its contract, and does nothing.
 
-ghost use Rattle.rows.specs.Effect.{FitsWhereItApplies, HasParentWhereItApplies, AppliesWhereItFits, WritesOfJoined, EffectOfJoined, KinOfJoined, RowAfterJoined, EachRowIsLeft, EffectIsItsRows, ChildrenKeepParents};
+ghost use Rattle.rows.specs.Effect.{AppliesByRow, FitsWhereItApplies, ParentStandsWhereItApplies, HasParentWhereItApplies, AppliesWhereItFits, WritesOfJoined, EffectOfJoined, KinOfJoined, RowAfterJoined, EachRowIsLeft, EffectIsItsRows, ChildrenKeepParents, FlatLeavesNoOrphan};
+ghost use Rattle.rows.specs.Naming.{AssignsWhatIsThere, KeepsWidth, OthersStay, NamedTakeTheirs};
 ghost use Rattle.rows.specs.Frame.{ChangesOnlyWrites, LooksOnlyAtWritesAndKin};
 
 /// The frame law: a list of changes changes only the rows that it writes, and looks only at these and at
@@ -10,9 +11,19 @@ pub fn frame()
     ensures looks_only { LooksOnlyAtWritesAndKin }
 {}
 
-/// When a change applies to a database: where it fits its row, and the row's parent is there.
+/// What an update leaves of the columns of its row.
+pub fn columns()
+    ensures there { AssignsWhatIsThere }
+    ensures width { KeepsWidth }
+    ensures others { OthersStay }
+    ensures named { NamedTakeTheirs }
+{}
+
+/// When a change applies to a database: where it fits its row, and the parent that it gives the row is there.
 pub fn one_change()
+    ensures by_row { AppliesByRow }
     ensures fits { FitsWhereItApplies }
+    ensures stands { ParentStandsWhereItApplies }
     ensures has_parent { HasParentWhereItApplies }
     ensures applies { AppliesWhereItFits }
 {}
@@ -32,7 +43,9 @@ pub fn row_by_row()
     ensures determined { EffectIsItsRows }
 {}
 
-/// No effect of changes leaves a child row without its parent.
+/// Changes leave a child row without its parent only where one of them deletes the parent of a row. Where no
+/// table has a parent, none does.
 pub fn parents()
-    ensures { ChildrenKeepParents }
+    ensures keep { ChildrenKeepParents }
+    ensures flat { FlatLeavesNoOrphan }
 {}

@@ -1,7 +1,7 @@
 //! Rows, changes, and what a change does to a database.
 //!
 //! A `Row` has 1 to 16 columns in a fixed array, so that copying one takes no memory. A `Change` is what a
-//! session writes; `apply_one` is what it does to the one row that it is of. What a list of changes does to a
+//! session writes: an insert of a row, an update of its `Named` columns, or a delete. `apply_one` is what it does to the one row that it is of. What a list of changes does to a
 //! whole database, which rows it writes and which parent rows it refers to is defined in
 //! `specs/Database.antt`, and the layers above speak of it; `laws` states what follows from the definitions.
 #![tactic(auto)]
@@ -11,7 +11,9 @@ ghost use Rattle.rows.specs.Change.{changed};
 ghost use Rattle.rows.specs.Database.{target};
 
 pub mod laws;
+mod naming;
 
+pub use naming::Named;
 use schema::RowId;
 use std::marker::Model;
 use thiserror::Error;
@@ -70,6 +72,10 @@ impl Row {
 pub enum Change {
     /// A row that was absent is there, with these columns.
     Insert { row: RowId, values: Row },
+    /// A row that was there has other values in these columns. The others stay.
+    Update { row: RowId, columns: Named },
+    /// A row that was there is there no more.
+    Delete { row: RowId },
 }
 
 impl Change {
@@ -78,7 +84,8 @@ impl Change {
         ensures { result ≡ target self.now }
     {
         match self {
-            Change::Insert { row, .. } => *row,
+            Change::Insert { row, .. } | Change::Update { row, .. } | Change::Delete { row } =>
+                *row,
         }
     }
 }
@@ -97,46 +104,22 @@ pub enum ChangeFault {
     Columns,
 }
 
-/// The row after the change, given the row before it, `None` where there is none. It takes no memory.
+/// The row after the change, given the row before it, `None` where there is none. An update answers
+/// `Columns` where it names a column that the row lacks. It takes no memory and at most one pass over the columns.
 pub fn apply_one(change: &Change, before: Option<&Row>) -> Result<Option<Row>, ChangeFault>
     ensures { result ≡ changed change.now (option_copied before.entry) }
 {
     match (change, before) {
         (Change::Insert { values, .. }, None) => Ok(Some(*values)),
         (Change::Insert { .. }, Some(_)) => Err(ChangeFault::Present),
+        (_, None) => Err(ChangeFault::Absent),
+        (Change::Update { columns, .. }, Some(row)) => {
+            let left = columns.assigned(row).ok_or(ChangeFault::Columns)?;
+            Ok(Some(left))
+        }
+        (Change::Delete { .. }, Some(_)) => Ok(None),
     }
 }
 
 #[cfg(test)]
-mod tests {
-    use super::*;
-    use std::test::Fail;
-
-    #[test]
-    fn inserts_once(rt: HostRuntime) -> Result<(), Fail> {
-        let row = RowId { table: 1, key: -7 };
-        let values = Row::new(&[5, -1]).ok_or("two columns are a row")?;
-        let change = Change::Insert { row, values };
-        assert_eq!(rt; values.columns(), [5, -1].as_slice());
-        assert_eq!(rt; change.target(), row);
-        assert_eq!(rt; apply_one(&change, None), Ok(Some(values)));
-        assert_eq!(rt;
-            apply_one(&change, Some(&values)),
-            Err(ChangeFault::Present)
-        );
-        Ok(())
-    }
-
-    #[test]
-    fn faults_have_their_texts(rt: HostRuntime) -> Result<(), Fail> {
-        let texts = [
-            (ChangeFault::Present, "F1 Present"),
-            (ChangeFault::Absent, "F2 Absent"),
-            (ChangeFault::Columns, "F3 Columns"),
-        ];
-        for (fault, text) in texts {
-            assert_eq!(rt; format!(in rt.alloc(); "{fault}")?.as_str(), text);
-        }
-        Ok(())
-    }
-}
+mod tests;
