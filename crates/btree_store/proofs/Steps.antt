@@ -10,8 +10,8 @@ use Rattle.schema.specs.declared.RowId.{RowId}
 use Rattle.schema.specs.RowId.{row_cmp, row_total, exact_row, same_row}
 use Rattle.rows.specs.Database.{Database}
 use Rattle.store_trait.specs.Batch.{Entry, IsRising, put_row, put_batch}
-use Rattle.rows.proofs.Apply.{row_is}
-use Rattle.store_trait.proofs.Batches.{less_apart, get-put_row, get-put_batch}
+use Rattle.rows.proofs.Apply.{get-put_row, row_is}
+use Rattle.store_trait.proofs.Batches.{less_apart, get-put_batch}
 use Rattle.btree_store.specs.Contents.{KeysFit}
 use Rattle.btree_store.specs.Put.{filled, undo, AreThere}
 
@@ -155,7 +155,7 @@ AreThere-put_row db id columns [] below h = tt
 AreThere-put_row db id columns (e ∷ es) below h =
     let parts = and_parts (is_lt (row_cmp id e.0)) (below_all row_cmp id es) below in
     let other : same_row e.0 id ≡ false = (eq_by_cmp_equiv row_total).symm e.0 id ∙ less_apart (row_cmp id e.0) parts.0 in
-    (λ set. ap is_some (get-put_row db id columns e.0 ∙ cond-false _ _ _ other) ∙ h.0 set, AreThere-put_row db id columns es parts.1 h.1)
+    (λ set. ap is_some (get-put_row db id e.0 columns ∙ cond-false _ _ _ other) ∙ h.0 set, AreThere-put_row db id columns es parts.1 h.1)
 
 keys-push : (es : List Entry) (e : Entry) → AllByRecursion (λ (f : Entry). FitsSigned w64 f.0.key) es → FitsSigned w64 e.0.key → AllByRecursion (λ (f : Entry). FitsSigned w64 f.0.key) (es ++ e ∷ [])
 keys-push [] e h last = (last, tt)
@@ -188,4 +188,4 @@ KeysFit-put_batch (e ∷ es) db keys h = KeysFit-put_batch es (put_row db e.0 e.
   where
     at : (id : RowId) (columns : List ℤ) → get (put_row db e.0 e.1) id ≡ Some columns → (b : Bool) → same_row id e.0 ≡ b → FitsSigned w64 id.key
     at id columns there true same = subst (λ (r : RowId). FitsSigned w64 r.key) (sym (row_is id e.0 same)) keys.0
-    at id columns there false other = h id columns (sym (cond-false _ _ _ other) ∙ sym (get-put_row db e.0 e.1 id) ∙ there)
+    at id columns there false other = h id columns (sym (cond-false _ _ _ other) ∙ sym (get-put_row db e.0 id e.1) ∙ there)

@@ -10,40 +10,44 @@ use Rattle.schema.specs.RowId.{row_cmp, same_row, exact_row, row_total}
 use Rattle.schema.specs.Rows.{has_row}
 use Rattle.rows.specs.declared.Change.{Change}
 use Rattle.rows.specs.Change.{changed}
-use Rattle.rows.specs.Database.{Database, target, writes, apply, effect}
+use Rattle.rows.specs.Database.{Database, put_row, target, writes, apply, effect}
+use Rattle.rows.specs.Effect.{parent_stands}
 use Rattle.rows.specs.Frame.{AgreeOn, SameEffect}
-use Rattle.rows.proofs.Apply.{apply_stays, row_is, same_row_itself}
+use Rattle.rows.proofs.Apply.{apply_by_row, apply_stays, applies_from, get-put_row, row_is, same_row_itself}
 use Rattle.rows.proofs.Effect.{changes_only_writes, effect_joined}
-use Rattle.store_trait.specs.Batch.{IsRising, put_row, rows_in}
-use Rattle.store_trait.proofs.Batches.{find-rows_in, get-put_batch, get-put_row, put_rises, rows_in_rise, same_batch}
+use Rattle.store_trait.specs.Batch.{IsRising, rows_in}
+use Rattle.store_trait.proofs.Batches.{find-rows_in, get-put_batch, put_rises, rows_in_rise, same_batch}
 use Rattle.overlay.specs.Pending.{Pending, none_pending, pushed, left_at, seen}
 use Rattle.overlay.specs.Follows.{Follows}
-use Rattle.overlay.specs.Step.{parent_stands}
-use Rattle.overlay.proofs.Apply.{apply_by_row}
 
 -- what a change leaves of its row, where it applies
 pub left_by_row : (ts : List Table) (change : Change) (db : Database) →
     option_map (λ after. get after (target change)) (apply ts change db)
-    ≡ cond (parent_stands ts change db) (result_ok (changed change (get db (target change)))) None
+    ≡ option_and_then (λ left. cond (parent_stands ts change db left) (Some left) None) (result_ok (changed change (get db (target change))))
 left_by_row ts change db =
     ap (option_map (λ after. get after (target change))) (apply_by_row ts change db)
-    ∙ put_and_got (parent_stands ts change db) (result_ok (changed change (get db (target change))))
+    ∙ by (result_ok (changed change (get db (target change))))
   where
-    put_and_got : (b : Bool) (left : Option (Option (List ℤ))) →
-        option_map (λ after. get after (target change)) (cond b (option_map (put_row db (target change)) left) None) ≡ cond b left None
-    put_and_got true None = refl
-    put_and_got true (Some left) =
-        ap Some (get-put_row db (target change) left (target change) ∙ ap (λ b. cond b left (get db (target change))) (same_row_itself (target change)))
-    put_and_got false left = refl
+    put_and_got : (left : Option (List ℤ)) (b : Bool) →
+        option_map (λ after. get after (target change)) (cond b (Some (put_row db (target change) left)) None) ≡ cond b (Some left) None
+    put_and_got left true =
+        ap Some (get-put_row db (target change) (target change) left ∙ ap (λ b. cond b left (get db (target change))) (same_row_itself (target change)))
+    put_and_got left false = refl
+
+    by : (o : Option (Option (List ℤ))) → option_map (λ after. get after (target change)) (option_and_then (λ left. cond (parent_stands ts change db left) (Some (put_row db (target change) left)) None) o) ≡ option_and_then (λ left. cond (parent_stands ts change db left) (Some left) None) o
+    by None = refl
+    by (Some left) = put_and_got left (parent_stands ts change db left)
 
 -- a change that fits the row before it, and whose parent is there
-pub left-fits : (ts : List Table) (change : Change) (db : Database) (row : RowId) (before left : Option (List ℤ)) (stands : Bool) →
-    row ≡ target change → before ≡ get db row → result_ok (changed change before) ≡ Some left → stands ≡ parent_stands ts change db → stands ≡ true →
+pub left-fits : (ts : List Table) (change : Change) (db : Database) (row : RowId) (before left given : Option (List ℤ)) (stands : Bool) →
+    row ≡ target change → before ≡ get db row → result_ok (changed change before) ≡ Some left → stands ≡ parent_stands ts change db given → given ≡ left → stands ≡ true →
     Some left ≡ option_map (λ after. get after (target change)) (apply ts change db)
-left-fits ts change db row before left stands is was fits by_parent parent =
+left-fits ts change db row before left given stands is was fits by_parent same parent =
     let here : get db (target change) ≡ before = ap (get db) (sym is) ∙ sym was in
-    let there : parent_stands ts change db ≡ true = sym by_parent ∙ parent in
-    sym (left_by_row ts change db ∙ (λ i. cond (there i) (result_ok (changed change (here i))) None) ∙ fits)
+    let fits_here : result_ok (changed change (get db (target change))) ≡ Some left = ap (λ r. result_ok (changed change r)) here ∙ fits in
+    sym (left_by_row ts change db
+    ∙ ap (option_and_then (λ l. cond (parent_stands ts change db l) (Some l) None)) fits_here
+    ∙ ap (λ b. cond b (Some left) None) (ap (parent_stands ts change db) (sym same) ∙ sym by_parent ∙ parent))
 
 -- rows that are the same in two databases
 rows_in-alike : (rows : List RowId) (a b : Database) → AgreeOn rows a b → rows_in rows a ≡ rows_in rows b
@@ -115,12 +119,10 @@ Follows-moved {pending = pending} {after = after} f same =
     record { applied = same.defined; left = f.left ∙ rows_in-alike (writes pending.changes) after same.leaves same.same_writes }
 
 -- the same, for a change that fits its row and whose parent is there
-pub Follows-step : {ts : List Table} {db : Database} {pending : Pending} {after : Database} (change : Change) (left : Option (List ℤ)) → Follows ts db pending after → changed change (get after (target change)) ≡ Ok left → parent_stands ts change after ≡ true → Follows ts db (pushed pending change left) (put_row after (target change) left)
+pub Follows-step : {ts : List Table} {db : Database} {pending : Pending} {after : Database} (change : Change) (left : Option (List ℤ)) → Follows ts db pending after → changed change (get after (target change)) ≡ Ok left → parent_stands ts change after left ≡ true → Follows ts db (pushed pending change left) (put_row after (target change) left)
 Follows-step {ts = ts} {db = db} {pending = pending} {after = after} change left f fits parent =
     let row = target change in
     let there : get (put_row after row left) row ≡ left =
-    get-put_row after row left row ∙ ap (λ b. cond b left (get after row)) (same_row_itself row) in
-    let applies : apply ts change after ≡ Some (put_row after row left) =
-    apply_by_row ts change after ∙ ap (λ b. cond b (option_map (put_row after row) (result_ok (changed change (get after row)))) None) parent
-    ∙ ap (λ r. option_map (put_row after row) (result_ok r)) fits in
+    get-put_row after row row left ∙ ap (λ b. cond b left (get after row)) (same_row_itself row) in
+    let applies : apply ts change after ≡ Some (put_row after row left) = applies_from ts change after left fits parent in
     subst (λ (l : Option (List ℤ)). Follows ts db (pushed pending change l) (put_row after row left)) there (Follows-pushed change (put_row after row left) f applies)

@@ -1,4 +1,3 @@
 pub mod Order
-pub mod Apply
 pub mod Follow
 pub mod Run

@@ -1,17 +1,15 @@
 -- What the overlay of changes that apply one after another shows, and how it goes on.
-use Rattle.std.specs.Prelude.{◌≡◌, ℤ, true, List, Option, Some, None, Ok, unwrap_or, if◌then◌else◌}
-use Rattle.std.specs.Option.{option_map}
-use Rattle.std.specs.Result.{result_ok}
+use Rattle.std.specs.Prelude.{◌≡◌, ℤ, true, List, Option, Some, Ok, unwrap_or}
 use Rattle.std.specs.FinMap.{get}
 use Rattle.schema.specs.declared.Table.{Table}
 use Rattle.schema.specs.declared.RowId.{RowId}
 use Rattle.rows.specs.declared.Change.{Change}
 use Rattle.rows.specs.Change.{changed}
-use Rattle.rows.specs.Database.{Database, target, writes, apply, effect}
+use Rattle.rows.specs.Database.{Database, put_row, target, writes, apply, effect}
+use Rattle.rows.specs.Effect.{parent_stands}
 use Rattle.rows.specs.Frame.{SameEffect}
-use Rattle.store_trait.specs.Batch.{put_row, rows_in}
+use Rattle.store_trait.specs.Batch.{rows_in}
 use Rattle.overlay.specs.Pending.{Pending, none_pending, pushed, left_at, seen}
-use Rattle.overlay.specs.Step.{parent_stands}
 
 -- the changes that are pending apply to db one after another and leave after, and what they leave is there
 pub record Follows (ts : List Table) (db : Database) (pending : Pending) (after : Database) : Type 0 where
@@ -21,10 +19,10 @@ pub record Follows (ts : List Table) (db : Database) (pending : Pending) (after 
 abbrev pub NoneFollows : Type 0
 NoneFollows = (ts : List Table) (db : Database) → Follows ts db none_pending db
 
--- a change that fits the row that it is of, as the transaction sees it, and whose parent is there
+-- a change that fits the row that it is of, as the transaction sees it, and gives it a parent that is there, if any
 abbrev pub StepFollows : Type 0
 StepFollows = (ts : List Table) (db : Database) (pending : Pending) (after : Database) (change : Change) (left : Option (List ℤ)) →
-    Follows ts db pending after → changed change (get after (target change)) ≡ Ok left → parent_stands ts change after ≡ true →
+    Follows ts db pending after → changed change (get after (target change)) ≡ Ok left → parent_stands ts change after left ≡ true →
     Follows ts db (pushed pending change left) (put_row after (target change) left)
 
 -- a change that applies, with what it leaves of its row
@@ -45,8 +43,3 @@ SeesAfter = (ts : List Table) (db : Database) (pending : Pending) (after : Datab
 abbrev pub MovesOver : Type 0
 MovesOver = (ts : List Table) (db : Database) (pending : Pending) (after other : Database) →
     Follows ts db pending after → (same : SameEffect ts pending.changes db after other) → Follows ts other pending same.leaves
-
--- a change does what its row and its parent say, and nothing else
-abbrev pub AppliesByRow : Type 0
-AppliesByRow = (ts : List Table) (change : Change) (db : Database) →
-    apply ts change db ≡ (if parent_stands ts change db then option_map (put_row db (target change)) (result_ok (changed change (get db (target change)))) else None)

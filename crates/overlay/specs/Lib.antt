@@ -1,3 +1,2 @@
 pub mod Pending
-pub mod Step
 pub mod Follows

@@ -1,12 +1,6 @@
 //! What follows from the definitions alone. Each function states a law by its contract, and does nothing.
 
-ghost use Rattle.overlay.specs.Follows.{AppliesByRow, NoneFollows, StepFollows, PushedFollows, ShowsRows, SeesAfter, MovesOver};
-
-/// A change puts what it leaves of the row that it is of, where it fits that row and its parent is there, and
-/// else does not apply.
-pub fn applies_by_row()
-    ensures { AppliesByRow }
-{}
+ghost use Rattle.overlay.specs.Follows.{NoneFollows, StepFollows, PushedFollows, ShowsRows, SeesAfter, MovesOver};
 
 /// How the overlay of changes that apply one after another goes on: from no changes, by a change that applies,
 /// and over another database to which the changes do the same.

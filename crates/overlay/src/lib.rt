@@ -7,13 +7,13 @@
 //! apply one after another shows.
 #![tactic(auto)]
 
-ghost use Rattle.std.specs.Prelude.{◌≡◌, ◌↔◌, [], length, IsTrue, IfOk, OnOk, OnErr, unwrap_or};
+ghost use Rattle.std.specs.Prelude.{◌≡◌, ◌↔◌, [], length, IsTrue, IfOk, OnOk, OnErr, unwrap_or, option_copied};
 ghost use Rattle.std.specs.Option.{option_map};
 ghost use Rattle.std.specs.FinMap.{get as row_of};
 ghost use Rattle.rows.specs.Database.{target, apply, effect, parent_of, has_parent};
+ghost use Rattle.rows.specs.Effect.{parent_stands, sets_parent};
 ghost use Rattle.store_trait.specs.Batch.{IsRising};
 ghost use Rattle.overlay.specs.Pending.{none_pending, pushed, left_at, seen, pending_of};
-ghost use Rattle.overlay.specs.Step.{parent_stands};
 
 pub mod laws;
 
@@ -101,7 +101,8 @@ impl Overlay {
         self.changes.is_empty()
     }
 
-    /// Each row that the changes are of with what they leave of it. With b such rows the time is b log b.
+    /// Each row that the changes are of with what they leave of it; a row inserted and deleted again is there as
+    /// removed. With b such rows the time is b log b.
     pub fn batch(&self, alloc: Global) -> Result<Batch, Memory>
         ensures { IfOk result (λ batch. batch ≡ self.now.left) }
     {
@@ -174,19 +175,42 @@ pub fn left_seen<S: RowStore>(
 {
     let before = row_seen(overlay, store, change.target());
     let left = apply_one(change, before.as_ref()).ok()?;
-    if parent_holds(overlay, schema, store, change) {
+    if parent_holds(overlay, schema, store, change, left.as_ref()) {
         Some(left)
     } else {
         None
     }
 }
 
-/// Whether the parent that the change asks for is there.
-fn parent_holds<S: RowStore>(overlay: &Overlay, schema: &Schema, store: &S, change: &Change) -> bool
-    ensures { result ≡ parent_stands schema.now change.now (seen overlay.now (S.contents store.now)) }
+/// Whether the parent that the change gives its row, which it leaves so, is there, if it gives one.
+fn parent_holds<S: RowStore>(
+    overlay: &Overlay,
+    schema: &Schema,
+    store: &S,
+    change: &Change,
+    left: Option<&Row>,
+) -> bool
+    ensures { result ≡ parent_stands schema.now change.now (seen overlay.now (S.contents store.now)) (option_copied left.entry) }
+{
+    match left {
+        Some(columns) if gives_parent(schema, change) => {
+            parent_seen(overlay, schema, store, change.target().table, columns)
+        }
+        _ => true,
+    }
+}
+
+/// Whether the change says which parent its row has.
+fn gives_parent(schema: &Schema, change: &Change) -> bool
+    ensures { result ≡ sets_parent schema.now change.now }
 {
     match change {
-        Change::Insert { row, values } => parent_seen(overlay, schema, store, row.table, values),
+        Change::Insert { .. } => true,
+        Change::Update { row, columns } => schema
+            .table(row.table)
+            .and_then(|table| table.parent)
+            .is_some_and(|link| columns.names(link.0)),
+        Change::Delete { .. } => false,
     }
 }
 

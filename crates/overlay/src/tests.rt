@@ -1,30 +1,36 @@
-//! What no clause says: that a transaction of the most changes finds its memory, and refused calls that are made again.
+//! Changes over committed rows and over one another, and what no clause says: that a transaction of the most changes
+//! finds its memory, and refused calls that are made again.
 
 use crate::{Overlay, run_changes};
 use btree_store::BTreeStore;
-use rows::{Change, Row};
+use rows::{Change, Named, Row};
 use schema::{Memory, RowId, Schema, Table};
 use std::alloc::Global;
 use std::process::Abort;
 use std::test::Fail;
-use store_trait::Batch;
+use store_trait::{Batch, RowStore};
 
 const PARENT: RowId = RowId { table: 3, key: 1 };
 
 const CHILD: RowId = RowId { table: 4, key: 9 };
 
-/// A parent table of one column, and a child table whose column names the parent's row.
+/// Rows that are not committed.
+const NEW_PARENT: RowId = RowId { table: 3, key: 5 };
+
+const NEW_CHILD: RowId = RowId { table: 4, key: 10 };
+
+/// A parent table and a child table of two columns each, the child's first of which names the parent's row.
 fn schema(alloc: Global) -> Result<Schema, Memory> {
     let tables = vec![in alloc;
         Table {
             id: 3,
-            columns: 1,
+            columns: 2,
             keyed: true,
             parent: None
         },
         Table {
             id: 4,
-            columns: 1,
+            columns: 2,
             keyed: true,
             parent: Some((0, 3))
         },
@@ -36,14 +42,132 @@ fn schema(alloc: Global) -> Result<Schema, Memory> {
 }
 
 fn row(value: i64) -> Option<Row> {
-    Row::new(&[value])
+    Row::new(&[value, 7])
 }
 
-fn insert(row: RowId, value: i64) -> Result<Change, Memory> {
-    match Row::new(&[value]) {
-        Some(values) => Ok(Change::Insert { row, values }),
-        None => Err(Memory),
+fn insert(id: RowId, value: i64) -> Result<Change, Memory> {
+    let values = row(value).ok_or(Memory)?;
+    Ok(Change::Insert { row: id, values })
+}
+
+/// The update of one column, which the mask names.
+fn update(row: RowId, mask: u16, value: i64) -> Result<Change, Memory> {
+    let columns = Named::new(mask, &[value]).ok_or(Memory)?;
+    Ok(Change::Update { row, columns })
+}
+
+fn delete(row: RowId) -> Change {
+    Change::Delete { row }
+}
+
+/// A store of the parent and of the child, which names it.
+fn committed(alloc: Global) -> Result<BTreeStore, Memory> {
+    let entries = vec![in alloc; (PARENT, row(0)), (CHILD, row(1))]?;
+    let mut store = BTreeStore::new(alloc);
+    store.put_all(&Batch::from_entries(entries).ok_or(Memory)?)?;
+    Ok(store)
+}
+
+/// What these changes leave over the committed rows, or `None` where one of them does not apply.
+fn left(alloc: Global, changes: &[Change]) -> Result<Option<Batch>, Memory> {
+    let schema = schema(alloc)?;
+    let store = committed(alloc)?;
+    match run_changes(alloc, &schema, &store, changes)? {
+        Some(overlay) => Ok(Some(overlay.batch(alloc)?)),
+        None => Ok(None),
     }
+}
+
+/// Each of the changes applies to the committed rows behind those before it, and this is what they leave.
+fn assert_left(
+    rt: &(impl Abort + AllocGlobal),
+    changes: &[Change],
+    entries: &[(RowId, Option<Row>)],
+) -> Result<(), Fail> {
+    let batch = left(rt.alloc(), changes)?.ok_or("each change applies")?;
+    assert!(rt; batch.entries() == entries);
+    Ok(())
+}
+
+/// One of the changes does not apply to the committed rows.
+fn assert_refused(rt: &(impl Abort + AllocGlobal), changes: &[Change]) -> Result<(), Memory> {
+    assert!(rt; left(rt.alloc(), changes)?.is_none());
+    Ok(())
+}
+
+#[test]
+fn an_update_is_of_the_row_that_is_seen(rt: HostRuntime) -> Result<(), Fail> {
+    let updated = Row::new(&[1, 40]);
+    let child = insert(NEW_CHILD, 1)?;
+    assert_left(&rt, &[update(CHILD, 2, 40)?], &[(CHILD, updated)])?;
+    assert_left(
+        &rt,
+        &[child, update(NEW_CHILD, 2, 40)?],
+        &[(NEW_CHILD, updated)],
+    )?;
+    assert_left(
+        &rt,
+        &[update(CHILD, 2, 39)?, update(CHILD, 2, 40)?],
+        &[(CHILD, updated)],
+    )?;
+    // An absent row, one that comes only later, and a column that the row lacks.
+    assert_refused(&rt, &[update(NEW_CHILD, 2, 40)?])?;
+    assert_refused(&rt, &[update(NEW_CHILD, 2, 40)?, child])?;
+    assert_refused(&rt, &[update(CHILD, 4, 40)?])?;
+    Ok(())
+}
+
+#[test]
+fn a_deleted_row_is_seen_no_more(rt: HostRuntime) -> Result<(), Fail> {
+    let child = insert(NEW_CHILD, 1)?;
+    assert_left(&rt, &[delete(CHILD)], &[(CHILD, None)])?;
+    assert_left(&rt, &[child, delete(NEW_CHILD)], &[(NEW_CHILD, None)])?;
+    assert_left(&rt, &[delete(CHILD), insert(CHILD, 1)?], &[(CHILD, row(1))])?;
+    assert_left(
+        &rt,
+        &[child, delete(NEW_CHILD), child],
+        &[(NEW_CHILD, row(1))],
+    )?;
+    assert_refused(&rt, &[delete(NEW_CHILD)])?;
+    assert_refused(&rt, &[delete(CHILD), delete(CHILD)])?;
+    assert_refused(&rt, &[delete(CHILD), update(CHILD, 2, 40)?])?;
+    Ok(())
+}
+
+/// A row that is inserted and deleted again is written: the batch has it as removed, and the store stays as it was.
+#[test]
+fn an_inserted_row_that_is_deleted_is_a_removal(rt: HostRuntime) -> Result<(), Fail> {
+    let changes = [
+        insert(NEW_CHILD, 1)?,
+        update(NEW_CHILD, 2, 40)?,
+        delete(NEW_CHILD),
+    ];
+    assert_left(&rt, &changes, &[(NEW_CHILD, None)])?;
+    let mut store = committed(rt.alloc())?;
+    let batch = left(rt.alloc(), &changes)?.ok_or("each change applies")?;
+    store.put_all(&batch)?;
+    assert_eq!(rt; store.len(), 2);
+    assert!(rt; store.get(NEW_CHILD).is_none());
+    Ok(())
+}
+
+#[test]
+fn an_update_asks_for_the_parent_that_it_names(rt: HostRuntime) -> Result<(), Fail> {
+    let moved = update(CHILD, 1, 5)?;
+    assert_refused(&rt, &[moved])?;
+    assert_left(
+        &rt,
+        &[insert(NEW_PARENT, 0)?, moved],
+        &[(NEW_PARENT, row(0)), (CHILD, row(5))],
+    )?;
+    // The parent is deleted: it is asked for where the update names its column, and only there.
+    assert_refused(&rt, &[delete(PARENT), update(CHILD, 1, 1)?])?;
+    assert_left(
+        &rt,
+        &[delete(PARENT), update(CHILD, 2, 40)?],
+        &[(PARENT, None), (CHILD, Row::new(&[1, 40]))],
+    )?;
+    Ok(())
 }
 
 /// How many changes the overlay of these has over no rows.
@@ -155,9 +279,13 @@ fn a_transaction_of_1024_changes(rt: HostRuntime) -> Result<(), Fail> {
     Ok(())
 }
 
-/// Pushes the change, once more where it is refused, which leaves the overlay as it was.
-fn push_again(rt: &impl Abort, overlay: &mut Overlay, change: &Change) -> Result<(), Memory> {
-    let Change::Insert { values, .. } = change;
+/// Pushes the insert of these columns, once more where it is refused, which leaves the overlay as it was.
+fn push_again(
+    rt: &impl Abort,
+    overlay: &mut Overlay,
+    change: &Change,
+    values: &Row,
+) -> Result<(), Memory> {
     let before = overlay.len();
     if overlay.push(*change, Some(*values)).is_ok() {
         return Ok(());
@@ -170,7 +298,10 @@ fn push_again(rt: &impl Abort, overlay: &mut Overlay, change: &Change) -> Result
 fn pushed(rt: &(impl Abort + AllocGlobal), changes: &[Change]) -> Result<Overlay, Memory> {
     let mut overlay = Overlay::new(rt.alloc());
     for change in changes {
-        push_again(rt, &mut overlay, change)?;
+        let Change::Insert { values, .. } = change else {
+            return Err(Memory);
+        };
+        push_again(rt, &mut overlay, change, values)?;
     }
     Ok(overlay)
 }

@@ -1,10 +1,10 @@
-//! The worked deliveries, a record that stops the replica, inserts from end to end at the bounds of the product, and
+//! The worked deliveries, a record that stops the replica, changes from end to end at the bounds of the product, and
 //! refused calls that are made again.
 
 use crate::{Received, ReplicaCore, ReplicaFault};
 use btree_store::BTreeStore;
 use record_codec::{Changes, Flags, Record, Refs};
-use rows::{Change, Row};
+use rows::{Change, Named, Row};
 use schema::{Memory, RowId, Schema, Table};
 use std::alloc::Global;
 use std::process::Abort;
@@ -214,6 +214,59 @@ fn a_record_of_1024_changes_is_committed(rt: HostRuntime) -> Result<(), Fail> {
     assert!(rt; matches!(&copy, Op::Commit { gno: 1, .. }));
     assert_eq!(rt; copy.batch().entries().len(), 1024);
     assert!(rt; copy.batch().entries() == only.batch().entries());
+    Ok(())
+}
+
+/// The update of column 15 of the row of this key.
+fn update(key: i64, value: i64) -> Result<Change, Memory> {
+    let columns = Named::new(1 << 15, &[value]).ok_or(Memory)?;
+    Ok(Change::Update {
+        row: id(key),
+        columns,
+    })
+}
+
+/// A replica of the rows 0 to 2 that has committed an update of row 2 and a delete of row 0.
+fn changed_replica(rt: &(impl Abort + AllocGlobal)) -> Result<ReplicaCore<BTreeStore>, Memory> {
+    let alloc = rt.alloc();
+    let mut replica = replica_of_three(alloc)?;
+    let list = vec![in alloc; update(2, 40)?, Change::Delete { row: id(0) }]?;
+    commit(rt, &mut replica, &record_of(alloc, 1, list)?);
+    Ok(replica)
+}
+
+#[test]
+fn an_update_and_a_delete_are_committed(rt: HostRuntime) -> Result<(), Fail> {
+    let replica = changed_replica(&rt)?;
+    let updated = Row::new(&[2, 2, 2, 2, 2, 2, 2, 2, 2, 2, 2, 2, 2, 2, 2, 40]);
+    assert_eq!(rt; replica.store().len(), 2);
+    assert!(rt; replica.store().get(id(2)) == updated);
+    assert!(rt; replica.store().get(id(0)).is_none());
+    assert_eq!(rt; first_pending(&replica), Some(1));
+    let [only] = replica.pending() else {
+        return Err(Fail::new("one commit waits"));
+    };
+    let entries = only.batch().entries();
+    assert_eq!(rt; entries.len(), 2);
+    assert!(rt; entries[0] == (id(0), None));
+    assert!(rt; entries[1] == (id(2), updated));
+    Ok(())
+}
+
+#[test]
+fn an_update_of_an_absent_row_stops_the_replica(rt: HostRuntime) -> Result<(), Fail> {
+    let alloc = rt.alloc();
+    let mut replica = changed_replica(&rt)?;
+    // It is the second of its record's changes, and the first is dropped with it.
+    let list = vec![in alloc; update(1, 41)?, update(0, 41)?]?;
+    let bad = record_of(alloc, 2, list)?;
+    assert_eq!(rt; replica.receive(&bad), Ok(Received::Accepted));
+    assert_eq!(rt; replica.dispatch(), Ok(Some(2)));
+    assert_eq!(rt; replica.finish(2), Err(ReplicaFault::Stopped(2)));
+    assert_eq!(rt; replica.stopped(), Some(2));
+    assert_eq!(rt; replica.committed(), 1);
+    assert_eq!(rt; replica.pending().len(), 1);
+    assert!(rt; replica.store().get(id(1)) == row(1));
     Ok(())
 }
 

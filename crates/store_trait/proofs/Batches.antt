@@ -1,7 +1,7 @@
 -- What batches leave of a database.
 use Rattle.std.proofs.Common.{◌≡◌, ◌∙◌, sym, ap, refl, Bool, true, false, cond, ◌&&◌, ◌||◌, T, List, [], ◌∷◌, ◌++◌, map, Option, Some, None, option_map, unwrap_or, ℤ, is_eq, is_lt, Ordering, Less, Equal, Greater, true≢false}
 use Rattle.std.specs.Bool.{passes}
-use Rattle.std.specs.FinMap.{get, find, empty, entries, entries_sorted, is_sorted, put, get-entries, get-empty, get-insert, get-remove, same_map}
+use Rattle.std.specs.FinMap.{get, find, empty, entries, entries_sorted, is_sorted, put, get-entries, get-empty, same_map}
 use Rattle.std.specs.FinMap.Entries.{below_all, same_entries, find-put, is_sorted-put}
 use Rattle.std.proofs.lemmas.Bool.{and_parts, cond-false}
 use Rattle.schema.specs.declared.RowId.{RowId}
@@ -11,7 +11,7 @@ use Rattle.rows.specs.Database.{Database, writes}
 use Rattle.store_trait.specs.Batch.{Entry, IsRising, put_row, put_batch, put_batches, in_order, rows_in, all_rows}
 use Rattle.store_trait.specs.Operation.{batch_of}
 use Rattle.store_trait.specs.Laws.{SetsItsRows, IsItsRows, HasTheRows, CarriesChanges, GoesOn, GoesOnByOps, LoadsAll}
-use Rattle.rows.proofs.Apply.{row_is}
+use Rattle.rows.proofs.Apply.{get-put_row, row_is}
 use Rattle.rows.proofs.Effect.{changes_only_writes}
 
 -- ---- row ids
@@ -63,10 +63,6 @@ find-of_each {X} f q (row ∷ rows) =
 
 -- ---- batches
 
-pub get-put_row : (db : Database) (id : RowId) (columns : Option (List ℤ)) (q : RowId) → get (put_row db id columns) q ≡ cond (same_row q id) columns (get db q)
-get-put_row db id None q = get-remove row_total db id q
-get-put_row db id (Some columns) q = get-insert row_total db id columns q
-
 -- what is found later stands, and what was put at first is not found later
 chosen : {X : Type 0} (b : Bool) (found : Option X) (put old : X) → (b ≡ true → found ≡ None) → unwrap_or found (cond b put old) ≡ unwrap_or (cond b (Some put) found) old
 chosen true found put old once = ap (λ o. unwrap_or o put) (once refl)
@@ -77,7 +73,7 @@ get-put_batch [] db q rising = refl
 get-put_batch (e ∷ es) db q rising =
     let parts = and_parts (below_all row_cmp e.0 es) (is_sorted row_cmp es) rising in
     get-put_batch es (put_row db e.0 e.1) q parts.1
-    ∙ ap (unwrap_or (find row_cmp q es)) (get-put_row db e.0 e.1 q)
+    ∙ ap (unwrap_or (find row_cmp q es)) (get-put_row db e.0 q e.1)
     ∙ chosen (same_row q e.0) (find row_cmp q es) e.1 (get db q)
     (λ same. ap (λ id. find row_cmp id es) (row_is q e.0 same) ∙ find_below e.0 es parts.0)
 

@@ -1,9 +1,10 @@
 -- Batches: for each row that changes its new columns, or none where the row is removed.
-use Rattle.std.specs.Prelude.{ℤ, IsTrue, List, [], ◌∷◌, map, Option, Some, None}
-use Rattle.std.specs.FinMap.{is_sorted, get, insert, remove, entries, put}
+use Rattle.std.specs.Prelude.{ℤ, IsTrue, List, [], ◌∷◌, map, Option, Some}
+use Rattle.std.specs.FinMap.{is_sorted, get, entries, put}
 use Rattle.schema.specs.declared.RowId.{RowId}
 use Rattle.schema.specs.RowId.{row_cmp}
 use Rattle.rows.specs.Database.{Database}
+pub use Rattle.rows.specs.Database.{put_row}
 
 -- a row and its new columns, or none where it is removed
 abbrev pub Entry : Type 0
@@ -12,10 +13,6 @@ Entry = RowId × Option (List ℤ)
 -- the row ids strictly rise, so that no row comes twice
 abbrev pub IsRising : List Entry → Type 0
 IsRising entries = IsTrue (is_sorted row_cmp entries)
-
-abbrev pub put_row : Database → RowId → Option (List ℤ) → Database
-put_row db id None = remove db id
-put_row db id (Some columns) = insert db id columns
 
 -- what a batch leaves
 abbrev pub put_batch : List Entry → Database → Database
