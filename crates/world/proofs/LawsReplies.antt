@@ -13,7 +13,7 @@ use Rattle.record_codec.specs.Log.{IsLegalLog}
 use Rattle.record_codec.proofs.Logs.{place_is_number}
 use Rattle.source_core.specs.declared.fault.SourceFault.{SourceFault}
 use Rattle.source_core.specs.Source.{seen_row}
-use Rattle.source_core.specs.Calls.{begin_fault, write_fault, read_fault, prepare_fault, prepare_answer, queue_fault}
+use Rattle.source_core.specs.Calls.{begin_fault, write_fault, read_fault, prepare_fault, prepare_answer, queue_fault, abort_fault}
 use Rattle.source_core.specs.declared.transaction.Prepared.{Prepared as Answer}
 use Rattle.source_core.specs.declared.transaction.Prepared.TheVariants as answers
 use Rattle.replica_core.specs.declared.Received.{Received}
@@ -164,6 +164,8 @@ answers_say setup log past (events.Prepare session) reply legal within h =
     by setup log past _ reply _ h (refused_says setup log past _ (prepare_fault (source_at setup log past) session) _ (prepare_says setup log past _ (prepare_answer (source_at setup log past) session)))
 answers_say setup log past (events.Queue session) reply legal within h =
     by setup log past _ reply _ h (refused_says setup log past _ (queue_fault (source_at setup log past) session) replies.Done tt)
+answers_say setup log past (events.Abort session) reply legal within h =
+    by setup log past _ reply _ h (refused_says setup log past _ (abort_fault (source_at setup log past) session) replies.Done tt)
 answers_say setup log past events.Flush reply legal within h = flush_says setup log past (queue past) reply h
 answers_say setup log past events.Sync reply legal within h = by setup log past _ reply _ h (sync_says setup log past (unsynced past) refl)
 answers_say setup log past events.Commit reply legal within h = by setup log past _ reply _ h (commit_says setup log past (source_committed past == synced past))

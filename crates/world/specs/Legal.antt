@@ -11,7 +11,7 @@ use Rattle.record_codec.specs.Log.{after, IsLegalLog}
 use Rattle.source_core.specs.declared.fault.SourceFault.{SourceFault}
 use Rattle.source_core.specs.declared.fault.SourceFault.TheVariants as source
 use Rattle.source_core.specs.Source.{Source, seen_row}
-use Rattle.source_core.specs.Calls.{begin_fault, write_fault, read_fault, prepare_fault, prepare_answer, queue_fault, AreRecordsOf}
+use Rattle.source_core.specs.Calls.{begin_fault, write_fault, read_fault, prepare_fault, prepare_answer, queue_fault, abort_fault, AreRecordsOf}
 use Rattle.replica_core.specs.declared.ReplicaFault.TheVariants as replica
 use Rattle.replica_core.specs.Replica.{Replica}
 use Rattle.replica_core.specs.Calls.{received, unless_stopped, next_job, next_commit, finish_fault}
@@ -117,6 +117,8 @@ Answers setup log past (events.Prepare session) reply =
     reply ≡ refused_or (prepare_fault (source_at setup log past) session) (prepared_reply (Ok (prepare_answer (source_at setup log past) session)))
 Answers setup log past (events.Queue session) reply =
     reply ≡ refused_or (queue_fault (source_at setup log past) session) replies.Done
+Answers setup log past (events.Abort session) reply =
+    reply ≡ refused_or (abort_fault (source_at setup log past) session) replies.Done
 Answers setup log past events.Flush reply = FlushAnswers setup log past (queue past) reply
 Answers setup log past events.Sync reply = reply ≡ sync_reply (unsynced past)
 Answers setup log past events.Commit reply = reply ≡ commit_reply past

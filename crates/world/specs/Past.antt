@@ -61,12 +61,13 @@ transaction_after past session event reply now = elim event [
   ])
   | events.Queue number ↦
       if is_done reply && number == session then option_map (λ t. record { changes = t.changes; phase = queued_phase t.phase }) now else now
+  | events.Abort number ↦ if is_done reply && number == session then None else now
   | events.Flush ↦ (elim reply [ replies.Flushed first stamps ↦ flushed_open (flushed past + 1) (queue past) session now | _ ↦ now ])
   | events.Commit ↦ (elim reply [ replies.Committed first last ↦ if is_flushed_by last now then None else now | _ ↦ now ])
   | _ ↦ now
 ]
 
--- a session's open transaction: the changes that it wrote since its begin, until it is committed or answered empty
+-- a session's open transaction: the changes that it wrote since its begin, until it is committed, aborted or answered empty
 abbrev pub transaction_of : Past → ℕ → Option Open
 transaction_of [] session = None
 transaction_of (pair ∷ past) session = transaction_after past session pair.0 pair.1 (transaction_of past session)

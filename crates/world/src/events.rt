@@ -22,6 +22,8 @@ pub enum Event {
     Prepare { session: u16 },
     /// The session's transaction waits for the next flush.
     Queue { session: u16 },
+    /// The session's transaction ends without a trace, where it is not queued yet.
+    Abort { session: u16 },
     /// The queued transactions become the next records of the log.
     Flush,
     /// The oldest group of records that is not yet synced is written to the log.
