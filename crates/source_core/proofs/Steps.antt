@@ -1,13 +1,13 @@
 -- What each call leaves stands as a source does.
-use Rattle.std.proofs.Common.{Bool, true, false, not, ◌&&◌, nat_le, ◌≡◌, ◌∙◌, sym, ap, subst, refl, ℕ, ◌+◌, ◌<◌, ◌≤◌, List, [], ◌∷◌, ◌++◌, length, length-append, take, drop, Option, Some, None, arith, ◌==◌}
-use Rattle.std.specs.FinMap.{empty, get, insert}
+use Rattle.std.proofs.Common.{Bool, true, false, not, ◌&&◌, nat_le, ◌≡◌, ◌∙◌, sym, ap, subst, refl, ℕ, ◌+◌, ◌<◌, ◌≤◌, List, [], ◌∷◌, ◌++◌, length, length-append, take, drop, Option, Some, None, arith}
+use Rattle.std.specs.FinMap.{empty, get}
 use Rattle.std.specs.Option.{option_map, option_map_or, option_flatten, option_and_then, ok_or, IsSome}
 use Rattle.std.specs.Result.{result_err, IfOk}
-use Rattle.std.specs.Prelude.{ℤ, is_some, is_none, slice_get, zero, suc, ◌-◌, cond, Result}
+use Rattle.std.specs.Prelude.{ℤ, slice_get, zero, suc, ◌-◌, Result}
 use Rattle.schema.specs.declared.RowId.{RowId}
 use Rattle.schema.specs.Schema.{table_at}
 use Rattle.schema.specs.Flags.{IsFlat}
-use Rattle.rows.specs.declared.Change.TheVariants.{Insert}
+use Rattle.store_trait.specs.Fits.{Fits}
 use Rattle.record_codec.specs.Log.{after}
 use Rattle.schema.specs.declared.Table.{Table}
 use Rattle.rows.specs.declared.Change.{Change}
@@ -22,13 +22,13 @@ use Rattle.source_core.specs.declared.transaction.Phase.TheVariants.{Active, Pre
 use Rattle.source_core.specs.declared.transaction.Transaction.{Transaction}
 use Rattle.std.proofs.lemmas.Bool.Decides.{nat_tests}
 use Rattle.source_core.specs.declared.fault.SourceFault.{SourceFault}
-use Rattle.source_core.specs.declared.fault.SourceFault.TheVariants.{Halted, NoSession, NotActive, WrongColumns, NoTable, TooManyChanges, RowExists}
+use Rattle.source_core.specs.declared.fault.SourceFault.TheVariants.{Halted, NoSession, NotActive, WrongColumns, NoTable, TooManyChanges}
 use Rattle.source_core.specs.Source.{Source, seen_row, session_rows, left_in, EachApplies}
-use Rattle.source_core.specs.Calls.{cause, shape_fault, rows_fault, change_fault, write_fault, written}
-use Rattle.source_core.specs.Core.{IsCore, OpenStands, Applies, IsLast, open_view, queue_view, with_change}
+use Rattle.source_core.specs.Calls.{cause, has_columns, shape_fault, rows_fault, change_fault, write_fault, written}
+use Rattle.source_core.specs.Core.{refusal, IsCore, OpenStands, Applies, IsLast, open_view, queue_view, with_change}
 use Rattle.std.proofs.lemmas.List.{take-append-drop, take_all, length-drop}
 use Rattle.record_codec.proofs.Logs.{after-push}
-use Rattle.source_core.proofs.Legal.{flat_has_parent}
+use Rattle.source_core.proofs.Shapes.{IsShaped, shaped_fits, told, shaped_told}
 
 -- another transaction that stands
 pub with_current : (ts : List Table) (rows : Database) (base : List Entry) (limit : ℕ) (log : List Record) (synced committed : ℕ) (old new : Option Transaction) →
@@ -41,6 +41,7 @@ with_current ts rows base limit log synced committed old new core stands = recor
   synced_within = core.synced_within;
   committed_within = core.committed_within;
   rows_are = core.rows_are;
+  fits = core.fits;
   stands = stands;
 }
 
@@ -48,7 +49,7 @@ pub opened : (ts : List Table) (rows : Database) (base : List Entry) (limit : �
     old ≡ None → pending ≡ none_pending → IsCore ts rows base limit log synced committed old → IsCore ts rows base limit log synced committed (Some (record { overlay = pending; phase = Active }))
 opened ts rows base limit log synced committed None pending e new core =
     with_current ts rows base limit log synced committed None _ core
-    (subst (λ (p : Pending). Applies ts rows p) (sym new) (record { leaves = rows; follows = record { applied = refl; left = refl }; few = omega arith }), core.stands)
+    (subst (λ (p : Pending). Applies ts rows p) (sym new) (record { leaves = rows; follows = record { applied = refl; left = refl }; fits = core.fits; few = omega arith }), core.stands)
 opened ts rows base limit log synced committed (Some t) pending e new core = cc
 
 -- the parts, seen as a source
@@ -72,12 +73,22 @@ pub no_cause : (b : Bool) (fault : SourceFault) (later : Option SourceFault) →
 no_cause true fault later e = absurd (cc e)
 no_cause false fault later e = (refl, e)
 
-pub no_shape_fault : (ts : List Table) (change : Change) (later : Option SourceFault) → shape_fault ts change later ≡ None → later ≡ None
-no_shape_fault ts (Insert row columns) later e =
-    elim (table_at ts row.table) as (λ o. option_map_or (λ table. cause (not (length columns == table.columns)) WrongColumns later) o (Some NoTable) ≡ None → later ≡ None) [
-      | None ↦ λ h. absurd (cc h)
-      | Some table ↦ λ h. (no_cause _ WrongColumns later h).1
-    ] e
+it_is : (b : Bool) → not b ≡ false → b ≡ true
+it_is true e = refl
+it_is false e = absurd cc
+
+-- no fault of the shape, and none that comes later
+no_fault_at : (change : Change) (o : Option Table) (later : Option SourceFault) → option_map_or (λ table. cause (not (has_columns table change)) WrongColumns later) o (Some NoTable) ≡ None →
+    (table : Table) × (o ≡ Some table) × (has_columns table change ≡ true) × (later ≡ None)
+no_fault_at change None later e = absurd (cc e)
+no_fault_at change (Some table) later e =
+    let some = no_cause (not (has_columns table change)) WrongColumns later e in
+    (table, refl, it_is (has_columns table change) some.0, some.1)
+
+pub no_shape_fault : (ts : List Table) (change : Change) (later : Option SourceFault) → shape_fault ts change later ≡ None → IsShaped ts change × (later ≡ None)
+no_shape_fault ts change later e =
+    let found = no_fault_at change (table_at ts (target change).table) later e in
+    (record { table = found.0; in_schema = found.1; columns = found.2 }, found.3)
 
 -- there is one session
 pub the_session : (session : ℕ) → not (nat_le 1 session && nat_le session 1) ≡ false → session ≡ 1
@@ -114,10 +125,10 @@ leaves_row row (Some next) left e = (next, refl, cc e)
 -- a change that applies is put behind those before it
 put_change : (ts : List Table) (rows leaves : Database) (p : Pending) (change : Change) (left : Option (List ℤ)) →
     Follows ts rows p leaves → option_map (λ after. get after (target change)) (apply ts change leaves) ≡ Some left →
-    (next : Database) × Follows ts rows (pushed p change left) next
+    (next : Database) × Follows ts rows (pushed p change left) next × (apply ts change leaves ≡ Some next)
 put_change ts rows leaves p change left follows e =
     let found = leaves_row (target change) (apply ts change leaves) left e in
-    (found.0, subst (λ (l : Option (List ℤ)). Follows ts rows (pushed p change l) found.0) found.2 (Follows-pushed change found.0 follows found.1))
+    (found.0, subst (λ (l : Option (List ℤ)). Follows ts rows (pushed p change l) found.0) found.2 (Follows-pushed change found.0 follows found.1), found.1)
 
 wrote_one : (ts : List Table) (rows : Database) (base : List Entry) (limit : ℕ) (log : List Record) (synced committed : ℕ) (p : Pending) (phase : Phase) (halted : Bool) (change : Change) (left : Option (List ℤ)) →
     IsCore ts rows base limit log synced committed (Some (record { overlay = p; phase = phase })) →
@@ -128,13 +139,14 @@ wrote_one : (ts : List Table) (rows : Database) (base : List Entry) (limit : ℕ
     ≡ written (source_of ts base limit log synced committed (Some (record { overlay = p; phase = phase })) halted) 1 change)
 wrote_one ts rows base limit log synced committed p Active halted change left core e is =
     let some = no_cause false NotActive _ (no_cause false NoSession _ (no_cause halted Halted _ e).1).1 in
-    let room = no_cause (nat_le 1024 (length p.changes)) TooManyChanges _ (no_shape_fault ts change _ some.1) in
+    let shape = no_shape_fault ts change _ some.1 in
+    let room = no_cause (nat_le 1024 (length p.changes)) TooManyChanges _ shape.1 in
     let applies = core.stands.0 in
     let t : Transaction = record { overlay = p; phase = Active } in
     let more : length (p.changes ++ change ∷ []) ≤ 1024 = omega (arith, below (length p.changes) room.0, length-append p.changes (change ∷ [])) in
     let after = rw (sees ts rows base limit log synced committed t halted core) at is in
     let put = put_change ts rows applies.leaves p change left applies.follows after in (
-      with_current ts rows base limit log synced committed _ _ core (record { leaves = put.0; follows = put.1; few = more }, core.stands.1),
+      with_current ts rows base limit log synced committed _ _ core (record { leaves = put.0; follows = put.1; fits = shaped_fits ts change applies.leaves put.0 core.flat shape.0 applies.fits put.2; few = more }, core.stands.1),
       refl,
     )
 wrote_one ts rows base limit log synced committed p (Prepared parent) halted change left core e is =
@@ -181,8 +193,8 @@ past_cause true fault early later first then e = absurd (a_fault fault e)
 past_cause false fault early later first then e = then e
 
 past_shape : (ts : List Table) (change : Change) (early later first : Option SourceFault) → (early ≡ None → later ≡ first) → shape_fault ts change early ≡ None → shape_fault ts change later ≡ first
-past_shape ts (Insert row columns) early later first then e =
-    elim (table_at ts row.table) as (λ o. option_map_or (λ table. cause (not (length columns == table.columns)) WrongColumns early) o (Some NoTable) ≡ None → option_map_or (λ table. cause (not (length columns == table.columns)) WrongColumns later) o (Some NoTable) ≡ first) [
+past_shape ts change early later first then e =
+    elim (table_at ts (target change).table) as (λ o. option_map_or (λ table. cause (not (has_columns table change)) WrongColumns early) o (Some NoTable) ≡ None → option_map_or (λ table. cause (not (has_columns table change)) WrongColumns later) o (Some NoTable) ≡ first) [
       | None ↦ λ h. absurd (a_fault NoTable h)
       | Some table ↦ λ h. past_cause _ WrongColumns early later first then h
     ] e
@@ -191,24 +203,19 @@ past_change : (s : Source) (session : ℕ) (change : Change) (later : Option Sou
 past_change s session change later e =
     past_cause s.halted Halted _ _ later (past_cause _ NoSession _ _ later (past_cause _ NotActive _ _ later (past_shape s.tables change _ _ later (past_cause _ TooManyChanges None later later (λ _. refl))))) e
 
--- what the rows refuse, told by whether the change leaves its row
-abbrev told : Option (Option (List ℤ)) → Option SourceFault
-told None = Some RowExists
-told (Some left) = None
+-- a change that no cause but its row refuses is of a shape that the schema allows
+change_shaped : (s : Source) (session : ℕ) (change : Change) (later : Option SourceFault) → change_fault s session change later ≡ None → IsShaped s.tables change
+change_shaped s session change later e =
+    (no_shape_fault s.tables change _ (no_cause _ NotActive _ (no_cause _ NoSession _ (no_cause s.halted Halted _ e).1).1).1).0
 
-by_row : (o : Option (List ℤ)) (next : Database) (row : RowId) → cause (is_some o) RowExists None ≡ told (option_map (λ after. get after row) (cond (is_none o && true) (Some next) None))
-by_row None next row = refl
-by_row (Some columns) next row = refl
-
-by_rows : (ts : List Table) (flat : IsFlat ts) (s : Source) (session : ℕ) (change : Change) (rows : Database) → s.tables ≡ ts → session_rows s session ≡ Some rows →
-    rows_fault s session change ≡ told (left_in s session change)
-by_rows ts flat s session (Insert row columns) rows same is =
-    rw (is, same, flat_has_parent ts flat rows row.table columns) (by_row (get rows row) (insert rows row columns) row)
+by_rows : (ts : List Table) (flat : IsFlat ts) (s : Source) (session : ℕ) (change : Change) (rows : Database) → IsShaped ts change → Fits ts rows → s.tables ≡ ts → session_rows s session ≡ Some rows →
+    rows_fault s session change ≡ told change (left_in s session change)
+by_rows ts flat s session change rows shaped fits same is = rw (is, same) (shaped_told ts change rows flat shaped fits)
 
 -- what the session's change leaves, and whether the rows refuse it
 pub left_is : (ts : List Table) (rows : Database) (base : List Entry) (limit : ℕ) (log : List Record) (synced committed : ℕ) (current : Option Transaction) (t : Transaction) (halted : Bool) (now : Source) (session : ℕ) (change : Change) (left : Option (Option (List ℤ))) →
     current ≡ Some t → source_of ts base limit log synced committed current halted ≡ now → IsCore ts rows base limit log synced committed current → change_fault now session change None ≡ None →
-    left ≡ option_map (λ after. get after (target change)) (apply ts change (seen t.overlay rows)) → (left_in now session change ≡ left) × (write_fault now session change ≡ told left)
+    left ≡ option_map (λ after. get after (target change)) (apply ts change (seen t.overlay rows)) → (left_in now session change ≡ left) × (write_fault now session change ≡ told change left)
 left_is ts rows base limit log synced committed None t halted now session change left e is core none from = absurd (cc e)
 left_is ts rows base limit log synced committed (Some t') t halted now session change left e is core none from =
     let source = source_of ts base limit log synced committed (Some t') halted in
@@ -217,16 +224,16 @@ left_is ts rows base limit log synced committed (Some t') t halted now session c
     let sees_one = subst (λ n. session_rows source n ≡ Some core.stands.0.leaves) (sym one) (sees ts rows base limit log synced committed t' halted core) in
     let there : seen t.overlay rows ≡ core.stands.0.leaves = ap (λ (p : Pending). seen p rows) (sym (same_overlay t' t e)) ∙ seen-Follows core.stands.0.follows in
     let leaves : left_in source session change ≡ left = rw sees_one (sym (from ∙ ap (λ db. option_map (λ after. get after (target change)) (apply ts change db)) there)) in
-    let fault : write_fault source session change ≡ told left =
-    past_change source session change (rows_fault source session change) none' ∙ by_rows ts core.flat source session change core.stands.0.leaves refl sees_one ∙ ap told leaves in
-    subst (λ (s : Source). (left_in s session change ≡ left) × (write_fault s session change ≡ told left)) is (leaves, fault)
+    let fault : write_fault source session change ≡ told change left =
+    past_change source session change (rows_fault source session change) none' ∙ by_rows ts core.flat source session change core.stands.0.leaves (change_shaped source session change None none') core.stands.0.fits refl sees_one ∙ ap (told change) leaves in
+    subst (λ (s : Source). (left_in s session change ≡ left) × (write_fault s session change ≡ told change left)) is (leaves, fault)
 
 -- the same, as the answer
-pub refused : (left : Option (Option (List ℤ))) (answer : Result (Option (List ℤ)) SourceFault) → answer ≡ ok_or left RowExists → result_err answer ≡ told left
-refused None answer e = rw e refl
-refused (Some left) answer e = rw e refl
+pub refused : (change : Change) (left : Option (Option (List ℤ))) (answer : Result (Option (List ℤ)) SourceFault) → answer ≡ ok_or left (refusal change) → result_err answer ≡ told change left
+refused change None answer e = rw e refl
+refused change (Some left) answer e = rw e refl
 
-pub left_answered : (s : Source) (session : ℕ) (change : Change) (left : Option (Option (List ℤ))) (answer : Result (Option (List ℤ)) SourceFault) → answer ≡ ok_or left RowExists → left_in s session change ≡ left →
+pub left_answered : (s : Source) (session : ℕ) (change : Change) (left : Option (Option (List ℤ))) (answer : Result (Option (List ℤ)) SourceFault) → answer ≡ ok_or left (refusal change) → left_in s session change ≡ left →
     IfOk answer (λ l. left_in s session change ≡ Some l)
 left_answered s session change None answer e is = subst (λ (r : Result (Option (List ℤ)) SourceFault). IfOk r (λ l. left_in s session change ≡ Some l)) (sym e) tt
 left_answered s session change (Some left) answer e is = subst (λ (r : Result (Option (List ℤ)) SourceFault). IfOk r (λ l. left_in s session change ≡ Some l)) (sym e) is
@@ -264,6 +271,7 @@ last_one ts rows base limit log synced committed p (Flushed gno) core more =
       synced_within = core.synced_within;
       committed_within = omega arith;
       rows_are = ap (λ l. after ts (put_batch base empty) l) (take_all synced log (omega (arith, all))) ∙ last_leaves ts rows base log committed gno p core.rows_are core.stands.0 last;
+      fits = subst (λ (db : Database). Fits ts db) (sym (seen-Follows core.stands.0.follows)) core.stands.0.fits;
       stands = all;
     }
 

@@ -1,18 +1,19 @@
 -- What each call of a source answers: its first cause of refusal, in order, and what it leaves.
-use Rattle.std.specs.Prelude.{◌≡◌, ℕ, ◌+◌, ◌-◌, Bool, true, false, not, ◌&&◌, ◌==◌, nat_le, if◌then◌else◌, List, [], ◌∷◌, ◌++◌, length, map, take, drop, slice_set, Option, Some, None, is_some, is_none}
+use Rattle.std.specs.Prelude.{◌≡◌, ℕ, ℤ, ◌+◌, ◌-◌, ◌^◌, Bool, true, false, not, ◌&&◌, ◌==◌, nat_le, nat_lt, if◌then◌else◌, List, [], ◌∷◌, ◌++◌, length, map, take, drop, slice_set, Option, Some, None, is_some, is_none}
 use Rattle.std.specs.Option.{option_map, option_map_or}
 use Rattle.schema.specs.declared.Table.{Table}
 use Rattle.schema.specs.declared.RowId.{RowId}
 use Rattle.schema.specs.Schema.{table_at}
 use Rattle.rows.specs.declared.Change.{Change}
-use Rattle.rows.specs.declared.Change.TheVariants.{Insert}
+use Rattle.rows.specs.declared.Change.TheVariants.{Insert, Update, Delete}
+use Rattle.rows.specs.Database.{target}
 use Rattle.record_codec.specs.declared.records.Record.{Record}
 use Rattle.record_codec.specs.Group as codec
 use Rattle.record_codec.specs.Group.{GroupValue}
 use Rattle.source_core.specs.declared.transaction.Phase.{Phase}
 use Rattle.source_core.specs.declared.transaction.Phase.TheVariants.{Active, Prepared, Queued, Flushed}
 use Rattle.source_core.specs.declared.fault.SourceFault.{SourceFault}
-use Rattle.source_core.specs.declared.fault.SourceFault.TheVariants.{NoSession, AlreadyOpen, NotActive, NoTable, WrongColumns, RowExists, TooManyChanges, Halted, NotPrepared, Exhausted}
+use Rattle.source_core.specs.declared.fault.SourceFault.TheVariants.{NoSession, AlreadyOpen, NotActive, NoTable, WrongColumns, RowExists, NoRow, TooManyChanges, Halted, NotPrepared, Exhausted}
 use Rattle.source_core.specs.declared.transaction.Prepared.{Prepared as Answer}
 use Rattle.source_core.specs.declared.transaction.Prepared.TheVariants as answers
 use Rattle.source_core.specs.declared.transaction.Receipt.{Receipt}
@@ -48,14 +49,27 @@ begun s session = with_open s session (Some (record { changes = []; phase = Acti
 
 -- write
 
+-- whether a table has the columns that a change gives or names: an insert gives each of them a value, and an
+-- update names columns from the first to the last of them
+abbrev pub has_columns : Table → Change → Bool
+has_columns table (Insert row columns) = length columns == table.columns
+has_columns table (Update row named) = nat_lt named.mask (2 ^ table.columns)
+has_columns table (Delete row) = true
+
 -- a change that the schema does not allow, whatever the rows
 abbrev pub shape_fault : List Table → Change → Option SourceFault → Option SourceFault
-shape_fault ts (Insert row columns) later =
-    option_map_or (λ table. cause (not (length columns == table.columns)) WrongColumns later) (table_at ts row.table) (Some NoTable)
+shape_fault ts change later =
+    option_map_or (λ table. cause (not (has_columns table change)) WrongColumns later) (table_at ts (target change).table) (Some NoTable)
 
--- a change that the rows that the session sees do not allow
+-- why a change is refused whose row, so before it, does not allow it
+abbrev pub row_fault : Change → Option (List ℤ) → Option SourceFault
+row_fault (Insert row columns) there = cause (is_some there) RowExists None
+row_fault (Update row named) there = cause (is_none there) NoRow None
+row_fault (Delete row) there = cause (is_none there) NoRow None
+
+-- a change that the row that the session sees does not allow
 abbrev pub rows_fault : Source → ℕ → Change → Option SourceFault
-rows_fault s session (Insert row columns) = cause (is_some (seen_row s session row)) RowExists None
+rows_fault s session change = row_fault change (seen_row s session (target change))
 
 -- the causes that come before those that the rows have
 abbrev pub change_fault : Source → ℕ → Change → Option SourceFault → Option SourceFault

@@ -4,8 +4,10 @@ use Rattle.std.specs.FinMap.{empty}
 use Rattle.schema.specs.declared.Table.{Table}
 use Rattle.schema.specs.Flags.{IsFlat}
 use Rattle.rows.specs.declared.Change.{Change}
+use Rattle.rows.specs.declared.Change.TheVariants.{Insert, Update, Delete}
 use Rattle.rows.specs.Database.{Database, writes}
 use Rattle.store_trait.specs.Batch.{Entry, put_batch}
+use Rattle.store_trait.specs.Fits.{Fits}
 use Rattle.overlay.specs.Pending.{Pending, pushed}
 use Rattle.overlay.specs.Follows.{Follows}
 use Rattle.record_codec.specs.declared.records.Record.{Record}
@@ -15,6 +17,8 @@ use Rattle.source_core.specs.declared.transaction.Phase.TheVariants.{Active, Pre
 use Rattle.source_core.specs.declared.transaction.Transaction.{Transaction}
 use Rattle.source_core.specs.declared.transaction.Prepared.{Prepared as Answer}
 use Rattle.source_core.specs.declared.transaction.Prepared.TheVariants as answers
+use Rattle.source_core.specs.declared.fault.SourceFault.{SourceFault}
+use Rattle.source_core.specs.declared.fault.SourceFault.TheVariants.{RowExists, NoRow}
 use Rattle.source_core.specs.Calls.{is_empty_list}
 use Rattle.source_core.specs.Source.{Open}
 
@@ -36,6 +40,12 @@ queue_view (Some t) = phase_queue t.phase
 abbrev pub with_change : Option Transaction → Change → Option (List ℤ) → Option Transaction
 with_change None change left = None
 with_change (Some t) change left = Some (record { overlay = pushed t.overlay change left; phase = t.phase })
+
+-- the fault of a change that its row does not allow
+abbrev pub refusal : Change → SourceFault
+refusal (Insert row columns) = RowExists
+refusal (Update row named) = NoRow
+refusal (Delete row) = NoRow
 
 -- the transaction once it is prepared, and what its session is told
 abbrev pub ready : Option Transaction → ℕ → Option Transaction × Answer
@@ -60,10 +70,12 @@ pub record IsQueuedRecord (ts : List Table) (current : Option Transaction) (numb
   pub refs : made.refs ≡ []
   pub changes : made.changes ≡ t.overlay.changes
 
--- a transaction's changes apply to the committed rows, and its overlay is what they leave
+-- a transaction's changes apply to the committed rows, and its overlay is what they leave: rows that the schema
+-- allows
 pub record Applies (ts : List Table) (rows : Database) (pending : Pending) : Type 0 where
   pub leaves : Database
   pub follows : Follows ts rows pending leaves
+  pub fits : Fits ts leaves
   pub few : length pending.changes ≤ 1024
 
 -- a transaction that is the one record that is not committed
@@ -90,7 +102,8 @@ abbrev pub OpenStands : List Table → Database → List Record → ℕ → ℕ 
 OpenStands ts rows log committed limit None = committed ≡ length log
 OpenStands ts rows log committed limit (Some t) = Applies ts rows t.overlay × StandsIn log committed limit t.overlay.changes t.phase
 
--- The log is legal, the store has the rows after the committed records, and the open transaction applies to them.
+-- The log is legal, the store has the rows after the committed records, which the schema allows, and the open
+-- transaction applies to them.
 pub record IsCore (ts : List Table) (rows : Database) (base : List Entry) (limit : ℕ) (log : List Record) (synced committed : ℕ) (open_ : Option Transaction) : Type 0 where
   pub flat : IsFlat ts
   pub legal : IsLegalLog ts (put_batch base empty) log
@@ -99,4 +112,5 @@ pub record IsCore (ts : List Table) (rows : Database) (base : List Entry) (limit
   pub synced_within : synced ≤ length log
   pub committed_within : committed ≤ synced
   pub rows_are : after ts (put_batch base empty) (take committed log) ≡ Some rows
+  pub fits : Fits ts rows
   pub stands : OpenStands ts rows log committed limit open_

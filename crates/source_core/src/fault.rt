@@ -19,12 +19,15 @@ pub enum SourceFault {
     /// The table is not in the schema.
     #[error("S4 NoTable")]
     NoTable,
-    /// The number of columns is not the table's.
+    /// The number of columns is not the table's, or a column is named that the table lacks.
     #[error("S5 WrongColumns")]
     WrongColumns,
     /// The row is there.
     #[error("S7 RowExists")]
     RowExists,
+    /// The row is not there.
+    #[error("S8 NoRow")]
+    NoRow,
     /// The transaction has 1024 changes.
     #[error("S11 TooManyChanges")]
     TooManyChanges,

@@ -7,7 +7,7 @@ ghost use Rattle.source_core.specs.Calls.{Flushes};
 use crate::{Prepared, Receipt, SourceCore, SourceFault};
 use btree_store::BTreeStore;
 use record_codec::Group;
-use rows::{Change, Row};
+use rows::{Change, Named, Row};
 use schema::{Memory, RowId, Schema, Table};
 use std::alloc::Global;
 use std::process::Abort;
@@ -16,7 +16,7 @@ use store_trait::{RowStore, fits};
 
 type Source = SourceCore<BTreeStore>;
 
-/// A source of no rows, whose one table, number 1, has 16 columns, for two records.
+/// A source of no rows, whose tables 1 and 2 have 16 and 2 columns, for two records.
 fn source(alloc: Global) -> Result<Source, Memory>
     ensures { IfOk result (λ source. source.synced ≡ length source.log) }
 {
@@ -24,6 +24,12 @@ fn source(alloc: Global) -> Result<Source, Memory>
         Table {
             id: 1,
             columns: 16,
+            keyed: true,
+            parent: None
+        },
+        Table {
+            id: 2,
+            columns: 2,
             keyed: true,
             parent: None
         },
@@ -62,6 +68,27 @@ fn insert(table: u16, key: i64) -> Result<Change, Fail> {
         row: row_id,
         values: row(key)?,
     })
+}
+
+/// A row of table 2.
+fn pair(key: i64) -> RowId
+    ensures { result ≡ record { table = 2; key = key } }
+{
+    RowId { table: 2, key }
+}
+
+/// An insert into table 2.
+fn insert_pair(key: i64, columns: [i64; 2]) -> Result<Change, Fail> {
+    Ok(Change::Insert {
+        row: pair(key),
+        values: Row::new(&columns).ok_or("a row")?,
+    })
+}
+
+/// An update that names these columns.
+fn update(row: RowId, mask: u16, values: &[i64]) -> Result<Change, Fail> {
+    let columns = Named::new(mask, values).ok_or("named columns")?;
+    Ok(Change::Update { row, columns })
 }
 
 /// Writes a change, and again where memory was refused.
@@ -147,6 +174,7 @@ fn texts(rt: HostRuntime) -> Result<(), Fail> {
         (SourceFault::NoTable, "S4 NoTable"),
         (SourceFault::WrongColumns, "S5 WrongColumns"),
         (SourceFault::RowExists, "S7 RowExists"),
+        (SourceFault::NoRow, "S8 NoRow"),
         (SourceFault::TooManyChanges, "S11 TooManyChanges"),
         (SourceFault::Halted, "S12 Halted"),
         (SourceFault::Memory, "S13 Memory"),
@@ -159,8 +187,8 @@ fn texts(rt: HostRuntime) -> Result<(), Fail> {
     Ok(())
 }
 
-/// What a transaction of 1024 changes refuses, in order.
-fn refused_when_full(rt: &impl Abort, source: &mut Source) -> Result<(), Fail>
+/// What inserts a transaction of 1024 changes refuses, in order.
+fn inserts_refused_when_full(rt: &impl Abort, source: &mut Source) -> Result<(), Fail>
     ensures synced { source.new.synced ≡ source.old.synced }
     ensures log { source.new.log ≡ source.old.log }
 {
@@ -168,7 +196,7 @@ fn refused_when_full(rt: &impl Abort, source: &mut Source) -> Result<(), Fail>
         row: RowId { table: 1, key: 5 },
         values: Row::new(&[7]).ok_or("a row")?,
     };
-    assert_eq!(rt; source.write(1, insert(2, 5)?), Err(SourceFault::NoTable));
+    assert_eq!(rt; source.write(1, insert(3, 5)?), Err(SourceFault::NoTable));
     assert_eq!(rt; source.write(1, narrow), Err(SourceFault::WrongColumns));
     assert_eq!(rt;
         source.write(1, insert(1, 5)?),
@@ -179,6 +207,34 @@ fn refused_when_full(rt: &impl Abort, source: &mut Source) -> Result<(), Fail>
         Err(SourceFault::TooManyChanges)
     );
     Ok(())
+}
+
+/// What updates and deletes it refuses.
+fn others_refused_when_full(rt: &impl Abort, source: &mut Source) -> Result<(), Fail>
+    ensures synced { source.new.synced ≡ source.old.synced }
+    ensures log { source.new.log ≡ source.old.log }
+{
+    assert_eq!(rt;
+        source.write(1, update(pair(5), 0b100, &[0])?),
+        Err(SourceFault::WrongColumns)
+    );
+    assert_eq!(rt;
+        source.write(1, update(pair(5), 0b10, &[0])?),
+        Err(SourceFault::TooManyChanges)
+    );
+    assert_eq!(rt;
+        source.write(1, Change::Delete { row: pair(5) }),
+        Err(SourceFault::TooManyChanges)
+    );
+    Ok(())
+}
+
+fn refused_when_full(rt: &impl Abort, source: &mut Source) -> Result<(), Fail>
+    ensures synced { source.new.synced ≡ source.old.synced }
+    ensures log { source.new.log ≡ source.old.log }
+{
+    inserts_refused_when_full(rt, source)?;
+    others_refused_when_full(rt, source)
 }
 
 /// The receipt tells the last record, which has this number, parent and number of changes.
@@ -238,6 +294,120 @@ fn transactions_at_the_bounds(rt: HostRuntime) -> Result<(), Fail> {
     source.write(1, insert(1, 5000)?)?;
     assert_eq!(rt; source.prepare(1), Ok(Prepared::Parent(2)));
     assert_eq!(rt; source.queue(1), Err(SourceFault::Exhausted));
+    Ok(())
+}
+
+/// Row 1 of table 2, as one transaction.
+fn first_pair(source: &mut Source) -> Result<(), Fail>
+    requires { source.old.synced ≡ length source.old.log }
+    ensures { OnOk result (source.new.synced ≡ length source.new.log) }
+{
+    source.begin(1)?;
+    write(source, &insert_pair(1, [10, 11])?)?;
+    finish(source)?;
+    Ok(())
+}
+
+/// What the session sees of a row of table 2.
+fn sees(rt: &impl Abort, source: &Source, key: i64, columns: Option<[i64; 2]>) -> Result<(), Fail> {
+    let seen = source.read(1, pair(key))?;
+    assert_eq!(rt; seen, columns.and_then(|columns| Row::new(&columns)));
+    Ok(())
+}
+
+#[test]
+fn updates_and_deletes_are_refused_in_order(rt: HostRuntime) -> Result<(), Fail> {
+    let mut source = source_again(rt.alloc())?;
+    let elsewhere = RowId { table: 3, key: 1 };
+    first_pair(&mut source)?;
+    let wide = update(elsewhere, 0b100, &[0])?;
+    assert_eq!(rt; source.write(2, wide), Err(SourceFault::NoSession));
+    assert_eq!(rt; source.write(1, wide), Err(SourceFault::NotActive));
+    source.begin(1)?;
+    assert_eq!(rt; source.write(1, wide), Err(SourceFault::NoTable));
+    assert_eq!(rt;
+        source.write(1, Change::Delete { row: elsewhere }),
+        Err(SourceFault::NoTable)
+    );
+    for (key, mask, fault) in [
+        (1, 0b100, SourceFault::WrongColumns),
+        (1, 1 << 15, SourceFault::WrongColumns),
+        (2, 0b100, SourceFault::WrongColumns),
+        (2, 0b10, SourceFault::NoRow),
+    ] {
+        assert_eq!(rt; source.write(1, update(pair(key), mask, &[0])?), Err(fault));
+    }
+    assert_eq!(rt;
+        source.write(1, Change::Delete { row: pair(2) }),
+        Err(SourceFault::NoRow)
+    );
+    sees(&rt, &source, 1, Some([10, 11]))?;
+    source.log_failed();
+    assert_eq!(rt; source.write(1, wide), Err(SourceFault::Halted));
+    Ok(())
+}
+
+/// Changes of every kind, of committed rows and of the transaction's own.
+fn change_pairs(rt: &impl Abort, source: &mut Source) -> Result<(), Fail>
+    ensures synced { source.new.synced ≡ source.old.synced }
+    ensures log { source.new.log ≡ source.old.log }
+{
+    write(source, &update(pair(1), 0b10, &[-11])?)?;
+    sees(rt, source, 1, Some([10, -11]))?;
+    write(source, &insert_pair(2, [20, 21])?)?;
+    write(source, &update(pair(2), 0b01, &[i64::MAX])?)?;
+    sees(rt, source, 2, Some([i64::MAX, 21]))?;
+    write(source, &Change::Delete { row: pair(1) })?;
+    sees(rt, source, 1, None)
+}
+
+/// What is refused behind them, and an insert of the deleted row.
+fn insert_again(rt: &impl Abort, source: &mut Source) -> Result<(), Fail>
+    ensures synced { source.new.synced ≡ source.old.synced }
+    ensures log { source.new.log ≡ source.old.log }
+{
+    assert_eq!(rt;
+        source.write(1, update(pair(1), 0b01, &[0])?),
+        Err(SourceFault::NoRow)
+    );
+    assert_eq!(rt;
+        source.write(1, Change::Delete { row: pair(1) }),
+        Err(SourceFault::NoRow)
+    );
+    write(source, &insert_pair(1, [30, 31])?)?;
+    assert_eq!(rt;
+        write(source, &insert_pair(1, [0, 0])?),
+        Err(SourceFault::RowExists)
+    );
+    write(source, &Change::Delete { row: pair(2) })?;
+    sees(rt, source, 1, Some([30, 31]))?;
+    sees(rt, source, 2, None)
+}
+
+#[test]
+fn updates_and_deletes(rt: HostRuntime) -> Result<(), Fail> {
+    let mut source = source_again(rt.alloc())?;
+    first_pair(&mut source)?;
+    source.begin(1)?;
+    change_pairs(&rt, &mut source)?;
+    insert_again(&rt, &mut source)?;
+    let given = finish(&mut source)?;
+    is_last(&rt, &source, &given, (2, 1), 6);
+    let Some(receipt) = given.first() else {
+        panic!(rt; "no receipt");
+    };
+    let written = [
+        update(pair(1), 0b10, &[-11])?,
+        insert_pair(2, [20, 21])?,
+        update(pair(2), 0b01, &[i64::MAX])?,
+        Change::Delete { row: pair(1) },
+        insert_pair(1, [30, 31])?,
+        Change::Delete { row: pair(2) },
+    ];
+    assert_eq!(rt; receipt.changes.list(), written.as_slice());
+    assert_eq!(rt; source.rows().len(), 1);
+    assert_eq!(rt; source.rows().get(pair(1)), Row::new(&[30, 31]));
+    assert_eq!(rt; source.rows().get(pair(2)), None);
     Ok(())
 }
 

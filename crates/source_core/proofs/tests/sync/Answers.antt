@@ -1,4 +1,4 @@
-use Rattle.std.proofs.Common.{◌≡◌, ◌∙◌, ap, arith, length}
+use Rattle.std.proofs.Common.{ap, arith, length}
 use Rattle.source_core.specs.Source.{Source}
 use Rattle.source_core.proofs.FlushEnds.{flush_ends}
 use Rattle.source_core.proofs.tests.sync.Goals as goal
