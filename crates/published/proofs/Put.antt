@@ -17,7 +17,7 @@ use Rattle.schema.specs.declared.RowId.{RowId}
 use Rattle.schema.specs.RowId.{row_cmp, same_row, exact_row, row_total}
 use Rattle.rows.specs.Database.{Database}
 use Rattle.store_trait.specs.Batch.{Entry, IsRising, put_row, put_batch}
-use Rattle.store_trait.proofs.Batches.{get-put_row}
+use Rattle.rows.proofs.Apply.{get-put_row}
 
 tied : (o : Ordering) → is_eq o ≡ true → o ≡ Equal
 tied Less h = cc
@@ -31,8 +31,8 @@ again false x y z = refl
 -- the later of two entries of a row counts
 pub put_row_again : (db : Database) (k : RowId) (v w : Option (List ℤ)) → put_row db k v ≡ put_row (put_row db k w) k v
 put_row_again db k v w = same_map row_total exact_row _ _ (λ q.
-    get-put_row db k v q ∙ again (same_row q k) v w (get db q)
-    ∙ sym (get-put_row (put_row db k w) k v q ∙ ap (cond (same_row q k) v) (get-put_row db k w q)))
+    get-put_row db k q v ∙ again (same_row q k) v w (get db q)
+    ∙ sym (get-put_row (put_row db k w) k q v ∙ ap (cond (same_row q k) v) (get-put_row db k q w)))
 
 swapped : {A : Type 0} (a b : Bool) (x y z : A) → (a ≡ true → b ≡ true → ⊥) → cond a x (cond b y z) ≡ cond b y (cond a x z)
 swapped true true x y z apart = absurd (apart refl refl)
@@ -42,9 +42,9 @@ swapped false b x y z apart = refl
 -- entries of different rows may change places
 put_row_swapped : (db : Database) (k j : RowId) (v w : Option (List ℤ)) → k ≢ j → put_row (put_row db k v) j w ≡ put_row (put_row db j w) k v
 put_row_swapped db k j v w apart = same_map row_total exact_row _ _ (λ q.
-    get-put_row (put_row db k v) j w q ∙ ap (cond (same_row q j) w) (get-put_row db k v q)
+    get-put_row (put_row db k v) j q w ∙ ap (cond (same_row q j) w) (get-put_row db k q v)
     ∙ swapped (same_row q j) (same_row q k) w v (get db q) (λ a b. apart (sym (exact_row q k (tied _ b)) ∙ exact_row q j (tied _ a)))
-    ∙ sym (get-put_row (put_row db j w) k v q ∙ ap (cond (same_row q k) v) (get-put_row db j w q)))
+    ∙ sym (get-put_row (put_row db j w) k q v ∙ ap (cond (same_row q k) v) (get-put_row db j q w)))
 
 apart : (a b : RowId) → same_row a b ≡ false → a ≢ b
 apart a b other same = let alike : same_row a b ≡ true = subst (λ (c : RowId). same_row a c ≡ true) same (ap is_eq (tied_itself row_total a)) in cc
