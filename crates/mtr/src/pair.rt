@@ -5,6 +5,9 @@ ghost use Rattle.schema.specs.Flags.{IsFlat};
 ghost use Rattle.store_trait.specs.Batch.{put_batch};
 ghost use Rattle.store_trait.specs.Fits.{Fits};
 ghost use Rattle.std.specs.FinMap.{empty};
+ghost use Rattle.std.specs.List.{IsDistinct};
+ghost use Rattle.std.specs.Map.{keys_of};
+ghost use Rattle.schema.specs.RowId.{same_row};
 ghost use Rattle.world.specs.Run.{HasRun};
 ghost use Rattle.world.specs.Seen.{seen};
 ghost use Rattle.mtr.specs.Pair.{present, setup_of};
@@ -22,9 +25,11 @@ use world::World;
 /// The greatest number of records of a log.
 const MAX_RECORDS: u64 = 9223372036854775807;
 
-/// The batch of these rows, in any order; `None` where one comes twice. The time is n log n.
+/// The batch of these rows, in any order; `None` exactly where one comes twice. The time is n log n.
 pub fn base_of(alloc: Global, rows: &[(RowId, Row)]) -> Result<Option<Batch>, Memory>
-    ensures { IfOk result (λ made. IfSome made (λ batch. IsPermutation (map present rows.now) batch)) }
+    ensures rows { IfOk result (λ made. IfSome made (λ batch. IsPermutation (map present rows.now) batch)) }
+    ensures once { IfOk result (λ made. IfSome made (λ _. IsDistinct same_row (keys_of (map present rows.now)))) }
+    ensures twice { IfOk result (λ made. IfNone made (¬ IsDistinct same_row (keys_of (map present rows.now)))) }
 {
     let mut entries = entries_of(alloc, rows)?;
     entries.sort_unstable_by_key(|entry| entry.0);

@@ -6,7 +6,7 @@ use Rattle.mtr.proofs.run.run_script.Goals as goal
 
 pub returns : goal.returns
 returns g c =
-    let given = rw c.in-Some.is at c.in_ok-batch.ensures in
+    let given = rw c.in-Some.is at c.in_ok-batch.ensures.rows in
     let starts = rw c.in-Some-2.is at c.in_ok-world.ensures.starts in
     prints (λ (rows : Database). rows) c.run_pieces.result (said c.args.script) c.in-Some.batch (seen c.in-Some-2.world) (seen c.run_pieces.new.world) c.pieces.result
     (g.W.Write.contents c.args.output.now) (g.W.Write.contents c.run_pieces.new.output)
