@@ -1,5 +1,5 @@
 -- The rows of an `IndexMap`, and the same in the order of row ids.
-use Rattle.std.proofs.Common.{◌≡◌, IsPermutation, IsSortedByKey, sym, ap, subst, ◌∙◌, refl, Bool, ◌&&◌, cond, eqb, int_eq, List, [], ◌∷◌, ℤ, Option, Some, nat_cmp, int_cmp}
+use Rattle.std.proofs.Common.{true≢false, Result, Ok, Err, IsOk, OnOk, ◌≡◌, IsPermutation, IsSortedByKey, sym, ap, subst, ◌∙◌, refl, Bool, ◌&&◌, cond, eqb, int_eq, List, [], ◌∷◌, ℤ, Option, Some, nat_cmp, int_cmp}
 use Rattle.std.proofs.lemmas.Cmp.{on_equiv, and_equiv, nat_eq_equiv, int_eq_equiv}
 use Rattle.std.proofs.lemmas.List.Sorted.{IsPermutation-map}
 use Rattle.std.proofs.lemmas.Map.Keys.{IsDistinct-IsPermutation}
@@ -8,6 +8,7 @@ use Rattle.std.specs.List.{IsDistinct}
 use Rattle.std.specs.Map.{lookup, keys_of}
 use Rattle.std.specs.FinMap.{find, put}
 use Rattle.std.specs.FinMap.Entries.{find-put}
+use Rattle.indexmap.specs.IndexMap.{IndexMap, Updates}
 use Rattle.indexmap.proofs.MapLemmas.{lookup_permutation}
 use Rattle.schema.specs.declared.RowId.{RowId}
 use Rattle.schema.specs.RowId.{row_cmp, same_row, row_total}
@@ -46,3 +47,8 @@ sorted-in_order es sorted distinct moves order =
           sym (lookup-find sorted q) ∙ lookup_permutation row_eq_equiv es sorted moves still (row_eq q) (row_eq_equiv.congr q)
           ∙ lookup-find es q ∙ sym (find-in_order es q)),
     )
+
+-- where the insert could not fail, the key is put in its place
+pub in_order-inserted : {S T E : Type 0} (m n : IndexMap RowId (Option (List ℤ)) S) (r : Result T E) (k : RowId) (left : Option (List ℤ)) → IsOk r → OnOk r (Updates row_eq m n k (Some left)) → in_order n.entries ≡ put row_cmp k left (in_order m.entries)
+in_order-inserted m n (Ok x) k left h is = in_order-updates m.entries n.entries k left is.0
+in_order-inserted m n (Err e) k left h is = absurd (true≢false (sym h))

@@ -1,5 +1,5 @@
 -- What a transaction has pending: its changes, and what they leave of the rows that they are of.
-use Rattle.std.specs.Prelude.{ℤ, List, [], ◌∷◌, ◌++◌, Option}
+use Rattle.std.specs.Prelude.{ℕ, ℤ, ◌<◌, List, [], ◌∷◌, ◌++◌, length, Option}
 use Rattle.std.specs.FinMap.{find, put}
 use Rattle.schema.specs.declared.RowId.{RowId}
 use Rattle.schema.specs.RowId.{row_cmp}
@@ -31,3 +31,8 @@ seen pending db = put_batch pending.left db
 -- what is pending once these changes left this database
 abbrev pub pending_of : List Change → Database → Pending
 pending_of changes after = record { changes = changes; left = rows_in (writes changes) after }
+
+-- one more of these changes fits where they lie, and one more row where the rows lie that have this many free places
+pub record HasRoom (changes : List Change) (capacity spare : ℕ) : Type 0 where
+  pub change : length changes < capacity
+  pub row : 0 < spare

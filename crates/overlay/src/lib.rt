@@ -16,8 +16,10 @@ ghost use Rattle.store_trait.specs.Batch.{IsRising};
 ghost use Rattle.overlay.specs.Pending.{none_pending, pushed, left_at, seen, pending_of};
 
 pub mod laws;
+mod roomy;
 
 use indexmap::IndexMap;
+pub use roomy::Roomy;
 use rows::{Change, Row, apply_one};
 use schema::{Memory, RowId, Schema};
 use std::alloc::Global;

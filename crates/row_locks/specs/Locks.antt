@@ -1,11 +1,12 @@
 -- Which sessions hold which rows, and how.
-use Rattle.std.specs.Prelude.{◌≡◌, ℕ, ◌-◌, Bool, false, List, [], ◌∷◌, Some, replicate, slice_index_or, slice_set}
+use Rattle.std.specs.Prelude.{◌≡◌, ℕ, ◌-◌, Bool, false, List, [], ◌∷◌, ◌++◌, map, Some, replicate, slice_index_or, slice_set}
 use Rattle.std.specs.Coded.{Coded, coded_list}
 use Rattle.std.specs.FinMap.{FinMap, code, empty, get, insert}
 use Rattle.std.specs.List.{list_any}
 use Rattle.schema.specs.declared.RowId.{RowId}
 use Rattle.schema.specs.RowId.{row_cmp, coded_row_id}
 use Rattle.row_locks.specs.declared.Mode.{Mode}
+use Rattle.row_locks.specs.declared.Mode.TheVariants.{Share, Exclusive}
 use Rattle.row_locks.specs.Mode.{coded_mode, opposes, stronger}
 
 -- the rows that a session holds, and how it holds each
@@ -55,3 +56,7 @@ taken locks session rows = slice_set locks (session - 1) (also_held (held_by loc
 abbrev pub NoClash : Locks → Type 0
 NoClash locks =
     (session : ℕ) (row : RowId) (mode : Mode) → get (held_by locks session) row ≡ Some mode → clashes_with locks session row mode ≡ false
+
+-- what a session holds that holds these rows exclusively, and those for sharing
+abbrev pub holding : List RowId → List RowId → Holding
+holding writes refs = also_held empty (map (λ row. (row, Exclusive)) writes ++ map (λ row. (row, Share)) refs)

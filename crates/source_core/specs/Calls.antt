@@ -6,18 +6,22 @@ use Rattle.schema.specs.declared.RowId.{RowId}
 use Rattle.schema.specs.Schema.{table_at}
 use Rattle.rows.specs.declared.Change.{Change}
 use Rattle.rows.specs.declared.Change.TheVariants.{Insert, Update, Delete}
-use Rattle.rows.specs.Database.{target}
+use Rattle.rows.specs.Database.{target, writes}
 use Rattle.record_codec.specs.declared.records.Record.{Record}
 use Rattle.record_codec.specs.Group as codec
 use Rattle.record_codec.specs.Group.{GroupValue}
 use Rattle.source_core.specs.declared.transaction.Phase.{Phase}
 use Rattle.source_core.specs.declared.transaction.Phase.TheVariants.{Active, Prepared, Queued, Flushed}
 use Rattle.source_core.specs.declared.fault.SourceFault.{SourceFault}
-use Rattle.source_core.specs.declared.fault.SourceFault.TheVariants.{NoSession, AlreadyOpen, NotActive, NoTable, WrongColumns, RowExists, NoRow, TooManyChanges, Halted, NotPrepared, Exhausted}
+use Rattle.source_core.specs.declared.fault.SourceFault.TheVariants.{NoSession, AlreadyOpen, NotActive, NoTable, WrongColumns, RowLocked, RowExists, NoRow, TooManyChanges, Halted, NotPrepared, Exhausted}
 use Rattle.source_core.specs.declared.transaction.Prepared.{Prepared as Answer}
 use Rattle.source_core.specs.declared.transaction.Prepared.TheVariants as answers
 use Rattle.source_core.specs.declared.transaction.Receipt.{Receipt}
-use Rattle.source_core.specs.Source.{Source, Open, is_session, open_of, changes_of, seen_row}
+use Rattle.log_index.specs.declared.Entry.{Entry as Seen}
+use Rattle.log_index.specs.Footprint.{footprint_of}
+use Rattle.row_locks.specs.declared.Mode.TheVariants.{Exclusive}
+use Rattle.tracker_trait.specs.Parent.{parent_of}
+use Rattle.source_core.specs.Source.{Source, Open, is_session, open_of, changes_of, seen_row, is_locked, entry_of, entries_of}
 
 -- the first cause that stands
 abbrev pub cause : Bool → SourceFault → Option SourceFault → Option SourceFault
@@ -77,8 +81,10 @@ change_fault s session change later =
     session_fault s session (cause (not (is_active (open_of s session))) NotActive
     (shape_fault s.tables change (cause (nat_le 1024 (length (changes_of s session))) TooManyChanges later)))
 
+-- a row that another session holds is refused before the rows are looked at
 abbrev pub write_fault : Source → ℕ → Change → Option SourceFault
-write_fault s session change = change_fault s session change (rows_fault s session change)
+write_fault s session change =
+    change_fault s session change (cause (is_locked s session (target change) Exclusive) RowLocked (rows_fault s session change))
 
 abbrev pub written : Source → ℕ → Change → Source
 written s session change = with_open s session (Some (record { changes = changes_of s session ++ change ∷ []; phase = Active }))
@@ -154,7 +160,7 @@ flushed_open first queue session t =
 
 abbrev pub flushed : Source → List Record → Source
 flushed s records =
-    record s { log = s.log ++ records; queue = []; sessions = each_session (flushed_open (length s.log + 1) s.queue) 1 s.sessions }
+    record s { log = s.log ++ records; owners = s.owners ++ s.queue; queue = []; sessions = each_session (flushed_open (length s.log + 1) s.queue) 1 s.sessions }
 
 abbrev pub parent_of_phase : Phase → ℕ
 parent_of_phase Active = 0
@@ -162,29 +168,35 @@ parent_of_phase (Prepared parent) = parent
 parent_of_phase (Queued parent) = parent
 parent_of_phase (Flushed gno) = 0
 
--- the record of a transaction: its changes, and the parent fixed when it was prepared
-pub record IsRecordOf (t : Open) (number : ℕ) (made : Record) : Type 0 where
-  pub gno : made.gno ≡ number
-  pub sequence : made.sequence ≡ number
-  pub parent : made.parent ≡ parent_of_phase t.phase
+-- The next record behind this log of a queued transaction: its changes, and the parent that the tracker's mode gives it.
+-- Its order parent is the one fixed when it was prepared.
+pub record IsRecordOf (s : Source) (before : List Seen) (session : ℕ) (made : Record) : Type 0 where
+  pub t : Open
+  pub is : open_of s session ≡ Some t
+  pub gno : made.gno ≡ length before + 1
+  pub sequence : made.sequence ≡ length before + 1
   pub changes : made.changes ≡ t.changes
+  pub parent : made.parent ≡ parent_of s.kind s.tables before (footprint_of s.tables (writes made.changes) made.refs) session (parent_of_phase t.phase)
 
--- one record for each of these sessions, in their order, numbered from gno on
-abbrev pub AreRecordsOf : Source → ℕ → List ℕ → List Record → Type 0
-AreRecordsOf s gno [] [] = Unit {0}
-AreRecordsOf s gno (session ∷ sessions) (made ∷ more) =
-    ((t : Open) × (open_of s session ≡ Some t) × IsRecordOf t gno made) × AreRecordsOf s (gno + 1) sessions more
-AreRecordsOf s gno [] (made ∷ more) = ⊥
-AreRecordsOf s gno (session ∷ sessions) [] = ⊥
+-- one record for each of these sessions, in their order, the first behind this log and each of the others behind the one
+-- before it
+abbrev pub AreRecordsOf : Source → List Seen → List ℕ → List Record → Type 0
+AreRecordsOf s before [] [] = Unit {0}
+AreRecordsOf s before (session ∷ sessions) (made ∷ more) =
+    IsRecordOf s before session made × AreRecordsOf s (before ++ entry_of s.tables made session ∷ []) sessions more
+AreRecordsOf s before [] (made ∷ more) = ⊥
+AreRecordsOf s before (session ∷ sessions) [] = ⊥
+
+-- the log as a tracker sees it
+abbrev pub seen_log : Source → List Seen
+seen_log s = entries_of s.tables s.log s.owners
 
 -- a flush: the queued transactions are the records of the group
 pub record Flushes (old : Source) (group : GroupValue) (new : Source) : Type 0 where
   pub made : List Record
-  pub are : AreRecordsOf old (length old.log + 1) old.queue made
+  pub are : AreRecordsOf old (seen_log old) old.queue made
   pub leaves : new ≡ flushed old made
   pub group_of : codec.AreRecordsOf group made
-  -- there is one session, so at most one transaction is queued
-  pub alone : length made ≡ 1
 
 -- synced
 
@@ -197,18 +209,9 @@ abbrev pub is_flushed_by : ℕ → Option Open → Bool
 is_flushed_by last None = false
 is_flushed_by last (Some t) = elim t.phase [ Active ↦ false | Prepared _ ↦ false | Queued _ ↦ false | Flushed gno ↦ nat_le gno last ]
 
-abbrev pub is_flushed_as : ℕ → Option Open → Bool
-is_flushed_as gno None = false
-is_flushed_as gno (Some t) = elim t.phase [ Active ↦ false | Prepared _ ↦ false | Queued _ ↦ false | Flushed number ↦ number == gno ]
-
 abbrev pub all_committed : Source → Source
 all_committed s =
     record s { committed = s.synced; sessions = map (λ t. if is_flushed_by s.synced t then None else t) s.sessions }
-
--- the session, of these that are numbered from session on, whose transaction is the record of this number
-abbrev pub session_with : ℕ → ℕ → List (Option Open) → ℕ
-session_with gno session [] = 0
-session_with gno session (t ∷ ts) = if is_flushed_as gno t then session else session_with gno (session + 1) ts
 
 abbrev pub receipt_as : ℕ → Record → Receipt
 receipt_as session of = record {
@@ -219,12 +222,14 @@ receipt_as session of = record {
   changes = of.changes;
 }
 
-abbrev pub receipt_of : Source → Record → Receipt
-receipt_of s of = receipt_as (session_with of.gno 1 s.sessions) of
+abbrev pub receipts_for : List ℕ → List Record → List Receipt
+receipts_for [] log = []
+receipts_for (owner ∷ owners) [] = []
+receipts_for (owner ∷ owners) (made ∷ log) = receipt_as owner made ∷ receipts_for owners log
 
--- a receipt for each record that is synced and not committed
+-- a receipt for each record that is synced and not committed, in log order
 abbrev pub receipts : Source → List Receipt
-receipts s = map (receipt_of s) (drop s.committed (take s.synced s.log))
+receipts s = receipts_for (drop s.committed (take s.synced s.owners)) (drop s.committed (take s.synced s.log))
 
 -- log_failed
 

@@ -1,45 +1,75 @@
 -- How a source's parts stand together.
-use Rattle.std.specs.Prelude.{◌≡◌, ℕ, ℤ, if◌then◌else◌, ◌+◌, ◌<◌, ◌≤◌, ◌^◌, List, [], ◌∷◌, length, take, drop, Option, Some, None}
+use Rattle.std.specs.Prelude.{◌≡◌, ◌==◌, ℕ, ℤ, ◌+◌, ◌-◌, ◌<◌, ◌≤◌, ◌^◌, ⊥, IsTrue, Bool, List, [], ◌∷◌, length, map, take, drop, slice_get, slice_index_or, Option, Some, None}
 use Rattle.std.specs.FinMap.{empty}
+use Rattle.std.specs.List.{list_any, IsDistinct}
+use Rattle.std.specs.Option.{option_map}
+use Rattle.std.proofs.Common.{reverse, eqb}
 use Rattle.schema.specs.declared.Table.{Table}
 use Rattle.schema.specs.Flags.{IsFlat}
+use Rattle.schema.specs.Rows.{Touched, SameRows}
+use Rattle.schema.specs.Covering.{Covers}
 use Rattle.rows.specs.declared.Change.{Change}
 use Rattle.rows.specs.declared.Change.TheVariants.{Insert, Update, Delete}
-use Rattle.rows.specs.Database.{Database, writes}
+use Rattle.rows.specs.Database.{Database, writes, kin}
 use Rattle.store_trait.specs.Batch.{Entry, put_batch}
 use Rattle.store_trait.specs.Fits.{Fits}
-use Rattle.overlay.specs.Pending.{Pending, pushed}
+use Rattle.overlay.specs.Pending.{Pending}
 use Rattle.overlay.specs.Follows.{Follows}
 use Rattle.record_codec.specs.declared.records.Record.{Record}
-use Rattle.record_codec.specs.Log.{after, flags_of, IsLegalLog}
+use Rattle.record_codec.specs.Log.{after, place_of, IsLegalLog}
+use Rattle.log_index.specs.declared.Entry.{Entry as Seen}
+use Rattle.row_locks.specs.Locks.{Locks, NoClash}
+use Rattle.tracker_trait.specs.History.{last_of}
+use Rattle.tracker_trait.specs.Kind.{Kind}
 use Rattle.source_core.specs.declared.transaction.Phase.{Phase}
 use Rattle.source_core.specs.declared.transaction.Phase.TheVariants.{Active, Prepared, Queued, Flushed}
 use Rattle.source_core.specs.declared.transaction.Transaction.{Transaction}
-use Rattle.source_core.specs.declared.transaction.Prepared.{Prepared as Answer}
-use Rattle.source_core.specs.declared.transaction.Prepared.TheVariants as answers
 use Rattle.source_core.specs.declared.fault.SourceFault.{SourceFault}
 use Rattle.source_core.specs.declared.fault.SourceFault.TheVariants.{RowExists, NoRow}
-use Rattle.source_core.specs.Calls.{is_empty_list}
-use Rattle.source_core.specs.Source.{Open}
+use Rattle.source_core.specs.Source.{Source, Open, locks_over, entries_of}
 
 abbrev pub open_view : Transaction → Open
 open_view t = record { changes = t.overlay.changes; phase = t.phase }
 
--- the one session's queue
-abbrev pub phase_queue : Phase → List ℕ
-phase_queue Active = []
-phase_queue (Prepared parent) = []
-phase_queue (Queued parent) = 1 ∷ []
-phase_queue (Flushed gno) = []
+-- each session's transaction as callers see it
+abbrev pub sessions_view : List (Option Transaction) → List (Option Open)
+sessions_view places = map (option_map open_view) places
 
-abbrev pub queue_view : Option Transaction → List ℕ
-queue_view None = []
-queue_view (Some t) = phase_queue t.phase
+-- what a source keeps, but for what its tracker keeps: the rows are those of its store, and the entries are what trackers
+-- see of the log
+pub record Parts : Type 0 where
+  pub tables : List Table
+  pub rows : Database
+  pub base : List Entry
+  pub limit : ℕ
+  pub log : List Record
+  pub synced : ℕ
+  pub committed : ℕ
+  pub owners : List ℕ
+  pub entries : List Seen
+  -- the transaction of each session, session 1 first
+  pub places : List (Option Transaction)
+  pub queue : List ℕ
+  pub locks : Locks
 
--- the transaction with one more change, and what it leaves of its row
-abbrev pub with_change : Option Transaction → Change → Option (List ℤ) → Option Transaction
-with_change None change left = None
-with_change (Some t) change left = Some (record { overlay = pushed t.overlay change left; phase = t.phase })
+abbrev pub source_of : Parts → Kind → Bool → Source
+source_of p kind halted = record {
+  tables = p.tables;
+  base = p.base;
+  limit = p.limit;
+  kind = kind;
+  log = p.log;
+  synced = p.synced;
+  committed = p.committed;
+  owners = p.owners;
+  sessions = sessions_view p.places;
+  queue = p.queue;
+  halted = halted;
+}
+
+-- the transaction in a place, counted from 0
+abbrev pub placed : List (Option Transaction) → ℕ → Option Transaction
+placed places i = slice_index_or places i None
 
 -- the fault of a change that its row does not allow
 abbrev pub refusal : Change → SourceFault
@@ -47,28 +77,9 @@ refusal (Insert row columns) = RowExists
 refusal (Update row named) = NoRow
 refusal (Delete row) = NoRow
 
--- the transaction once it is prepared, and what its session is told
-abbrev pub ready : Option Transaction → ℕ → Option Transaction × Answer
-ready None parent = (None, answers.Empty)
-ready (Some t) parent =
-    if is_empty_list t.overlay.changes then (None, answers.Empty)
-    else (Some (record { overlay = t.overlay; phase = Prepared parent }), answers.Parent parent)
-
--- the transaction once it is the record of this number
-abbrev pub as_flushed : Option Transaction → ℕ → Option Transaction
-as_flushed None gno = None
-as_flushed (Some t) gno = Some (record { overlay = t.overlay; phase = Flushed gno })
-
--- what is flushed of the one session's transaction
-pub record IsQueuedRecord (ts : List Table) (current : Option Transaction) (number : ℕ) (made : Record) : Type 0 where
-  pub t : Transaction
-  pub is : current ≡ Some t
-  pub queued : t.phase ≡ Queued made.parent
-  pub gno : made.gno ≡ number
-  pub sequence : made.sequence ≡ number
-  pub flags : made.flags ≡ flags_of ts (writes made.changes)
-  pub refs : made.refs ≡ []
-  pub changes : made.changes ≡ t.overlay.changes
+-- the rows that a transaction of these changes touches, over this database
+abbrev pub touched_over : List Table → Database → List Change → Touched
+touched_over ts rows changes = record { writes = writes changes; refs = kin ts changes rows }
 
 -- a transaction's changes apply to the committed rows, and its overlay is what they leave: rows that the schema
 -- allows
@@ -78,39 +89,74 @@ pub record Applies (ts : List Table) (rows : Database) (pending : Pending) : Typ
   pub fits : Fits ts leaves
   pub few : length pending.changes ≤ 1024
 
--- a transaction that is the one record that is not committed
-pub record IsLast (log : List Record) (committed gno : ℕ) (changes : List Change) : Type 0 where
-  pub made : Record
-  pub next : gno ≡ committed + 1
-  pub last : drop committed log ≡ made ∷ []
-  pub same_changes : made.changes ≡ changes
-
--- a prepared transaction: its parent is the number of records, all of them committed
-pub record IsReady (log : List Record) (committed parent : ℕ) (changes : List Change) : Type 0 where
-  pub all : committed ≡ length log
-  pub parent_is : parent ≡ committed
+-- A transaction of this session is prepared: its order parent was committed then and covers it in the whole log, and
+-- is not before the session's last record.
+pub record IsReady (p : Parts) (session : ℕ) (changes : List Change) (order : ℕ) : Type 0 where
   pub some : 1 ≤ length changes
+  pub within : order ≤ p.committed
+  pub covers : Covers (map place_of p.log) (touched_over p.tables p.rows changes) order
+  pub own : last_of (reverse p.entries) session ≤ order
 
--- where a transaction of these changes stands in the log
-abbrev pub StandsIn : List Record → ℕ → ℕ → List Change → Phase → Type 0
-StandsIn log committed limit changes Active = committed ≡ length log
-StandsIn log committed limit changes (Prepared parent) = IsReady log committed parent changes
-StandsIn log committed limit changes (Queued parent) = IsReady log committed parent changes × (length log < limit)
-StandsIn log committed limit changes (Flushed gno) = IsLast log committed gno changes
+-- A transaction of this session is the record of this number, which is not committed.
+pub record IsLogged (p : Parts) (session gno : ℕ) : Type 0 where
+  pub later : p.committed < gno
+  pub there : gno ≤ length p.log
+  pub owner : slice_get p.owners (gno - 1) ≡ Some session
 
-abbrev pub OpenStands : List Table → Database → List Record → ℕ → ℕ → Option Transaction → Type 0
-OpenStands ts rows log committed limit None = committed ≡ length log
-OpenStands ts rows log committed limit (Some t) = Applies ts rows t.overlay × StandsIn log committed limit t.overlay.changes t.phase
+-- where a transaction of these changes stands
+abbrev pub StandsAs : Parts → ℕ → List Change → Phase → Type 0
+StandsAs p session changes Active = Unit {0}
+StandsAs p session changes (Prepared order) = IsReady p session changes order
+StandsAs p session changes (Queued order) = IsReady p session changes order × IsTrue (list_any (eqb session) p.queue)
+StandsAs p session changes (Flushed gno) = IsLogged p session gno
 
--- The log is legal, the store has the rows after the committed records, which the schema allows, and the open
--- transaction applies to them.
-pub record IsCore (ts : List Table) (rows : Database) (base : List Entry) (limit : ℕ) (log : List Record) (synced committed : ℕ) (open_ : Option Transaction) : Type 0 where
-  pub flat : IsFlat ts
-  pub legal : IsLegalLog ts (put_batch base empty) log
-  pub few : length log ≤ limit
-  pub bound : limit < 2 ^ 63
-  pub synced_within : synced ≤ length log
-  pub committed_within : committed ≤ synced
-  pub rows_are : after ts (put_batch base empty) (take committed log) ≡ Some rows
-  pub fits : Fits ts rows
-  pub stands : OpenStands ts rows log committed limit open_
+-- The record of this number is that of the transaction in its session's place.
+pub record IsFlushedAs (p : Parts) (number : ℕ) (made : Record) (owner : ℕ) : Type 0 where
+  pub least : 1 ≤ owner
+  pub t : Transaction
+  pub place : placed p.places (owner - 1) ≡ Some t
+  pub phase : t.phase ≡ Flushed number
+  pub changes : made.changes ≡ t.overlay.changes
+  pub refs : SameRows made.refs (kin p.tables t.overlay.changes p.rows)
+
+-- these records, the first of this number, are those of the transactions in their sessions' places
+abbrev pub AreFlushed : Parts → ℕ → List Record → List ℕ → Type 0
+AreFlushed p number [] [] = Unit {0}
+AreFlushed p number (made ∷ log) (owner ∷ owners) = IsFlushedAs p number made owner × AreFlushed p (number + 1) log owners
+AreFlushed p number [] (owner ∷ owners) = ⊥
+AreFlushed p number (made ∷ log) [] = ⊥
+
+-- the session's transaction is queued
+pub record IsQueued (places : List (Option Transaction)) (session : ℕ) : Type 0 where
+  pub least : 1 ≤ session
+  pub t : Transaction
+  pub order : ℕ
+  pub place : placed places (session - 1) ≡ Some t
+  pub phase : t.phase ≡ Queued order
+
+abbrev pub AreQueued : List (Option Transaction) → List ℕ → Type 0
+AreQueued places [] = Unit {0}
+AreQueued places (session ∷ queue) = IsQueued places session × AreQueued places queue
+
+-- The log is legal, and the store has the rows after the committed records, which the schema allows. Each open
+-- transaction applies to these rows, and holds its rows and their kin; no two sessions clash. The records that are not
+-- committed are those of the flushed transactions, and the queue those that are queued, each once.
+pub record IsCore (p : Parts) : Type 0 where
+  pub flat : IsFlat p.tables
+  pub legal : IsLegalLog p.tables (put_batch p.base empty) p.log
+  pub few : length p.log + length p.queue ≤ p.limit
+  pub bound : p.limit < 2 ^ 63
+  pub synced_within : p.synced ≤ length p.log
+  pub committed_within : p.committed ≤ p.synced
+  pub rows_are : after p.tables (put_batch p.base empty) (take p.committed p.log) ≡ Some p.rows
+  pub fits : Fits p.tables p.rows
+  pub sessions : length p.places ≡ 256
+  pub owned : length p.owners ≡ length p.log
+  pub seen : p.entries ≡ entries_of p.tables p.log p.owners
+  pub locks : p.locks ≡ locks_over p.tables p.rows (sessions_view p.places)
+  pub no_clash : NoClash p.locks
+  pub applies : (i : ℕ) (t : Transaction) → placed p.places i ≡ Some t → Applies p.tables p.rows t.overlay
+  pub stands : (i : ℕ) (t : Transaction) → placed p.places i ≡ Some t → StandsAs p (i + 1) t.overlay.changes t.phase
+  pub flushed : AreFlushed p (p.committed + 1) (drop p.committed p.log) (drop p.committed p.owners)
+  pub queued : AreQueued p.places p.queue
+  pub distinct : IsDistinct eqb p.queue

@@ -1,14 +1,19 @@
 -- What a source is seen as.
-use Rattle.std.specs.Prelude.{ℕ, ℤ, ◌-◌, ◌≤◌, Bool, false, ◌&&◌, nat_le, List, [], ◌∷◌, take, length, slice_get, Option, None, IsSome, option_and_then}
-use Rattle.std.specs.Option.{option_flatten, option_map, option_map_or}
-use Rattle.std.specs.FinMap.{get}
+use Rattle.std.specs.Prelude.{◌≡◌, ℕ, ℤ, ◌-◌, ◌≤◌, Bool, false, ◌&&◌, nat_le, List, [], ◌∷◌, map, take, length, replicate, slice_index_or, Option, None, IsSome, option_and_then}
+use Rattle.std.specs.Option.{option_map, option_map_or}
+use Rattle.std.specs.FinMap.{empty, get}
 use Rattle.schema.specs.declared.Table.{Table}
 use Rattle.schema.specs.declared.RowId.{RowId}
 use Rattle.rows.specs.declared.Change.{Change}
-use Rattle.rows.specs.Database.{Database, target, apply, effect}
+use Rattle.rows.specs.Database.{Database, target, writes, kin, apply, effect}
 use Rattle.store_trait.specs.Batch.{Entry}
 use Rattle.record_codec.specs.declared.records.Record.{Record}
 use Rattle.record_codec.specs.Log.{after, IsLegalLog}
+use Rattle.log_index.specs.declared.Entry.{Entry as Seen}
+use Rattle.log_index.specs.Footprint.{footprint_of}
+use Rattle.row_locks.specs.declared.Mode.{Mode}
+use Rattle.row_locks.specs.Locks.{Holding, Locks, holding, clashes_with}
+use Rattle.tracker_trait.specs.Kind.{Kind}
 use Rattle.source_core.specs.declared.transaction.Phase.{Phase}
 use Rattle.store_trait.specs.Operation.{loaded}
 
@@ -23,10 +28,14 @@ pub record Source : Type 0 where
   pub base : List Entry
   -- the greatest number of records
   pub limit : ℕ
+  -- how its tracker finds parents
+  pub kind : Kind
   -- the records flushed; of these the first so many are synced, and the first so many committed
   pub log : List Record
   pub synced : ℕ
   pub committed : ℕ
+  -- the session that each record came from
+  pub owners : List ℕ
   -- the open transaction of each session, session 1 first
   pub sessions : List (Option Open)
   -- the sessions whose transactions are queued, in order
@@ -37,7 +46,7 @@ abbrev pub is_session : Source → ℕ → Bool
 is_session s session = nat_le 1 session && nat_le session (length s.sessions)
 
 abbrev pub open_of : Source → ℕ → Option Open
-open_of s session = option_flatten (slice_get s.sessions (session - 1))
+open_of s session = slice_index_or s.sessions (session - 1) None
 
 -- the database after the committed records
 abbrev pub committed_rows : Source → Option Database
@@ -64,16 +73,47 @@ EachApplies s = (session : ℕ) → IsSome (session_rows s session)
 abbrev pub seen_row : Source → ℕ → RowId → Option (List ℤ)
 seen_row s session id = option_and_then (λ db. get db id) (session_rows s session)
 
--- a source that nothing was done to
-abbrev pub new_source : List Table → List Entry → ℕ → Source
-new_source ts base limit = record {
+-- What a session holds for its open transaction: exclusively the rows that it writes, and for sharing the parent rows,
+-- over the committed database, of the child rows that it changes. It holds them until the transaction ends.
+abbrev pub held_for : List Table → Database → Option Open → Holding
+held_for ts db open_ = option_map_or (λ t. holding (writes t.changes) (kin ts t.changes db)) open_ empty
+
+-- what each session holds, session 1 first
+abbrev pub locks_over : List Table → Database → List (Option Open) → Locks
+locks_over ts db sessions = map (held_for ts db) sessions
+
+-- another session holds the row in a way that clashes with a lock of this mode
+abbrev pub is_locked : Source → ℕ → RowId → Mode → Bool
+is_locked s session row mode =
+    option_map_or (λ db. clashes_with (locks_over s.tables db s.sessions) session row mode) (committed_rows s) false
+
+-- a record as a tracker sees it, with the session that it came from
+abbrev pub entry_of : List Table → Record → ℕ → Seen
+entry_of ts made owner = record {
+  sequence = made.sequence;
+  parent = made.parent;
+  session = owner;
+  footprint = footprint_of ts (writes made.changes) made.refs;
+}
+
+-- records as a tracker sees them, each with its session
+abbrev pub entries_of : List Table → List Record → List ℕ → List Seen
+entries_of ts [] owners = []
+entries_of ts (made ∷ log) [] = []
+entries_of ts (made ∷ log) (owner ∷ owners) = entry_of ts made owner ∷ entries_of ts log owners
+
+-- a source that nothing was done to, of 256 sessions
+abbrev pub new_source : List Table → List Entry → ℕ → Kind → Source
+new_source ts base limit kind = record {
   tables = ts;
   base = base;
   limit = limit;
+  kind = kind;
   log = [];
   synced = 0;
   committed = 0;
-  sessions = None ∷ [];
+  owners = [];
+  sessions = replicate 256 None;
   queue = [];
   halted = false;
 }
@@ -84,3 +124,4 @@ pub record IsSound (s : Source) : Type 0 where
   pub few : length s.log ≤ s.limit
   pub synced_within : s.synced ≤ length s.log
   pub committed_within : s.committed ≤ s.synced
+  pub owned : length s.owners ≡ length s.log
