@@ -1,5 +1,0 @@
-pub mod Legal
-pub mod Shapes
-pub mod Steps
-pub mod Flush
-pub mod FlushEnds

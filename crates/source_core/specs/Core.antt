@@ -1,5 +1,5 @@
 -- How a source's parts stand together.
-use Rattle.std.specs.Prelude.{◌≡◌, ◌==◌, ℕ, ℤ, ◌+◌, ◌-◌, ◌<◌, ◌≤◌, ◌^◌, ⊥, IsTrue, Bool, List, [], ◌∷◌, length, map, take, drop, slice_get, slice_index_or, Option, Some, None}
+use Rattle.std.specs.Prelude.{◌≡◌, ◌==◌, ℕ, ℤ, ◌+◌, ◌-◌, ◌<◌, ◌≤◌, ◌^◌, IsTrue, if◌then◌else◌, Bool, List, [], ◌∷◌, length, map, take, drop, slice_get, slice_index_or, Option, Some, None}
 use Rattle.std.specs.FinMap.{empty}
 use Rattle.std.specs.List.{list_any, IsDistinct}
 use Rattle.std.specs.Option.{option_map}
@@ -13,7 +13,7 @@ use Rattle.rows.specs.declared.Change.TheVariants.{Insert, Update, Delete}
 use Rattle.rows.specs.Database.{Database, writes, kin}
 use Rattle.store_trait.specs.Batch.{Entry, put_batch}
 use Rattle.store_trait.specs.Fits.{Fits}
-use Rattle.overlay.specs.Pending.{Pending}
+use Rattle.overlay.specs.Pending.{Pending, pushed}
 use Rattle.overlay.specs.Follows.{Follows}
 use Rattle.record_codec.specs.declared.records.Record.{Record}
 use Rattle.record_codec.specs.Log.{after, place_of, IsLegalLog}
@@ -26,6 +26,9 @@ use Rattle.source_core.specs.declared.transaction.Phase.TheVariants.{Active, Pre
 use Rattle.source_core.specs.declared.transaction.Transaction.{Transaction}
 use Rattle.source_core.specs.declared.fault.SourceFault.{SourceFault}
 use Rattle.source_core.specs.declared.fault.SourceFault.TheVariants.{RowExists, NoRow}
+use Rattle.source_core.specs.declared.transaction.Prepared.{Prepared as Answer}
+use Rattle.source_core.specs.declared.transaction.Prepared.TheVariants as answers
+use Rattle.source_core.specs.Calls.{is_empty_list}
 use Rattle.source_core.specs.Source.{Source, Open, locks_over, entries_of}
 
 abbrev pub open_view : Transaction → Open
@@ -160,3 +163,34 @@ pub record IsCore (p : Parts) : Type 0 where
   pub flushed : AreFlushed p (p.committed + 1) (drop p.committed p.log) (drop p.committed p.owners)
   pub queued : AreQueued p.places p.queue
   pub distinct : IsDistinct eqb p.queue
+
+-- What a source keeps of its tracker: it has seen just these entries, and the law of its kind speaks of each log whole.
+pub record IsTracked {T : Type 0} (agrees_ : T → List Table → List Seen → Type 0) (begins_ : T → List Table → List Seen → ℕ) (tracker : T) (ts : List Table) (entries : List Seen) : Type 0 where
+  pub agrees : agrees_ tracker ts entries
+  pub whole : (t : T) (tables : List Table) (log : List Seen) → begins_ t tables log ≡ 0
+
+-- what is true of a source whose queue has this room, and whose tracker is so
+pub record Holds (p : Parts) (capacity : ℕ) (IsSo : Type 0) : Type 0 where
+  pub core : IsCore p
+  pub room : 256 ≤ capacity
+  pub tracked : IsSo
+
+-- the transaction in another phase
+abbrev pub with_phase : Phase → Transaction → Transaction
+with_phase phase t = record { overlay = t.overlay; phase = phase }
+
+-- the transaction with one more change, and what it leaves of its row
+abbrev pub with_change : Option Transaction → Change → Option (List ℤ) → Option Transaction
+with_change None change left = None
+with_change (Some t) change left = Some (record { overlay = pushed t.overlay change left; phase = t.phase })
+
+-- the order parent of a prepared transaction
+abbrev pub prepared_order : Transaction → Option ℕ
+prepared_order t = elim t.phase [ Active ↦ None | Prepared order ↦ Some order | Queued _ ↦ None | Flushed _ ↦ None ]
+
+-- the transaction once it is prepared, and what its session is told
+abbrev pub ready : Option Transaction → ℕ → Option Transaction × Answer
+ready None parent = (None, answers.Empty)
+ready (Some t) parent =
+    if is_empty_list t.overlay.changes then (None, answers.Empty)
+    else (Some (record { overlay = t.overlay; phase = Prepared parent }), answers.Parent parent)

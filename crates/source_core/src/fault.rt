@@ -22,6 +22,9 @@ pub enum SourceFault {
     /// The number of columns is not the table's, or a column is named that the table lacks.
     #[error("S5 WrongColumns")]
     WrongColumns,
+    /// Another session holds the row.
+    #[error("S6 RowLocked")]
+    RowLocked,
     /// The row is there.
     #[error("S7 RowExists")]
     RowExists,
