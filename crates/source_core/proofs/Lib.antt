@@ -3,3 +3,5 @@ pub mod Shapes
 pub mod Stand
 pub mod Place
 pub mod Begun
+pub mod Ready
+pub mod Preparing

@@ -15,7 +15,7 @@ use Rattle.row_locks.specs.Locks.{Locks, NoClash, held_by, holding}
 use Rattle.row_locks.proofs.Holders.{holders_do_not_conflict}
 use Rattle.source_core.specs.declared.transaction.Transaction.{Transaction}
 use Rattle.tracker_trait.specs.Kind.{Kind}
-use Rattle.source_core.specs.Source.{Open, EachApplies, IsSound, held_for, locks_over}
+use Rattle.source_core.specs.Source.{Open, EachApplies, IsSound, open_of, held_for, locks_over}
 use Rattle.source_core.specs.Core.{Parts, IsCore, IsFlushedAs, AreFlushed, open_view, sessions_view, source_of, placed, touched_over}
 
 -- what the session of a place holds
@@ -107,3 +107,9 @@ is_sound p kind halted core = record {
   committed_within = core.committed_within;
   owned = core.owned;
 }
+
+-- a session's transaction, as callers see it
+pub open_at : (p : Parts) (kind : Kind) (halted : Bool) (i session : ℕ) → i + 1 ≡ session → open_of (source_of p kind halted) session ≡ option_map open_view (placed p.places i)
+open_at p kind halted i session is =
+    let place : session - 1 ≡ i = omega (arith, is) in
+    get_or-map (option_map open_view) p.places (session - 1) None ∙ ap (λ k. option_map open_view (placed p.places k)) place
