@@ -1,11 +1,12 @@
 -- Which sessions hold which rows, and how.
-use Rattle.std.specs.Prelude.{◌≡◌, ℕ, ◌-◌, Bool, false, List, [], ◌∷◌, Some, replicate, slice_index_or, slice_set}
+use Rattle.std.specs.Prelude.{◌≡◌, ℕ, ◌-◌, Bool, false, List, [], ◌∷◌, ◌++◌, map, Some, replicate, slice_index_or, slice_set}
 use Rattle.std.specs.Coded.{Coded, coded_list}
 use Rattle.std.specs.FinMap.{FinMap, code, empty, get, insert}
 use Rattle.std.specs.List.{list_any}
 use Rattle.schema.specs.declared.RowId.{RowId}
 use Rattle.schema.specs.RowId.{row_cmp, coded_row_id}
 use Rattle.row_locks.specs.declared.Mode.{Mode}
+use Rattle.row_locks.specs.declared.Mode.TheVariants.{Share, Exclusive}
 use Rattle.row_locks.specs.Mode.{coded_mode, opposes, stronger}
 
 -- the rows that a session holds, and how it holds each
@@ -46,6 +47,14 @@ any_clashes locks session rows = list_any (λ lock. clashes_with locks session l
 abbrev pub also_held : Holding → List (RowId × Mode) → Holding
 also_held held [] = held
 also_held held (lock ∷ rest) = also_held (insert held lock.0 (stronger (get held lock.0) lock.1)) rest
+
+-- a lock on each of these rows
+abbrev pub locks_on : Mode → List RowId → List (RowId × Mode)
+locks_on mode rows = map (λ row. (row, mode)) rows
+
+-- what a session holds that took rows to write, and rows that it refers to for sharing
+abbrev pub holding : List RowId → List RowId → Holding
+holding writes refs = also_held empty (locks_on Exclusive writes ++ locks_on Share refs)
 
 -- with these locks of the session too, and those of the others as they were
 abbrev pub taken : Locks → ℕ → List (RowId × Mode) → Locks
