@@ -152,9 +152,9 @@ locks_stay p core i now same =
     sym (set-get_or p.locks i empty) ∙ ap (set p.locks i) (had ∙ sym same)
 
 -- what callers see
-pub view_set : (p : Parts) (kind : Kind) (halted : Bool) (i session : ℕ) (now : Option Transaction) (locks : Locks) → i + 1 ≡ session →
+pub view_set : (p : Parts) → IsCore p → (kind : Kind) (halted : Bool) (i session : ℕ) (now : Option Transaction) (locks : Locks) → i + 1 ≡ session →
     source_of (placing p i now p.queue locks) kind halted ≡ with_open (source_of p kind halted) session (option_map open_view now)
-view_set p kind halted i session now locks is =
+view_set p core kind halted i session now locks is =
     let place : i ≡ session - 1 = omega (arith, is) in
     ap (λ sessions. record (source_of p kind halted) { sessions = sessions })
     (map-set (option_map open_view) p.places i now ∙ ap (λ k. set (sessions_view p.places) k (option_map open_view now)) place)
