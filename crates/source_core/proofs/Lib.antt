@@ -5,3 +5,4 @@ pub mod Place
 pub mod Begun
 pub mod Ready
 pub mod Preparing
+pub mod Queueing

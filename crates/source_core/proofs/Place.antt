@@ -78,7 +78,7 @@ queued_stay places i now free (session ∷ queue) are =
 abbrev pub Grows : List ℕ → List ℕ → Type 0
 Grows old new = (session : ℕ) → IsTrue (list_any (eqb session) old) → IsTrue (list_any (eqb session) new)
 
-ready_stays : (p : Parts) (i : ℕ) (now : Option Transaction) (queue : List ℕ) (locks : Locks) (session : ℕ) (changes : List Change) (order : ℕ) → IsReady p session changes order → IsReady (placing p i now queue locks) session changes order
+pub ready_stays : (p : Parts) (i : ℕ) (now : Option Transaction) (queue : List ℕ) (locks : Locks) (session : ℕ) (changes : List Change) (order : ℕ) → IsReady p session changes order → IsReady (placing p i now queue locks) session changes order
 ready_stays p i now queue locks session changes order r = record { some = r.some; within = r.within; covers = r.covers; own = r.own }
 
 stands_stays : (p : Parts) (i : ℕ) (now : Option Transaction) (queue : List ℕ) (locks : Locks) (session : ℕ) (changes : List Change) (phase : Phase) → Grows p.queue queue → StandsAs p session changes phase → StandsAs (placing p i now queue locks) session changes phase
@@ -170,3 +170,7 @@ nothing (Some t) e = cc
 -- what a source holds, once its parts are others
 pub holds : (p : Parts) (room : ℕ) (IsSo : Type 0) → Holds p room IsSo → (q : Parts) → IsCore q → Holds q room IsSo
 holds p room IsSo h q core = record { core = core; room = h.room; tracked = h.tracked }
+
+-- the same, with a queue that has no less room
+pub holds_room : (p : Parts) (room : ℕ) (IsSo : Type 0) → Holds p room IsSo → (q : Parts) → IsCore q → (more : ℕ) → room ≤ more → Holds q more IsSo
+holds_room p room IsSo h q core more grows = record { core = core; room = omega (arith, h.room, grows); tracked = h.tracked }
