@@ -6,3 +6,5 @@ pub mod Begun
 pub mod Ready
 pub mod Preparing
 pub mod Queueing
+pub mod Causes
+pub mod Writing
