@@ -8,3 +8,5 @@ pub mod Preparing
 pub mod Queueing
 pub mod Causes
 pub mod Writing
+pub mod Syncing
+pub mod New
