@@ -10,3 +10,4 @@ pub mod Causes
 pub mod Writing
 pub mod Syncing
 pub mod New
+pub mod FlushEnds
