@@ -17,5 +17,5 @@ pub use fault::SourceFault;
 pub use machine::SourceCore;
 pub use transaction::{Phase, Prepared, Receipt};
 
-
-
+#[cfg(test)]
+mod tests;
