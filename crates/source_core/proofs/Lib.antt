@@ -1,0 +1,11 @@
+pub mod Legal
+pub mod Stand
+pub mod FlushLists
+pub mod FlushStamp
+pub mod FlushCome
+pub mod FlushPlaces
+pub mod FlushLegal
+pub mod FlushDrafted
+pub mod FlushFit
+pub mod FlushStands
+pub mod FlushCore

@@ -9,6 +9,7 @@
 #![tactic(auto)]
 
 mod fault;
+mod flushing;
 pub mod laws;
 mod machine;
 mod transaction;
@@ -16,6 +17,3 @@ mod transaction;
 pub use fault::SourceFault;
 pub use machine::SourceCore;
 pub use transaction::{Phase, Prepared, Receipt};
-
-
-

@@ -1,0 +1,2 @@
+abbrev pub ProbeLem : Type 0
+ProbeLem = Unit {0}
