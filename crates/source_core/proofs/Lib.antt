@@ -15,3 +15,4 @@ pub mod FlushDrafted
 pub mod FlushFit
 pub mod FlushStands
 pub mod FlushCore
+pub mod FlushCall

@@ -3,4 +3,3 @@ pub mod Calls
 pub mod Core
 pub mod Laws
 pub mod Flush
-pub mod Probe

@@ -1,2 +1,0 @@
-abbrev pub ProbeLem : Type 0
-ProbeLem = Unit {0}
