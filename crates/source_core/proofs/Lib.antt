@@ -6,6 +6,8 @@ pub mod Begun
 pub mod Ready
 pub mod Preparing
 pub mod Queueing
+pub mod Causes
+pub mod Writing
 pub mod FlushLists
 pub mod FlushStamp
 pub mod FlushCome

@@ -25,7 +25,7 @@ held_at ts rows places i =
     get_or-map (held_for ts rows) (sessions_view places) i None
     ∙ ap (held_for ts rows) (get_or-map (option_map open_view) places i None)
 
-held_by_place : (p : Parts) → IsCore p → (i : ℕ) (t : Transaction) → placed p.places i ≡ Some t → held_by p.locks (i + 1) ≡ holding (writes t.overlay.changes) (kin p.tables t.overlay.changes p.rows)
+pub held_by_place : (p : Parts) → IsCore p → (i : ℕ) (t : Transaction) → placed p.places i ≡ Some t → held_by p.locks (i + 1) ≡ holding (writes t.overlay.changes) (kin p.tables t.overlay.changes p.rows)
 held_by_place p core i t at =
     ap (λ (l : Locks). held_by l (i + 1)) core.locks
     ∙ ap (λ n. get_or (locks_over p.tables p.rows (sessions_view p.places)) n empty) (back i)
