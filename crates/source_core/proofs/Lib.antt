@@ -11,3 +11,13 @@ pub mod Writing
 pub mod Syncing
 pub mod New
 pub mod FlushEnds
+pub mod FlushLists
+pub mod FlushStamp
+pub mod FlushCome
+pub mod FlushPlaces
+pub mod FlushLegal
+pub mod FlushDrafted
+pub mod FlushFit
+pub mod FlushStands
+pub mod FlushCore
+pub mod FlushCall

@@ -9,6 +9,7 @@
 #![tactic(auto)]
 
 mod fault;
+mod flushing;
 pub mod laws;
 mod machine;
 mod transaction;
