@@ -1,18 +1,18 @@
 -- The frame law, by induction over the list of changes, from what one change does.
-use Rattle.std.proofs.Common.{◌≡◌, sym, ap, ◌∙◌, refl, inl, inr, true, List, [], ◌∷◌, ◌++◌, Option, Some, ℤ}
-use Rattle.std.specs.Prelude.{option_and_then, option_to_list}
+use Rattle.std.proofs.Common.{◌≡◌, sym, ap, ◌∙◌, refl, inl, inr, true, false, List, [], ◌∷◌, ◌++◌, Option, Some, ℤ}
+use Rattle.std.specs.Prelude.{◌||◌, option_and_then, option_to_list}
 use Rattle.std.specs.FinMap.{get}
-use Rattle.std.proofs.lemmas.Bool.{cases_Bool, or_cases, or_left, or_right}
+use Rattle.std.proofs.lemmas.Bool.{cases_Bool, or_cases, or_left, or_right, or_parts}
 use Rattle.std.proofs.lemmas.List.Folds.{list_any-append}
 use Rattle.schema.specs.declared.Table.{Table}
 use Rattle.schema.specs.declared.RowId.{RowId}
 use Rattle.schema.specs.RowId.{same_row}
-use Rattle.schema.specs.Rows.{has_row}
+use Rattle.schema.specs.Rows.{has_row, meets}
 use Rattle.rows.specs.declared.Change.{Change}
 use Rattle.rows.specs.Database.{Database, target, writes, parent_of, parent_in, apply, effect, kin}
-use Rattle.rows.specs.Frame.{AgreeOn, SameEffect, LooksOnlyAtWritesAndKin}
+use Rattle.rows.specs.Frame.{AgreeOn, SameEffect, LooksOnlyAtWritesAndKin, AppliesBehind}
 use Rattle.rows.proofs.Effect.{effect_first, effect_then, kin_then, changes_only_writes}
-use Rattle.rows.proofs.Apply.{apply_alike, apply_agrees, has_row-left, has_row-right, same_row_itself}
+use Rattle.rows.proofs.Apply.{apply_alike, apply_agrees, row_is, has_row-left, has_row-right, same_row_itself}
 
 -- the rows of the writes and the kin of a change and of those behind it
 abbrev touched : List Table → Change → List Change → Database → Database → List RowId
@@ -76,3 +76,19 @@ looks_only ts (change ∷ changes) before after other h agree =
     same_effect ts change changes before mid after other twin.0 first.1 twin.1 first.2 was
     (λ q is. still q (touched-writes ts change changes before mid q is))
     (looks_only ts changes mid after twin.0 first.2 (λ q is. still q (touched-behind ts change changes before mid q is)))
+
+-- ---- one list behind another
+
+-- of two sets that do not meet, a row of the second is not in the first
+pub not_in_first : (xs ys : List RowId) (q : RowId) → meets xs ys ≡ false → has_row ys q ≡ true → has_row xs q ≡ false
+not_in_first [] ys q apart is = refl
+not_in_first (x ∷ xs) ys q apart is =
+    let parts = or_parts (has_row ys x) (meets xs ys) apart in
+    elim (cases_Bool (same_row q x)) [
+      | inl same ↦ absurd (cc (sym parts.0 ∙ ap (has_row ys) (sym (row_is q x same)) ∙ is))
+      | inr other ↦ ap (λ b. b || has_row xs q) other ∙ not_in_first xs ys q parts.1 is
+    ]
+
+pub applies_behind : AppliesBehind
+applies_behind ts first second db mid leaves one two apart =
+    looks_only ts second db leaves mid two (λ q is. sym (changes_only_writes ts first db mid q one (not_in_first (writes first) (writes second ++ kin ts second db) q apart is)))

@@ -4,7 +4,7 @@ use Rattle.std.specs.Prelude.{◌≡◌, true, false, List, ◌++◌, Some}
 use Rattle.std.specs.FinMap.{get}
 use Rattle.schema.specs.declared.Table.{Table}
 use Rattle.schema.specs.declared.RowId.{RowId}
-use Rattle.schema.specs.Rows.{has_row}
+use Rattle.schema.specs.Rows.{has_row, meets}
 use Rattle.rows.specs.declared.Change.{Change}
 use Rattle.rows.specs.Database.{Database, effect, writes, kin}
 
@@ -27,3 +27,10 @@ pub record SameEffect (ts : List Table) (changes : List Change) (before after ot
 abbrev pub LooksOnlyAtWritesAndKin : Type 0
 LooksOnlyAtWritesAndKin = (ts : List Table) (changes : List Change) (before after other : Database) →
     effect ts changes before ≡ Some after → AgreeOn (writes changes ++ kin ts changes before) before other → SameEffect ts changes before after other
+
+-- where two lists of changes each apply to a database, and the first writes no row that the second writes or is kin
+-- of there, the second does the same behind the first
+abbrev pub AppliesBehind : Type 0
+AppliesBehind = (ts : List Table) (first second : List Change) (db mid leaves : Database) →
+    effect ts first db ≡ Some mid → effect ts second db ≡ Some leaves → meets (writes first) (writes second ++ kin ts second db) ≡ false →
+    SameEffect ts second db leaves mid

@@ -2,13 +2,19 @@
 
 ghost use Rattle.rows.specs.Effect.{AppliesByRow, FitsWhereItApplies, ParentStandsWhereItApplies, HasParentWhereItApplies, AppliesWhereItFits, WritesOfJoined, EffectOfJoined, KinOfJoined, RowAfterJoined, EachRowIsLeft, EffectIsItsRows, ChildrenKeepParents, FlatLeavesNoOrphan};
 ghost use Rattle.rows.specs.Naming.{AssignsWhatIsThere, KeepsWidth, OthersStay, NamedTakeTheirs};
-ghost use Rattle.rows.specs.Frame.{ChangesOnlyWrites, LooksOnlyAtWritesAndKin};
+ghost use Rattle.rows.specs.Frame.{ChangesOnlyWrites, LooksOnlyAtWritesAndKin, AppliesBehind};
 
 /// The frame law: a list of changes changes only the rows that it writes, and looks only at these and at
 /// their kin.
 pub fn frame()
     ensures changes_only { ChangesOnlyWrites }
     ensures looks_only { LooksOnlyAtWritesAndKin }
+{}
+
+/// Transactions that each apply to one database and do not clash apply to it one behind the other, by the frame
+/// law: where the first writes nothing that the second looks at, the second does there what it does alone.
+pub fn behind()
+    ensures { AppliesBehind }
 {}
 
 /// What an update leaves of the columns of its row.
