@@ -3,3 +3,4 @@ pub mod Counts
 pub mod Moves
 pub mod Tied
 pub mod Sessions
+pub mod Holders

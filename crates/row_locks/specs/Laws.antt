@@ -1,13 +1,14 @@
 -- What follows from the definitions.
-use Rattle.std.specs.Prelude.{◌≡◌, ◌≢◌, ℕ, ◌≤◌, ◌&&◌, ◌||◌, ◌==◌, if◌then◌else◌, List, Some, length}
+use Rattle.std.specs.Prelude.{◌≡◌, ◌≢◌, ℕ, ◌≤◌, false, ◌&&◌, ◌||◌, ◌==◌, if◌then◌else◌, List, [], ◌∷◌, ◌++◌, Some, None, length}
 use Rattle.std.specs.List.{list_any}
 use Rattle.std.specs.FinMap.{empty, get}
 use Rattle.schema.specs.declared.RowId.{RowId}
 use Rattle.schema.specs.RowId.{same_row}
+use Rattle.schema.specs.Rows.{has_row, conflicts}
 use Rattle.row_locks.specs.declared.Mode.{Mode}
-use Rattle.row_locks.specs.declared.Mode.TheVariants.{Share}
+use Rattle.row_locks.specs.declared.Mode.TheVariants.{Share, Exclusive}
 use Rattle.row_locks.specs.Mode.{opposes}
-use Rattle.row_locks.specs.Locks.{Holding, Locks, no_locks, held_by, also_held, taken, released, NoClash}
+use Rattle.row_locks.specs.Locks.{Holding, Locks, no_locks, held_by, also_held, locks_on, holding, taken, released, NoClash}
 
 -- no session of a new table holds a row
 abbrev pub NothingHeld : Type 0
@@ -36,3 +37,21 @@ abbrev pub HoldersShare : Type 0
 HoldersShare =
     (locks : Locks) → NoClash locks → (session other : ℕ) (row : RowId) (mode mode' : Mode) → 1 ≤ session → 1 ≤ other → session ≢ other →
     get (held_by locks session) row ≡ Some mode → get (held_by locks other) row ≡ Some mode' → (mode ≡ Share) × (mode' ≡ Share)
+
+-- how a session holds a row that took rows to write, and rows that it refers to for sharing
+abbrev pub HeldByRows : Type 0
+HeldByRows =
+    (writes refs : List RowId) (row : RowId) → get (holding writes refs) row ≡ (if has_row writes row then Some Exclusive else if has_row refs row then Some Share else None)
+
+-- one more row to write, with rows that it refers to, goes behind the others
+abbrev pub HoldsMoreRows : Type 0
+HoldsMoreRows =
+    (writes refs : List RowId) (row : RowId) (more : List RowId) →
+    also_held (holding writes refs) ((row, Exclusive) ∷ locks_on Share more) ≡ holding (writes ++ row ∷ []) (refs ++ more)
+
+-- where no two sessions clash, the rows of two do not conflict
+abbrev pub HoldersDoNotConflict : Type 0
+HoldersDoNotConflict =
+    (locks : Locks) → NoClash locks → (session other : ℕ) (writes refs writes' refs' : List RowId) → 1 ≤ session → 1 ≤ other → session ≢ other →
+    held_by locks session ≡ holding writes refs → held_by locks other ≡ holding writes' refs' →
+    conflicts (record { writes = writes; refs = refs }) (record { writes = writes'; refs = refs' }) ≡ false

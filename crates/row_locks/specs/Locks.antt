@@ -48,6 +48,14 @@ abbrev pub also_held : Holding → List (RowId × Mode) → Holding
 also_held held [] = held
 also_held held (lock ∷ rest) = also_held (insert held lock.0 (stronger (get held lock.0) lock.1)) rest
 
+-- a lock on each of these rows
+abbrev pub locks_on : Mode → List RowId → List (RowId × Mode)
+locks_on mode rows = map (λ row. (row, mode)) rows
+
+-- what a session holds that took rows to write, and rows that it refers to for sharing
+abbrev pub holding : List RowId → List RowId → Holding
+holding writes refs = also_held empty (locks_on Exclusive writes ++ locks_on Share refs)
+
 -- with these locks of the session too, and those of the others as they were
 abbrev pub taken : Locks → ℕ → List (RowId × Mode) → Locks
 taken locks session rows = slice_set locks (session - 1) (also_held (held_by locks session) rows)
@@ -56,7 +64,3 @@ taken locks session rows = slice_set locks (session - 1) (also_held (held_by loc
 abbrev pub NoClash : Locks → Type 0
 NoClash locks =
     (session : ℕ) (row : RowId) (mode : Mode) → get (held_by locks session) row ≡ Some mode → clashes_with locks session row mode ≡ false
-
--- what a session holds that holds these rows exclusively, and those for sharing
-abbrev pub holding : List RowId → List RowId → Holding
-holding writes refs = also_held empty (map (λ row. (row, Exclusive)) writes ++ map (λ row. (row, Share)) refs)

@@ -1,6 +1,6 @@
 //! What follows from the definitions alone. Each function states laws by its contract, and does nothing.
 
-ghost use Rattle.row_locks.specs.Laws.{NothingHeld, TakenByOne, ReleasedByOne, HeldAsListed, HoldersShare};
+ghost use Rattle.row_locks.specs.Laws.{NothingHeld, TakenByOne, ReleasedByOne, HeldAsListed, HoldersShare, HeldByRows, HoldsMoreRows, HoldersDoNotConflict};
 
 /// In a new table there are 256 sessions, and none of them holds a row.
 pub fn new_table()
@@ -22,4 +22,16 @@ pub fn also_held()
 /// Two sessions that hold one row both hold it for sharing.
 pub fn no_clash()
     ensures { HoldersShare }
+{}
+
+/// A session that took rows to write, and rows that it refers to for sharing, holds the first exclusively and the
+/// others so; and one row more to write, with what it refers to, goes behind these.
+pub fn held_by_rows()
+    ensures rows { HeldByRows }
+    ensures more { HoldsMoreRows }
+{}
+
+/// Two sessions of a table write no row in common, and neither writes one that the other refers to.
+pub fn no_conflict()
+    ensures { HoldersDoNotConflict }
 {}

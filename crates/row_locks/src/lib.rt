@@ -87,7 +87,9 @@ impl Model for LockTable {
 impl LockTable {
     /// A table in which no session holds a row. The places of the sessions are made here.
     pub fn new(alloc: Global) -> Result<LockTable, Memory>
-        ensures { IfOk result (λ table. table ≡ no_locks) }
+        ensures none { IfOk result (λ table. table ≡ no_locks) }
+        ensures no_clash { IfOk result (λ table. NoClash table) }
+        ensures places { IfOk result (λ table. length table ≡ 256) }
     {
         Ok(LockTable {
             places: empty_places(alloc)?,
@@ -117,6 +119,8 @@ impl LockTable {
         ensures clash { (result ≡ Err Clash) ↔ IsTrue (any_clashes self.old session rows.now) }
         ensures ok { OnOk result (self.new ≡ taken self.old session rows.now) }
         ensures err { OnErr result (self.new ≡ self.old) }
+        ensures no_clash { NoClash self.new }
+        ensures places { length self.new ≡ 256 }
     {
         if self.clashes_any(session, rows) {
             return Err(LockFault::Clash);
@@ -140,7 +144,9 @@ impl LockTable {
     pub fn release_all(&mut self, session: u16)
         requires least { 1 ≤ session }
         requires greatest { session ≤ 256 }
-        ensures { self.new ≡ released self.old session }
+        ensures released { self.new ≡ released self.old session }
+        ensures no_clash { NoClash self.new }
+        ensures places { length self.new ≡ 256 }
     {
         let freed = &mut self.places[session as usize - 1];
         unlock_all(freed, &mut self.tally);

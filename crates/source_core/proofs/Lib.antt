@@ -1,0 +1,5 @@
+pub mod Legal
+pub mod Shapes
+pub mod Stand
+pub mod Place
+pub mod Begun

@@ -19,8 +19,11 @@ invariant_of-self c =
     let moves : MovesAlike (held_by locks c.args.session) counts empty c.unlock_all.new.tally.rows = rw (own, c.unlock_all.ensures.held) at c.unlock_all.ensures.counts in
     rw (map-set, c.unlock_all.ensures.held) (tied-released locks counts c.args.session c.requires.least c.requires.greatest c.self.invariant c.unlock_all.new.tally.rows moves)
 
-pub returns : goal.returns
-returns c =
+pub returns-clause-no_clash : goal.returns-clause-no_clash
+returns-clause-no_clash c = (invariant_of-self c).no_clash
+
+pub returns-clause-released : goal.returns-clause-released
+returns-clause-released c =
     map-set (λ (p : Place). p.rows) c.self.inside.places.items (c.args.session - 1) c.unlock_all.new.held
     ∙ ap (λ h. set (rows_in c.self.inside.places.items) (c.args.session - 1) h) c.unlock_all.ensures.held
     ∙ ap (λ (l : Locks). released l c.args.session) c.self.view_is

@@ -5,7 +5,7 @@ use Rattle.std.specs.FinMap.{empty}
 use Rattle.row_locks.specs.declared.LockFault.TheVariants as faults
 use Rattle.row_locks.specs.Held.{Place}
 use Rattle.row_locks.specs.Locks.{Locks, held_by, any_clashes, also_held, taken}
-use Rattle.row_locks.specs.Tied.{MovesAlike}
+use Rattle.row_locks.specs.Tied.{IsTied, MovesAlike}
 use Rattle.row_locks.proofs.Tied.{place_rows, counted_place, tied-taken, tied-kept, rows_in}
 use Rattle.row_locks.proofs.LockTable.take.Goals as goal
 
@@ -21,12 +21,18 @@ kept c =
     ∙ ap (λ h. set (rows_in c.self.inside.places.items) (c.args.session - 1) h) (c.in_err-lock_all.ensures.err ∙ own)
     ∙ set-get_or (rows_in c.self.inside.places.items) (c.args.session - 1) empty
 
-pub invariant_of-self : goal.invariant_of-self
-invariant_of-self c =
+kept_tied : (c : goal.After-from_residual) → IsTied (rows_in (set c.self.inside.places.items (c.args.session - 1) c.lock_all.new.held)) c.lock_all.new.tally.rows
+kept_tied c =
     let locks = rows_in c.self.inside.places.items in
     let counts = c.self.inside.tally.rows in
     let moves : MovesAlike c.index_mut-place.result.now.rows counts c.index_mut-place.result.now.rows c.lock_all.new.tally.rows = rw c.in_err-lock_all.ensures.err at c.in_err-lock_all.ensures.counts in
     rw (kept c) (tied-kept locks counts c.lock_all.new.tally.rows c.index_mut-place.result.now.rows c.self.invariant moves)
+
+pub invariant_of-self : goal.invariant_of-self
+invariant_of-self c = kept_tied c
+
+pub returns-in_err-lock_all-clause-no_clash : goal.returns-in_err-lock_all-clause-no_clash
+returns-in_err-lock_all-clause-no_clash c = (kept_tied c).no_clash
 
 pub returns-in_err-lock_all-clause-clash : goal.returns-in_err-lock_all-clause-clash
 returns-in_err-lock_all-clause-clash c =
@@ -49,14 +55,20 @@ with_list c =
     map-set (λ (p : Place). p.rows) c.self.inside.places.items (c.args.session - 1) c.lock_all.new.held
     ∙ ap (λ h. set (rows_in c.self.inside.places.items) (c.args.session - 1) h) (c.in_ok-lock_all.ensures.ok ∙ ap (λ h. also_held h c.args.rows.now) own)
 
-pub invariant_of-self-2 : goal.invariant_of-self-2
-invariant_of-self-2 c =
+taken_tied : (c : goal.In_ok-lock_all) → IsTied (rows_in (set c.self.inside.places.items (c.args.session - 1) c.lock_all.new.held)) c.lock_all.new.tally.rows
+taken_tied c =
     let locks = rows_in c.self.inside.places.items in
     let counts = c.self.inside.tally.rows in
     let own = place_rows c.self.inside.places.items c.self.inside.tally.rows c.args.session c.index_mut-place.result.now c.requires.least c.requires.greatest c.self.invariant c.index_mut-place.ensures.value in
     let clear : any_clashes locks c.args.session c.args.rows.now ≡ false = ap (λ (l : Locks). any_clashes l c.args.session c.args.rows.now) c.self.view_is ∙ sym c.clashes_any.ensures ∙ c.if-clashes_any.false in
     let moves : MovesAlike (held_by locks c.args.session) counts (also_held (held_by locks c.args.session) c.args.rows.now) c.lock_all.new.tally.rows = rw (c.in_ok-lock_all.ensures.ok, own) at c.in_ok-lock_all.ensures.counts in
     rw (with_list c) (tied-taken locks counts c.lock_all.new.tally.rows c.args.session c.args.rows.now c.requires.least c.requires.greatest c.self.invariant clear moves)
+
+pub invariant_of-self-2 : goal.invariant_of-self-2
+invariant_of-self-2 c = taken_tied c
+
+pub returns-clause-no_clash : goal.returns-clause-no_clash
+returns-clause-no_clash c = (taken_tied c).no_clash
 
 pub returns-clause-ok : goal.returns-clause-ok
 returns-clause-ok c = with_list c ∙ ap (λ (l : Locks). taken l c.args.session c.args.rows.now) c.self.view_is

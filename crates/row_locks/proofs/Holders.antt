@@ -1,0 +1,138 @@
+-- What sessions hold that took rows to write, and rows that they refer to for sharing.
+use Rattle.std.proofs.Common.{◌≡◌, ◌≢◌, ◌∙◌, sym, ap, refl, ℕ, ◌≤◌, Bool, true, false, true≢false, ◌&&◌, ◌||◌, ◌⊎◌, cond, Option, Some, None, List, [], ◌∷◌, ◌++◌, inl, inr}
+use Rattle.std.specs.List.{list_any}
+use Rattle.std.specs.FinMap.{get, empty, get-empty, same_map}
+use Rattle.std.proofs.lemmas.Bool.{cases_Bool}
+use Rattle.std.proofs.lemmas.List.Folds.{list_any-append}
+use Rattle.schema.specs.declared.RowId.{RowId}
+use Rattle.schema.specs.RowId.{row_cmp, same_row, row_total, exact_row}
+use Rattle.schema.specs.Rows.{has_row, meets}
+use Rattle.row_locks.specs.declared.Mode.{Mode}
+use Rattle.row_locks.specs.declared.Mode.TheVariants.{Share, Exclusive}
+use Rattle.row_locks.specs.Mode.{is_exclusive, opposes}
+use Rattle.row_locks.specs.Locks.{Holding, Locks, held_by, also_held, locks_on, holding, NoClash}
+use Rattle.row_locks.specs.Laws.{HeldByRows, HoldsMoreRows, HoldersDoNotConflict}
+use Rattle.row_locks.proofs.Rows.{same_row_itself}
+use Rattle.row_locks.proofs.Sessions.{held_as_listed, holders_share}
+
+-- ---- how a row is held
+
+-- what clashes with the same locks is held the same way
+held_alike : (o p : Option Mode) → ((mode : Mode) → opposes o mode ≡ opposes p mode) → o ≡ p
+held_alike None None h = refl
+held_alike None (Some Share) h = absurd (true≢false (sym (h Exclusive)))
+held_alike None (Some Exclusive) h = absurd (true≢false (sym (h Share)))
+held_alike (Some Share) None h = absurd (true≢false (h Exclusive))
+held_alike (Some Share) (Some Share) h = refl
+held_alike (Some Share) (Some Exclusive) h = absurd (true≢false (sym (h Share)))
+held_alike (Some Exclusive) None h = absurd (true≢false (h Share))
+held_alike (Some Exclusive) (Some Share) h = absurd (true≢false (h Share))
+held_alike (Some Exclusive) (Some Exclusive) h = refl
+
+abbrev is_opposed : RowId → Mode → RowId × Mode → Bool
+is_opposed row mode lock = same_row row lock.0 && opposes (Some lock.1) mode
+
+-- a lock on one of the rows clashes where it is there and its way does
+opposed_on : (row : RowId) (mode held : Mode) (rows : List RowId) → list_any (is_opposed row mode) (locks_on held rows) ≡ (has_row rows row && opposes (Some held) mode)
+opposed_on row mode held [] = refl
+opposed_on row mode held (r ∷ rows) =
+    ap (λ b. (same_row row r && opposes (Some held) mode) || b) (opposed_on row mode held rows)
+    ∙ apart (same_row row r) (has_row rows row) (opposes (Some held) mode)
+  where
+    apart : (a b c : Bool) → ((a && c) || (b && c)) ≡ ((a || b) && c)
+    apart true true true = refl
+    apart true true false = refl
+    apart true false true = refl
+    apart true false false = refl
+    apart false b c = refl
+
+-- whether a lock of another session clashes with these rows
+opposed_by_rows : (writes refs : List RowId) (row : RowId) (mode : Mode) → opposes (get (holding writes refs) row) mode ≡ (has_row writes row || (has_row refs row && is_exclusive mode))
+opposed_by_rows writes refs row mode =
+    held_as_listed empty (locks_on Exclusive writes ++ locks_on Share refs) row mode
+    ∙ ap (λ o. opposes o mode || list_any (is_opposed row mode) (locks_on Exclusive writes ++ locks_on Share refs)) (get-empty row_cmp row)
+    ∙ list_any-append (is_opposed row mode) (locks_on Exclusive writes) (locks_on Share refs)
+    ∙ (λ i. opposed_on row mode Exclusive writes i || opposed_on row mode Share refs i)
+    ∙ ap (λ b. b || (has_row refs row && is_exclusive mode)) (and_true (has_row writes row))
+  where
+    and_true : (b : Bool) → (b && true) ≡ b
+    and_true true = refl
+    and_true false = refl
+
+abbrev way : Bool → Bool → Option Mode
+way written referred = cond written (Some Exclusive) (cond referred (Some Share) None)
+
+opposed_way : (written referred : Bool) (mode : Mode) → opposes (way written referred) mode ≡ (written || (referred && is_exclusive mode))
+opposed_way true referred mode = refl
+opposed_way false true mode = refl
+opposed_way false false mode = refl
+
+pub held_by_rows : HeldByRows
+held_by_rows writes refs row =
+    held_alike (get (holding writes refs) row) (way (has_row writes row) (has_row refs row)) (λ mode.
+    opposed_by_rows writes refs row mode ∙ sym (opposed_way (has_row writes row) (has_row refs row) mode))
+
+pub holds_more_rows : HoldsMoreRows
+holds_more_rows writes refs row more =
+    same_map row_total exact_row (also_held (holding writes refs) ((row, Exclusive) ∷ locks_on Share more)) (holding (writes ++ row ∷ []) (refs ++ more)) (λ q.
+    held_alike (get (also_held (holding writes refs) ((row, Exclusive) ∷ locks_on Share more)) q) (get (holding (writes ++ row ∷ []) (refs ++ more)) q) (λ mode.
+    held_as_listed (holding writes refs) ((row, Exclusive) ∷ locks_on Share more) q mode
+    ∙ (λ i. opposed_by_rows writes refs q mode i || ((same_row q row && true) || opposed_on q mode Share more i))
+    ∙ sorted (has_row writes q) (has_row refs q) (same_row q row) (has_row more q) (is_exclusive mode)
+    ∙ (λ i. sym (list_any-append (same_row q) writes (row ∷ [])) i || (sym (list_any-append (same_row q) refs more) i && is_exclusive mode))
+    ∙ sym (opposed_by_rows (writes ++ row ∷ []) (refs ++ more) q mode)))
+  where
+    sorted : (w r s m e : Bool) → ((w || (r && e)) || ((s && true) || (m && e))) ≡ ((w || (s || false)) || ((r || m) && e))
+    sorted true r s m e = refl
+    sorted false true s m true = by s
+      where
+        by : (s : Bool) → true ≡ ((s || false) || true)
+        by true = refl
+        by false = refl
+    sorted false true true m false = refl
+    sorted false true false true false = refl
+    sorted false true false false false = refl
+    sorted false false true m e = refl
+    sorted false false false m e = refl
+
+-- ---- two sessions
+
+-- sets of rows without a row in common
+meets_none : (xs ys : List RowId) → ((q : RowId) → has_row xs q ≡ true → has_row ys q ≡ false) → meets xs ys ≡ false
+meets_none [] ys h = refl
+meets_none (x ∷ xs) ys h =
+    (λ i. h x (ap (λ b. b || has_row xs x) (same_row_itself x)) i || meets xs ys)
+    ∙ meets_none xs ys (λ q is. h q (or_true (same_row q x) (has_row xs q) is))
+  where
+    or_true : (a b : Bool) → b ≡ true → (a || b) ≡ true
+    or_true true b is = refl
+    or_true false b is = is
+
+-- where a row is written by one session, no other holds it
+alone : (locks : Locks) → NoClash locks → (session other : ℕ) (row : RowId) → 1 ≤ session → 1 ≤ other → session ≢ other → get (held_by locks session) row ≡ Some Exclusive → get (held_by locks other) row ≡ None
+alone locks none session other row least least' apart here = by (get (held_by locks other) row) refl
+  where
+    by : (o : Option Mode) → get (held_by locks other) row ≡ o → o ≡ None
+    by None is = refl
+    by (Some mode) is =
+        let share : Exclusive ≡ Share = (holders_share locks none session other row Exclusive mode least least' apart here is).0 in
+        cc
+
+not_held : (written referred : Bool) → way written referred ≡ None → (written ≡ false) × (referred ≡ false)
+not_held true referred h = cc
+not_held false true h = cc
+not_held false false h = (refl, refl)
+
+-- what one session writes another neither writes nor refers to
+unheld : (locks : Locks) → NoClash locks → (session other : ℕ) (writes refs writes' refs' : List RowId) → 1 ≤ session → 1 ≤ other → session ≢ other → held_by locks session ≡ holding writes refs → held_by locks other ≡ holding writes' refs' → (q : RowId) → has_row writes q ≡ true → (has_row writes' q ≡ false) × (has_row refs' q ≡ false)
+unheld locks none session other writes refs writes' refs' least least' apart here there q is =
+    let mine : get (held_by locks session) q ≡ Some Exclusive =
+    ap (λ (h : Holding). get h q) here ∙ held_by_rows writes refs q ∙ ap (λ b. way b (has_row refs q)) is in
+    not_held (has_row writes' q) (has_row refs' q)
+    (sym (held_by_rows writes' refs' q) ∙ ap (λ (h : Holding). get h q) (sym there) ∙ alone locks none session other q least least' apart mine)
+
+pub holders_do_not_conflict : HoldersDoNotConflict
+holders_do_not_conflict locks none session other writes refs writes' refs' least least' apart here there =
+    let mine = unheld locks none session other writes refs writes' refs' least least' apart here there in
+    let theirs = unheld locks none other session writes' refs' writes refs least' least (λ e. apart (sym e)) there here in
+    λ i. meets_none writes writes' (λ q is. (mine q is).0) i || meets_none writes refs' (λ q is. (mine q is).1) i || meets_none writes' refs (λ q is. (theirs q is).1) i

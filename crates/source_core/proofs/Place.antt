@@ -1,0 +1,160 @@
+-- What stands once one session's transaction is another that is not queued, or none.
+use Rattle.std.specs.List.{list_any, IsDistinct}
+use Rattle.tracker_trait.specs.Kind.{Kind}
+use Rattle.std.proofs.Common.{IsTrue, Bool, eqb, ◌≡◌, ◌≢◌, ◌∙◌, sym, ap, subst, refl, ℕ, ◌+◌, ◌-◌, ◌<◌, ◌≤◌, List, [], ◌∷◌, length, map, get_or, set, Option, Some, None, inl, inr, arith}
+use Rattle.std.specs.Option.{option_map}
+use Rattle.std.specs.FinMap.{empty}
+use Rattle.std.proofs.lemmas.Bool.Decides.{eqb_tells}
+use Rattle.std.proofs.lemmas.List.{get_or-set_same, get_or-set_other, set-get_or, map-set, length-set}
+use Rattle.schema.specs.declared.Table.{Table}
+use Rattle.rows.specs.declared.Change.{Change}
+use Rattle.rows.specs.Database.{Database}
+use Rattle.record_codec.specs.declared.records.Record.{Record}
+use Rattle.row_locks.specs.Locks.{Locks, Holding, NoClash}
+use Rattle.source_core.specs.declared.transaction.Phase.{Phase}
+use Rattle.source_core.specs.declared.transaction.Phase.TheVariants.{Active, Prepared, Queued, Flushed}
+use Rattle.source_core.specs.declared.transaction.Transaction.{Transaction}
+use Rattle.source_core.specs.Source.{held_for, locks_over}
+use Rattle.source_core.specs.Calls.{with_open}
+use Rattle.source_core.proofs.Stand.{held_at}
+use Rattle.source_core.specs.Core.{Parts, IsCore, Applies, IsReady, IsLogged, StandsAs, IsFlushedAs, AreFlushed, IsQueued, AreQueued, open_view, sessions_view, source_of, placed}
+
+-- the transaction, if there is one, is neither queued nor flushed
+abbrev pub IsFreePhase : Phase → Type 0
+IsFreePhase Active = Unit {0}
+IsFreePhase (Prepared order) = Unit {0}
+IsFreePhase (Queued order) = ⊥
+IsFreePhase (Flushed gno) = ⊥
+
+abbrev pub IsFree : Option Transaction → Type 0
+IsFree None = Unit {0}
+IsFree (Some t) = IsFreePhase t.phase
+
+-- with another transaction in a place, and this queue and these locks
+abbrev pub placing : Parts → ℕ → Option Transaction → List ℕ → Locks → Parts
+placing p i now queue locks = record p { places = set p.places i now; queue = queue; locks = locks }
+
+not_flushed : (o : Option Transaction) (t : Transaction) (n : ℕ) → IsFree o → o ≡ Some t → t.phase ≡ Flushed n → ⊥
+not_flushed o t n free is phase =
+    subst (λ (x : Phase). IsFreePhase x) phase (subst (λ (x : Option Transaction). IsFree x) is free)
+
+not_queued : (o : Option Transaction) (t : Transaction) (n : ℕ) → IsFree o → o ≡ Some t → t.phase ≡ Queued n → ⊥
+not_queued o t n free is phase =
+    subst (λ (x : Phase). IsFreePhase x) phase (subst (λ (x : Option Transaction). IsFree x) is free)
+
+-- a place that is not this one stays
+pub other_place : (places : List (Option Transaction)) (i j : ℕ) (now : Option Transaction) → j ≢ i → placed (set places i now) j ≡ placed places j
+other_place places i j now ne = get_or-set_other places i j now None ne
+
+flushed_stay : (p : Parts) (i : ℕ) (now : Option Transaction) (queue : List ℕ) (locks : Locks) → IsFree (placed p.places i) → (number : ℕ) (log : List Record) (owners : List ℕ) →
+    AreFlushed p number log owners → AreFlushed (placing p i now queue locks) number log owners
+flushed_stay p i now queue locks free number [] [] are = tt
+flushed_stay p i now queue locks free number [] (owner ∷ owners) are = absurd are
+flushed_stay p i now queue locks free number (made ∷ log) [] are = absurd are
+flushed_stay p i now queue locks free number (made ∷ log) (owner ∷ owners) are =
+    let one = are.0 in
+    let other : owner - 1 ≢ i = λ same. not_flushed (placed p.places i) one.t number free (ap (placed p.places) (sym same) ∙ one.place) one.phase in (
+      record {
+        least = one.least;
+        t = one.t;
+        place = other_place p.places i (owner - 1) now other ∙ one.place;
+        phase = one.phase;
+        changes = one.changes;
+        refs = one.refs;
+      },
+      flushed_stay p i now queue locks free (number + 1) log owners are.1,
+    )
+
+pub queued_stay : (places : List (Option Transaction)) (i : ℕ) (now : Option Transaction) → IsFree (placed places i) → (queue : List ℕ) → AreQueued places queue → AreQueued (set places i now) queue
+queued_stay places i now free [] are = tt
+queued_stay places i now free (session ∷ queue) are =
+    let one = are.0 in
+    let other : session - 1 ≢ i = λ same. not_queued (placed places i) one.t one.order free (ap (placed places) (sym same) ∙ one.place) one.phase in (
+      record { least = one.least; t = one.t; order = one.order; place = other_place places i (session - 1) now other ∙ one.place; phase = one.phase },
+      queued_stay places i now free queue are.1,
+    )
+
+-- a queue of all those sessions, and maybe more
+abbrev pub Grows : List ℕ → List ℕ → Type 0
+Grows old new = (session : ℕ) → IsTrue (list_any (eqb session) old) → IsTrue (list_any (eqb session) new)
+
+ready_stays : (p : Parts) (i : ℕ) (now : Option Transaction) (queue : List ℕ) (locks : Locks) (session : ℕ) (changes : List Change) (order : ℕ) → IsReady p session changes order → IsReady (placing p i now queue locks) session changes order
+ready_stays p i now queue locks session changes order r = record { some = r.some; within = r.within; covers = r.covers; own = r.own }
+
+stands_stays : (p : Parts) (i : ℕ) (now : Option Transaction) (queue : List ℕ) (locks : Locks) (session : ℕ) (changes : List Change) (phase : Phase) → Grows p.queue queue → StandsAs p session changes phase → StandsAs (placing p i now queue locks) session changes phase
+stands_stays p i now queue locks session changes Active grows s = tt
+stands_stays p i now queue locks session changes (Prepared order) grows s = ready_stays p i now queue locks session changes order s
+stands_stays p i now queue locks session changes (Queued order) grows s = (ready_stays p i now queue locks session changes order s.0, grows session s.1)
+stands_stays p i now queue locks session changes (Flushed gno) grows s = record { later = s.later; there = s.there; owner = s.owner }
+
+-- what is true of the other transactions, and of the one in the place, is true of each
+pub each_placed : (P : ℕ → Transaction → Type 0) (places : List (Option Transaction)) (i : ℕ) (now : Option Transaction) → i < length places →
+    ((t : Transaction) → now ≡ Some t → P i t) → ((j : ℕ) (t : Transaction) → placed places j ≡ Some t → P j t) → (j : ℕ) (t : Transaction) → placed (set places i now) j ≡ Some t → P j t
+each_placed P places i now within here others j t at =
+    elim (eqb_tells j i) [
+      | inl same ↦
+          let is : now ≡ Some t = sym (get_or-set_same places i now None within) ∙ ap (placed (set places i now)) (sym same.1) ∙ at in
+          subst (λ k. P k t) (sym same.1) (here t is)
+      | inr apart ↦ others j t (sym (other_place places i j now apart.1) ∙ at)
+    ]
+
+-- the locks of all, where those of one place are set
+pub locks_set : (ts : List Table) (rows : Database) (places : List (Option Transaction)) (i : ℕ) (now : Option Transaction) →
+    locks_over ts rows (sessions_view (set places i now)) ≡ set (locks_over ts rows (sessions_view places)) i (held_for ts rows (option_map open_view now))
+locks_set ts rows places i now =
+    ap (map (held_for ts rows)) (map-set (option_map open_view) places i now)
+    ∙ map-set (held_for ts rows) (sessions_view places) i (option_map open_view now)
+
+pub place_set : (p : Parts) → IsCore p → (i : ℕ) → i < 256 → (now : Option Transaction) → IsFree (placed p.places i) → (queue : List ℕ) → (locks : Locks) →
+    length p.log + length queue ≤ p.limit → AreQueued (set p.places i now) queue → IsDistinct eqb queue → Grows p.queue queue →
+    locks ≡ set p.locks i (held_for p.tables p.rows (option_map open_view now)) → NoClash locks →
+    ((t : Transaction) → now ≡ Some t → Applies p.tables p.rows t.overlay × StandsAs (placing p i now queue locks) (i + 1) t.overlay.changes t.phase) →
+    IsCore (placing p i now queue locks)
+place_set p core i within now free queue locks few queued distinct grows are clear here =
+    let there : i < length p.places = omega (arith, within, core.sessions) in
+    record {
+      flat = core.flat;
+      legal = core.legal;
+      few = few;
+      bound = core.bound;
+      synced_within = core.synced_within;
+      committed_within = core.committed_within;
+      rows_are = core.rows_are;
+      fits = core.fits;
+      sessions = length-set p.places i now ∙ core.sessions;
+      owned = core.owned;
+      seen = core.seen;
+      locks = are ∙ ap (λ l. set l i (held_for p.tables p.rows (option_map open_view now))) core.locks ∙ sym (locks_set p.tables p.rows p.places i now);
+      no_clash = clear;
+      applies = each_placed (λ j t. Applies p.tables p.rows t.overlay) p.places i now there (λ t is. (here t is).0) core.applies;
+      stands = each_placed (λ j t. StandsAs (placing p i now queue locks) (j + 1) t.overlay.changes t.phase) p.places i now there
+          (λ t is. (here t is).1)
+          (λ j t at. stands_stays p i now queue locks (j + 1) t.overlay.changes t.phase grows (core.stands j t at));
+      flushed = flushed_stay p i now queue locks free (p.committed + 1) _ _ core.flushed;
+      queued = queued;
+      distinct = distinct;
+    }
+
+-- the same, with the queue as it is
+pub place_changed : (p : Parts) → IsCore p → (i : ℕ) → i < 256 → (now : Option Transaction) → IsFree (placed p.places i) → (locks : Locks) →
+    locks ≡ set p.locks i (held_for p.tables p.rows (option_map open_view now)) → NoClash locks →
+    ((t : Transaction) → now ≡ Some t → Applies p.tables p.rows t.overlay × StandsAs (placing p i now p.queue locks) (i + 1) t.overlay.changes t.phase) →
+    IsCore (placing p i now p.queue locks)
+place_changed p core i within now free locks are clear here =
+    place_set p core i within now free p.queue locks core.few (queued_stay p.places i now free p.queue core.queued) core.distinct (λ session is. is) are clear here
+
+-- where the transaction holds what the one before it held, the locks stay
+pub locks_stay : (p : Parts) → IsCore p → (i : ℕ) (now : Option Transaction) →
+    held_for p.tables p.rows (option_map open_view now) ≡ held_for p.tables p.rows (option_map open_view (placed p.places i)) → p.locks ≡ set p.locks i (held_for p.tables p.rows (option_map open_view now))
+locks_stay p core i now same =
+    let had : get_or p.locks i empty ≡ held_for p.tables p.rows (option_map open_view (placed p.places i)) =
+    ap (λ (l : Locks). get_or l i empty) core.locks ∙ held_at p.tables p.rows p.places i in
+    sym (set-get_or p.locks i empty) ∙ ap (set p.locks i) (had ∙ sym same)
+
+-- what callers see
+pub view_set : (p : Parts) (kind : Kind) (halted : Bool) (i session : ℕ) (now : Option Transaction) (locks : Locks) → i + 1 ≡ session →
+    source_of (placing p i now p.queue locks) kind halted ≡ with_open (source_of p kind halted) session (option_map open_view now)
+view_set p kind halted i session now locks is =
+    let place : i ≡ session - 1 = omega (arith, is) in
+    ap (λ sessions. record (source_of p kind halted) { sessions = sessions })
+    (map-set (option_map open_view) p.places i now ∙ ap (λ k. set (sessions_view p.places) k (option_map open_view now)) place)

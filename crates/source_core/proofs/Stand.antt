@@ -1,0 +1,109 @@
+-- What is known of the transactions of a source whose parts stand together.
+use Rattle.std.proofs.Common.{◌≡◌, ◌≢◌, ◌∙◌, sym, ap, subst, refl, ℕ, zero, suc, ◌+◌, ◌-◌, ◌<◌, ◌≤◌, List, [], ◌∷◌, length, map, take, drop, get_or, Bool, true, false, Option, Some, None, arith}
+use Rattle.std.specs.Prelude.{slice_get}
+use Rattle.std.specs.Option.{option_map, option_map_or, option_and_then, IsSome}
+use Rattle.std.proofs.lemmas.List.{length-drop}
+use Rattle.std.specs.FinMap.{empty}
+use Rattle.std.proofs.Math.ListN.{get_or-map}
+use Rattle.schema.specs.declared.Table.{Table}
+use Rattle.schema.specs.Rows.{conflicts}
+use Rattle.rows.specs.Database.{Database, writes, kin, effect}
+use Rattle.store_trait.specs.Batch.{put_batch}
+use Rattle.record_codec.specs.Log.{after}
+use Rattle.record_codec.specs.declared.records.Record.{Record}
+use Rattle.row_locks.specs.Locks.{Locks, NoClash, held_by, holding}
+use Rattle.row_locks.proofs.Holders.{holders_do_not_conflict}
+use Rattle.source_core.specs.declared.transaction.Transaction.{Transaction}
+use Rattle.tracker_trait.specs.Kind.{Kind}
+use Rattle.source_core.specs.Source.{Open, EachApplies, IsSound, held_for, locks_over}
+use Rattle.source_core.specs.Core.{Parts, IsCore, IsFlushedAs, AreFlushed, open_view, sessions_view, source_of, placed, touched_over}
+
+-- what the session of a place holds
+pub held_at : (ts : List Table) (rows : Database) (places : List (Option Transaction)) (i : ℕ) →
+    get_or (locks_over ts rows (sessions_view places)) i empty ≡ held_for ts rows (option_map open_view (placed places i))
+held_at ts rows places i =
+    get_or-map (held_for ts rows) (sessions_view places) i None
+    ∙ ap (held_for ts rows) (get_or-map (option_map open_view) places i None)
+
+held_by_place : (p : Parts) → IsCore p → (i : ℕ) (t : Transaction) → placed p.places i ≡ Some t → held_by p.locks (i + 1) ≡ holding (writes t.overlay.changes) (kin p.tables t.overlay.changes p.rows)
+held_by_place p core i t at =
+    ap (λ (l : Locks). held_by l (i + 1)) core.locks
+    ∙ ap (λ n. get_or (locks_over p.tables p.rows (sessions_view p.places)) n empty) (back i)
+    ∙ held_at p.tables p.rows p.places i
+    ∙ ap (λ o. held_for p.tables p.rows (option_map open_view o)) at
+  where
+    back : (i : ℕ) → i + 1 - 1 ≡ i
+    back i = omega arith
+
+-- the transactions of two sessions do not conflict
+pub apart : (p : Parts) → IsCore p → (i j : ℕ) (t u : Transaction) → i ≢ j → placed p.places i ≡ Some t → placed p.places j ≡ Some u →
+    conflicts (touched_over p.tables p.rows t.overlay.changes) (touched_over p.tables p.rows u.overlay.changes) ≡ false
+apart p core i j t u ne at there =
+    holders_do_not_conflict p.locks core.no_clash (i + 1) (j + 1)
+    (writes t.overlay.changes) (kin p.tables t.overlay.changes p.rows) (writes u.overlay.changes) (kin p.tables u.overlay.changes p.rows) (omega arith) (omega arith) (λ e. ne (omega (arith, e)))
+    (held_by_place p core i t at) (held_by_place p core j u there)
+
+-- a record of these, and the session that it came from
+record At (p : Parts) (first : ℕ) (log : List Record) (owners : List ℕ) (i : ℕ) : Type 0 where
+  pub made : Record
+  pub owner : ℕ
+  pub is : slice_get log i ≡ Some made
+  pub own : slice_get owners i ≡ Some owner
+  pub stands : IsFlushedAs p (first + i) made owner
+
+at_place : (p : Parts) (first : ℕ) (log : List Record) (owners : List ℕ) (i : ℕ) → AreFlushed p first log owners → i < length log → At p first log owners i
+at_place p first [] [] i are within = absurd (omega (arith, within))
+at_place p first [] (owner ∷ owners) i are within = absurd are
+at_place p first (made ∷ log) [] i are within = absurd are
+at_place p first (made ∷ log) (owner ∷ owners) zero are within = record { made = made; owner = owner; is = refl; own = refl; stands = subst (λ n. IsFlushedAs p n made owner) (omega arith) are.0 }
+at_place p first (made ∷ log) (owner ∷ owners) (suc i) are within =
+    let behind = at_place p (first + 1) log owners i are.1 (omega (arith, within)) in
+    record { made = behind.made; owner = behind.owner; is = behind.is; own = behind.own; stands = subst (λ n. IsFlushedAs p n behind.made behind.owner) (omega arith) behind.stands }
+
+-- an element behind the first so many
+get_behind : {X : Type 0} (k : ℕ) (l : List X) (i : ℕ) → slice_get (drop k l) i ≡ slice_get l (k + i)
+get_behind zero l i = let none : i ≡ 0 + i = omega arith in ap (slice_get l) none
+get_behind (suc k) [] i = refl
+get_behind (suc k) (x ∷ l) i = let next : suc (k + i) ≡ suc k + i = omega arith in get_behind k l i ∙ ap (slice_get (x ∷ l)) next
+
+-- each record that is not committed is that of the transaction in its session's place
+pub record IsOf (p : Parts) (n : ℕ) : Type 0 where
+  pub made : Record
+  pub owner : ℕ
+  pub is : slice_get p.log (n - 1) ≡ Some made
+  pub own : slice_get p.owners (n - 1) ≡ Some owner
+  pub stands : IsFlushedAs p n made owner
+
+pub flushed_at : (p : Parts) → IsCore p → (n : ℕ) → p.committed < n → n ≤ length p.log → IsOf p n
+flushed_at p core n later there =
+    let i = n - (p.committed + 1) in
+    let at = at_place p (p.committed + 1) (drop p.committed p.log) (drop p.committed p.owners) i core.flushed (omega (arith, length-drop p.committed p.log, later, there)) in
+    let place : p.committed + i ≡ n - 1 = omega (arith, later) in
+    record {
+      made = at.made;
+      owner = at.owner;
+      is = sym (ap (λ k. slice_get p.log k) place) ∙ sym (get_behind p.committed p.log i) ∙ at.is;
+      own = sym (ap (λ k. slice_get p.owners k) place) ∙ sym (get_behind p.committed p.owners i) ∙ at.own;
+      stands = subst (λ k. IsFlushedAs p k at.made at.owner) (omega (arith, later)) at.stands;
+    }
+
+-- what a session sees is defined: its changes apply to the committed rows
+sees_some : (p : Parts) → IsCore p → (i : ℕ) (o : Option Transaction) → placed p.places i ≡ o →
+    IsSome (option_and_then (effect p.tables (option_map_or (λ (t : Open). t.changes) (option_map open_view o) [])) (after p.tables (put_batch p.base empty) (take p.committed p.log)))
+sees_some p core i None at = rw core.rows_are refl
+sees_some p core i (Some t) at = rw (core.rows_are, (core.applies i t at).follows.applied) refl
+
+pub each_applies : (p : Parts) (kind : Kind) (halted : Bool) → IsCore p → EachApplies (source_of p kind halted)
+each_applies p kind halted core session =
+    subst (λ o. IsSome (option_and_then (effect p.tables (option_map_or (λ (t : Open). t.changes) o [])) (after p.tables (put_batch p.base empty) (take p.committed p.log))))
+    (sym (get_or-map (option_map open_view) p.places (session - 1) None))
+    (sees_some p core (session - 1) (placed p.places (session - 1)) refl)
+
+pub is_sound : (p : Parts) (kind : Kind) (halted : Bool) → IsCore p → IsSound (source_of p kind halted)
+is_sound p kind halted core = record {
+  legal = core.legal;
+  few = omega (arith, core.few);
+  synced_within = core.synced_within;
+  committed_within = core.committed_within;
+  owned = core.owned;
+}
