@@ -1,3 +1,5 @@
 pub mod Order
 pub mod Follow
 pub mod Run
+pub mod Apart
+pub mod Joining

@@ -38,10 +38,12 @@ in_order-updates es fs k left h =
 row_eq_equiv : IsEquivalence row_eq
 row_eq_equiv = and_equiv (on_equiv (λ (r : RowId). r.table) nat_eq_equiv) (on_equiv (λ (r : RowId). r.key) int_eq_equiv)
 
-pub sorted-in_order : (es sorted : List Entry) → IsDistinct row_eq (keys_of es) → IsPermutation es sorted → IsSortedByKey (λ (e : Entry). e.0) row_cmp sorted → IsRising sorted × (sorted ≡ in_order es)
+-- rows of which none comes twice, once they are sorted
+pub sorted-in_order : (es sorted : List Entry) → IsDistinct same_row (keys_of es) → IsPermutation es sorted → IsSortedByKey (λ (e : Entry). e.0) row_cmp sorted → IsRising sorted × (sorted ≡ in_order es)
 sorted-in_order es sorted distinct moves order =
-    let still : IsDistinct row_eq (keys_of sorted) = IsDistinct-IsPermutation row_eq row_eq_equiv.symm (keys_of es) (keys_of sorted) (IsPermutation-map (λ (e : Entry). e.0) es sorted moves) distinct in
-    let up : IsRising sorted = sorted_rows_rise es sorted (subst (λ eq. IsDistinct eq (keys_of es)) (λ i a b. row_eq-same_row a b i) distinct) moves order in (
+    let apart : IsDistinct row_eq (keys_of es) = subst (λ eq. IsDistinct eq (keys_of es)) (λ i a b. sym (row_eq-same_row a b) i) distinct in
+    let still : IsDistinct row_eq (keys_of sorted) = IsDistinct-IsPermutation row_eq row_eq_equiv.symm (keys_of es) (keys_of sorted) (IsPermutation-map (λ (e : Entry). e.0) es sorted moves) apart in
+    let up : IsRising sorted = sorted_rows_rise es sorted distinct moves order in (
       up,
       same_batch sorted (in_order es) up (in_order_rises es) (λ q.
           sym (lookup-find sorted q) ∙ lookup_permutation row_eq_equiv es sorted moves still (row_eq q) (row_eq_equiv.congr q)

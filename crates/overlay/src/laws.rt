@@ -1,6 +1,7 @@
 //! What follows from the definitions alone. Each function states a law by its contract, and does nothing.
 
 ghost use Rattle.overlay.specs.Follows.{NoneFollows, StepFollows, PushedFollows, ShowsRows, SeesAfter, MovesOver};
+ghost use Rattle.overlay.specs.Joining.{ApartGoesOn, ApartWithoutConflict, JoinedGoesOn, JoinedHasRows, JoinedRises, NotYetJoined, JoinedIsAfter, BatchIsAfter};
 
 /// How the overlay of changes that apply one after another goes on: from no changes, by a change that applies,
 /// and over another database to which the changes do the same.
@@ -16,4 +17,26 @@ pub fn follows()
 pub fn shows()
     ensures rows { ShowsRows }
     ensures after { SeesAfter }
+{}
+
+/// Which transactions are apart from one another: each further one from each before it, and two that do not conflict.
+pub fn apart()
+    ensures goes_on { ApartGoesOn }
+    ensures no_conflict { ApartWithoutConflict }
+{}
+
+/// What is joined of several transactions, one after another: the rows of each, in the order of row ids. No row of
+/// one that is apart from those before it is there before it is added.
+pub fn joined()
+    ensures goes_on { JoinedGoesOn }
+    ensures rows { JoinedHasRows }
+    ensures rises { JoinedRises }
+    ensures not_yet { NotYetJoined }
+{}
+
+/// Transactions that are each over one database, and apart from one another there, apply one after another, and one
+/// batch of what each of them leaves over that database carries it to what they all leave.
+pub fn joined_is_after()
+    ensures joined { JoinedIsAfter }
+    ensures batch { BatchIsAfter }
 {}

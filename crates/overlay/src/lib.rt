@@ -2,9 +2,10 @@
 //!
 //! An `Overlay` has the changes of a transaction in the order in which they were made, and what they leave of
 //! each row that they are of. Laid over the committed rows it shows what the transaction sees; its batch, put
-//! into them, commits it. `row_seen`, `parent_seen` and `left_seen` look through an overlay into a store, and
-//! `run_changes` makes the overlay of a whole list of changes. `laws` states what the overlay of changes that
-//! apply one after another shows.
+//! into them, commits it. `Joined` makes one batch of what several transactions leave. `row_seen`, `parent_seen`
+//! and `left_seen` look through an overlay into a store, and `run_changes` makes the overlay of a whole list of
+//! changes. `laws` states what the overlay of changes that apply one after another shows, and what the joined
+//! batch of transactions leaves that do not touch each other's rows.
 #![tactic(auto)]
 
 ghost use Rattle.std.specs.Prelude.{◌≡◌, ◌↔◌, [], length, IsTrue, IfOk, OnOk, OnErr, unwrap_or, option_copied};
@@ -15,10 +16,12 @@ ghost use Rattle.rows.specs.Effect.{parent_stands, sets_parent};
 ghost use Rattle.store_trait.specs.Batch.{IsRising};
 ghost use Rattle.overlay.specs.Pending.{none_pending, pushed, left_at, seen, pending_of};
 
+mod joined;
 pub mod laws;
 mod roomy;
 
 use indexmap::IndexMap;
+pub use joined::Joined;
 pub use roomy::Roomy;
 use rows::{Change, Row, apply_one};
 use schema::{Memory, RowId, Schema};
@@ -108,13 +111,9 @@ impl Overlay {
     pub fn batch(&self, alloc: Global) -> Result<Batch, Memory>
         ensures { IfOk result (λ batch. batch ≡ self.now.left) }
     {
-        let mut entries: Vec<(RowId, Option<Row>)> = self
-            .left
-            .iter()
-            .map(|(id, left)| (*id, *left))
-            .collect(alloc)?;
-        entries.sort_unstable_by_key(|entry| entry.0);
-        Ok(Batch::from_rising(entries))
+        let mut joined = Joined::new(alloc);
+        joined.add(self)?;
+        Ok(joined.into_batch())
     }
 
     /// The changes, in the order in which they were made. It takes no memory.

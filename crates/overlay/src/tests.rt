@@ -1,7 +1,14 @@
 //! Changes over committed rows and over one another, and what no clause says: that a transaction of the most changes
 //! finds its memory, and refused calls that are made again.
 
-use crate::{Overlay, run_changes};
+ghost use Rattle.std.specs.Prelude.{◌≡◌, [], ◌∷◌, IfOk, OnOk, IsSome, None};
+ghost use Rattle.std.specs.FinMap.{find};
+ghost use Rattle.schema.specs.declared.RowId.{RowId};
+ghost use Rattle.schema.specs.RowId.{row_cmp};
+ghost use Rattle.overlay.specs.Pending.{left_at};
+ghost use Rattle.overlay.specs.Joining.{joined};
+
+use crate::{Joined, Overlay, run_changes};
 use btree_store::BTreeStore;
 use rows::{Change, Named, Row};
 use schema::{Memory, RowId, Schema, Table};
@@ -343,5 +350,42 @@ fn a_refused_run_is_made_again(rt: HostRuntime) -> Result<(), Memory> {
         &rt,
         &overlay.batch(alloc).or_else(|_| overlay.batch(alloc))?,
     );
+    Ok(())
+}
+
+/// The overlay of one row that is left so.
+fn leaving(alloc: Global, id: RowId, left: Option<Row>) -> Result<Overlay, Memory>
+    ensures { IfOk result (λ overlay. overlay.left ≡ (id, left) ∷ []) }
+{
+    let mut overlay = Overlay::new(alloc);
+    overlay.push(Change::Delete { row: id }, left)?;
+    Ok(overlay)
+}
+
+/// Adds what the transaction leaves, once more where it is refused.
+fn add_again(rows: &mut Joined, overlay: &Overlay) -> Result<(), Memory>
+    requires { (q : RowId) → IsSome (left_at overlay.now q) → find row_cmp q rows.old ≡ None }
+    ensures { OnOk result (rows.new ≡ joined rows.old overlay.now) }
+{
+    if rows.add(overlay).is_ok() {
+        return Ok(());
+    }
+    rows.add(overlay)
+}
+
+/// What three transactions leave, one of them nothing.
+fn three_joined(alloc: Global) -> Result<Joined, Memory> {
+    let mut rows = Joined::new(alloc);
+    add_again(&mut rows, &leaving(alloc, NEW_CHILD, row(5))?)?;
+    add_again(&mut rows, &Overlay::new(alloc))?;
+    add_again(&mut rows, &leaving(alloc, PARENT, None)?)?;
+    Ok(rows)
+}
+
+#[test]
+fn several_transactions_are_one_batch(rt: HostRuntime) -> Result<(), Memory> {
+    assert!(rt; Joined::new(rt.alloc()).into_batch().entries().is_empty());
+    let batch = three_joined(rt.alloc())?.into_batch();
+    assert!(rt; batch.entries() == [(PARENT, None), (NEW_CHILD, row(5))].as_slice());
     Ok(())
 }

@@ -1,19 +1,9 @@
-use Rattle.std.proofs.Common.{rules, ◌≡◌, ap, ◌∙◌, IsPermutation}
-use Rattle.std.proofs.lemmas.List.Sorted.{answers_always}
-use Rattle.store_trait.specs.Batch.{IsRising, in_order}
-use Rattle.overlay.specs.Pending.{Pending}
-use Rattle.overlay.proofs.Order.{sorted-in_order}
+use Rattle.std.proofs.Common.{◌∙◌, ap}
+use Rattle.overlay.specs.Joining.{joined}
+use Rattle.overlay.proofs.Joining.{in_order-rising}
 use Rattle.overlay.proofs.Overlay.batch.Goals as goal
-use Rattle.overlay.proofs.Overlay.batch.Goals.{After-sort_unstable_by_key}
-
-in_place : (c : After-sort_unstable_by_key) → IsRising c.sort_unstable_by_key.new.self.items × (c.sort_unstable_by_key.new.self.items ≡ in_order c.self.inside.left.entries)
-in_place c =
-    let items : c.in_ok-entries.entries.items ≡ c.self.inside.left.entries = search rules in
-    let moves : IsPermutation c.self.inside.left.entries c.sort_unstable_by_key.new.self.items = rw (← items) c.sort_unstable_by_key.ensures.permutation in
-    sorted-in_order c.self.inside.left.entries c.sort_unstable_by_key.new.self.items c.iter.ensures.unique moves (c.sort_unstable_by_key.ensures.sorted (λ e. e.0) (answers_always _ (λ a r. r ≡ a.0.now.0) _ (λ f a r q k. search rules)))
-
-pub from_rising-requires : goal.from_rising-requires
-from_rising-requires c = (in_place c).0
 
 pub returns : goal.returns
-returns c = c.from_rising.ensures ∙ (in_place (goal.at.returns c).After-sort_unstable_by_key).1 ∙ ap (λ (p : Pending). p.left) c.self.view_is
+returns c =
+    c.into_batch.ensures ∙ c.in_ok-add.ensures.ok ∙ ap (λ es. joined es c.args.self.now) c.new-joined.ensures
+    ∙ in_order-rising c.args.self.now.left c.in_ok-add.ensures.left
