@@ -3,3 +3,10 @@ pub mod Shapes
 pub mod Stand
 pub mod Place
 pub mod Begun
+pub mod CommitLists
+pub mod CommitPlaces
+pub mod CommitFits
+pub mod CommitRows
+pub mod CommitCore
+pub mod CommitLoops
+pub mod CommitEnd

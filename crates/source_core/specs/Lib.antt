@@ -2,3 +2,4 @@ pub mod Source
 pub mod Calls
 pub mod Core
 pub mod Laws
+pub mod Commit
