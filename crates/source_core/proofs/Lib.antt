@@ -10,3 +10,8 @@ pub mod CommitRows
 pub mod CommitCore
 pub mod CommitLoops
 pub mod CommitEnd
+pub mod Ready
+pub mod Preparing
+pub mod Queueing
+pub mod Causes
+pub mod Writing

@@ -1,11 +1,11 @@
 -- What stands once one session's transaction is another that is not queued, or none.
 use Rattle.std.specs.List.{list_any, IsDistinct}
 use Rattle.tracker_trait.specs.Kind.{Kind}
-use Rattle.std.proofs.Common.{IsTrue, Bool, eqb, ◌≡◌, ◌≢◌, ◌∙◌, sym, ap, subst, refl, ℕ, ◌+◌, ◌-◌, ◌<◌, ◌≤◌, List, [], ◌∷◌, length, map, get_or, set, Option, Some, None, inl, inr, arith}
+use Rattle.std.proofs.Common.{IsTrue, is_some, false, Bool, eqb, ◌≡◌, ◌≢◌, ◌∙◌, sym, ap, subst, refl, ℕ, ◌+◌, ◌-◌, ◌<◌, ◌≤◌, List, [], ◌∷◌, length, map, get_or, set, Option, Some, None, inl, inr, arith}
 use Rattle.std.specs.Option.{option_map}
 use Rattle.std.specs.FinMap.{empty}
 use Rattle.std.proofs.lemmas.Bool.Decides.{eqb_tells}
-use Rattle.std.proofs.lemmas.List.{get_or-set_same, get_or-set_other, set-get_or, map-set, length-set}
+use Rattle.std.proofs.lemmas.List.{get_or-set_same, get_or-set_other, set-get_or, map-set, length-set, get_or_default}
 use Rattle.schema.specs.declared.Table.{Table}
 use Rattle.rows.specs.declared.Change.{Change}
 use Rattle.rows.specs.Database.{Database}
@@ -17,7 +17,7 @@ use Rattle.source_core.specs.declared.transaction.Transaction.{Transaction}
 use Rattle.source_core.specs.Source.{held_for, locks_over}
 use Rattle.source_core.specs.Calls.{with_open}
 use Rattle.source_core.proofs.Stand.{held_at}
-use Rattle.source_core.specs.Core.{Parts, IsCore, Applies, IsReady, IsLogged, StandsAs, IsFlushedAs, AreFlushed, IsQueued, AreQueued, open_view, sessions_view, source_of, placed}
+use Rattle.source_core.specs.Core.{Parts, IsCore, Applies, IsReady, IsLogged, StandsAs, IsFlushedAs, AreFlushed, IsQueued, AreQueued, Holds, open_view, sessions_view, source_of, placed}
 
 -- the transaction, if there is one, is neither queued nor flushed
 abbrev pub IsFreePhase : Phase → Type 0
@@ -34,11 +34,11 @@ IsFree (Some t) = IsFreePhase t.phase
 abbrev pub placing : Parts → ℕ → Option Transaction → List ℕ → Locks → Parts
 placing p i now queue locks = record p { places = set p.places i now; queue = queue; locks = locks }
 
-not_flushed : (o : Option Transaction) (t : Transaction) (n : ℕ) → IsFree o → o ≡ Some t → t.phase ≡ Flushed n → ⊥
+pub not_flushed : (o : Option Transaction) (t : Transaction) (n : ℕ) → IsFree o → o ≡ Some t → t.phase ≡ Flushed n → ⊥
 not_flushed o t n free is phase =
     subst (λ (x : Phase). IsFreePhase x) phase (subst (λ (x : Option Transaction). IsFree x) is free)
 
-not_queued : (o : Option Transaction) (t : Transaction) (n : ℕ) → IsFree o → o ≡ Some t → t.phase ≡ Queued n → ⊥
+pub not_queued : (o : Option Transaction) (t : Transaction) (n : ℕ) → IsFree o → o ≡ Some t → t.phase ≡ Queued n → ⊥
 not_queued o t n free is phase =
     subst (λ (x : Phase). IsFreePhase x) phase (subst (λ (x : Option Transaction). IsFree x) is free)
 
@@ -78,7 +78,7 @@ queued_stay places i now free (session ∷ queue) are =
 abbrev pub Grows : List ℕ → List ℕ → Type 0
 Grows old new = (session : ℕ) → IsTrue (list_any (eqb session) old) → IsTrue (list_any (eqb session) new)
 
-ready_stays : (p : Parts) (i : ℕ) (now : Option Transaction) (queue : List ℕ) (locks : Locks) (session : ℕ) (changes : List Change) (order : ℕ) → IsReady p session changes order → IsReady (placing p i now queue locks) session changes order
+pub ready_stays : (p : Parts) (i : ℕ) (now : Option Transaction) (queue : List ℕ) (locks : Locks) (session : ℕ) (changes : List Change) (order : ℕ) → IsReady p session changes order → IsReady (placing p i now queue locks) session changes order
 ready_stays p i now queue locks session changes order r = record { some = r.some; within = r.within; covers = r.covers; own = r.own }
 
 stands_stays : (p : Parts) (i : ℕ) (now : Option Transaction) (queue : List ℕ) (locks : Locks) (session : ℕ) (changes : List Change) (phase : Phase) → Grows p.queue queue → StandsAs p session changes phase → StandsAs (placing p i now queue locks) session changes phase
@@ -152,9 +152,25 @@ locks_stay p core i now same =
     sym (set-get_or p.locks i empty) ∙ ap (set p.locks i) (had ∙ sym same)
 
 -- what callers see
-pub view_set : (p : Parts) (kind : Kind) (halted : Bool) (i session : ℕ) (now : Option Transaction) (locks : Locks) → i + 1 ≡ session →
+pub view_set : (p : Parts) → IsCore p → (kind : Kind) (halted : Bool) (i session : ℕ) (now : Option Transaction) (locks : Locks) → i + 1 ≡ session →
     source_of (placing p i now p.queue locks) kind halted ≡ with_open (source_of p kind halted) session (option_map open_view now)
-view_set p kind halted i session now locks is =
+view_set p core kind halted i session now locks is =
     let place : i ≡ session - 1 = omega (arith, is) in
     ap (λ sessions. record (source_of p kind halted) { sessions = sessions })
     (map-set (option_map open_view) p.places i now ∙ ap (λ k. set (sessions_view p.places) k (option_map open_view now)) place)
+
+-- the transaction that is found in a place
+pub placed_is : (places : List (Option Transaction)) (i : ℕ) (o : Option Transaction) → i < length places → o ≡ get_or places i o → placed places i ≡ o
+placed_is places i o within at = get_or_default places i None o within ∙ sym at
+
+pub nothing : (o : Option Transaction) → false ≡ is_some o → o ≡ None
+nothing None e = refl
+nothing (Some t) e = cc
+
+-- what a source holds, once its parts are others
+pub holds : (p : Parts) (room : ℕ) (IsSo : Type 0) → Holds p room IsSo → (q : Parts) → IsCore q → Holds q room IsSo
+holds p room IsSo h q core = record { core = core; room = h.room; tracked = h.tracked }
+
+-- the same, with a queue that has no less room
+pub holds_room : (p : Parts) (room : ℕ) (IsSo : Type 0) → Holds p room IsSo → (q : Parts) → IsCore q → (more : ℕ) → room ≤ more → Holds q more IsSo
+holds_room p room IsSo h q core more grows = record { core = core; room = omega (arith, h.room, grows); tracked = h.tracked }

@@ -15,7 +15,7 @@ use Rattle.row_locks.specs.Locks.{Locks, NoClash, held_by, holding}
 use Rattle.row_locks.proofs.Holders.{holders_do_not_conflict}
 use Rattle.source_core.specs.declared.transaction.Transaction.{Transaction}
 use Rattle.tracker_trait.specs.Kind.{Kind}
-use Rattle.source_core.specs.Source.{Open, EachApplies, IsSound, held_for, locks_over}
+use Rattle.source_core.specs.Source.{Open, EachApplies, IsSound, open_of, held_for, locks_over}
 use Rattle.source_core.specs.Core.{Parts, IsCore, IsFlushedAs, AreFlushed, open_view, sessions_view, source_of, placed, touched_over}
 
 -- what the session of a place holds
@@ -25,7 +25,7 @@ held_at ts rows places i =
     get_or-map (held_for ts rows) (sessions_view places) i None
     ∙ ap (held_for ts rows) (get_or-map (option_map open_view) places i None)
 
-held_by_place : (p : Parts) → IsCore p → (i : ℕ) (t : Transaction) → placed p.places i ≡ Some t → held_by p.locks (i + 1) ≡ holding (writes t.overlay.changes) (kin p.tables t.overlay.changes p.rows)
+pub held_by_place : (p : Parts) → IsCore p → (i : ℕ) (t : Transaction) → placed p.places i ≡ Some t → held_by p.locks (i + 1) ≡ holding (writes t.overlay.changes) (kin p.tables t.overlay.changes p.rows)
 held_by_place p core i t at =
     ap (λ (l : Locks). held_by l (i + 1)) core.locks
     ∙ ap (λ n. get_or (locks_over p.tables p.rows (sessions_view p.places)) n empty) (back i)
@@ -107,3 +107,9 @@ is_sound p kind halted core = record {
   committed_within = core.committed_within;
   owned = core.owned;
 }
+
+-- a session's transaction, as callers see it
+pub open_at : (p : Parts) (kind : Kind) (halted : Bool) (i session : ℕ) → i + 1 ≡ session → open_of (source_of p kind halted) session ≡ option_map open_view (placed p.places i)
+open_at p kind halted i session is =
+    let place : session - 1 ≡ i = omega (arith, is) in
+    get_or-map (option_map open_view) p.places (session - 1) None ∙ ap (λ k. option_map open_view (placed p.places k)) place

@@ -1,0 +1,226 @@
+-- A session puts its prepared transaction last into the flush queue.
+use Rattle.std.proofs.Common.{◌≡◌, ◌≢◌, ◌∙◌, sym, ap, subst, refl, ℕ, ◌+◌, ◌-◌, ◌<◌, ◌≤◌, List, [], ◌∷◌, ◌++◌, length, length-append, set, get_or, slice_index_or, IsTrue, Bool, true, false, ◌||◌, eqb, Option, Some, None, inl, inr, arith}
+use Rattle.std.specs.Prelude.{option_and_then}
+use Rattle.std.specs.Option.{option_map}
+use Rattle.std.specs.List.{list_any, IsDistinct, AllByRecursion}
+use Rattle.std.proofs.lemmas.Option.{same_Some}
+use Rattle.std.proofs.Math.ListN.{get_or-eq_default}
+use Rattle.std.proofs.lemmas.Cmp.{nat_eq_equiv}
+use Rattle.std.proofs.lemmas.Bool.{cases_lt, or_left, or_right}
+use Rattle.std.proofs.lemmas.Bool.Decides.{eqb_tells, nat_tests}
+use Rattle.std.proofs.lemmas.List.{get_or-set_same}
+use Rattle.std.proofs.lemmas.List.Folds.{list_any-append}
+use Rattle.std.proofs.lemmas.Map.Keys.{IsDistinct-push, IsDistinct-cons}
+use Rattle.std.proofs.lemmas.Map.Steps.{length-le_from_distinct_below}
+use Rattle.tracker_trait.specs.Kind.{Kind}
+use Rattle.source_core.specs.declared.transaction.Phase.{Phase}
+use Rattle.source_core.specs.declared.transaction.Phase.TheVariants.{Active, Prepared, Queued, Flushed}
+use Rattle.source_core.specs.declared.transaction.Transaction.{Transaction}
+use Rattle.source_core.specs.Source.{Source, Open}
+use Rattle.source_core.specs.Calls.{queued, queued_phase, with_open}
+use Rattle.source_core.specs.Core.{Parts, IsCore, Applies, StandsAs, IsReady, IsQueued, AreQueued, source_of, open_view, sessions_view, placed, prepared_order, with_phase}
+use Rattle.source_core.proofs.Stand.{open_at}
+use Rattle.source_core.proofs.Place.{placing, place_set, queued_stay, ready_stays, locks_stay, not_queued, placed_is, view_set, IsFree, IsFreePhase, Grows}
+
+-- ---- a queue in which no session comes twice
+
+none_is : (places : List (Option Transaction)) (session : ℕ) (queue : List ℕ) → AreQueued places queue → 1 ≤ session → IsFree (placed places (session - 1)) → list_any (eqb session) queue ≡ false
+none_is places session [] are least free = refl
+none_is places session (first ∷ queue) are least free =
+    elim (eqb_tells session first) [
+      | inl same ↦ absurd (not_queued (placed places (session - 1)) are.0.t are.0.order free (ap (λ k. placed places (k - 1)) same.1 ∙ are.0.place) are.0.phase)
+      | inr apart ↦ rw apart.0 (none_is places session queue are.1 least free)
+    ]
+
+pub queue_distinct : (places : List (Option Transaction)) (session : ℕ) (queue : List ℕ) → AreQueued places queue → 1 ≤ session → IsFree (placed places (session - 1)) → IsDistinct eqb queue → IsDistinct eqb (queue ++ session ∷ [])
+queue_distinct places session queue are least free distinct = IsDistinct-push nat_eq_equiv queue session distinct (none_is places session queue are least free)
+
+-- each session of a queue has a number of the places
+pub sessions_within : (places : List (Option Transaction)) (queue : List ℕ) → AreQueued places queue → (q : ℕ) → list_any (eqb q) queue ≡ true → (1 ≤ q) × (q ≤ length places)
+sessions_within places [] are q e = cc
+sessions_within places (first ∷ queue) are q e =
+    elim (eqb_tells q first) [
+      | inl same ↦
+          let there : first - 1 < length places = place_there places (first - 1) are.0.t are.0.place in
+          (omega (arith, are.0.least, same.1), omega (arith, are.0.least, there, same.1))
+      | inr apart ↦ sessions_within places queue are.1 q (rw apart.0 at e)
+    ]
+  where
+  place_there : (places : List (Option Transaction)) (i : ℕ) (t : Transaction) → placed places i ≡ Some t → i < length places
+  place_there places i t at =
+      elim (cases_lt i (length places)) [
+        | inl within ↦ within
+        | inr past ↦ absurd (cc (sym (get_or-eq_default places None past) ∙ at))
+      ]
+
+-- a session number is not 0
+positive : (n : ℕ) → 1 ≤ n → eqb 0 n ≡ false
+positive n h = grind (arith, nat_tests)
+
+all_positive : (places : List (Option Transaction)) (session : ℕ) (queue : List ℕ) → AreQueued places queue → 1 ≤ session → AllByRecursion (λ y. eqb 0 y ≡ false) (queue ++ session ∷ [])
+all_positive places session [] are least = (positive session least, tt)
+all_positive places session (first ∷ queue) are least = (positive first are.0.least, all_positive places session queue are.1 least)
+
+only : (b : Bool) → (b || false) ≡ true → b ≡ true
+only true h = refl
+only false h = cc
+
+member : (places : List (Option Transaction)) (session : ℕ) (queue : List ℕ) → length places ≡ 256 → AreQueued places queue → 1 ≤ session → session ≤ 256 → (q : ℕ) →
+    (list_any (eqb q) queue || (eqb q session || false)) ≡ true → (1 ≤ q) × (q ≤ 256)
+member places session queue long are least greatest q e =
+    elim (eqb_tells q session) [
+      | inl same ↦ (omega (arith, least, same.1), omega (arith, greatest, same.1))
+      | inr apart ↦
+          let inside : list_any (eqb q) queue ≡ true = only (list_any (eqb q) queue) (rw apart.0 at e) in
+          let both = sessions_within places queue are q inside in
+          (both.0, omega (arith, both.1, long))
+    ]
+
+below : (places : List (Option Transaction)) (session : ℕ) (queue : List ℕ) → length places ≡ 256 → AreQueued places queue → 1 ≤ session → session ≤ 256 → (q : ℕ) →
+    list_any (eqb q) (0 ∷ (queue ++ session ∷ [])) ≡ true → q < 257
+below places session queue long are least greatest q e =
+    elim (eqb_tells q 0) [
+      | inl zero_ ↦ omega (arith, zero_.1)
+      | inr apart ↦
+          let inside : list_any (eqb q) (queue ++ session ∷ []) ≡ true = rw apart.0 at e in
+          let both = member places session queue long are least greatest q (sym (list_any-append (eqb q) queue (session ∷ [])) ∙ inside) in
+          omega (arith, both.1)
+    ]
+
+-- with one more session the queue has at most 256
+pub queue_room : (places : List (Option Transaction)) (session : ℕ) (queue : List ℕ) → length places ≡ 256 → AreQueued places queue → 1 ≤ session → session ≤ 256 → IsFree (placed places (session - 1)) → IsDistinct eqb queue → length queue < 256
+queue_room places session queue long are least greatest free distinct =
+    let more = queue_distinct places session queue are least free distinct in
+    let few = length-le_from_distinct_below (0 ∷ (queue ++ session ∷ [])) 257 (IsDistinct-cons eqb 0 (queue ++ session ∷ []) (all_positive places session queue are least) more) (below places session queue long are least greatest) in
+    let count : length (queue ++ session ∷ []) ≡ length queue + 1 = length-append queue (session ∷ []) in
+    omega (arith, few, count)
+
+-- ---- the transaction
+
+-- a transaction whose order parent is told is prepared
+pub record IsPrepared (o : Option Transaction) (order : ℕ) : Type 0 where
+  pub t : Transaction
+  pub is : o ≡ Some t
+  pub phase : t.phase ≡ Prepared order
+
+prepared_phase : (t : Transaction) (phase : Phase) (order : ℕ) → t.phase ≡ phase → prepared_order (record { overlay = t.overlay; phase = phase }) ≡ Some order → t.phase ≡ Prepared order
+prepared_phase t Active order e h = cc
+prepared_phase t (Prepared parent) order e h = e ∙ ap Prepared (same_Some parent order h)
+prepared_phase t (Queued parent) order e h = cc
+prepared_phase t (Flushed gno) order e h = cc
+
+is_prepared_at : (o : Option Transaction) (order : ℕ) → option_and_then prepared_order o ≡ Some order → IsPrepared o order
+is_prepared_at None order e = cc
+is_prepared_at (Some t) order e = record { t = t; is = refl; phase = prepared_phase t t.phase order refl e }
+
+prepared_is_free : (o : Option Transaction) (order : ℕ) → IsPrepared o order → IsFree o
+prepared_is_free o order w = subst (λ (x : Option Transaction). IsFree x) (sym w.is) (subst (λ (x : Phase). IsFreePhase x) (sym w.phase) tt)
+
+-- the session's queue and the one behind it
+abbrev pub behind : Parts → ℕ → List ℕ
+behind p session = p.queue ++ session ∷ []
+
+grows : (queue : List ℕ) (session : ℕ) → Grows queue (queue ++ session ∷ [])
+grows queue session q is = list_any-append (eqb q) queue (session ∷ []) ∙ or_left (list_any (eqb q) queue) _ is
+
+in_queue : (queue : List ℕ) (session : ℕ) → IsTrue (list_any (eqb session) (queue ++ session ∷ []))
+in_queue queue session = list_any-append (eqb session) queue (session ∷ []) ∙ or_right (list_any (eqb session) queue) _ (or_left (eqb session session) false (itself session))
+  where
+  itself : (n : ℕ) → eqb n n ≡ true
+  itself n = grind (arith, nat_tests)
+
+queued_behind : (places : List (Option Transaction)) (session : ℕ) (queue : List ℕ) → AreQueued places queue → IsQueued places session → AreQueued places (queue ++ session ∷ [])
+queued_behind places session [] are one = (one, tt)
+queued_behind places session (first ∷ queue) are one = (are.0, queued_behind places session queue are.1 one)
+
+module _ (p : Parts) (core : IsCore p) (i session : ℕ) (within : i < 256) (is : i + 1 ≡ session) (order : ℕ) (w : IsPrepared (placed p.places i) order) where
+  free : IsFree (placed p.places i)
+  free = prepared_is_free (placed p.places i) order w
+
+  abbrev pub its : Transaction
+  its = record { overlay = w.t.overlay; phase = Queued order }
+
+  abbrev pub now : Option Transaction
+  now = Some its
+
+  back : session - 1 ≡ i
+  back = omega (arith, is)
+
+  free_at : IsFree (placed p.places (session - 1))
+  free_at = subst (λ k. IsFree (placed p.places k)) (sym back) free
+
+  ready : IsReady p (i + 1) w.t.overlay.changes order
+  ready = subst (λ (x : Phase). StandsAs p (i + 1) w.t.overlay.changes x) w.phase (core.stands i w.t w.is)
+
+  one : IsQueued (set p.places i now) session
+  one = record {
+    least = omega (arith, is);
+    t = its;
+    order = order;
+    place = ap (placed (set p.places i now)) back ∙ get_or-set_same p.places i now None (omega (arith, within, core.sessions));
+    phase = refl;
+  }
+
+  stands : (t : Transaction) → its ≡ t → Applies p.tables p.rows t.overlay × StandsAs (placing p i now (behind p session) p.locks) (i + 1) t.overlay.changes t.phase
+  stands t same =
+      subst (λ (x : Transaction). Applies p.tables p.rows x.overlay × StandsAs (placing p i now (behind p session) p.locks) (i + 1) x.overlay.changes x.phase) same
+      (core.applies i w.t w.is, (ready_stays p i now (behind p session) p.locks (i + 1) w.t.overlay.changes order ready, subst (λ k. IsTrue (list_any (eqb k) (behind p session))) (sym is) (in_queue p.queue session)))
+
+  pub room_behind : length p.queue < 256
+  room_behind = queue_room p.places session p.queue core.sessions core.queued (omega (arith, is)) (omega (arith, is, within)) free_at core.distinct
+
+  pub queued_core : length p.log + length p.queue < p.limit → IsCore (placing p i now (behind p session) p.locks)
+  queued_core few =
+      let count : length (behind p session) ≡ length p.queue + 1 = length-append p.queue (session ∷ []) in
+      place_set p core i within now free (behind p session) p.locks (omega (arith, few, count))
+      (queued_behind (set p.places i now) session p.queue (queued_stay p.places i now free p.queue core.queued) one)
+      (queue_distinct p.places session p.queue core.queued (omega (arith, is)) free_at core.distinct)
+      (grows p.queue session)
+      (locks_stay p core i now (rw w.is refl))
+      core.no_clash
+      (λ t e. stands t (same_of its t e))
+    where
+    same_of : (a b : Transaction) → Some a ≡ Some b → a ≡ b
+    same_of a b e = cc e
+
+  pub queued_view : (kind : Kind) (halted : Bool) → source_of (placing p i now (behind p session) p.locks) kind halted ≡ queued (source_of p kind halted) session
+  queued_view kind halted =
+      ap (λ (s : Source). record s { queue = behind p session }) (view_set p core kind halted i session now p.locks is)
+      ∙ ap (λ (o : Option Open). record (with_open (source_of p kind halted) session o) { queue = behind p session }) (sym opened)
+    where
+    opened : option_map {U = Open} (λ (t : Open). record { changes = t.changes; phase = queued_phase t.phase }) (slice_index_or (sessions_view p.places) (session - 1) None) ≡ Some (record { changes = w.t.overlay.changes; phase = Queued order })
+    opened =
+        ap (option_map {U = Open} (λ (t : Open). record { changes = t.changes; phase = queued_phase t.phase })) (open_at p kind halted i session is ∙ ap (option_map open_view) w.is)
+        ∙ ap (λ (x : Phase). Some (record { changes = w.t.overlay.changes; phase = queued_phase x })) w.phase
+
+-- ---- the same, of what is found in a place
+
+at_place : (p : Parts) → IsCore p → (i : ℕ) → i < 256 → (read : Option Transaction) → read ≡ get_or p.places i read → (order : ℕ) → option_and_then prepared_order read ≡ Some order → IsPrepared (placed p.places i) order
+at_place p core i within read read_is order told =
+    is_prepared_at (placed p.places i) order (ap (option_and_then prepared_order) (placed_is p.places i read (omega (arith, within, core.sessions)) read_is) ∙ told)
+
+next_is : (p : Parts) (core : IsCore p) (i : ℕ) (within : i < 256) (order : ℕ) (w : IsPrepared (placed p.places i) order) (found next : Option Transaction) → found ≡ get_or p.places i found → next ≡ option_map (with_phase (Queued order)) found →
+    Some (record { overlay = w.t.overlay; phase = Queued order }) ≡ next
+next_is p core i within order w found next found_is is =
+    sym (is ∙ ap (option_map (with_phase (Queued order))) (sym (placed_is p.places i found (omega (arith, within, core.sessions)) found_is) ∙ w.is))
+
+pub queued_at : (p : Parts) → IsCore p → (i session : ℕ) → i < 256 → i + 1 ≡ session → (order : ℕ) → (read found next : Option Transaction) → read ≡ get_or p.places i read → found ≡ get_or p.places i found →
+    option_and_then prepared_order read ≡ Some order → next ≡ option_map (with_phase (Queued order)) found → length p.log + length p.queue < p.limit → (queue : List ℕ) → queue ≡ p.queue ++ session ∷ [] →
+    IsCore (placing p i next queue p.locks)
+queued_at p core i session within is order read found next read_is found_is told next_told few queue queue_is =
+    let w = at_place p core i within read read_is order told in
+    subst (λ (l : List ℕ). IsCore (placing p i next l p.locks)) (sym queue_is)
+    (subst (λ (o : Option Transaction). IsCore (placing p i o (p.queue ++ session ∷ []) p.locks)) (next_is p core i within order w found next found_is next_told)
+    (queued_core p core i session within is order w few))
+
+pub queued_at_view : (p : Parts) → IsCore p → (kind : Kind) (halted : Bool) (i session : ℕ) → i < 256 → i + 1 ≡ session → (order : ℕ) → (read found next : Option Transaction) → read ≡ get_or p.places i read → found ≡ get_or p.places i found →
+    option_and_then prepared_order read ≡ Some order → next ≡ option_map (with_phase (Queued order)) found → (queue : List ℕ) → queue ≡ p.queue ++ session ∷ [] →
+    source_of (placing p i next queue p.locks) kind halted ≡ queued (source_of p kind halted) session
+queued_at_view p core kind halted i session within is order read found next read_is found_is told next_told queue queue_is =
+    let w = at_place p core i within read read_is order told in
+    ap (λ (l : List ℕ). source_of (placing p i next l p.locks) kind halted) queue_is
+    ∙ ap (λ (o : Option Transaction). source_of (placing p i o (p.queue ++ session ∷ []) p.locks) kind halted) (sym (next_is p core i within order w found next found_is next_told))
+    ∙ queued_view p core i session within is order w kind halted
+
+pub room_at : (p : Parts) → IsCore p → (i session : ℕ) → i < 256 → i + 1 ≡ session → (order : ℕ) → (read : Option Transaction) → read ≡ get_or p.places i read → option_and_then prepared_order read ≡ Some order → length p.queue < 256
+room_at p core i session within is order read read_is told = room_behind p core i session within is order (at_place p core i within read read_is order told)
