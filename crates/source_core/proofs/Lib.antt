@@ -3,6 +3,13 @@ pub mod Shapes
 pub mod Stand
 pub mod Place
 pub mod Begun
+pub mod CommitLists
+pub mod CommitPlaces
+pub mod CommitFits
+pub mod CommitRows
+pub mod CommitCore
+pub mod CommitLoops
+pub mod CommitEnd
 pub mod Ready
 pub mod Preparing
 pub mod Queueing

@@ -8,6 +8,7 @@
 //! `record_codec` for records and groups.
 #![tactic(auto)]
 
+mod committing;
 mod fault;
 mod flushing;
 pub mod laws;
