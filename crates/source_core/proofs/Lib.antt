@@ -15,3 +15,16 @@ pub mod Preparing
 pub mod Queueing
 pub mod Causes
 pub mod Writing
+pub mod Syncing
+pub mod New
+pub mod FlushEnds
+pub mod FlushLists
+pub mod FlushStamp
+pub mod FlushCome
+pub mod FlushPlaces
+pub mod FlushLegal
+pub mod FlushDrafted
+pub mod FlushFit
+pub mod FlushStands
+pub mod FlushCore
+pub mod FlushCall

@@ -10,6 +10,7 @@
 
 mod committing;
 mod fault;
+mod flushing;
 pub mod laws;
 mod machine;
 mod transaction;
@@ -18,5 +19,5 @@ pub use fault::SourceFault;
 pub use machine::SourceCore;
 pub use transaction::{Phase, Prepared, Receipt};
 
-
-
+#[cfg(test)]
+mod tests;
