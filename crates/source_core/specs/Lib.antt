@@ -4,3 +4,5 @@ pub mod Core
 pub mod Laws
 pub mod Flush
 pub mod Commit
+pub mod Commit
+pub mod Flush
