@@ -15,6 +15,7 @@ pub mod FlushPlaces
 pub mod FlushLegal
 pub mod FlushDrafted
 pub mod FlushFit
+pub mod FlushQueue
 pub mod FlushStands
 pub mod FlushCore
 pub mod FlushCall
