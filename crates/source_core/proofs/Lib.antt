@@ -25,6 +25,7 @@ pub mod FlushPlaces
 pub mod FlushLegal
 pub mod FlushDrafted
 pub mod FlushFit
+pub mod FlushQueue
 pub mod FlushStands
 pub mod FlushCore
 pub mod FlushCall
