@@ -4,5 +4,3 @@ pub mod Core
 pub mod Laws
 pub mod Flush
 pub mod Commit
-pub mod Commit
-pub mod Flush
