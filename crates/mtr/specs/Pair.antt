@@ -6,6 +6,7 @@ use Rattle.rows.specs.Database.{Database}
 use Rattle.schema.specs.declared.RowId.{RowId}
 use Rattle.schema.specs.declared.Table.{Table}
 use Rattle.store_trait.specs.Batch.{Entry, put_batch, all_rows}
+use Rattle.commit_order_tracker.specs.Tracker.{by_order}
 use Rattle.record_codec.specs.declared.records.Record.{Record}
 use Rattle.world.specs.declared.events.Event.{Event}
 use Rattle.world.specs.declared.events.Reply.{Reply}
@@ -19,9 +20,9 @@ use Rattle.mtr.specs.Script.{Said, script_of}
 abbrev pub present : RowId × List ℤ → Entry
 present row = (row.0, Some row.1)
 
--- what the pair begins with: these tables, and the rows that the batch loads
+-- what the pair begins with: these tables, the rows that the batch loads, and parents by the commit order
 abbrev pub setup_of : List Table → List Entry → Setup
-setup_of ts base = record { tables = ts; base = all_rows (put_batch base empty); limit = 9223372036854775807; workers = 1 }
+setup_of ts base = record { tables = ts; base = all_rows (put_batch base empty); limit = 9223372036854775807; kind = by_order; workers = 1 }
 
 -- The world goes on by these events from whatever runs it came by, by the source's own log, and the lines of
 -- the replies are appended, in order.

@@ -13,6 +13,7 @@ ghost use Rattle.world.specs.Seen.{seen};
 ghost use Rattle.mtr.specs.Pair.{present, setup_of};
 
 use btree_store::BTreeStore;
+use commit_order_tracker::CommitOrder;
 use published::plain::Plain;
 use replica_core::ReplicaCore;
 use rows::Row;
@@ -51,13 +52,13 @@ fn store_of(alloc: Global, base: &Batch) -> Result<BTreeStore, Memory>
     Ok(store)
 }
 
-/// A new source and a new replica that hold these rows; `None` exactly where the schema has tables without keys or
+/// A new source, whose records' parents are their order parents, and a new replica that hold these rows; `None` exactly where the schema has tables without keys or
 /// with parents, or the rows do not fit it.
 pub fn new_pair(
     alloc: Global,
     schema: Schema,
     base: Batch,
-) -> Result<Option<World<BTreeStore, BTreeStore>>, Memory>
+) -> Result<Option<World<BTreeStore, CommitOrder, BTreeStore>>, Memory>
     ensures starts { IfOk result (λ made. IfSome made (λ pair. HasRun (λ rows. rows) (setup_of schema base) [] [] (seen pair))) }
     ensures fits { IfOk result (λ made. IfSome made (λ _. IsFlat schema × Fits schema (put_batch base empty))) }
     ensures refused { IfOk result (λ made. IfNone made (¬ (IsFlat schema × Fits schema (put_batch base empty)))) }
@@ -66,7 +67,7 @@ pub fn new_pair(
     if !schema.is_flat() || !fits(&schema, &store) {
         return Ok(None);
     }
-    let source = SourceCore::new(alloc, schema.copy()?, store, MAX_RECORDS)?;
+    let source = SourceCore::new(alloc, schema.copy()?, store, CommitOrder, MAX_RECORDS)?;
     let replica = ReplicaCore::new(alloc, schema, store_of(alloc, &base)?)?;
     let shown = Plain::new(alloc, BTreeStore::new(alloc), base)?;
     Ok(Some(World::new(alloc, source, replica, shown)))

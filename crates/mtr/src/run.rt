@@ -17,6 +17,7 @@ use schema::Schema;
 use std::alloc::Global;
 use std::io::{BufRead, Write};
 use store_trait::RowStore;
+use tracker_trait::Tracker;
 use world::{Reply, World};
 
 /// Reads a script, and runs it over a new pair. The whole of it is read and checked before the first event: the
@@ -54,9 +55,9 @@ fn run_script<W: Write>(alloc: Global, script: Script, output: &mut W) -> Result
 
 /// Runs the events that are left in pieces, over a world that goes on from what was done before. At most one
 /// piece's events and replies are kept at a time.
-fn run_pieces<S: RowStore, R: RowStore, W: Write>(
+fn run_pieces<S: RowStore, T: Tracker, R: RowStore, W: Write>(
     alloc: Global,
-    world: &mut World<S, R>,
+    world: &mut World<S, T, R>,
     events: Pieces,
     output: &mut W,
 ) -> Result<(), Stop>

@@ -1,12 +1,19 @@
 -- What follows from the definitions.
-use Rattle.std.specs.Prelude.{List, length, map}
+use Rattle.std.specs.Prelude.{◌≡◌, ◌+◌, List, length, map}
 use Rattle.schema.specs.declared.Table.{Table}
 use Rattle.schema.specs.Rows.{Touched}
 use Rattle.schema.specs.Covering.{Covers}
 use Rattle.rows.specs.Database.{Database}
 use Rattle.record_codec.specs.declared.records.Record.{Record}
+use Rattle.record_codec.specs.Group.{GroupValue}
 use Rattle.record_codec.specs.Log.{place_of, IsLegalLog}
+use Rattle.source_core.specs.Source.{Source, IsSound}
+use Rattle.source_core.specs.Calls.{Flushes}
 
 -- the number of records of a legal log is a parent that covers all of them
 abbrev pub LengthCovers : Type 0
 LengthCovers = (ts : List Table) (base : Database) (log : List Record) → IsLegalLog ts base log → (rows : Touched) → Covers (map place_of log) rows (length log)
+
+-- the group of a flush begins behind the log, and ends where the log then does
+abbrev pub GroupEnds : Type 0
+GroupEnds = (old new : Source) (group : GroupValue) → IsSound old → Flushes old group new → (group.first ≡ length old.log + 1) × (group.last ≡ length new.log)

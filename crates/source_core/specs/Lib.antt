@@ -3,3 +3,4 @@ pub mod Calls
 pub mod Core
 pub mod Laws
 pub mod Flush
+pub mod Commit

@@ -8,6 +8,7 @@
 //! `record_codec` for records and groups.
 #![tactic(auto)]
 
+mod committing;
 mod fault;
 mod flushing;
 pub mod laws;
@@ -17,3 +18,6 @@ mod transaction;
 pub use fault::SourceFault;
 pub use machine::SourceCore;
 pub use transaction::{Phase, Prepared, Receipt};
+
+#[cfg(test)]
+mod tests;

@@ -1,4 +1,6 @@
 pub mod Parts
+pub mod Groups
+pub mod Sessions
 pub mod Received
 pub mod SourceEvents
 pub mod ReplicaEvents

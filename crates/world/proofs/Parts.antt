@@ -1,17 +1,18 @@
 -- Facts of the parts of a world that every event uses.
 use mathlib.Core.List.{IsPrefix}
 use base.Growing.{prefix_refl}
-use Rattle.std.proofs.Common.{◌≡◌, ◌∙◌, sym, ap, ℕ, ◌≤◌, List, ◌∷◌, length, take, arith}
+use Rattle.std.proofs.Common.{◌≡◌, ◌∙◌, sym, ap, ℕ, ◌≤◌, List, ◌∷◌, length, take, Option, arith}
 use Rattle.std.proofs.lemmas.List.{take-append-le}
 use Rattle.rows.specs.Database.{Database}
 use Rattle.record_codec.specs.declared.records.Record.{Record}
-use Rattle.source_core.specs.Source.{Source}
+use Rattle.source_core.specs.Source.{Source, Open}
 use Rattle.replica_core.specs.Replica.{Replica}
 use Rattle.world.specs.declared.events.Event.{Event}
 use Rattle.world.specs.declared.events.Reply.{Reply}
-use Rattle.world.specs.Past.{Past, flushed, accepted}
+use Rattle.world.specs.Past.{Past, flushed, unsynced, accepted, transaction_of, transaction_after, transactions}
 use Rattle.world.specs.Legal.{Setup, source_at, replica_at, Allowed}
-use Rattle.world.specs.State.{World, IsWorld, Stands, Goes}
+use Rattle.world.specs.State.{World, SourceIs, SidesAre, IsWorld, Stands, Goes}
+use Rattle.world.proofs.Sessions.{none_told}
 
 -- the first records of a longer list are those of the list
 pub take_longer : (log longer : List Record) → IsPrefix log longer → (n : ℕ) → n ≤ length log → take n longer ≡ take n log
@@ -41,3 +42,24 @@ with_source w s = record w { source = s }
 
 abbrev pub with_replica : {R : Type 0} → World R → Replica → World R
 with_replica w r = record w { replica = r }
+
+-- the source, as the pairs say that it stands, with these transactions of its sessions
+abbrev pub with_transactions : Setup → List Record → Past → List (Option Open) → Source
+with_transactions setup log past ts = record (source_at setup log past) { sessions = ts }
+
+-- a pair of which the source has nothing
+pub source_untold : (setup : Setup) (past : Past) (log : List Record) (s : Source) (event : Event) (reply : Reply) → ((k : ℕ) → transaction_after past k event reply (transaction_of past k) ≡ transaction_of past k) →
+    SourceIs (source_at setup log past) (flushed past) s → SourceIs (with_transactions setup log past (transactions ((event, reply) ∷ past))) (flushed past) s
+source_untold setup past log s event reply says is = record {
+  flushed = is.flushed;
+  is = is.is ∙ ap (with_transactions setup log past) (sym (none_told past event reply says));
+}
+
+-- a pair of which no side has anything
+pub untold : {R : Type 0} (setup : Setup) (past : Past) (w : World R) (event : Event) (reply : Reply) → ((k : ℕ) → transaction_after past k event reply (transaction_of past k) ≡ transaction_of past k) → Stands setup past w →
+    SidesAre (with_transactions setup w.source.log past (transactions ((event, reply) ∷ past))) (flushed past) (unsynced past) (replica_at setup w.source.log past) (accepted past) w.source w.wire w.replica
+untold setup past w event reply says st = record {
+  source = source_untold setup past w.source.log w.source event reply says st.source;
+  wire = st.wire;
+  replica = st.replica;
+}

@@ -9,11 +9,11 @@ use Rattle.store_trait.specs.Operation.{loaded}
 
 -- what the world began with
 abbrev pub setup_of : {R : Type 0} → World R → Setup
-setup_of w = record { tables = w.source.tables; base = w.source.base; limit = w.source.limit; workers = 1 }
+setup_of w = record { tables = w.source.tables; base = w.source.base; limit = w.source.limit; kind = w.source.kind; workers = 1 }
 
 -- a new source and a new replica over one schema and equal rows, which readers see
 pub record IsFresh {R : Type 0} (contents : R → Database) (w : World R) : Type 0 where
-  pub source : w.source ≡ new_source w.source.tables w.source.base w.source.limit
+  pub source : w.source ≡ new_source w.source.tables w.source.base w.source.limit w.source.kind
   pub replica : w.replica ≡ new_over w.source.tables w.source.base
   pub groups : w.wire.groups ≡ []
   pub synced : w.wire.synced ≡ 0

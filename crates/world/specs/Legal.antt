@@ -11,7 +11,8 @@ use Rattle.record_codec.specs.Log.{after, IsLegalLog}
 use Rattle.source_core.specs.declared.fault.SourceFault.{SourceFault}
 use Rattle.source_core.specs.declared.fault.SourceFault.TheVariants as source
 use Rattle.source_core.specs.Source.{Source, seen_row}
-use Rattle.source_core.specs.Calls.{begin_fault, write_fault, read_fault, prepare_fault, prepare_answer, queue_fault, abort_fault, AreRecordsOf}
+use Rattle.source_core.specs.Calls.{begin_fault, write_fault, read_fault, prepare_fault, prepare_answer, queue_fault, abort_fault, AreRecordsOf, seen_log}
+use Rattle.tracker_trait.specs.Kind.{Kind}
 use Rattle.replica_core.specs.declared.ReplicaFault.TheVariants as replica
 use Rattle.replica_core.specs.Replica.{Replica}
 use Rattle.replica_core.specs.Calls.{received, unless_stopped, next_job, next_commit, finish_fault}
@@ -20,15 +21,16 @@ use Rattle.world.specs.declared.events.Event.TheVariants as events
 use Rattle.world.specs.declared.events.Reply.{Reply}
 use Rattle.world.specs.declared.events.Reply.TheVariants as replies
 use Rattle.world.specs.Replies.{received_reply, prepared_reply, dispatch_reply, finish_reply, next_commit_reply}
-use Rattle.world.specs.Past.{Past, flushed, unsynced, synced, source_committed, queue, transaction_of, accepted, dispatched, finished, replica_committed, published}
+use Rattle.world.specs.Past.{Past, flushed, unsynced, synced, source_committed, queue, owners, transactions, accepted, dispatched, finished, replica_committed, published}
 use Rattle.store_trait.specs.Operation.{loaded}
 
--- what a run begins with: the schema, the rows that both sides hold, the greatest number of records, and the
--- number of workers
+-- what a run begins with: the schema, the rows that both sides hold, the greatest number of records, how the source
+-- finds parents, and the number of workers
 pub record Setup : Type 0 where
   pub tables : List Table
   pub base : List Entry
   pub limit : ℕ
+  pub kind : Kind
   pub workers : ℕ
 
 -- the source's database after the first n records of the log
@@ -41,10 +43,12 @@ source_at setup log past = record {
   tables = setup.tables;
   base = setup.base;
   limit = setup.limit;
+  kind = setup.kind;
   log = take (flushed past) log;
   synced = synced past;
   committed = source_committed past;
-  sessions = transaction_of past 1 ∷ [];
+  owners = owners past;
+  sessions = transactions past;
   queue = queue past;
   halted = false;
 }
@@ -76,12 +80,13 @@ abbrev pub next_records : List Record → Past → List Record
 next_records log past = take (length (queue past)) (drop (flushed past) log)
 
 -- `nothing` exactly where none is queued. Else the queued transactions are the next records, in the order of
--- the queue: each has its transaction's changes, in order, and the parent fixed when it was prepared
+-- the queue: each has its transaction's changes, in order, and the parent that the mode gives it behind the records
+-- before it
 abbrev pub FlushAnswers : Setup → List Record → Past → List ℕ → Reply → Type 0
 FlushAnswers setup log past [] reply = reply ≡ replies.Nothing
 FlushAnswers setup log past (first ∷ rest) reply =
     (reply ≡ replies.Flushed (flushed past + 1) (map stamp_of (next_records log past)))
-    × AreRecordsOf (source_at setup log past) (flushed past + 1) (first ∷ rest) (next_records log past)
+    × AreRecordsOf (source_at setup log past) (seen_log (source_at setup log past)) (first ∷ rest) (next_records log past)
 
 -- the oldest group that was flushed and is not synced
 abbrev pub sync_reply : List (ℕ × ℕ) → Reply

@@ -1,5 +1,6 @@
 -- What the pairs of event and reply so far say. They are listed with the newest first.
-use Rattle.std.specs.Prelude.{ℕ, ◌+◌, Bool, true, false, not, ◌&&◌, ◌==◌, if◌then◌else◌, List, [], ◌∷◌, ◌++◌, length, drop, filter, Option, Some, None}
+use Rattle.std.specs.Prelude.{ℕ, ◌+◌, Bool, true, false, not, ◌&&◌, ◌==◌, if◌then◌else◌, List, [], ◌∷◌, ◌++◌, length, map, drop, filter, Option, Some, None}
+use Rattle.std.specs.List.{range_with_len}
 use Rattle.std.specs.Option.{option_map}
 use Rattle.source_core.specs.declared.transaction.Phase.TheVariants.{Active, Prepared}
 use Rattle.source_core.specs.Source.{Open}
@@ -48,6 +49,11 @@ queue (pair ∷ past) = elim pair.0 [
   | _ ↦ queue past
 ]
 
+-- the session of each record flushed, in log order
+abbrev pub owners : Past → List ℕ
+owners [] = []
+owners (pair ∷ past) = elim pair.1 [ replies.Flushed first stamps ↦ owners past ++ queue past | _ ↦ owners past ]
+
 -- a session's transaction, of which this was said before the pair
 abbrev pub transaction_after : Past → ℕ → Event → Reply → Option Open → Option Open
 transaction_after past session event reply now = elim event [
@@ -71,6 +77,10 @@ transaction_after past session event reply now = elim event [
 abbrev pub transaction_of : Past → ℕ → Option Open
 transaction_of [] session = None
 transaction_of (pair ∷ past) session = transaction_after past session pair.0 pair.1 (transaction_of past session)
+
+-- the open transaction of each of the 256 sessions, session 1 first
+unfoldable pub transactions : Past → List (Option Open)
+transactions past = map (transaction_of past) (range_with_len 1 256)
 
 -- the number of records accepted at the replica
 abbrev pub accepted : Past → ℕ

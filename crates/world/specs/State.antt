@@ -1,6 +1,6 @@
 -- How the parts of a world stand together, and to the pairs of event and reply so far.
 use mathlib.Core.List.{IsPrefix}
-use Rattle.std.specs.Prelude.{◌≡◌, ℕ, ◌≤◌, false, List, [], ◌∷◌, length, map, take, drop, Option, Some, None}
+use Rattle.std.specs.Prelude.{◌≡◌, ℕ, ◌≤◌, false, List, [], ◌∷◌, ◌++◌, length, map, take, drop, Option, Some, None}
 use Rattle.rows.specs.Database.{Database}
 use Rattle.store_trait.specs.Operation.{batch_of, loaded}
 use Rattle.record_codec.specs.declared.records.Record.{Record}
@@ -30,23 +30,22 @@ pub record World (R : Type 0) : Type 0 where
   -- the rows that readers see
   pub shown : Shown R
 
--- each group has one record: these, in order
-abbrev pub HoldEach : List GroupValue → List Record → Type 0
-HoldEach [] [] = Unit {0}
-HoldEach (group ∷ groups) (only ∷ records) = AreRecordsOf group (only ∷ []) × HoldEach groups records
-HoldEach [] (only ∷ records) = ⊥
-HoldEach (group ∷ groups) [] = ⊥
+-- the groups, one behind the other, hold these records: each group at least one, and each record in one
+abbrev pub Hold : List GroupValue → List Record → Type 0
+Hold [] records = records ≡ []
+Hold (group ∷ groups) records = (its rest : List Record) × (records ≡ its ++ rest) × AreRecordsOf group its × Hold groups rest
 
 -- The source is sound, and its log did not fail.
 pub record IsSource (s : Source) : Type 0 where
   pub sound : IsSound s
   pub running : s.halted ≡ false
 
--- The wire of a source with this log, of which so many records are synced: the groups are those of the log, one record
--- each, and the first so many are synced. What came over it is a beginning of the synced log.
+-- The wire of a source with this log, of which so many records are synced: the groups that are synced hold these, and
+-- those behind them hold the rest. What came over it is a beginning of the synced log.
 pub record IsWire (log : List Record) (synced_ : ℕ) (accepted_ : List Record) (wire : Wire) : Type 0 where
-  pub groups : HoldEach wire.groups log
-  pub synced : wire.synced ≡ synced_
+  pub few : wire.synced ≤ length wire.groups
+  pub on_log : Hold (take wire.synced wire.groups) (take synced_ log)
+  pub waiting : Hold (drop wire.synced wire.groups) (drop synced_ log)
   pub front : accepted_ ≡ take (length accepted_) log
   pub within : length accepted_ ≤ synced_
 

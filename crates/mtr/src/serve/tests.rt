@@ -151,8 +151,9 @@ base 1 10 5 6
 insert 1 1 20 7 8
 begin 1
 begin 1
-begin 2
-insert 2 1 20 7 8
+begin 0
+begin 257
+insert 257 1 20 7 8
 insert 1 9 20 7 8
 insert 1 1 20 7
 insert 1 1 10 7 8
@@ -185,6 +186,7 @@ const REFUSED_WRITES_PRINTS: &str = "\
 S3 NotActive
 ok
 S2 AlreadyOpen
+S1 NoSession
 S1 NoSession
 S1 NoSession
 S4 NoTable
@@ -353,6 +355,179 @@ published 4
 4: -3 4
 ";
 
+// `examples/row_locks.mtr`, and what it prints.
+const ROW_LOCKS: &str = "\
+# A row that one session wrote is locked for all others until its transaction ends: by an abort, or by a commit.
+table 1 2 keyed
+begin 1
+begin 2
+insert 1 1 10 5 6
+insert 2 1 10 7 8
+see 2 1 10
+insert 2 1 11 1 1
+abort 1
+insert 2 1 10 7 8
+see 2 1 10
+prepare 2
+queue 2
+begin 1
+set 1 1 10 0=9
+flush
+set 1 1 10 0=9
+sync
+set 1 1 10 0=9
+commit
+set 1 1 10 0=9
+see 1 1 10
+begin 2
+delete 2 1 10
+set 2 1 11 1=2
+";
+
+const ROW_LOCKS_PRINTS: &str = "\
+ok
+ok
+ok
+S6 RowLocked
+none
+ok
+ok
+ok
+row 7 8
+prepared 0
+ok
+ok
+S6 RowLocked
+flushed 1-1 (1,0)
+S6 RowLocked
+synced 1-1
+S6 RowLocked
+committed 1-1
+ok
+row 9 8
+ok
+S6 RowLocked
+ok
+";
+
+// `examples/group_commit.mtr`, and what it prints.
+const GROUP_COMMIT: &str = "\
+# Two sessions whose transactions are one group: neither waits for the other, since both were prepared before any commit.
+# Then two groups that wait for their sync, and one commit of both.
+table 1 2 keyed
+begin 1
+begin 2
+insert 1 1 10 5 6
+insert 2 1 11 7 8
+prepare 1
+prepare 2
+queue 1
+queue 2
+flush
+flush
+deliver 1
+sync
+sync
+commit
+commit
+begin 2
+set 2 1 10 0=9
+prepare 2
+queue 2
+begin 256
+insert 256 1 12 1 2
+flush
+prepare 256
+queue 256
+flush
+commit
+sync
+deliver 4
+sync
+commit
+deliver 4
+deliver 1
+deliver 2
+deliver 3
+deliver 4
+dispatch
+dispatch
+finish 1
+next
+dispatch
+finish 2
+next
+publish
+read 1 10
+read 1 11
+dispatch
+finish 3
+next
+dispatch
+finish 4
+next
+publish
+read 1 10
+read 1 12
+";
+
+const GROUP_COMMIT_PRINTS: &str = "\
+ok
+ok
+ok
+ok
+prepared 0
+prepared 0
+ok
+ok
+flushed 1-2 (1,0) (2,0)
+nothing
+unsynced
+synced 1-2
+nothing
+committed 1-2
+nothing
+ok
+ok
+prepared 2
+ok
+ok
+ok
+flushed 3-3 (3,2)
+prepared 2
+ok
+flushed 4-4 (4,2)
+nothing
+synced 3-3
+unsynced
+synced 4-4
+committed 3-4
+P1 Gap
+accepted
+accepted
+accepted
+accepted
+job 1
+nothing
+finished 1
+commit 1
+job 2
+finished 2
+commit 2
+published 2
+2: 5 6
+2: 7 8
+job 3
+finished 3
+commit 3
+job 4
+finished 4
+commit 4
+published 4
+4: 9 6
+4: 1 2
+";
+
 /// How a run of the program ended: its status, what it printed, and what it told.
 type Ran = (u8, Vec<u8>, Vec<u8>);
 
@@ -423,6 +598,136 @@ fn sets_and_deletes_rows(rt: HostRuntime) {
         UPDATES_AND_DELETES.as_bytes(),
         UPDATES_AND_DELETES_PRINTS,
     );
+}
+
+#[test]
+fn a_row_is_locked_until_its_transaction_ends(rt: HostRuntime) {
+    prints(&rt, rt.alloc(), ROW_LOCKS.as_bytes(), ROW_LOCKS_PRINTS);
+}
+
+#[test]
+fn queued_transactions_are_one_group(rt: HostRuntime) {
+    prints(
+        &rt,
+        rt.alloc(),
+        GROUP_COMMIT.as_bytes(),
+        GROUP_COMMIT_PRINTS,
+    );
+}
+
+#[test]
+fn serial_transactions_have_the_one_before_as_parent(rt: HostRuntime) {
+    let script =
+        b"table 1 2 keyed\nbegin 1\ninsert 1 1 10 5 6\nprepare 1\nqueue 1\nflush\nsync\ncommit\nbegin 1\ninsert 1 1 11 7 8\nprepare 1\nqueue 1\nflush\n";
+    prints(
+        &rt,
+        rt.alloc(),
+        script,
+        "ok\nok\nprepared 0\nok\nflushed 1-1 (1,0)\nsynced 1-1\ncommitted 1-1\nok\nok\nprepared 1\nok\nflushed 2-2 (2,1)\n",
+    );
+}
+
+#[test]
+fn a_prepared_transaction_takes_no_change(rt: HostRuntime) {
+    let script = b"table 1 2 keyed\nbegin 1\ninsert 1 1 10 5 6\nprepare 1\ninsert 1 1 11 7 8\n";
+    prints(
+        &rt,
+        rt.alloc(),
+        script,
+        "ok\nok\nprepared 0\nS3 NotActive\n",
+    );
+}
+
+#[test]
+fn a_transaction_without_changes_ends_when_it_is_prepared(rt: HostRuntime) {
+    let script = b"table 1 2 keyed\nbegin 1\nprepare 1\nbegin 1\n";
+    prints(&rt, rt.alloc(), script, "ok\nempty\nok\n");
+}
+
+/// A script in which each of 256 sessions queues a row of its own, and what comes of them as one group.
+fn full_group(alloc: Global) -> io::Result<Vec<u8>> {
+    let mut script = Vec::new(alloc);
+    write!(&mut script, "table 1 1 keyed\n")?;
+    for session in 1..257 {
+        write!(
+            &mut script,
+            "begin {session}\ninsert {session} 1 {session} 7\nprepare {session}\nqueue {session}\n"
+        )?;
+    }
+    write!(
+        &mut script,
+        "flush\nsync\ncommit\ndeliver 257\ndeliver 256\n"
+    )?;
+    Ok(script)
+}
+
+/// What it prints: the whole group was prepared before any commit, so all its parents are 0.
+fn full_group_prints(alloc: Global) -> io::Result<Vec<u8>> {
+    let mut want = Vec::new(alloc);
+    for _session in 1..257 {
+        write!(&mut want, "ok\nok\nprepared 0\nok\n")?;
+    }
+    write!(&mut want, "flushed 1-256")?;
+    for sequence in 1..257 {
+        write!(&mut want, " ({sequence},0)")?;
+    }
+    write!(
+        &mut want,
+        "\nsynced 1-256\ncommitted 1-256\nunsynced\nP1 Gap\n"
+    )?;
+    Ok(want)
+}
+
+/// A script that is run prints these bytes, and tells nothing.
+fn prints_bytes(rt: &impl Abort, alloc: Global, script: &[u8], want: &[u8]) {
+    let (status, printed, told) = served(alloc, script);
+    assert_eq!(rt; (status, told.len()), (0, 0));
+    assert_eq!(rt; printed.as_slice(), want);
+}
+
+#[test]
+fn each_of_256_sessions_is_in_one_group(rt: HostRuntime) -> Result<(), Fail> {
+    let alloc = rt.alloc();
+    prints_bytes(&rt, alloc, &full_group(alloc)?, &full_group_prints(alloc)?);
+    Ok(())
+}
+
+/// A script of one transaction of 1025 changes, of which the last is one too many.
+fn full_transaction(alloc: Global) -> io::Result<Vec<u8>> {
+    let mut script = Vec::new(alloc);
+    write!(&mut script, "table 1 1 keyed\nbegin 1\n")?;
+    for key in 1..1026 {
+        write!(&mut script, "insert 1 1 {key} 7\n")?;
+    }
+    write!(
+        &mut script,
+        "prepare 1\nqueue 1\nflush\nsync\ncommit\ndeliver 1\ndispatch\nfinish 1\nnext\npublish\nread 1 1024\nread 1 1025\n"
+    )?;
+    Ok(script)
+}
+
+fn full_transaction_prints(alloc: Global) -> io::Result<Vec<u8>> {
+    let mut want = Vec::new(alloc);
+    for _line in 0..1025 {
+        write!(&mut want, "ok\n")?;
+    }
+    write!(
+        &mut want,
+        "S11 TooManyChanges\nprepared 0\nok\nflushed 1-1 (1,0)\nsynced 1-1\ncommitted 1-1\naccepted\njob 1\nfinished 1\ncommit 1\npublished 1\n1: 7\n1: none\n"
+    )?;
+    Ok(want)
+}
+
+#[test]
+fn a_transaction_has_up_to_1024_changes(rt: HostRuntime) -> Result<(), Fail> {
+    let alloc = rt.alloc();
+    prints_bytes(
+        &rt,
+        alloc,
+        &full_transaction(alloc)?,
+        &full_transaction_prints(alloc)?,
+    );
+    Ok(())
 }
 
 #[test]

@@ -1,0 +1,94 @@
+-- A new source: no session has a transaction, and nothing is logged.
+use Rattle.std.proofs.Common.{◌≡◌, ◌∙◌, sym, ap, subst, refl, ℕ, zero, suc, ◌+◌, ◌-◌, ◌<◌, ◌≤◌, ◌^◌, List, [], ◌∷◌, length, map, replicate, get_or, Option, Some, None, inl, inr, arith}
+use Rattle.std.specs.FinMap.{empty}
+use Rattle.std.specs.Option.{option_map}
+use Rattle.std.proofs.Common.{eqb, false}
+use Rattle.std.specs.List.{IsDistinct}
+use Rattle.log_index.specs.declared.Entry.{Entry as Seen}
+use Rattle.record_codec.specs.declared.records.Record.{Record}
+use Rattle.tracker_trait.specs.Kind.{Kind}
+use Rattle.schema.specs.declared.Table.{Table}
+use Rattle.schema.specs.Flags.{IsFlat}
+use Rattle.rows.specs.Database.{Database}
+use Rattle.store_trait.specs.Batch.{Entry, put_batch}
+use Rattle.store_trait.specs.Fits.{Fits}
+use Rattle.record_codec.proofs.Logs.{empty_is_legal}
+use Rattle.row_locks.specs.Locks.{Locks, Holding, NoClash, no_locks}
+use Rattle.source_core.specs.declared.transaction.Transaction.{Transaction}
+use Rattle.source_core.specs.Source.{Open, new_source, held_for, locks_over}
+use Rattle.source_core.specs.Core.{Parts, IsCore, Holds, source_of, open_view, sessions_view, placed}
+
+-- no places, so many
+none_of : (n i : ℕ) → placed (replicate n None) i ≡ None
+none_of zero i = refl
+none_of (suc n) zero = refl
+none_of (suc n) (suc i) = none_of n i
+
+long : {X : Type 0} (n : ℕ) (x : X) → length (replicate n x) ≡ n
+long zero x = refl
+long (suc n) x = ap suc (long n x)
+
+mapped : {X Y : Type 0} (f : X → Y) (n : ℕ) (x : X) → map f (replicate n x) ≡ replicate n (f x)
+mapped f zero x = refl
+mapped f (suc n) x = ap (λ l. f x ∷ l) (mapped f n x)
+
+absent : (i : ℕ) (t : Transaction) → placed (replicate 256 None) i ≡ Some t → ⊥
+absent i t at = cc (sym (none_of 256 i) ∙ at)
+
+pub views_none : sessions_view (replicate 256 None) ≡ replicate 256 None
+views_none = mapped (option_map open_view) 256 None
+
+abbrev pub parts_over : List Table → Database → List Entry → ℕ → List Record → List Seen → List (Option Transaction) → List ℕ → Locks → Parts
+parts_over ts rows base limit log entries places queue locks = record {
+  tables = ts;
+  rows = rows;
+  base = base;
+  limit = limit;
+  log = log;
+  synced = 0;
+  committed = 0;
+  owners = map (λ (e : Seen). e.session) entries;
+  entries = entries;
+  places = places;
+  queue = queue;
+  locks = locks;
+}
+
+none_twice : IsDistinct eqb []
+unfolding IsDistinct
+none_twice = tt
+
+new_core : (ts : List Table) (rows : Database) (base : List Entry) (limit : ℕ) (locks : Locks) → IsFlat ts → limit < 2 ^ 63 → put_batch base empty ≡ rows → Fits ts rows → locks ≡ no_locks → NoClash locks →
+    IsCore (parts_over ts rows base limit [] [] (replicate 256 None) [] locks)
+unfolding no_locks
+new_core ts rows base limit locks flat bound loaded_is fits none clear = record {
+  flat = flat;
+  legal = empty_is_legal ts (put_batch base empty);
+  few = omega arith;
+  bound = bound;
+  synced_within = omega arith;
+  committed_within = omega arith;
+  rows_are = ap Some loaded_is;
+  fits = fits;
+  sessions = long {X = Option Transaction} 256 None;
+  owned = refl;
+  seen = refl;
+  locks = none ∙ sym (ap (map (held_for ts rows)) views_none ∙ mapped (held_for ts rows) 256 None);
+  no_clash = clear;
+  applies = λ i t at. absurd (absent i t at);
+  stands = λ i t at. absurd (absent i t at);
+  flushed = tt;
+  queued = tt;
+  distinct = none_twice;
+}
+
+pub new_holds : (ts : List Table) (rows : Database) (base : List Entry) (limit : ℕ) (locks : Locks) → IsFlat ts → limit < 2 ^ 63 → put_batch base empty ≡ rows → Fits ts rows → locks ≡ no_locks → NoClash locks →
+    (log : List Record) (entries : List Seen) (places : List (Option Transaction)) (queue : List ℕ) → log ≡ [] → entries ≡ [] → places ≡ replicate 256 None → queue ≡ [] →
+    (room : ℕ) → 256 ≤ room → (IsSo : List Seen → Type 0) → IsSo [] → Holds (parts_over ts rows base limit log entries places queue locks) room (IsSo entries)
+new_holds ts rows base limit locks flat bound loaded_is fits none clear log entries places queue no_log no_entries no_places no_queue room enough IsSo so =
+    rw (no_log, no_entries, no_places, no_queue) (record { core = new_core ts rows base limit locks flat bound loaded_is fits none clear; room = enough; tracked = so })
+
+pub new_view : (ts : List Table) (rows : Database) (base : List Entry) (limit : ℕ) (locks : Locks) (kind : Kind) → (log : List Record) (entries : List Seen) (places : List (Option Transaction)) (queue : List ℕ) →
+    log ≡ [] → entries ≡ [] → places ≡ replicate 256 None → queue ≡ [] → source_of (parts_over ts rows base limit log entries places queue locks) kind false ≡ new_source ts base limit kind
+new_view ts rows base limit locks kind log entries places queue no_log no_entries no_places no_queue =
+    rw (no_log, no_entries, no_places, no_queue) (ap (λ sessions. record (new_source ts base limit kind) { sessions = sessions }) views_none)

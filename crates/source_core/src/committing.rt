@@ -1,0 +1,98 @@
+//! What a commit does with the synced records: their receipts, one batch of what their transactions leave, and the
+//! end of these transactions.
+
+ghost use Rattle.std.specs.Prelude.{◌≡◌, ◌≤◌, ◌-◌, [], length, IfOk, OnOk, IsSome, None};
+ghost use Rattle.std.specs.List.{AllByRecursion};
+ghost use Rattle.std.specs.FinMap.{find};
+ghost use Rattle.schema.specs.declared.RowId.{RowId};
+ghost use Rattle.schema.specs.RowId.{row_cmp};
+ghost use Rattle.overlay.specs.Pending.{left_at};
+ghost use Rattle.overlay.specs.Joining.{joined, joined_all};
+ghost use Rattle.row_locks.specs.Locks.{NoClash};
+ghost use Rattle.source_core.specs.Calls.{receipt_as, receipts_for};
+ghost use Rattle.source_core.specs.Core.{placed};
+ghost use Rattle.source_core.specs.Commit.{sessions_of, IsSession, cleared, all_released, pending_in, pendings_of, AreApart};
+
+use crate::transaction::{Receipt, Transaction};
+use log_index::Entry;
+use overlay::Joined;
+use record_codec::Record;
+use row_locks::LockTable;
+use schema::Memory;
+use std::alloc::Global;
+use store_trait::Batch;
+
+/// A receipt for each record, given the entries of the same records. The room for the list is taken once.
+pub(crate) fn receipts_of(
+    alloc: Global,
+    entries: &[Entry],
+    records: &[Record],
+) -> Result<Vec<Receipt>, Memory>
+    requires { length entries.now ≡ length records.now }
+    ensures { IfOk result (λ given. given.items ≡ receipts_for (sessions_of entries.now) records.now) }
+{
+    let mut given = Vec::with_capacity(alloc, records.len())?;
+    for (i, made) in records.iter().enumerate() {
+        given.push(receipt_for(entries[i].session, made)?)?;
+    }
+    Ok(given)
+}
+
+/// The receipt of a record, for its session.
+fn receipt_for(session: u16, made: &Record) -> Result<Receipt, Memory>
+    ensures { IfOk result (λ given. given ≡ receipt_as session made.now) }
+{
+    Ok(Receipt {
+        session,
+        gno: made.gno,
+        sequence: made.sequence,
+        parent: made.parent,
+        changes: made.changes.copy()?,
+    })
+}
+
+/// One batch of what the transactions of these entries leave, which stand in their sessions' places.
+pub(crate) fn join_all(
+    alloc: Global,
+    entries: &[Entry],
+    places: &[Option<Transaction>],
+) -> Result<Batch, Memory>
+    requires sessions { AllByRecursion IsSession (sessions_of entries.now) }
+    requires places { length places.now ≡ 256 }
+    requires there { AllByRecursion (λ session. IsSome (placed places.now (session - 1))) (sessions_of entries.now) }
+    requires apart { AreApart places.now (sessions_of entries.now) }
+    ensures { IfOk result (λ batch. batch ≡ joined_all [] (pendings_of places.now (sessions_of entries.now))) }
+{
+    let mut rows = Joined::new(alloc);
+    for entry in entries {
+        join_one(&mut rows, &places[entry.session as usize - 1])?;
+    }
+    Ok(rows.into_batch())
+}
+
+/// Adds what the transaction leaves of rows that are not there yet.
+fn join_one(rows: &mut Joined, place: &Option<Transaction>) -> Result<(), Memory>
+    requires there { IsSome place.now }
+    requires apart { (q : RowId) → IsSome (left_at (pending_in place.now) q) → find row_cmp q rows.old ≡ None }
+    ensures { OnOk result (rows.new ≡ joined rows.old (pending_in place.now)) }
+{
+    match place {
+        Some(t) => rows.add(&t.overlay),
+        None => Ok(()),
+    }
+}
+
+/// Ends the transactions of these entries, and gives up their locks. It takes no memory.
+pub(crate) fn end_all(entries: &[Entry], places: &mut [Option<Transaction>], locks: &mut LockTable)
+    requires sessions { AllByRecursion IsSession (sessions_of entries.now) }
+    requires places { length places.old ≡ 256 }
+    requires no_clash { NoClash locks.old }
+    ensures places { places.new ≡ cleared (sessions_of entries.now) places.old }
+    ensures locks { locks.new ≡ all_released (sessions_of entries.now) locks.old }
+    ensures no_clash { NoClash locks.new }
+{
+    for entry in entries {
+        places[entry.session as usize - 1] = None;
+        locks.release_all(entry.session);
+    }
+}
