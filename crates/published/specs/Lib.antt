@@ -5,3 +5,4 @@ pub mod Copies
 pub mod Plain
 pub mod Publication
 pub mod Status
+pub mod Opening

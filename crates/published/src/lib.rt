@@ -23,7 +23,7 @@ mod version;
 
 pub use book::{Beginning, Naming, Notice};
 pub use counts::Counts;
-pub use opening::{OpenError, open};
+pub use opening::{LeftRight, OpenError, Supply, open};
 pub use publisher::Publisher;
 use rows::Row;
 pub use seat::ReadSeat;

@@ -1,15 +1,16 @@
 //! How a publication begins.
-ghost use Rattle.std.specs.Prelude.{◌≡◌, ◌≤◌, [], ◌∷◌, IfOk, IfSome, drop, replicate, vec_capacity};
+ghost use Rattle.std.specs.Prelude.{◌≡◌, ◌≤◌, [], ◌∷◌, IfOk, IfErr, IfSome, IfNone, OnErr, drop, replicate, vec_capacity};
 ghost use Rattle.std.specs.FinMap.{empty};
 ghost use Rattle.store_trait.specs.declared.Op.TheVariants.{Load};
 ghost use Rattle.store_trait.specs.Operation.{left_by};
+ghost use Rattle.published.specs.Opening.{Tells};
 
 use crate::book::{Beginning, Naming, Notice};
 use crate::publisher::Publisher;
 use crate::seat::ReadSeat;
 use crate::version::{StoreWriter, Version};
 use schema::Memory;
-use std::alloc::{AllocError, Global};
+use std::alloc::Global;
 use std::sync::Wait;
 use store_trait::{Batch, RowStore};
 use thiserror::Error;
@@ -36,20 +37,64 @@ impl From<Memory> for OpenError {
     }
 }
 
-impl From<AllocError> for OpenError {
-    ghost use Rattle.std.specs.Prelude.{◌≡◌};
-    ghost use Rattle.published.specs.declared.opening.OpenError.TheVariants as causes;
+/// What a publication is made of: memory, and readers. `open` is generic over it, so it can tell want of either only
+/// where it was told of it here. `LeftRight` is the one to pass.
+pub trait Supply<S: RowStore + Drop, J: Naming> {
+    /// Memory was refused. What it means is the supply's own; callers learn of it by a refusal alone.
+    ghost lacks_memory: { Type 0 } = { Unit {0} };
 
-    ghost from_gives = { λ _ e. e ≡ causes.Memory };
+    /// A reader was refused, likewise.
+    ghost lacks_readers: { Type 0 } = { Unit {0} };
 
-    fn from(_error: AllocError) -> OpenError {
-        OpenError::Memory
+    /// The publisher over two empty stores, with the load of the base published, and room for the seats: all the
+    /// memory of a publication. The time is that of the base in both stores.
+    fn publisher(
+        alloc: Global,
+        beginning: Beginning,
+        first: S,
+        second: S,
+        seats: usize,
+    ) -> Result<(Publisher<S, J>, Vec<ReadSeat<S, J>>), Memory>
+        requires named { beginning.book ≡ J.book }
+        requires first { S.contents first ≡ empty }
+        requires second { S.contents second ≡ empty }
+        requires seats { (1 ≤ seats) × (seats ≤ 32) }
+        ensures publisher { IfOk result (λ made. made.0 ≡ record { published = Load beginning.base ∷ []; waiting = []; history = Load beginning.base ∷ [] }) }
+        ensures room { IfOk result (λ made. (made.1.items ≡ []) × (seats ≤ vec_capacity made.1)) }
+        ensures refused { OnErr result lacks_memory };
+
+    /// One more seat, which has seen what is published. It takes no memory.
+    fn seat(publisher: &Publisher<S, J>) -> Option<ReadSeat<S, J>>
+        ensures seat { IfSome result (λ seat. seat ≡ publisher.now.published) }
+        ensures refused { IfNone result lacks_readers };
+}
+
+/// Memory of the system, and the readers of `left_right`.
+pub struct LeftRight;
+
+impl<S: RowStore + Drop, J: Naming> Supply<S, J> for LeftRight {
+    fn publisher(
+        alloc: Global,
+        beginning: Beginning,
+        first: S,
+        second: S,
+        seats: usize,
+    ) -> Result<(Publisher<S, J>, Vec<ReadSeat<S, J>>), Memory> {
+        let (base, head, notice) = beginning.named::<J>();
+        let places = Vec::with_capacity(alloc, seats)?;
+        let writer = both(alloc, &base, &notice, first, second, seats)?;
+        Ok((Publisher::begun(writer, head, notice), places))
+    }
+
+    fn seat(publisher: &Publisher<S, J>) -> Option<ReadSeat<S, J>> {
+        publisher.seat()
     }
 }
 
-/// Opens a publication on two empty stores, with the load of the base published, and makes 1 to 32 seats. The
-/// time and the memory are those of the base in both stores. It waits only where it has to give up.
-pub fn open<S: RowStore + Drop, J: Naming, R: Wait>(
+/// Opens a publication on two empty stores, with the load of the base published, and makes 1 to 32 seats. Want of
+/// memory is told only where the supply refused memory, and a refused seat only where it refused a reader. The time
+/// and the memory are those of the base in both stores. It waits only where it has to give up.
+pub fn open<S: RowStore + Drop, J: Naming, R: Wait, P: Supply<S, J>>(
     rt: &R,
     alloc: Global,
     beginning: Beginning,
@@ -64,12 +109,10 @@ pub fn open<S: RowStore + Drop, J: Naming, R: Wait>(
     requires few { seats ≤ 32 }
     ensures publisher { IfOk result (λ opened. opened.0 ≡ record { published = Load beginning.base ∷ []; waiting = []; history = Load beginning.base ∷ [] }) }
     ensures seats { IfOk result (λ opened. opened.1.items ≡ replicate seats (Load beginning.base ∷ [])) }
+    ensures cause { IfErr result (λ cause. Tells cause P.lacks_memory P.lacks_readers) }
 {
-    let (base, head, notice) = beginning.named::<J>();
-    let places = Vec::with_capacity(alloc, seats)?;
-    let writer = both(alloc, &base, &notice, first, second, seats)?;
-    let publisher = Publisher::begun(writer, head, notice);
-    match take_seats(&publisher, places, seats) {
+    let (publisher, places) = P::publisher(alloc, beginning, first, second, seats)?;
+    match take_seats::<S, J, P>(&publisher, places, seats) {
         Some(places) => Ok((publisher, places)),
         None => {
             drop(publisher.close(rt));
@@ -107,18 +150,19 @@ fn both<S: RowStore + Drop, J: Naming>(
     Ok(StoreWriter::new(alloc, first, second, seats)?)
 }
 
-// So many seats, which have seen what is published. `None` where `left_right` gave no reader.
-fn take_seats<S: RowStore + Drop, J: Naming>(
+// So many seats, which have seen what is published. `None` where a reader was refused.
+fn take_seats<S: RowStore + Drop, J: Naming, P: Supply<S, J>>(
     publisher: &Publisher<S, J>,
     mut places: Vec<ReadSeat<S, J>>,
     seats: usize,
 ) -> Option<Vec<ReadSeat<S, J>>>
     requires none { places.items ≡ [] }
     requires room { seats ≤ vec_capacity places }
-    ensures { IfSome result (λ places. places.items ≡ replicate seats publisher.now.published) }
+    ensures seats { IfSome result (λ places. places.items ≡ replicate seats publisher.now.published) }
+    ensures refused { IfNone result P.lacks_readers }
 {
     for _ in 0..seats {
-        places.push_reserved(publisher.seat()?);
+        places.push_reserved(P::seat(publisher)?);
     }
     Some(places)
 }

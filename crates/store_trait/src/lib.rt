@@ -281,6 +281,25 @@ mod tests {
         Ok(())
     }
 
+    /// The commit of gno 5, which sets row 4 of table 1.
+    fn commit(alloc: Global) -> Result<Op, Memory> {
+        let batch = Batch::from_rising(vec![in alloc; entry(1, 4, 7)]?);
+        Ok(Op::Commit { gno: 5, batch })
+    }
+
+    /// With one allocation after another refused, a copy is as if none had been. (The other calls that take memory
+    /// need a store: the tests of `btree_store` make these again.)
+    #[test]
+    fn refused_copies_are_made_again(rt: HostRuntime) -> Result<(), Fail> {
+        let alloc = rt.alloc();
+        let op = commit(alloc).or_else(|_| commit(alloc))?;
+        let copy = op.copy().or_else(|_| op.copy())?;
+        assert!(rt; matches!(&copy, Op::Commit { gno: 5, .. }));
+        let batch = copy.batch().copy().or_else(|_| copy.batch().copy())?;
+        assert!(rt; batch.entries() == op.batch().entries());
+        Ok(())
+    }
+
     #[test]
     fn copy_of_an_operation(rt: HostRuntime) -> Result<(), Fail> {
         let mut entries = Vec::new(rt.alloc());

@@ -3,7 +3,8 @@ ghost use Rattle.std.specs.Prelude.{◌≡◌, ◌≤◌};
 
 use super::{LAST, commit};
 use crate::{
-    Beginning, Common, Naming, Notice, OpenError, Publisher, ReadSeat, Step, Version, open,
+    Beginning, Common, LeftRight, Naming, Notice, OpenError, Publisher, ReadSeat, Step, Version,
+    open,
 };
 use btree_store::BTreeStore;
 use left_right::Absorb;
@@ -47,7 +48,7 @@ impl<'r, J: Naming, R: Wait> Desk<'r, J, R> {
         requires book { beginning.book ≡ J.book }
         requires seats { (1 ≤ seats) × (seats ≤ 32) }
     {
-        let (publisher, seats) = open::<BTreeStore, J, R>(
+        let (publisher, seats) = open::<BTreeStore, J, R, LeftRight>(
             rt,
             alloc,
             beginning,
@@ -97,10 +98,15 @@ impl<'r, J: Naming, R: Wait> Desk<'r, J, R> {
         self.publisher.publish(self.rt)
     }
 
-    /// Appends the next commit, and publishes all that waits.
+    /// Appends the next commit, and publishes all that waits. What is refused is done once more.
     pub fn publish_next(&mut self, alloc: Global) -> Result<u64, Memory> {
-        self.append(alloc)?;
-        self.publish()
+        if self.append(alloc).is_err() {
+            self.append(alloc)?;
+        }
+        match self.publish() {
+            Ok(upto) => Ok(upto),
+            Err(_) => self.publish(),
+        }
     }
 
     pub fn tell(&self) -> Notice<J> {

@@ -1,5 +1,5 @@
-//! With one allocation after another refused (`rt try --test --fail-alloc 1..`), a call that is refused leaves what
-//! was, and does its work when it is made again. The tests that begin with `refused` pass whichever it is.
+//! With one allocation after another refused (`.ci/sweep`), a call that is refused leaves what was, and does its work
+//! when it is made again: these tests pass whichever it is.
 ghost use Rattle.std.specs.Prelude.{◌≡◌, ◌^◌, ◌<◌};
 
 use super::desk::Desk;
@@ -16,7 +16,7 @@ use std::test::Fail;
 use store_trait::Batch;
 
 #[test]
-fn refused_publishing(rt: HostRuntime) -> Result<(), Fail> {
+fn publishing_is_made_again(rt: HostRuntime) -> Result<(), Fail> {
     let alloc = rt.alloc();
     let base = Beginning::of(base_again(alloc)?);
     let spare = Beginning::of(base_again(alloc)?);
@@ -91,7 +91,7 @@ fn publish_again<J: Naming, R: Wait + Abort>(
 }
 
 #[test]
-fn refused_plain(rt: HostRuntime) -> Result<(), Fail> {
+fn plain_calls_are_made_again(rt: HostRuntime) -> Result<(), Fail> {
     let alloc = rt.alloc();
     let mut plain = match plain_of_base(alloc) {
         Ok(plain) => plain,
@@ -126,7 +126,7 @@ fn plain_again(
 }
 
 #[test]
-fn refused_status(rt: HostRuntime) -> Result<(), Fail> {
+fn status_calls_are_made_again(rt: HostRuntime) -> Result<(), Fail> {
     let mut status = match Status::new(rt.alloc()) {
         Ok(status) => status,
         Err(_) => Status::new(rt.alloc())?,

@@ -40,10 +40,11 @@ fn run_beside<J: Naming + Send + Sync, R: Threads + Wait + Abort + Sync>(
     let (Some(one), Some(two)) = (seats.pop(), seats.pop()) else {
         return Err("two seats")?;
     };
-    let (_, ends) = join(
+    // (Where no thread can be made, those who follow come last.)
+    let (ends, _) = join(
         rt,
-        || publish_to(rt, alloc, &mut desk, &board),
         || join(rt, || follow(rt, &board, one), || follow(rt, &board, two)),
+        || publish_to(rt, alloc, &mut desk, &board),
     );
     assert_eq!(rt; ends, (LAST, LAST));
     Ok(())

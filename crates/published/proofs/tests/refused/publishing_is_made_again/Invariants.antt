@@ -1,4 +1,4 @@
-use Rattle.published.proofs.tests.refused.refused_publishing.Given as goal
+use Rattle.published.proofs.tests.refused.publishing_is_made_again.Given as goal
 
 -- the publication that was just begun
 abbrev pub ghosts-grown : goal.ghosts-grown
