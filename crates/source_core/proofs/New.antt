@@ -15,7 +15,7 @@ use Rattle.store_trait.specs.Fits.{Fits}
 use Rattle.record_codec.proofs.Logs.{empty_is_legal}
 use Rattle.row_locks.specs.Locks.{Locks, Holding, NoClash, no_locks}
 use Rattle.source_core.specs.declared.transaction.Transaction.{Transaction}
-use Rattle.source_core.specs.Source.{Open, new_source, held_for, locks_over}
+use Rattle.source_core.specs.Source.{Source, Open, new_source, held_for, locks_over}
 use Rattle.source_core.specs.Core.{Parts, IsCore, Holds, source_of, open_view, sessions_view, placed}
 
 -- no places, so many
@@ -92,3 +92,9 @@ pub new_view : (ts : List Table) (rows : Database) (base : List Entry) (limit : 
     log ≡ [] → entries ≡ [] → places ≡ replicate 256 None → queue ≡ [] → source_of (parts_over ts rows base limit log entries places queue locks) kind false ≡ new_source ts base limit kind
 new_view ts rows base limit locks kind log entries places queue no_log no_entries no_places no_queue =
     rw (no_log, no_entries, no_places, no_queue) (ap (λ sessions. record (new_source ts base limit kind) { sessions = sessions }) views_none)
+
+-- a source that is new is new over its own tables, base, limit and kind
+pub new_is_new : (s : Source) (ts : List Table) (base : List Entry) (limit : ℕ) (kind : Kind) → s ≡ new_source ts base limit kind → s ≡ new_source s.tables s.base s.limit s.kind
+new_is_new s ts base limit kind e =
+    let back = sym e in
+    e ∙ (λ i. new_source (back i).tables (back i).base (back i).limit (back i).kind)
