@@ -40,7 +40,10 @@ impl Overlay {
         ensures ok { IfOk result (λ roomy. roomy ≡ self) }
         ensures err { IfErr result (λ overlay. overlay ≡ self) }
     {
-        let Overlay { mut changes, mut left } = self;
+        let Overlay {
+            mut changes,
+            mut left,
+        } = self;
         match make_room(&mut changes, &mut left) {
             Ok(()) => Ok(Roomy { changes, left }),
             Err(Memory) => Err(Overlay { changes, left }),
@@ -53,10 +56,16 @@ impl Roomy {
     pub fn push(self, change: Change, left: Option<Row>) -> Overlay
         ensures { result ≡ pushed self change left }
     {
-        let Roomy { mut changes, left: mut rows } = self;
+        let Roomy {
+            mut changes,
+            left: mut rows,
+        } = self;
         set_row(&mut rows, change.target(), left);
         put_last(&mut changes, change);
-        Overlay { changes, left: rows }
+        Overlay {
+            changes,
+            left: rows,
+        }
     }
 
     /// The overlay without more changes. It takes no memory.
@@ -69,7 +78,10 @@ impl Roomy {
 }
 
 /// Makes room for one more change, and for the row that it is of.
-fn make_room(changes: &mut Vec<Change>, left: &mut IndexMap<RowId, Option<Row>>) -> Result<(), Memory>
+fn make_room(
+    changes: &mut Vec<Change>,
+    left: &mut IndexMap<RowId, Option<Row>>,
+) -> Result<(), Memory>
     ensures changes { changes.new.items ≡ changes.old.items }
     ensures left { left.new.entries ≡ left.old.entries }
     ensures ok { OnOk result ((length changes.new.items < vec_capacity changes.new) × (0 < spare left.new)) }
