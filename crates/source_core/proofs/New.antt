@@ -1,5 +1,5 @@
 -- A new source: no session has a transaction, and nothing is logged.
-use Rattle.std.proofs.Common.{◌≡◌, ◌∙◌, sym, ap, subst, refl, ℕ, zero, suc, ◌+◌, ◌-◌, ◌<◌, ◌≤◌, ◌^◌, List, [], ◌∷◌, length, map, replicate, get_or, Option, Some, None, inl, inr, arith}
+use Rattle.std.proofs.Common.{◌≡◌, ◌∙◌, sym, ap, refl, ℕ, zero, suc, ◌<◌, ◌≤◌, ◌^◌, List, [], ◌∷◌, length, map, replicate, Option, Some, None, arith}
 use Rattle.std.specs.FinMap.{empty}
 use Rattle.std.specs.Option.{option_map}
 use Rattle.std.proofs.Common.{eqb, false}
@@ -13,9 +13,9 @@ use Rattle.rows.specs.Database.{Database}
 use Rattle.store_trait.specs.Batch.{Entry, put_batch}
 use Rattle.store_trait.specs.Fits.{Fits}
 use Rattle.record_codec.proofs.Logs.{empty_is_legal}
-use Rattle.row_locks.specs.Locks.{Locks, Holding, NoClash, no_locks}
+use Rattle.row_locks.specs.Locks.{Locks, NoClash, no_locks}
 use Rattle.source_core.specs.declared.transaction.Transaction.{Transaction}
-use Rattle.source_core.specs.Source.{Source, Open, new_source, held_for, locks_over}
+use Rattle.source_core.specs.Source.{Source, new_source, held_for}
 use Rattle.source_core.specs.Core.{Parts, IsCore, Holds, source_of, open_view, sessions_view, placed}
 
 -- no places, so many

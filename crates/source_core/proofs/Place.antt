@@ -10,14 +10,14 @@ use Rattle.schema.specs.declared.Table.{Table}
 use Rattle.rows.specs.declared.Change.{Change}
 use Rattle.rows.specs.Database.{Database}
 use Rattle.record_codec.specs.declared.records.Record.{Record}
-use Rattle.row_locks.specs.Locks.{Locks, Holding, NoClash}
+use Rattle.row_locks.specs.Locks.{Locks, NoClash}
 use Rattle.source_core.specs.declared.transaction.Phase.{Phase}
 use Rattle.source_core.specs.declared.transaction.Phase.TheVariants.{Active, Prepared, Queued, Flushed}
 use Rattle.source_core.specs.declared.transaction.Transaction.{Transaction}
 use Rattle.source_core.specs.Source.{held_for, locks_over}
 use Rattle.source_core.specs.Calls.{with_open}
 use Rattle.source_core.proofs.Stand.{held_at}
-use Rattle.source_core.specs.Core.{Parts, IsCore, Applies, IsReady, IsLogged, StandsAs, IsFlushedAs, AreFlushed, IsQueued, AreQueued, Holds, open_view, sessions_view, source_of, placed}
+use Rattle.source_core.specs.Core.{Parts, IsCore, Applies, IsReady, StandsAs, AreFlushed, AreQueued, Holds, open_view, sessions_view, source_of, placed}
 
 -- the transaction, if there is one, is neither queued nor flushed
 abbrev pub IsFreePhase : Phase → Type 0

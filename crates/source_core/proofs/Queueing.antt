@@ -1,5 +1,5 @@
 -- A session puts its prepared transaction last into the flush queue.
-use Rattle.std.proofs.Common.{◌≡◌, ◌≢◌, ◌∙◌, sym, ap, subst, refl, ℕ, ◌+◌, ◌-◌, ◌<◌, ◌≤◌, List, [], ◌∷◌, ◌++◌, length, length-append, set, get_or, slice_index_or, IsTrue, Bool, true, false, ◌||◌, eqb, Option, Some, None, inl, inr, arith}
+use Rattle.std.proofs.Common.{◌≡◌, ◌∙◌, sym, ap, subst, refl, ℕ, ◌+◌, ◌-◌, ◌<◌, ◌≤◌, List, [], ◌∷◌, ◌++◌, length, length-append, set, get_or, slice_index_or, IsTrue, Bool, true, false, ◌||◌, eqb, Option, Some, None, inl, inr, arith}
 use Rattle.std.specs.Prelude.{option_and_then}
 use Rattle.std.specs.Option.{option_map}
 use Rattle.std.specs.List.{list_any, IsDistinct, AllByRecursion}
@@ -46,12 +46,12 @@ sessions_within places (first ∷ queue) are q e =
       | inr apart ↦ sessions_within places queue are.1 q (rw apart.0 at e)
     ]
   where
-  place_there : (places : List (Option Transaction)) (i : ℕ) (t : Transaction) → placed places i ≡ Some t → i < length places
-  place_there places i t at =
-      elim (cases_lt i (length places)) [
-        | inl within ↦ within
-        | inr past ↦ absurd (cc (sym (get_or-eq_default places None past) ∙ at))
-      ]
+    place_there : (places : List (Option Transaction)) (i : ℕ) (t : Transaction) → placed places i ≡ Some t → i < length places
+    place_there places i t at =
+        elim (cases_lt i (length places)) [
+          | inl within ↦ within
+          | inr past ↦ absurd (cc (sym (get_or-eq_default places None past) ∙ at))
+        ]
 
 -- a session number is not 0
 positive : (n : ℕ) → 1 ≤ n → eqb 0 n ≡ false
@@ -126,8 +126,8 @@ grows queue session q is = list_any-append (eqb q) queue (session ∷ []) ∙ or
 in_queue : (queue : List ℕ) (session : ℕ) → IsTrue (list_any (eqb session) (queue ++ session ∷ []))
 in_queue queue session = list_any-append (eqb session) queue (session ∷ []) ∙ or_right (list_any (eqb session) queue) _ (or_left (eqb session session) false (itself session))
   where
-  itself : (n : ℕ) → eqb n n ≡ true
-  itself n = grind (arith, nat_tests)
+    itself : (n : ℕ) → eqb n n ≡ true
+    itself n = grind (arith, nat_tests)
 
 queued_behind : (places : List (Option Transaction)) (session : ℕ) (queue : List ℕ) → AreQueued places queue → IsQueued places session → AreQueued places (queue ++ session ∷ [])
 queued_behind places session [] are one = (one, tt)
@@ -180,18 +180,18 @@ module _ (p : Parts) (core : IsCore p) (i session : ℕ) (within : i < 256) (is 
       core.no_clash
       (λ t e. stands t (same_of its t e))
     where
-    same_of : (a b : Transaction) → Some a ≡ Some b → a ≡ b
-    same_of a b e = cc e
+      same_of : (a b : Transaction) → Some a ≡ Some b → a ≡ b
+      same_of a b e = cc e
 
   pub queued_view : (kind : Kind) (halted : Bool) → source_of (placing p i now (behind p session) p.locks) kind halted ≡ queued (source_of p kind halted) session
   queued_view kind halted =
       ap (λ (s : Source). record s { queue = behind p session }) (view_set p core kind halted i session now p.locks is)
       ∙ ap (λ (o : Option Open). record (with_open (source_of p kind halted) session o) { queue = behind p session }) (sym opened)
     where
-    opened : option_map {U = Open} (λ (t : Open). record { changes = t.changes; phase = queued_phase t.phase }) (slice_index_or (sessions_view p.places) (session - 1) None) ≡ Some (record { changes = w.t.overlay.changes; phase = Queued order })
-    opened =
-        ap (option_map {U = Open} (λ (t : Open). record { changes = t.changes; phase = queued_phase t.phase })) (open_at p kind halted i session is ∙ ap (option_map open_view) w.is)
-        ∙ ap (λ (x : Phase). Some (record { changes = w.t.overlay.changes; phase = queued_phase x })) w.phase
+      opened : option_map {U = Open} (λ (t : Open). record { changes = t.changes; phase = queued_phase t.phase }) (slice_index_or (sessions_view p.places) (session - 1) None) ≡ Some (record { changes = w.t.overlay.changes; phase = Queued order })
+      opened =
+          ap (option_map {U = Open} (λ (t : Open). record { changes = t.changes; phase = queued_phase t.phase })) (open_at p kind halted i session is ∙ ap (option_map open_view) w.is)
+          ∙ ap (λ (x : Phase). Some (record { changes = w.t.overlay.changes; phase = queued_phase x })) w.phase
 
 -- ---- the same, of what is found in a place
 

@@ -1,5 +1,5 @@
 -- How a source's parts stand together.
-use Rattle.std.specs.Prelude.{◌≡◌, ◌==◌, ℕ, ℤ, ◌+◌, ◌-◌, ◌<◌, ◌≤◌, ◌^◌, IsTrue, if◌then◌else◌, Bool, List, [], ◌∷◌, length, map, take, drop, slice_get, slice_index_or, Option, Some, None}
+use Rattle.std.specs.Prelude.{◌≡◌, ℕ, ℤ, ◌+◌, ◌-◌, ◌<◌, ◌≤◌, ◌^◌, IsTrue, if◌then◌else◌, Bool, List, [], ◌∷◌, length, map, take, drop, slice_get, slice_index_or, Option, Some, None}
 use Rattle.std.specs.FinMap.{empty}
 use Rattle.std.specs.List.{list_any, IsDistinct}
 use Rattle.std.specs.Option.{option_map}
