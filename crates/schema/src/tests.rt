@@ -29,6 +29,25 @@ fn a_schema_is_copied(rt: HostRuntime) -> Result<(), Fail> {
     Ok(())
 }
 
+/// A list of one table, made again where memory was refused.
+fn one_table(alloc: Global) -> Result<Vec<Table>, AllocError> {
+    match Vec::from_slice(alloc, &[KEYED]) {
+        Ok(tables) => Ok(tables),
+        Err(_) => Vec::from_slice(alloc, &[KEYED]),
+    }
+}
+
+#[test]
+fn a_copy_is_made_again(rt: HostRuntime) -> Result<(), Fail> {
+    let schema = Schema::new(one_table(rt.alloc())?)?;
+    let copy = match schema.copy() {
+        Ok(copy) => copy,
+        Err(_) => schema.copy()?,
+    };
+    assert_eq!(rt; copy.tables(), schema.tables());
+    Ok(())
+}
+
 #[test]
 fn the_first_fault_of_each_table_in_turn(rt: HostRuntime) -> Result<(), Fail> {
     let alloc = rt.alloc();
