@@ -1,11 +1,12 @@
 //! The source: sessions change rows, and their transactions become the records of a log.
 //!
 //! A `SourceCore` is a plain machine that is stepped by calls; it has no handle and no thread. Contracts see it
-//! as the record `Source` of `specs/Source.antt`. It keeps true that the log is legal over the base, that its
-//! store contains the database after the committed records, and that each open transaction's changes apply to
-//! that. What each call answers, its first cause of refusal in order, and what it leaves is defined in
-//! `specs/Calls.antt`. It stands on `overlay` for pending changes, on `store_trait` for the rows, and on
-//! `record_codec` for records and groups.
+//! as the record `Source` of `specs/Source.antt`. Each of its 256 sessions has at most one transaction, which holds the
+//! rows that it writes until it ends. It keeps true that the log is legal over the base, that its store contains the
+//! database after the committed records, that each open transaction's changes apply to that, and that no two of them
+//! clash (`specs/Core.antt`). What each call answers, its first cause of refusal in order, and what it leaves is defined
+//! in `specs/Calls.antt`. It stands on `overlay` for pending changes, on `row_locks` for who holds what, on `store_trait`
+//! for the rows, on `record_codec` for records and groups, and on a tracker of `tracker_trait` for the parents of records.
 #![tactic(auto)]
 
 mod committing;
