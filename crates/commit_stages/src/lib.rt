@@ -1,0 +1,129 @@
+//! The queues of group commit: a session's transaction waits for its flush, then for its sync, then for its commit.
+//!
+//! A `Stages` has three queues of the sessions 1 to 256, which callers see as three lists (`specs/Queues.antt`). A session
+//! enters at the end of the flush queue; whole groups then go on to the end of the next queue, in the order in which
+//! they came, and leave at the front of the commit queue. A session stands in at most one queue, and once: the type keeps
+//! that. So no step between changes the line of all that wait, the furthest first (`specs/Laws.antt`), and the queues are
+//! three parts of one list of at most 256 places: a group goes on by moving the bound between two parts. All room is taken
+//! when the queues are made. The crate stands on no other.
+#![tactic(auto)]
+
+ghost use Rattle.std.specs.Prelude.{◌≡◌, ◌≤◌, false, length, IfOk};
+ghost use Rattle.commit_stages.specs.Queues.{no_queues, queue_of, is_waiting, queued, flush_taken, sync_taken, commit_taken, IsOrderly};
+
+pub mod laws;
+
+use std::alloc::{AllocError, Global};
+use std::marker::Model;
+
+/// What the sessions of a queue wait for.
+#[derive(Clone, Copy, Debug, PartialEq, Eq)]
+pub enum Stage {
+    /// To become records of the log.
+    Flush,
+    /// For their records to be synced.
+    Sync,
+    /// To be committed.
+    Commit,
+}
+
+/// The number of sessions, and the greatest number of one; the least is 1.
+pub const MAX_SESSIONS: u16 = 256;
+
+/// The sessions that wait, each in the queue of its stage.
+#[derive(Debug, Drop)]
+pub struct Stages {
+    /// All that wait, the furthest first: the commit queue, the sync queue, the flush queue. There is room for all.
+    line: Vec<u16>,
+    /// Where the sync queue begins.
+    sync_from: usize,
+    /// Where the flush queue begins.
+    flush_from: usize,
+}
+
+impl Model for Stages {
+    ghost use Rattle.std.specs.Prelude.{vec_capacity};
+    ghost use Rattle.commit_stages.specs.Queues.{Queues};
+
+    ghost Value = { Queues };
+
+    ghost use Rattle.commit_stages.specs.Line.{queues_in, IsLine};
+
+    ghost view = { λ s. queues_in s.line.items s.sync_from s.flush_from };
+
+    ghost invariant = { λ s. IsLine s.line.items s.sync_from s.flush_from (vec_capacity s.line) };
+}
+
+impl Stages {
+    /// Queues in which no session waits. Room for all of them is taken here, and no other call takes memory.
+    pub fn new(alloc: Global) -> Result<Stages, AllocError>
+        ensures { IfOk result (λ stages. stages ≡ no_queues) }
+    {
+        Ok(Stages {
+            line: Vec::with_capacity(alloc, MAX_SESSIONS as usize)?,
+            sync_from: 0,
+            flush_from: 0,
+        })
+    }
+
+    /// The sessions of a stage's queue, in the order in which they came. It takes constant time.
+    pub fn look(&self, stage: Stage) -> &[u16]
+        ensures queue { result.now ≡ queue_of self.now stage }
+        ensures orderly { IsOrderly self.now }
+    {
+        match stage {
+            Stage::Flush => &self.line[self.flush_from..],
+            Stage::Sync => &self.line[self.sync_from..self.flush_from],
+            Stage::Commit => &self.line[..self.sync_from],
+        }
+    }
+
+    /// Whether the session stands in a queue. The time is that of a look at each session that does.
+    pub fn contains(&self, session: u16) -> bool
+        ensures { result ≡ is_waiting self.now session }
+    {
+        self.line.contains(&session)
+    }
+
+    /// Puts the session last into the flush queue. It takes constant time, and no memory.
+    pub fn queue(&mut self, session: u16)
+        requires least { 1 ≤ session }
+        requires greatest { session ≤ 256 }
+        requires free { is_waiting self.old session ≡ false }
+        ensures { self.new ≡ queued self.old session }
+    {
+        self.line.push(session).unwrap();
+    }
+
+    /// Moves the whole flush queue behind the sync queue, in its order, and answers how many sessions that are. It takes
+    /// constant time.
+    pub fn take_flush(&mut self) -> usize
+        ensures queues { self.new ≡ flush_taken self.old }
+        ensures count { result ≡ length self.old.flush }
+    {
+        let count = self.line.len() - self.flush_from;
+        self.flush_from = self.line.len();
+        count
+    }
+
+    /// Moves the first so many sessions of the sync queue behind the commit queue, in their order: those of the oldest
+    /// group, where that is what they are. It takes constant time.
+    pub fn take_sync(&mut self, count: usize)
+        requires { count ≤ length self.old.sync }
+        ensures { self.new ≡ sync_taken self.old count }
+    {
+        self.sync_from += count;
+    }
+
+    /// Empties the commit queue. The time is that of a move of each session that waits, 256 at most.
+    pub fn take_commit(&mut self)
+        ensures { self.new ≡ commit_taken self.old }
+    {
+        drop(self.line.drain(..self.sync_from));
+        self.flush_from -= self.sync_from;
+        self.sync_from = 0;
+    }
+}
+
+#[cfg(test)]
+mod tests;
