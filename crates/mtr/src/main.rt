@@ -6,6 +6,8 @@
 //! writers.
 #![tactic(auto)]
 
+#[cfg(test)]
+mod again_tests;
 mod command;
 mod command_line;
 mod ending;

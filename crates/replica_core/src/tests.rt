@@ -11,6 +11,8 @@ use std::process::Abort;
 use std::test::Fail;
 use store_trait::{Batch, Op, RowStore, fits};
 
+type Replica = ReplicaCore<BTreeStore>;
+
 /// The number of columns of each row.
 const COLUMNS: u8 = 16;
 
@@ -35,19 +37,25 @@ fn schema(alloc: Global) -> Result<Schema, Memory> {
     Schema::new(tables).map_err(|_| Memory)
 }
 
-/// A store of the rows of so many keys from 1 on.
-fn store(alloc: Global, rows: i64) -> Result<BTreeStore, Memory> {
+/// The rows of so many keys from 0 on.
+fn rows(alloc: Global, count: i64) -> Result<Vec<(RowId, Option<Row>)>, Memory> {
     let mut entries = Vec::new(alloc);
-    for key in 0..rows {
+    for key in 0..count {
         entries.push((id(key), row(key)))?;
     }
+    Ok(entries)
+}
+
+/// A store of the rows of so many keys from 0 on.
+fn store(alloc: Global, count: i64) -> Result<BTreeStore, Memory> {
+    let batch = Batch::from_entries(rows(alloc, count)?).ok_or(Memory)?;
     let mut store = BTreeStore::new(alloc);
-    store.put_all(&Batch::from_entries(entries).ok_or(Memory)?)?;
+    store.put_all(&batch)?;
     Ok(store)
 }
 
 /// A new replica of these rows.
-fn replica_of(alloc: Global, store: BTreeStore) -> Result<ReplicaCore<BTreeStore>, Memory> {
+fn replica_of(alloc: Global, store: BTreeStore) -> Result<Replica, Memory> {
     let schema = schema(alloc)?;
     if schema.is_flat() && fits(&schema, &store) {
         ReplicaCore::new(alloc, schema, store)
@@ -57,7 +65,7 @@ fn replica_of(alloc: Global, store: BTreeStore) -> Result<ReplicaCore<BTreeStore
 }
 
 /// A new replica of no rows.
-fn replica(alloc: Global) -> Result<ReplicaCore<BTreeStore>, Memory> {
+fn replica(alloc: Global) -> Result<Replica, Memory> {
     replica_of(alloc, BTreeStore::new(alloc))
 }
 
@@ -101,12 +109,48 @@ fn record(alloc: Global, gno: u64, times: usize) -> Result<Record, Memory> {
     )
 }
 
+fn receives(
+    rt: &impl Abort,
+    replica: &mut Replica,
+    next: &Record,
+    want: Result<Received, ReplicaFault>,
+) {
+    assert_eq!(rt; replica.receive(next), want);
+}
+
+fn dispatches(rt: &impl Abort, replica: &mut Replica, want: Result<Option<u64>, ReplicaFault>) {
+    assert_eq!(rt; replica.dispatch(), want);
+}
+
+fn finishes(rt: &impl Abort, replica: &mut Replica, gno: u64, want: Result<(), ReplicaFault>) {
+    assert_eq!(rt; replica.finish(gno), want);
+}
+
+fn commits(rt: &impl Abort, replica: &mut Replica, want: Result<Option<u64>, ReplicaFault>) {
+    assert_eq!(rt; replica.commit_next(), want);
+}
+
+/// Publishes all that is committed.
+fn publishes(rt: &impl Abort, replica: &mut Replica, want: Result<u64, ReplicaFault>) {
+    let upto = replica.committed();
+    assert_eq!(rt; replica.publish(upto), want);
+}
+
 /// Receives, dispatches, finishes and commits this record.
-fn commit(rt: &impl Abort, replica: &mut ReplicaCore<BTreeStore>, next: &Record) {
-    assert_eq!(rt; replica.receive(next), Ok(Received::Accepted));
-    assert_eq!(rt; replica.dispatch(), Ok(Some(next.gno)));
-    assert_eq!(rt; replica.finish(next.gno), Ok(()));
-    assert_eq!(rt; replica.commit_next(), Ok(Some(next.gno)));
+fn commit(rt: &impl Abort, replica: &mut Replica, next: &Record) {
+    receives(rt, replica, next, Ok(Received::Accepted));
+    dispatches(rt, replica, Ok(Some(next.gno)));
+    finishes(rt, replica, next.gno, Ok(()));
+    commits(rt, replica, Ok(Some(next.gno)));
+}
+
+/// Receives and dispatches this record, and stops where it is finished.
+fn stops(rt: &impl Abort, replica: &mut Replica, next: &Record) {
+    receives(rt, replica, next, Ok(Received::Accepted));
+    dispatches(rt, replica, Ok(Some(next.gno)));
+    let stopped = ReplicaFault::Stopped(next.gno);
+    finishes(rt, replica, next.gno, Err(stopped));
+    assert_eq!(rt; replica.stopped(), Some(next.gno));
 }
 
 #[test]
@@ -114,14 +158,12 @@ fn records_are_accepted_in_order(rt: HostRuntime) -> Result<(), Fail> {
     let mut replica = replica(rt.alloc())?;
     let first = record(rt.alloc(), 1, 1)?;
     let third = record(rt.alloc(), 3, 1)?;
-    assert_eq!(rt; replica.receive(&first), Ok(Received::Accepted));
-    assert_eq!(rt; replica.receive(&first), Ok(Received::Skipped));
-    assert_eq!(rt; replica.receive(&first), Ok(Received::Skipped));
-    assert_eq!(rt; replica.receive(&third), Err(ReplicaFault::Gap));
-    assert_eq!(rt;
-        replica.receive(&record(rt.alloc(), 0, 1)?),
-        Err(ReplicaFault::Malformed)
-    );
+    let none = record(rt.alloc(), 0, 1)?;
+    receives(&rt, &mut replica, &first, Ok(Received::Accepted));
+    receives(&rt, &mut replica, &first, Ok(Received::Skipped));
+    receives(&rt, &mut replica, &first, Ok(Received::Skipped));
+    receives(&rt, &mut replica, &third, Err(ReplicaFault::Gap));
+    receives(&rt, &mut replica, &none, Err(ReplicaFault::Malformed));
     assert_eq!(rt; replica.accepted().len(), 1);
     Ok(())
 }
@@ -129,41 +171,39 @@ fn records_are_accepted_in_order(rt: HostRuntime) -> Result<(), Fail> {
 #[test]
 fn one_insert_is_published(rt: HostRuntime) -> Result<(), Fail> {
     let mut replica = replica(rt.alloc())?;
-    assert_eq!(rt; replica.dispatch(), Ok(None));
-    assert_eq!(rt;
-        replica.receive(&record(rt.alloc(), 1, 1)?),
-        Ok(Received::Accepted)
-    );
-    assert_eq!(rt; replica.finish(1), Err(ReplicaFault::Stranger));
-    assert_eq!(rt; replica.dispatch(), Ok(Some(1)));
-    assert_eq!(rt; replica.dispatch(), Ok(None));
-    assert_eq!(rt; replica.commit_next(), Ok(None));
-    assert_eq!(rt; replica.finish(1), Ok(()));
-    assert_eq!(rt; replica.finish(1), Err(ReplicaFault::Double));
-    assert_eq!(rt; replica.commit_next(), Ok(Some(1)));
-    assert_eq!(rt; replica.commit_next(), Ok(None));
+    let next = record(rt.alloc(), 1, 1)?;
+    dispatches(&rt, &mut replica, Ok(None));
+    receives(&rt, &mut replica, &next, Ok(Received::Accepted));
+    finishes(&rt, &mut replica, 1, Err(ReplicaFault::Stranger));
+    dispatches(&rt, &mut replica, Ok(Some(1)));
+    dispatches(&rt, &mut replica, Ok(None));
+    commits(&rt, &mut replica, Ok(None));
+    finishes(&rt, &mut replica, 1, Ok(()));
+    finishes(&rt, &mut replica, 1, Err(ReplicaFault::Double));
+    commits(&rt, &mut replica, Ok(Some(1)));
+    commits(&rt, &mut replica, Ok(None));
     assert_eq!(rt; replica.pending().len(), 1);
-    let upto = replica.committed();
-    assert_eq!(rt; replica.publish(upto), Ok(1));
+    publishes(&rt, &mut replica, Ok(1));
     assert_eq!(rt; replica.pending().len(), 0);
     assert!(rt; replica.store().get(id(10)) == row(10));
     Ok(())
+}
+
+/// Each call is refused with this.
+fn is_stopped(rt: &impl Abort, replica: &mut Replica, next: &Record, stopped: ReplicaFault) {
+    receives(rt, replica, next, Err(stopped));
+    dispatches(rt, replica, Err(stopped));
+    finishes(rt, replica, 1, Err(stopped));
+    commits(rt, replica, Err(stopped));
+    publishes(rt, replica, Err(stopped));
 }
 
 #[test]
 fn a_record_that_does_not_apply_stops_the_replica(rt: HostRuntime) -> Result<(), Fail> {
     let mut replica = replica(rt.alloc())?;
     let twice = record(rt.alloc(), 1, 2)?;
-    assert_eq!(rt; replica.receive(&twice), Ok(Received::Accepted));
-    assert_eq!(rt; replica.dispatch(), Ok(Some(1)));
-    let stopped = ReplicaFault::Stopped(1);
-    assert_eq!(rt; replica.finish(1), Err(stopped));
-    assert_eq!(rt; replica.receive(&twice), Err(stopped));
-    assert_eq!(rt; replica.dispatch(), Err(stopped));
-    assert_eq!(rt; replica.finish(1), Err(stopped));
-    assert_eq!(rt; replica.commit_next(), Err(stopped));
-    let upto = replica.committed();
-    assert_eq!(rt; replica.publish(upto), Err(stopped));
+    stops(&rt, &mut replica, &twice);
+    is_stopped(&rt, &mut replica, &twice, ReplicaFault::Stopped(1));
     assert_eq!(rt; replica.stopped(), Some(1));
     assert_eq!(rt; replica.pending().len(), 0);
     Ok(())
@@ -173,16 +213,11 @@ fn a_record_that_does_not_apply_stops_the_replica(rt: HostRuntime) -> Result<(),
 fn a_record_behind_a_good_one_stops_at_its_own_number(rt: HostRuntime) -> Result<(), Fail> {
     let mut replica = replica(rt.alloc())?;
     commit(&rt, &mut replica, &inserts(rt.alloc(), 1, 0, 20)?);
-    let bad = record(rt.alloc(), 2, 1)?;
-    assert_eq!(rt; replica.receive(&bad), Ok(Received::Accepted));
-    assert_eq!(rt; replica.dispatch(), Ok(Some(2)));
-    let stopped = ReplicaFault::Stopped(2);
-    assert_eq!(rt; replica.finish(2), Err(stopped));
-    assert_eq!(rt; replica.stopped(), Some(2));
+    stops(&rt, &mut replica, &record(rt.alloc(), 2, 1)?);
     assert_eq!(rt; replica.committed(), 1);
     assert_eq!(rt; replica.pending().len(), 1);
     assert_eq!(rt; replica.store().len(), 20);
-    assert_eq!(rt; replica.commit_next(), Err(stopped));
+    commits(&rt, &mut replica, Err(ReplicaFault::Stopped(2)));
     Ok(())
 }
 
@@ -190,7 +225,7 @@ fn a_record_behind_a_good_one_stops_at_its_own_number(rt: HostRuntime) -> Result
 fn a_record_of_256_changes_is_received(rt: HostRuntime) -> Result<(), Fail> {
     let mut replica = replica(rt.alloc())?;
     let wide = inserts(rt.alloc(), 1, -128, 128)?;
-    assert_eq!(rt; replica.receive(&wide), Ok(Received::Accepted));
+    receives(&rt, &mut replica, &wide, Ok(Received::Accepted));
     let [accepted] = replica.accepted() else {
         return Err(Fail::new("one record is accepted"));
     };
@@ -227,7 +262,7 @@ fn update(key: i64, value: i64) -> Result<Change, Memory> {
 }
 
 /// A replica of the rows 0 to 2 that has committed an update of row 2 and a delete of row 0.
-fn changed_replica(rt: &(impl Abort + AllocGlobal)) -> Result<ReplicaCore<BTreeStore>, Memory> {
+fn changed_replica(rt: &(impl Abort + AllocGlobal)) -> Result<Replica, Memory> {
     let alloc = rt.alloc();
     let mut replica = replica_of_three(alloc)?;
     let list = vec![in alloc; update(2, 40)?, Change::Delete { row: id(0) }]?;
@@ -259,11 +294,7 @@ fn an_update_of_an_absent_row_stops_the_replica(rt: HostRuntime) -> Result<(), F
     let mut replica = changed_replica(&rt)?;
     // It is the second of its record's changes, and the first is dropped with it.
     let list = vec![in alloc; update(1, 41)?, update(0, 41)?]?;
-    let bad = record_of(alloc, 2, list)?;
-    assert_eq!(rt; replica.receive(&bad), Ok(Received::Accepted));
-    assert_eq!(rt; replica.dispatch(), Ok(Some(2)));
-    assert_eq!(rt; replica.finish(2), Err(ReplicaFault::Stopped(2)));
-    assert_eq!(rt; replica.stopped(), Some(2));
+    stops(&rt, &mut replica, &record_of(alloc, 2, list)?);
     assert_eq!(rt; replica.committed(), 1);
     assert_eq!(rt; replica.pending().len(), 1);
     assert!(rt; replica.store().get(id(1)) == row(1));
@@ -271,42 +302,53 @@ fn an_update_of_an_absent_row_stops_the_replica(rt: HostRuntime) -> Result<(), F
 }
 
 /// The number of the commit that waits first.
-fn first_pending(replica: &ReplicaCore<BTreeStore>) -> Option<u64> {
+fn first_pending(replica: &Replica) -> Option<u64> {
     match replica.pending().first()? {
         Op::Load(_) => None,
         Op::Commit { gno, .. } => Some(*gno),
     }
 }
 
+/// Commits the records 1 to 300, each an insert of one row.
+fn commit_each(rt: &(impl Abort + AllocGlobal), replica: &mut Replica) -> Result<(), Memory> {
+    for gno in 1..301 {
+        let next = inserts(rt.alloc(), gno, gno as i64, gno as i64 + 1)?;
+        commit(rt, replica, &next);
+    }
+    Ok(())
+}
+
+/// Publishes up to this number, and leaves so many commits that wait.
+fn publishes_part(
+    rt: &impl Abort,
+    replica: &mut Replica,
+    upto: u64,
+    left: usize,
+) -> Result<(), Fail> {
+    if replica.published() > upto || replica.committed() < upto {
+        return Err(Fail::new("so many are committed"));
+    }
+    assert_eq!(rt; replica.publish(upto), Ok(upto));
+    assert_eq!(rt; replica.pending().len(), left);
+    Ok(())
+}
+
 #[test]
 fn three_hundred_commits_are_published_in_parts(rt: HostRuntime) -> Result<(), Fail> {
     let mut replica = replica(rt.alloc())?;
-    for gno in 1..301 {
-        commit(
-            &rt,
-            &mut replica,
-            &inserts(rt.alloc(), gno, gno as i64, gno as i64 + 1)?,
-        );
-    }
+    commit_each(&rt, &mut replica)?;
     assert_eq!(rt; replica.pending().len(), 300);
+    assert_eq!(rt; (replica.published(), replica.committed()), (0, 300));
     assert_eq!(rt; first_pending(&replica), Some(1));
-    if replica.published() > 100 || replica.committed() != 300 {
-        return Err(Fail::new("none is published, and 300 are committed"));
-    }
-    assert_eq!(rt; replica.publish(100), Ok(100));
-    assert_eq!(rt; replica.pending().len(), 200);
+    publishes_part(&rt, &mut replica, 100, 200)?;
     assert_eq!(rt; first_pending(&replica), Some(101));
-    if replica.published() > 300 || replica.committed() != 300 {
-        return Err(Fail::new("300 are committed"));
-    }
-    assert_eq!(rt; replica.publish(300), Ok(300));
-    assert_eq!(rt; replica.pending().len(), 0);
+    publishes_part(&rt, &mut replica, 300, 0)?;
     assert_eq!(rt; replica.store().len(), 300);
     Ok(())
 }
 
 /// Receives the record, once more where it is refused, which leaves the replica as it was.
-fn receive_again(rt: &impl Abort, replica: &mut ReplicaCore<BTreeStore>, next: &Record) {
+fn receive_again(rt: &impl Abort, replica: &mut Replica, next: &Record) {
     let first = replica.receive(next);
     if first == Ok(Received::Accepted) {
         return;
@@ -317,7 +359,7 @@ fn receive_again(rt: &impl Abort, replica: &mut ReplicaCore<BTreeStore>, next: &
 }
 
 /// Finishes record 1, once more where it is refused, which leaves the job dispatched.
-fn finish_again(rt: &impl Abort, replica: &mut ReplicaCore<BTreeStore>) {
+fn finish_again(rt: &impl Abort, replica: &mut Replica) {
     let first = replica.finish(1);
     if first == Ok(()) {
         return;
@@ -328,7 +370,7 @@ fn finish_again(rt: &impl Abort, replica: &mut ReplicaCore<BTreeStore>) {
 }
 
 /// Commits record 1, once more where it is refused, which leaves the rows and the waiting commits as they were.
-fn commit_again(rt: &impl Abort, replica: &mut ReplicaCore<BTreeStore>) {
+fn commit_again(rt: &impl Abort, replica: &mut Replica) {
     let first = replica.commit_next();
     if first == Ok(Some(1)) {
         return;
@@ -339,14 +381,22 @@ fn commit_again(rt: &impl Abort, replica: &mut ReplicaCore<BTreeStore>) {
     assert_eq!(rt; replica.commit_next(), Ok(Some(1)));
 }
 
+/// A replica of three rows, made again where memory was refused.
+fn replica_again(alloc: Global) -> Result<Replica, Memory> {
+    replica_of_three(alloc).or_else(|_| replica_of_three(alloc))
+}
+
+/// The record of 40 inserts, made again where memory was refused.
+fn inserts_again(alloc: Global) -> Result<Record, Memory> {
+    inserts(alloc, 1, -40, 0).or_else(|_| inserts(alloc, 1, -40, 0))
+}
+
 /// With one allocation after another refused, each call answers at its second try as if none had been.
 #[test]
 fn refused_calls_are_made_again(rt: HostRuntime) -> Result<(), Memory> {
-    let alloc = rt.alloc();
-    let mut replica = replica_of_three(alloc).or_else(|_| replica_of_three(alloc))?;
-    let next = inserts(alloc, 1, -40, 0).or_else(|_| inserts(alloc, 1, -40, 0))?;
-    receive_again(&rt, &mut replica, &next);
-    assert_eq!(rt; replica.dispatch(), Ok(Some(1)));
+    let mut replica = replica_again(rt.alloc())?;
+    receive_again(&rt, &mut replica, &inserts_again(rt.alloc())?);
+    dispatches(&rt, &mut replica, Ok(Some(1)));
     finish_again(&rt, &mut replica);
     commit_again(&rt, &mut replica);
     assert_eq!(rt; replica.base().entries().len(), 3);
@@ -357,7 +407,7 @@ fn refused_calls_are_made_again(rt: HostRuntime) -> Result<(), Memory> {
     Ok(())
 }
 
-fn replica_of_three(alloc: Global) -> Result<ReplicaCore<BTreeStore>, Memory> {
+fn replica_of_three(alloc: Global) -> Result<Replica, Memory> {
     replica_of(alloc, store(alloc, 3)?)
 }
 

@@ -105,16 +105,45 @@ fn texts(rt: HostRuntime) -> Result<(), Fail> {
     Ok(())
 }
 
+fn begin(source: &mut Source, session: u16) -> Result<(), SourceFault>
+    ensures synced { source.new.synced ≡ source.old.synced }
+    ensures log { source.new.log ≡ source.old.log }
+{
+    source.begin(session)
+}
+
+/// Prepares the session's transaction, and queues it.
+fn prepare_and_queue(source: &mut Source, session: u16) -> Result<(), SourceFault>
+    ensures synced { source.new.synced ≡ source.old.synced }
+    ensures log { source.new.log ≡ source.old.log }
+{
+    source.prepare(session)?;
+    source.queue(session)
+}
+
+fn abort(source: &mut Source, session: u16) -> Result<(), SourceFault> {
+    source.abort(session)
+}
+
+fn is_locked(source: &mut Source, session: u16, change: &Change) -> bool {
+    matches!(write(source, session, change), Err(SourceFault::RowLocked))
+}
+
+/// Whether session 256 finds the row locked that session 1 writes, until it aborts.
+fn is_freed_by_abort(source: &mut Source, change: &Change) -> Result<bool, SourceFault> {
+    begin(source, 1)?;
+    begin(source, 256)?;
+    write(source, 1, change)?;
+    let locked = is_locked(source, 256, change);
+    abort(source, 1)?;
+    write(source, 256, change)?;
+    Ok(locked)
+}
+
 #[test]
 fn an_abort_frees_its_rows(rt: HostRuntime) -> Result<(), Fail> {
     let mut source = source_again(rt.alloc())?;
-    let change = insert_pair(10, [5, 6])?;
-    source.begin(1)?;
-    source.begin(256)?;
-    write(&mut source, 1, &change)?;
-    assert_eq!(rt; source.write(256, change), Err(SourceFault::RowLocked));
-    source.abort(1)?;
-    write(&mut source, 256, &change)?;
+    assert!(rt; is_freed_by_abort(&mut source, &insert_pair(10, [5, 6])?)?);
     Ok(())
 }
 
@@ -123,10 +152,9 @@ fn enqueue(source: &mut Source, session: u16, change: &Change) -> Result<(), Sou
     ensures synced { source.new.synced ≡ source.old.synced }
     ensures log { source.new.log ≡ source.old.log }
 {
-    source.begin(session)?;
+    begin(source, session)?;
     write(source, session, change)?;
-    source.prepare(session)?;
-    source.queue(session)
+    prepare_and_queue(source, session)
 }
 
 /// Flushes, and again where memory was refused.
@@ -165,18 +193,37 @@ fn commit(source: &mut Source) -> Result<Vec<Receipt>, SourceFault> {
     }
 }
 
+/// Queues a transaction of session 3 and one of session 256.
+fn enqueue_two(source: &mut Source) -> Result<(), Fail>
+    ensures synced { source.new.synced ≡ source.old.synced }
+    ensures log { source.new.log ≡ source.old.log }
+{
+    enqueue(source, 3, &insert_pair(1, [10, 11])?)?;
+    enqueue(source, 256, &insert_pair(2, [20, 21])?)?;
+    Ok(())
+}
+
+/// A source whose log has the two as one group.
+fn source_of_two(alloc: Global) -> Result<Source, Fail> {
+    let mut source = source_again(alloc)?;
+    enqueue_two(&mut source)?;
+    sync(&mut source)?;
+    Ok(source)
+}
+
+fn is_told(receipt: &Receipt, session: u16, gno: u64, parent: u64) -> bool {
+    receipt.session == session && receipt.gno == gno && receipt.parent == parent
+}
+
 #[test]
 fn a_group_is_made_again(rt: HostRuntime) -> Result<(), Fail> {
-    let mut source = source_again(rt.alloc())?;
-    enqueue(&mut source, 3, &insert_pair(1, [10, 11])?)?;
-    enqueue(&mut source, 256, &insert_pair(2, [20, 21])?)?;
-    sync(&mut source)?;
+    let mut source = source_of_two(rt.alloc())?;
     let given = commit(&mut source)?;
     let [first, second] = given.as_slice() else {
         panic!(rt; "not two receipts");
     };
-    assert_eq!(rt; (first.session, first.gno, first.parent), (3, 1, 0));
-    assert_eq!(rt; (second.session, second.gno, second.parent), (256, 2, 0));
+    assert!(rt; is_told(first, 3, 1, 0));
+    assert!(rt; is_told(second, 256, 2, 0));
     assert_eq!(rt; source.rows().len(), 2);
     Ok(())
 }

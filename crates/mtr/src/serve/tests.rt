@@ -911,66 +911,65 @@ fn failing(left: &[u8], calls: usize, kind: ErrorKind) -> BadStream<'_> {
     BadStream { left, calls, kind }
 }
 
+/// `mtr run` over a stream that gives these bytes, and then fails.
+fn read_from(alloc: Global, script: &[u8], kind: ErrorKind) -> Ran {
+    let mut input = failing(script, 0, kind);
+    ran(alloc, args(alloc, &["mtr", "run"]), &mut input)
+}
+
 #[test]
 fn a_read_that_fails_runs_nothing(rt: HostRuntime) {
-    let alloc = rt.alloc();
-    let run = || args(alloc, &["mtr", "run"]);
-    let mut input = failing(ONE_INSERT.as_bytes(), 0, ErrorKind::BrokenPipe);
-    ends(&rt, ran(alloc, run(), &mut input), 7, "", "");
-    let mut input = failing(ONE_INSERT.as_bytes(), 0, ErrorKind::OutOfMemory);
-    ends(&rt, ran(alloc, run(), &mut input), 5, "", "no memory\n");
+    let script = ONE_INSERT.as_bytes();
+    let broken = read_from(rt.alloc(), script, ErrorKind::BrokenPipe);
+    ends(&rt, broken, 7, "", "");
+    let full = read_from(rt.alloc(), script, ErrorKind::OutOfMemory);
+    ends(&rt, full, 5, "", "no memory\n");
     // What stands behind a first bad line is not read.
-    let mut input = failing(b"x\n", 0, ErrorKind::BrokenPipe);
-    ends(
-        &rt,
-        ran(alloc, run(), &mut input),
-        3,
-        "",
-        "line 1: bad command\n",
-    );
+    let bad = read_from(rt.alloc(), b"x\n", ErrorKind::BrokenPipe);
+    ends(&rt, bad, 3, "", "line 1: bad command\n");
+}
+
+/// `mtr run` over a script, to a stream that takes so many calls, and then fails: the status, and what is told.
+fn print_to(alloc: Global, script: &[u8], calls: usize, kind: ErrorKind) -> (u8, Vec<u8>) {
+    let mut input = script;
+    let mut output = failing(b"", calls, kind);
+    let mut told: Vec<u8> = Vec::new(alloc);
+    let words = args(alloc, &["mtr", "run"]);
+    let status = run_program(alloc, words, &mut input, &mut output, &mut told);
+    (status, told)
+}
+
+/// It ends with this status, and tells this.
+fn ends_telling(rt: &impl Abort, ended: (u8, Vec<u8>), status: u8, told: &str) {
+    assert_eq!(rt; ended.0, status);
+    assert_eq!(rt; str::from_utf8(&ended.1).ok(), Some(told));
 }
 
 #[test]
 fn a_write_that_fails_is_told_by_the_status(rt: HostRuntime) -> Result<(), Fail> {
-    let alloc = rt.alloc();
     // Three pieces are printed in a write and a flush each.
-    let script = many_reads(alloc, 2500)?;
+    let script = many_reads(rt.alloc(), 2500)?;
     for calls in 0..6 {
-        let mut input = script.as_slice();
-        let mut output = failing(b"", calls, ErrorKind::BrokenPipe);
-        let mut told: Vec<u8> = Vec::new(alloc);
-        let words = args(alloc, &["mtr", "run"]);
-        let status = run_program(alloc, words, &mut input, &mut output, &mut told);
-        assert_eq!(rt; (status, told.len()), (7, 0), "{calls}");
+        let ended = print_to(rt.alloc(), &script, calls, ErrorKind::BrokenPipe);
+        ends_telling(&rt, ended, 7, "");
     }
-    let mut input = script.as_slice();
-    let mut output = failing(b"", 6, ErrorKind::BrokenPipe);
-    let mut told: Vec<u8> = Vec::new(alloc);
-    let words = args(alloc, &["mtr", "run"]);
-    assert_eq!(rt;
-        run_program(alloc, words, &mut input, &mut output, &mut told),
-        0
-    );
+    let ended = print_to(rt.alloc(), &script, 6, ErrorKind::BrokenPipe);
+    ends_telling(&rt, ended, 0, "");
     // Memory that runs out while printing is no stream that fails.
-    let mut input = script.as_slice();
-    let mut output = failing(b"", 2, ErrorKind::OutOfMemory);
-    let mut told: Vec<u8> = Vec::new(alloc);
-    let words = args(alloc, &["mtr", "run"]);
-    assert_eq!(rt;
-        run_program(alloc, words, &mut input, &mut output, &mut told),
-        5
-    );
-    assert_eq!(rt; str::from_utf8(&told).ok(), Some("no memory\n"));
+    let ended = print_to(rt.alloc(), &script, 2, ErrorKind::OutOfMemory);
+    ends_telling(&rt, ended, 5, "no memory\n");
+    Ok(())
+}
+
+#[test]
+fn errors_that_are_not_taken_are_told_by_the_status(rt: HostRuntime) {
+    let alloc = rt.alloc();
     let mut script: &[u8] = b"x";
     let mut output: Vec<u8> = Vec::new(alloc);
     let mut errors = failing(b"", 0, ErrorKind::OutOfMemory);
     let words = args(alloc, &["mtr", "run"]);
-    assert_eq!(rt;
-        run_program(alloc, words, &mut script, &mut output, &mut errors),
-        7
-    );
-    assert_eq!(rt; output.len(), 0);
-    Ok(())
+    let status = run_program(alloc, words, &mut script, &mut output, &mut errors);
+    assert_eq!(rt; (status, output.len()), (7, 0));
 }
 
 const HELP: &str = "\
