@@ -34,6 +34,7 @@ pub enum Verb {
 impl Verb {
     /// The verb of this name.
     #[tactic(auto, unfolding(crate::specs::Command::verb_of))]
+    #[inline(always)]
     pub fn of(name: &str) -> Option<Verb>
         ensures { result ≡ verb_of name.now }
     {
@@ -69,6 +70,7 @@ pub fn alone<T: Drop>(found: Option<(T, Words)>) -> Option<T>
 }
 
 /// The event of a verb and the words behind it; `None` where these are not the verb's parameters.
+#[inline(always)]
 pub fn event_of(verb: Verb, words: Words) -> Option<Event>
     ensures { result ≡ event_of verb words.entry }
 {
@@ -94,12 +96,14 @@ pub fn event_of(verb: Verb, words: Words) -> Option<Event>
 }
 
 /// An event without parameters.
+#[inline(always)]
 fn bare(event: Event, words: Words) -> Option<Event>
     ensures { result ≡ bare event words.entry }
 {
     if words.is_empty() { Some(event) } else { None }
 }
 
+#[inline(always)]
 fn insert_of(words: Words) -> Option<Event>
     ensures { result ≡ event_of Verb.Insert words.entry }
 {
@@ -112,6 +116,7 @@ fn insert_of(words: Words) -> Option<Event>
     })
 }
 
+#[inline(always)]
 fn set_of(words: Words) -> Option<Event>
     ensures { result ≡ event_of Verb.Set words.entry }
 {
@@ -124,6 +129,7 @@ fn set_of(words: Words) -> Option<Event>
     })
 }
 
+#[inline(always)]
 fn delete_of(words: Words) -> Option<Event>
     ensures { result ≡ event_of Verb.Delete words.entry }
 {
@@ -135,6 +141,7 @@ fn delete_of(words: Words) -> Option<Event>
 }
 
 /// A session and a row, to the end of the line.
+#[inline(always)]
 fn at_row(words: Words) -> Option<(u16, RowId)>
     ensures { result ≡ at_row words.entry }
 {

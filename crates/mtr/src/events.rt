@@ -4,6 +4,7 @@ ghost use Rattle.std.specs.Prelude.{◌≡◌, ◌≢◌, ◌<◌, ◌+◌, ◌+
 ghost use Rattle.std.specs.List.{slice_split};
 ghost use Rattle.mtr.specs.Events.{event_of_line, events_of, events_left, bytes_left, lines_left};
 
+use crate::cut::cut_at;
 use crate::script::{Line, text_line};
 use schema::Memory;
 use std::alloc::Global;
@@ -116,7 +117,7 @@ fn first_line(text: &str) -> (&str, Option<&str>)
     ensures lines { slice_split (λ b. b == 10) text.now ≡ result.0.now ∷ lines_left result.1 }
     ensures shorter { bytes_left result.1 < length text.now + 1 }
 {
-    match text.split_once('\n') {
+    match cut_at(text, b'\n') {
         Some((line, more)) => (line, Some(more)),
         None => (text, None),
     }

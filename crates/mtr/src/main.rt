@@ -8,6 +8,7 @@
 
 mod command;
 mod command_line;
+mod cut;
 mod ending;
 mod events;
 mod number;
