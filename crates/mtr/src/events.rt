@@ -1,8 +1,9 @@
-//! The events of a script, which are kept as their lines and read again piece by piece.
+//! The events of a script, which are kept as their lines, in pieces, and read again piece by piece.
 
-ghost use Rattle.std.specs.Prelude.{◌≡◌, ◌≢◌, ◌<◌, ◌+◌, ◌++◌, ◌∷◌, [], ◌==◌, length, OnOk, OnErr, IfOk, MatchOption};
+ghost use Rattle.std.specs.Prelude.{◌≡◌, ◌<◌, ◌≤◌, ◌+◌, ◌-◌, ◌++◌, ◌∷◌, [], ◌==◌, length, nat_lt, OnOk, OnErr, IfOk, string_len};
+ghost use Rattle.std.specs.String.{string_capacity};
 ghost use Rattle.std.specs.List.{slice_split};
-ghost use Rattle.mtr.specs.Events.{event_of_line, events_of, events_left, bytes_left, lines_left};
+ghost use Rattle.mtr.specs.Events.{event_of_line, events_of, joined, bytes_left, lines_left};
 
 use crate::cut::cut_at;
 use crate::script::{Line, text_line};
@@ -11,27 +12,79 @@ use std::alloc::Global;
 use std::marker::Model;
 use world::Event;
 
-/// As many events are run at once.
-pub const PIECE: usize = 1000;
+/// The bytes of a piece's lines, where not one line alone has more.
+const PIECE: usize = 4096;
 
-/// The lines of events, in order.
+/// Lines of events, in order.
 #[derive(Drop)]
-pub struct EventLines {
+pub struct Piece {
     /// Each line stands behind an LF.
     text: String,
-    is_empty: bool,
 }
 
-impl Model for EventLines {
-    ghost use Rattle.std.specs.Prelude.{◌≡◌, ◌==◌, List, length, string_bytes};
+impl Model for Piece {
+    ghost use Rattle.std.specs.Prelude.{List, string_bytes};
     ghost use Rattle.world.specs.declared.events.Event.{Event};
     ghost use Rattle.mtr.specs.Events.{events_of};
 
     ghost Value = { List Event };
 
-    ghost view = { λ lines. events_of (string_bytes lines.text) };
+    ghost view = { λ piece. events_of (string_bytes piece.text) };
+}
 
-    ghost invariant = { λ lines. lines.is_empty ≡ (length (events_of (string_bytes lines.text)) == 0) };
+impl Piece {
+    /// No event, with room for this line, and for others where it is short.
+    fn for_line(alloc: Global, line: &str) -> Result<Piece, Memory>
+        ensures { IfOk result (λ piece. piece ≡ []) }
+    {
+        let room = line.len().saturating_add(1).max(PIECE);
+        Ok(Piece {
+            text: String::with_capacity(alloc, room)?,
+        })
+    }
+
+    /// Keeps the line of an event behind the others.
+    fn push(&mut self, line: &str) -> Result<(), Memory>
+        ensures ok { OnOk result (self.new ≡ self.old ++ events_of line.now) }
+        ensures err { OnErr result (self.new ≡ self.old) }
+    {
+        self.text.push('\n')?;
+        self.text.push_str(line)?;
+        Ok(())
+    }
+
+    /// Puts the events into the place of others. Each line is read again; that takes no memory but the list's.
+    pub fn read_into(&self, events: &mut Vec<Event>) -> Result<(), Memory>
+        ensures { OnOk result (events.new.items ≡ self.now) }
+    {
+        events.clear();
+        let mut rest = Some(self.text.as_str());
+        while let Some(text) = rest {
+            let (line, more) = first_line(text);
+            push_event(events, line)?;
+            rest = more;
+        }
+        Ok(())
+    }
+}
+
+/// The lines of events, in order, in pieces: so that each piece's memory is given back once its events were run.
+#[derive(Drop)]
+pub struct EventLines {
+    pieces: Vec<Piece>,
+    is_empty: bool,
+}
+
+impl Model for EventLines {
+    ghost use Rattle.std.specs.Prelude.{◌≡◌, ◌==◌, List, length};
+    ghost use Rattle.world.specs.declared.events.Event.{Event};
+    ghost use Rattle.mtr.specs.Events.{joined};
+
+    ghost Value = { List Event };
+
+    ghost view = { λ lines. joined lines.pieces.items };
+
+    ghost invariant = { λ lines. lines.is_empty ≡ (length (joined lines.pieces.items) == 0) };
 }
 
 impl EventLines {
@@ -40,7 +93,7 @@ impl EventLines {
         ensures { result ≡ [] }
     {
         EventLines {
-            text: String::new(alloc),
+            pieces: Vec::new(alloc),
             is_empty: true,
         }
     }
@@ -58,58 +111,52 @@ impl EventLines {
         ensures ok { OnOk result (self.new ≡ self.old ++ events_of line.now) }
         ensures err { OnErr result (self.new ≡ self.old) }
     {
-        self.text.push('\n')?;
-        self.text.push_str(line)?;
+        make_room(&mut self.pieces, line)?;
+        push_last(&mut self.pieces, line)?;
         self.is_empty = false;
         Ok(())
     }
 
-    /// All of them, to be taken off in pieces.
-    pub fn pieces(&self) -> Pieces<'_>
-        ensures { result ≡ self.now }
+    /// The pieces, of which all events together are these.
+    pub fn into_pieces(self) -> Vec<Piece>
+        ensures { joined result.items ≡ self }
     {
-        Pieces {
-            rest: Some(self.text.as_str()),
-        }
+        let EventLines { pieces, .. } = self;
+        pieces
     }
 }
 
-/// The events that are left.
-#[derive(Drop)]
-pub struct Pieces<'a> {
-    rest: Option<&'a str>,
-}
-
-impl<'a> Model for Pieces<'a> {
-    ghost use Rattle.std.specs.Prelude.{List};
-    ghost use Rattle.world.specs.declared.events.Event.{Event};
-    ghost use Rattle.mtr.specs.Events.{events_left};
-
-    ghost Value = { List Event };
-
-    ghost view = { λ pieces. events_left pieces.rest };
-}
-
-impl<'a> Pieces<'a> {
-    /// The next events, as many as are run at once or all that are left, and those behind them. `None` where
-    /// none is left. Each line is read again; that takes no memory but the list of these events.
-    pub fn next(self, alloc: Global) -> Result<Option<(Vec<Event>, Pieces<'a>)>, Memory>
-        ensures { IfOk result (λ next. MatchOption next (self.entry ≡ []) (λ piece. (self.entry ≡ piece.0.items ++ piece.1) × (piece.0.items ≢ []))) }
-    {
-        let mut events = Vec::with_capacity(alloc, PIECE)?;
-        let mut rest = self.rest;
-        while let Some(text) = rest
-            && events.len() < PIECE
-        {
-            let (line, more) = first_line(text);
-            push_event(&mut events, line)?;
-            rest = more;
-        }
-        if events.is_empty() {
-            return Ok(None);
-        }
-        Ok(Some((events, Pieces { rest })))
+/// Adds a piece where there is none whose room holds the line.
+fn make_room(pieces: &mut Vec<Piece>, line: &str) -> Result<(), Memory>
+    ensures same { joined pieces.new.items ≡ joined pieces.old.items }
+    ensures some { OnOk result (1 ≤ length pieces.new.items) }
+{
+    let has_room = match pieces.last() {
+        Some(piece) => holds(&piece.text, line),
+        None => false,
+    };
+    if !has_room {
+        let piece = Piece::for_line(*pieces.allocator(), line)?;
+        pieces.push(piece)?;
     }
+    Ok(())
+}
+
+/// Whether the text has room for an LF and the line.
+fn holds(text: &String, line: &str) -> bool
+    ensures { result ≡ nat_lt (length line.now) (string_capacity text.now - string_len text.now) }
+{
+    line.len() < text.capacity() - text.len()
+}
+
+/// Keeps the line of an event in the last piece.
+fn push_last(pieces: &mut Vec<Piece>, line: &str) -> Result<(), Memory>
+    requires { 1 ≤ length pieces.old.items }
+    ensures ok { OnOk result (joined pieces.new.items ≡ joined pieces.old.items ++ events_of line.now) }
+    ensures err { OnErr result (joined pieces.new.items ≡ joined pieces.old.items) }
+{
+    let last = pieces.len() - 1;
+    pieces[last].push(line)
 }
 
 /// The first line of a text, and what stands behind its LF, where it has one.
