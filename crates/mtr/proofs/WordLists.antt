@@ -10,7 +10,7 @@ use Rattle.std.proofs.Math.ListN.{set}
 use Rattle.mtr.proofs.Splits.{is_byte}
 use Rattle.mtr.specs.Number.{integer}
 use Rattle.rows.specs.Naming.{rise_from, naming_from}
-use Rattle.mtr.specs.Words.{Word, words_of, words_left, first_word, alone, all_in, row_in, sides_of, assignment, naming_in, ◌>>=◌}
+use Rattle.mtr.specs.Words.{Word, words_left, first_word, alone, all_in, row_in, sides_of, assignment, naming_in, ◌>>=◌}
 
 pub not_nothing : (n k : ℕ) → n ≡ k + 1 → eqb n 0 ≡ false
 not_nothing n k e = grind (arith, nat_tests)

@@ -1,4 +1,7 @@
 //! The event that a line's words are.
+//!
+//! An event has room for sixteen columns. The functions here are inlined, so that where a line is only checked no event
+//! is made.
 
 ghost use Rattle.std.specs.Prelude.{◌≡◌};
 ghost use Rattle.mtr.specs.Words.{alone};

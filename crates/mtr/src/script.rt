@@ -155,7 +155,6 @@ pub fn text_line(line: &str) -> Option<Line>
 }
 
 /// Whether the line is empty, or begins with `#`.
-#[inline(always)]
 fn is_skipped(line: &str) -> bool
     ensures { result ≡ is_skipped line.now }
 {

@@ -1,6 +1,6 @@
-use Rattle.std.proofs.Common.{◌≡◌, ◌∙◌, sym, ap, ◌++◌, [], refl, append-nil}
+use Rattle.std.proofs.Common.{◌≡◌, ◌∙◌, sym, ap, ◌++◌, []}
 use Rattle.world.specs.Seen.{seen}
-use Rattle.mtr.proofs.Runs.{goes_nowhere, goes_further, goes_to, behind_piece}
+use Rattle.mtr.proofs.Runs.{goes_nowhere, goes_further, behind_piece}
 use Rattle.mtr.specs.Printing.{lines_of}
 use Rattle.mtr.specs.Events.{joined}
 use Rattle.std.specs.Vec.Iter.{into_iter_items}
