@@ -1,7 +1,6 @@
 //! The events of a script, which are kept as their lines, in pieces, and read again piece by piece.
 
-ghost use Rattle.std.specs.Prelude.{◌≡◌, ◌<◌, ◌≤◌, ◌+◌, ◌-◌, ◌++◌, ◌∷◌, [], ◌==◌, length, nat_lt, OnOk, OnErr, IfOk, string_len};
-ghost use Rattle.std.specs.String.{string_capacity};
+ghost use Rattle.std.specs.Prelude.{◌≡◌, ◌<◌, ◌≤◌, ◌+◌, ◌++◌, ◌∷◌, [], ◌==◌, length, OnOk, OnErr};
 ghost use Rattle.std.specs.List.{slice_split};
 ghost use Rattle.mtr.specs.Events.{event_of_line, events_of, joined, bytes_left, lines_left};
 
@@ -12,14 +11,16 @@ use std::alloc::Global;
 use std::marker::Model;
 use world::Event;
 
-/// The bytes of a piece's lines, where not one line alone has more.
-const PIECE: usize = 4096;
+/// As many events are run at once.
+const PIECE: usize = 1000;
 
 /// Lines of events, in order.
 #[derive(Drop)]
 pub struct Piece {
     /// Each line stands behind an LF.
     text: String,
+    /// How many lines there are.
+    count: usize,
 }
 
 impl Model for Piece {
@@ -33,14 +34,14 @@ impl Model for Piece {
 }
 
 impl Piece {
-    /// No event, with room for this line, and for others where it is short.
-    fn for_line(alloc: Global, line: &str) -> Result<Piece, Memory>
-        ensures { IfOk result (λ piece. piece ≡ []) }
+    /// No event. It takes no memory.
+    fn new(alloc: Global) -> Piece
+        ensures { result ≡ [] }
     {
-        let room = line.len().saturating_add(1).max(PIECE);
-        Ok(Piece {
-            text: String::with_capacity(alloc, room)?,
-        })
+        Piece {
+            text: String::new(alloc),
+            count: 0,
+        }
     }
 
     /// Keeps the line of an event behind the others.
@@ -50,6 +51,7 @@ impl Piece {
     {
         self.text.push('\n')?;
         self.text.push_str(line)?;
+        self.count = self.count.saturating_add(1);
         Ok(())
     }
 
@@ -111,7 +113,7 @@ impl EventLines {
         ensures ok { OnOk result (self.new ≡ self.old ++ events_of line.now) }
         ensures err { OnErr result (self.new ≡ self.old) }
     {
-        make_room(&mut self.pieces, line)?;
+        make_room(&mut self.pieces)?;
         push_last(&mut self.pieces, line)?;
         self.is_empty = false;
         Ok(())
@@ -126,27 +128,20 @@ impl EventLines {
     }
 }
 
-/// Adds a piece where there is none whose room holds the line.
-fn make_room(pieces: &mut Vec<Piece>, line: &str) -> Result<(), Memory>
+/// Adds a piece where the last is full, or there is none.
+fn make_room(pieces: &mut Vec<Piece>) -> Result<(), Memory>
     ensures same { joined pieces.new.items ≡ joined pieces.old.items }
     ensures some { OnOk result (1 ≤ length pieces.new.items) }
 {
     let has_room = match pieces.last() {
-        Some(piece) => holds(&piece.text, line),
+        Some(piece) => piece.count < PIECE,
         None => false,
     };
     if !has_room {
-        let piece = Piece::for_line(*pieces.allocator(), line)?;
+        let piece = Piece::new(*pieces.allocator());
         pieces.push(piece)?;
     }
     Ok(())
-}
-
-/// Whether the text has room for an LF and the line.
-fn holds(text: &String, line: &str) -> bool
-    ensures { result ≡ nat_lt (length line.now) (string_capacity text.now - string_len text.now) }
-{
-    line.len() < text.capacity() - text.len()
 }
 
 /// Keeps the line of an event in the last piece.
