@@ -1,6 +1,6 @@
 -- The events that lines say, kept behind one another.
-use Rattle.std.proofs.Common.{◌≡◌, ◌∙◌, sym, ap, refl, ℕ, ◌+◌, eqb, false, List, [], ◌∷◌, ◌++◌, length, length-append, append_assoc, append-nil, arith, Some, Result, Ok, Err}
-use Rattle.std.specs.Result.{OnErr}
+use Rattle.std.proofs.Common.{◌≡◌, ◌∙◌, sym, ap, refl, ℕ, zero, suc, ◌+◌, ◌-◌, ◌≤◌, get_or, eqb, false, List, [], ◌∷◌, ◌++◌, length, length-append, append_assoc, append-nil, arith, Some, Result, Ok, Err}
+use Rattle.std.specs.Result.{OnErr, OnOk}
 use Rattle.std.specs.List.{flat_map, slice_split, All}
 use Rattle.std.proofs.lemmas.Grind.{flat_map-append}
 use Rattle.std.proofs.lemmas.List.Splits.{slice_split_none}
@@ -8,7 +8,8 @@ use Rattle.std.proofs.lemmas.Bool.Decides.{nat_tests}
 use Rattle.world.specs.declared.events.Event.{Event}
 use Rattle.mtr.specs.declared.script.Line.TheVariants as lines
 use Rattle.mtr.specs.Lines.{text_line}
-use Rattle.mtr.specs.Events.{event_in, event_of_line, events_of}
+use Rattle.mtr.specs.Events.{event_in, event_of_line, events_of, joined}
+use Rattle.std.proofs.Math.ListN.{set}
 use Rattle.mtr.proofs.Splits.{split_behind, is_byte}
 
 pub no_event : events_of [] ≡ []
@@ -45,3 +46,15 @@ on_err_always (Err e) h = h
 
 pub event_alone : (line : List ℕ) (e : Event) → All (λ b. eqb b 10 ≡ false) line → text_line line ≡ Some (lines.Event e) → events_of line ≡ e ∷ []
 event_alone line e h says = events_of_one line h ∙ ap event_in says
+
+-- more events of the last piece
+pub joined_set : (pieces : List (List Event)) (i : ℕ) (d new more : List Event) → i + 1 ≡ length pieces → new ≡ get_or pieces i d ++ more → joined (set pieces i new) ≡ joined pieces ++ more
+joined_set [] i d new more e h = absurd (omega arith)
+joined_set (p ∷ []) zero d new more e h = append-nil new ∙ h ∙ ap (λ x. x ++ more) (sym (append-nil p))
+joined_set (p ∷ []) (suc i) d new more e h = absurd (omega arith)
+joined_set (p ∷ (q ∷ qs)) zero d new more e h = absurd (omega arith)
+joined_set (p ∷ (q ∷ qs)) (suc i) d new more e h = ap (λ x. p ++ x) (joined_set (q ∷ qs) i d new more (omega arith) h) ∙ sym (append_assoc p (joined (q ∷ qs)) more)
+
+pub last_grown : {T E : Type 0} (r : Result T E) (pieces : List (List Event)) (n : ℕ) (piece new more : List Event) → n ≡ length pieces → 1 ≤ n → piece ≡ get_or pieces (n - 1) piece → OnOk r (new ≡ piece ++ more) → OnOk r (joined (set pieces (n - 1) new) ≡ joined pieces ++ more)
+last_grown (Ok v) pieces n piece new more e some is h = joined_set pieces (n - 1) piece new more (omega arith) (h ∙ ap (λ p. p ++ more) is)
+last_grown (Err x) pieces n piece new more e some is h = h

@@ -1,22 +1,16 @@
 -- Words taken off the front of a text.
 use Rattle.std.proofs.Common.{◌≡◌, ◌∙◌, sym, ap, refl, ℕ, ◌+◌, ◌<◌, ◌≤◌, Bool, true, false, eqb, List, [], ◌∷◌, length, Option, Some, None, is_some, not, ℤ, ◌++◌, take, append_assoc, append-nil, length-append, cond, leb, ◌&&◌, add-one, arith}
 use Rattle.std.specs.Borrow.{Bor}
+use Rattle.std.specs.List.{slice_split}
 use Rattle.std.proofs.lemmas.List.Splits.{length-slice_split}
-use Rattle.std.proofs.lemmas.Str.Pattern.{IsSplitOnceResult}
 use Rattle.std.proofs.lemmas.Bool.Decides.{nat_tests}
 use Rattle.std.specs.Option.{option_map, option_map_or}
 use Rattle.std.proofs.Math.Seq.{take-suc-set}
 use Rattle.std.proofs.Math.ListN.{set}
-use Rattle.mtr.proofs.Splits.{cut_at, cut_nowhere, is_byte}
+use Rattle.mtr.proofs.Splits.{is_byte}
 use Rattle.mtr.specs.Number.{integer}
 use Rattle.rows.specs.Naming.{rise_from, naming_from}
-use Rattle.mtr.specs.Words.{Word, words_of, words_left, first_word, alone, all_in, row_in, sides_of, assignment, naming_in, ◌>>=◌}
-
-pub word_and_more : (text : List ℕ) (x : Bor (List ℕ) × Bor (List ℕ)) → IsSplitOnceResult 32 text (Some x) → first_word (words_of text) ≡ Some (x.0.now, words_of x.1.now)
-word_and_more text x h = ap first_word (cut_at 32 text x (omega arith) h)
-
-pub last_word : (text : List ℕ) → IsSplitOnceResult 32 text None → first_word (words_of text) ≡ Some (text, [])
-last_word text h = ap first_word (cut_nowhere 32 text (omega arith) h)
+use Rattle.mtr.specs.Words.{Word, words_left, first_word, alone, all_in, row_in, sides_of, assignment, naming_in, ◌>>=◌}
 
 pub not_nothing : (n k : ℕ) → n ≡ k + 1 → eqb n 0 ≡ false
 not_nothing n k e = grind (arith, nat_tests)
@@ -122,23 +116,22 @@ pair_of_sides : List Word → Option (Word × Word)
 pair_of_sides parts = first_word parts >>= λ left. alone (first_word left.1) >>= λ right. Some (left.0, right)
 
 -- no `=`
-pub no_sides : (word : Word) → IsSplitOnceResult 61 word None → None ≡ sides_of word
+pub no_sides : (word : Word) → slice_split (is_byte 61) word ≡ word ∷ [] → None ≡ sides_of word
 unfolding sides_of pair_of_sides
-no_sides word h = sym (ap pair_of_sides (cut_nowhere 61 word (omega arith) h))
+no_sides word h = sym (ap pair_of_sides h)
 
 -- one `=`
-pub two_sides : (word : Word) (x : Bor (List ℕ) × Bor (List ℕ)) → IsSplitOnceResult 61 word (Some x) → IsSplitOnceResult 61 x.1.now None → Some (x.0.now, x.1.now) ≡ sides_of word
+pub two_sides : (word left right : Word) → slice_split (is_byte 61) word ≡ left ∷ slice_split (is_byte 61) right → slice_split (is_byte 61) right ≡ right ∷ [] → Some (left, right) ≡ sides_of word
 unfolding sides_of pair_of_sides
-two_sides word x h none =
-    sym (ap pair_of_sides (cut_at 61 word x (omega arith) h ∙ ap (λ (parts : List Word). x.0.now ∷ parts) (cut_nowhere 61 x.1.now (omega arith) none)))
+two_sides word left right h none = sym (ap pair_of_sides (h ∙ ap (λ (parts : List Word). left ∷ parts) none))
 
 third_side : (left middle : Word) (rest : List Word) (k : ℕ) → length rest ≡ k + 1 → pair_of_sides (left ∷ middle ∷ rest) ≡ None
 unfolding pair_of_sides
 third_side left middle rest k e = rw (not_nothing (length rest) k e) refl
 
 -- two `=`
-pub many_sides : (word : Word) (x y : Bor (List ℕ) × Bor (List ℕ)) → IsSplitOnceResult 61 word (Some x) → IsSplitOnceResult 61 x.1.now (Some y) → None ≡ sides_of word
+pub many_sides : (word left right middle rest : Word) → slice_split (is_byte 61) word ≡ left ∷ slice_split (is_byte 61) right → slice_split (is_byte 61) right ≡ middle ∷ slice_split (is_byte 61) rest → None ≡ sides_of word
 unfolding sides_of pair_of_sides
-many_sides word x y h more =
-    sym (ap pair_of_sides (cut_at 61 word x (omega arith) h ∙ ap (λ (parts : List Word). x.0.now ∷ parts) (cut_at 61 x.1.now y (omega arith) more))
-    ∙ third_side x.0.now y.0.now _ _ (length-slice_split (is_byte 61) y.1.now))
+many_sides word left right middle rest h more =
+    sym (ap pair_of_sides (h ∙ ap (λ (parts : List Word). left ∷ parts) more)
+    ∙ third_side left middle _ _ (length-slice_split (is_byte 61) rest))

@@ -22,6 +22,10 @@ event_of_line line = event_in (text_line line)
 abbrev pub events_of : List ℕ → List Event
 events_of text = flat_map event_of_line (slice_split (λ b. b == 10) text)
 
+-- those of pieces that follow one another
+abbrev pub joined : List (List Event) → List Event
+joined pieces = flat_map (λ piece. piece) pieces
+
 -- those of the rest of a text
 abbrev pub events_left : Option (Bor (List ℕ)) → List Event
 events_left None = []

@@ -1,4 +1,7 @@
 //! The event that a line's words are.
+//!
+//! An event has room for sixteen columns. The functions here are inlined, so that where a line is only checked no event
+//! is made.
 
 ghost use Rattle.std.specs.Prelude.{◌≡◌};
 ghost use Rattle.mtr.specs.Words.{alone};
@@ -34,6 +37,7 @@ pub enum Verb {
 impl Verb {
     /// The verb of this name.
     #[tactic(auto, unfolding(crate::specs::Command::verb_of))]
+    #[inline(always)]
     pub fn of(name: &str) -> Option<Verb>
         ensures { result ≡ verb_of name.now }
     {
@@ -69,6 +73,7 @@ pub fn alone<T: Drop>(found: Option<(T, Words)>) -> Option<T>
 }
 
 /// The event of a verb and the words behind it; `None` where these are not the verb's parameters.
+#[inline(always)]
 pub fn event_of(verb: Verb, words: Words) -> Option<Event>
     ensures { result ≡ event_of verb words.entry }
 {
@@ -94,12 +99,14 @@ pub fn event_of(verb: Verb, words: Words) -> Option<Event>
 }
 
 /// An event without parameters.
+#[inline(always)]
 fn bare(event: Event, words: Words) -> Option<Event>
     ensures { result ≡ bare event words.entry }
 {
     if words.is_empty() { Some(event) } else { None }
 }
 
+#[inline(always)]
 fn insert_of(words: Words) -> Option<Event>
     ensures { result ≡ event_of Verb.Insert words.entry }
 {
@@ -112,6 +119,7 @@ fn insert_of(words: Words) -> Option<Event>
     })
 }
 
+#[inline(always)]
 fn set_of(words: Words) -> Option<Event>
     ensures { result ≡ event_of Verb.Set words.entry }
 {
@@ -124,6 +132,7 @@ fn set_of(words: Words) -> Option<Event>
     })
 }
 
+#[inline(always)]
 fn delete_of(words: Words) -> Option<Event>
     ensures { result ≡ event_of Verb.Delete words.entry }
 {
@@ -135,6 +144,7 @@ fn delete_of(words: Words) -> Option<Event>
 }
 
 /// A session and a row, to the end of the line.
+#[inline(always)]
 fn at_row(words: Words) -> Option<(u16, RowId)>
     ensures { result ≡ at_row words.entry }
 {

@@ -1,9 +1,10 @@
-//! The events of a script, which are kept as their lines and read again piece by piece.
+//! The events of a script, which are kept as their lines, in pieces, and read again piece by piece.
 
-ghost use Rattle.std.specs.Prelude.{◌≡◌, ◌≢◌, ◌<◌, ◌+◌, ◌++◌, ◌∷◌, [], ◌==◌, length, OnOk, OnErr, IfOk, MatchOption};
+ghost use Rattle.std.specs.Prelude.{◌≡◌, ◌<◌, ◌≤◌, ◌+◌, ◌++◌, ◌∷◌, [], ◌==◌, length, OnOk, OnErr};
 ghost use Rattle.std.specs.List.{slice_split};
-ghost use Rattle.mtr.specs.Events.{event_of_line, events_of, events_left, bytes_left, lines_left};
+ghost use Rattle.mtr.specs.Events.{event_of_line, events_of, joined, bytes_left, lines_left};
 
+use crate::cut::cut_at;
 use crate::script::{Line, text_line};
 use schema::Memory;
 use std::alloc::Global;
@@ -11,26 +12,81 @@ use std::marker::Model;
 use world::Event;
 
 /// As many events are run at once.
-pub const PIECE: usize = 1000;
+const PIECE: usize = 1000;
 
-/// The lines of events, in order.
+/// Lines of events, in order.
 #[derive(Drop)]
-pub struct EventLines {
+pub struct Piece {
     /// Each line stands behind an LF.
     text: String,
-    is_empty: bool,
+    /// How many lines there are.
+    count: usize,
 }
 
-impl Model for EventLines {
-    ghost use Rattle.std.specs.Prelude.{◌≡◌, ◌==◌, List, length, string_bytes};
+impl Model for Piece {
+    ghost use Rattle.std.specs.Prelude.{List, string_bytes};
     ghost use Rattle.world.specs.declared.events.Event.{Event};
     ghost use Rattle.mtr.specs.Events.{events_of};
 
     ghost Value = { List Event };
 
-    ghost view = { λ lines. events_of (string_bytes lines.text) };
+    ghost view = { λ piece. events_of (string_bytes piece.text) };
+}
 
-    ghost invariant = { λ lines. lines.is_empty ≡ (length (events_of (string_bytes lines.text)) == 0) };
+impl Piece {
+    /// No event. It takes no memory.
+    fn new(alloc: Global) -> Piece
+        ensures { result ≡ [] }
+    {
+        Piece {
+            text: String::new(alloc),
+            count: 0,
+        }
+    }
+
+    /// Keeps the line of an event behind the others.
+    fn push(&mut self, line: &str) -> Result<(), Memory>
+        ensures ok { OnOk result (self.new ≡ self.old ++ events_of line.now) }
+        ensures err { OnErr result (self.new ≡ self.old) }
+    {
+        self.text.push('\n')?;
+        self.text.push_str(line)?;
+        self.count = self.count.saturating_add(1);
+        Ok(())
+    }
+
+    /// Puts the events into the place of others. Each line is read again; that takes no memory but the list's.
+    pub fn read_into(&self, events: &mut Vec<Event>) -> Result<(), Memory>
+        ensures { OnOk result (events.new.items ≡ self.now) }
+    {
+        events.clear();
+        let mut rest = Some(self.text.as_str());
+        while let Some(text) = rest {
+            let (line, more) = first_line(text);
+            push_event(events, line)?;
+            rest = more;
+        }
+        Ok(())
+    }
+}
+
+/// The lines of events, in order, in pieces: so that each piece's memory is given back once its events were run.
+#[derive(Drop)]
+pub struct EventLines {
+    pieces: Vec<Piece>,
+    is_empty: bool,
+}
+
+impl Model for EventLines {
+    ghost use Rattle.std.specs.Prelude.{◌≡◌, ◌==◌, List, length};
+    ghost use Rattle.world.specs.declared.events.Event.{Event};
+    ghost use Rattle.mtr.specs.Events.{joined};
+
+    ghost Value = { List Event };
+
+    ghost view = { λ lines. joined lines.pieces.items };
+
+    ghost invariant = { λ lines. lines.is_empty ≡ (length (joined lines.pieces.items) == 0) };
 }
 
 impl EventLines {
@@ -39,7 +95,7 @@ impl EventLines {
         ensures { result ≡ [] }
     {
         EventLines {
-            text: String::new(alloc),
+            pieces: Vec::new(alloc),
             is_empty: true,
         }
     }
@@ -57,58 +113,45 @@ impl EventLines {
         ensures ok { OnOk result (self.new ≡ self.old ++ events_of line.now) }
         ensures err { OnErr result (self.new ≡ self.old) }
     {
-        self.text.push('\n')?;
-        self.text.push_str(line)?;
+        make_room(&mut self.pieces)?;
+        push_last(&mut self.pieces, line)?;
         self.is_empty = false;
         Ok(())
     }
 
-    /// All of them, to be taken off in pieces.
-    pub fn pieces(&self) -> Pieces<'_>
-        ensures { result ≡ self.now }
+    /// The pieces, of which all events together are these.
+    pub fn into_pieces(self) -> Vec<Piece>
+        ensures { joined result.items ≡ self }
     {
-        Pieces {
-            rest: Some(self.text.as_str()),
-        }
+        let EventLines { pieces, .. } = self;
+        pieces
     }
 }
 
-/// The events that are left.
-#[derive(Drop)]
-pub struct Pieces<'a> {
-    rest: Option<&'a str>,
-}
-
-impl<'a> Model for Pieces<'a> {
-    ghost use Rattle.std.specs.Prelude.{List};
-    ghost use Rattle.world.specs.declared.events.Event.{Event};
-    ghost use Rattle.mtr.specs.Events.{events_left};
-
-    ghost Value = { List Event };
-
-    ghost view = { λ pieces. events_left pieces.rest };
-}
-
-impl<'a> Pieces<'a> {
-    /// The next events, as many as are run at once or all that are left, and those behind them. `None` where
-    /// none is left. Each line is read again; that takes no memory but the list of these events.
-    pub fn next(self, alloc: Global) -> Result<Option<(Vec<Event>, Pieces<'a>)>, Memory>
-        ensures { IfOk result (λ next. MatchOption next (self.entry ≡ []) (λ piece. (self.entry ≡ piece.0.items ++ piece.1) × (piece.0.items ≢ []))) }
-    {
-        let mut events = Vec::with_capacity(alloc, PIECE)?;
-        let mut rest = self.rest;
-        while let Some(text) = rest
-            && events.len() < PIECE
-        {
-            let (line, more) = first_line(text);
-            push_event(&mut events, line)?;
-            rest = more;
-        }
-        if events.is_empty() {
-            return Ok(None);
-        }
-        Ok(Some((events, Pieces { rest })))
+/// Adds a piece where the last is full, or there is none.
+fn make_room(pieces: &mut Vec<Piece>) -> Result<(), Memory>
+    ensures same { joined pieces.new.items ≡ joined pieces.old.items }
+    ensures some { OnOk result (1 ≤ length pieces.new.items) }
+{
+    let has_room = match pieces.last() {
+        Some(piece) => piece.count < PIECE,
+        None => false,
+    };
+    if !has_room {
+        let piece = Piece::new(*pieces.allocator());
+        pieces.push(piece)?;
     }
+    Ok(())
+}
+
+/// Keeps the line of an event in the last piece.
+fn push_last(pieces: &mut Vec<Piece>, line: &str) -> Result<(), Memory>
+    requires { 1 ≤ length pieces.old.items }
+    ensures ok { OnOk result (joined pieces.new.items ≡ joined pieces.old.items ++ events_of line.now) }
+    ensures err { OnErr result (joined pieces.new.items ≡ joined pieces.old.items) }
+{
+    let last = pieces.len() - 1;
+    pieces[last].push(line)
 }
 
 /// The first line of a text, and what stands behind its LF, where it has one.
@@ -116,7 +159,7 @@ fn first_line(text: &str) -> (&str, Option<&str>)
     ensures lines { slice_split (λ b. b == 10) text.now ≡ result.0.now ∷ lines_left result.1 }
     ensures shorter { bytes_left result.1 < length text.now + 1 }
 {
-    match text.split_once('\n') {
+    match cut_at(text, b'\n') {
         Some((line, more)) => (line, Some(more)),
         None => (text, None),
     }

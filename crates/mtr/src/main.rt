@@ -10,6 +10,7 @@
 mod again_tests;
 mod command;
 mod command_line;
+mod cut;
 mod ending;
 mod events;
 mod number;

@@ -4,12 +4,13 @@ ghost use Rattle.std.specs.Prelude.{◌≡◌, ◌++◌, [], IfSome, OnOk};
 ghost use Rattle.std.specs.Io.KnownBytes.{Appends};
 ghost use Rattle.world.specs.State.{IsWorld};
 ghost use Rattle.world.specs.Seen.{seen};
+ghost use Rattle.mtr.specs.Events.{joined};
 ghost use Rattle.mtr.specs.Script.{said};
 ghost use Rattle.mtr.specs.Printing.{lines_of};
 ghost use Rattle.mtr.specs.Pair.{GoesOn, Prints, PrintsText};
 
 use crate::ending::Stop;
-use crate::events::Pieces;
+use crate::events::Piece;
 use crate::pair::{base_of, new_pair};
 use crate::printing::write_replies;
 use crate::script::Script;
@@ -50,26 +51,26 @@ fn run_script<W: Write>(alloc: Global, script: Script, output: &mut W) -> Result
         return Err(Stop::BadBase);
     };
     drop(base);
-    run_pieces(alloc, &mut world, events.pieces(), output)
+    run_pieces(alloc, &mut world, events.into_pieces(), output)
 }
 
-/// Runs the events that are left in pieces, over a world that goes on from what was done before. At most one
-/// piece's events and replies are kept at a time.
+/// Runs the events of the pieces, over a world that goes on from what was done before. At most one piece's events and
+/// replies are kept at a time, and no line of a piece that was run.
 fn run_pieces<S: RowStore, T: Tracker, R: RowStore, W: Write>(
     alloc: Global,
     world: &mut World<S, T, R>,
-    events: Pieces,
+    pieces: Vec<Piece>,
     output: &mut W,
 ) -> Result<(), Stop>
     requires { IsWorld R.contents (seen world.old) }
-    ensures { OnOk result (GoesOn R.contents (seen world.old) (seen world.new) events.entry (W.contents output.old) (W.contents output.new)) }
+    ensures { OnOk result (GoesOn R.contents (seen world.old) (seen world.new) (joined pieces.items) (W.contents output.old) (W.contents output.new)) }
 {
+    let mut events = Vec::new(alloc);
     let mut text = Vec::new(alloc);
-    let mut rest = events;
-    while let Some((piece, behind)) = rest.next(alloc)? {
-        let replies = world.run(alloc, &piece)?;
+    for piece in pieces {
+        piece.read_into(&mut events)?;
+        let replies = world.run(alloc, &events)?;
         print(&mut text, &replies, output)?;
-        rest = behind;
     }
     Ok(())
 }

@@ -143,6 +143,7 @@ fn take_end(line: &mut Vec<u8>) -> bool
 
 /// What a line of text says; `None` where it is bad.
 #[tactic(auto, unfolding(crate::specs::Lines::text_line))]
+#[inline(always)]
 pub fn text_line(line: &str) -> Option<Line>
     ensures { result ≡ text_line line.now }
 {
@@ -164,6 +165,7 @@ fn is_skipped(line: &str) -> bool
 }
 
 #[tactic(auto, unfolding(crate::specs::Lines::command_of))]
+#[inline(always)]
 fn command_of(words: Words) -> Option<Line>
     ensures { result ≡ command_of words.entry }
 {

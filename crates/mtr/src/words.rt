@@ -7,6 +7,7 @@ ghost use Rattle.std.specs.Prelude.{◌≡◌, ◌^◌, option_map, length, ◌=
 ghost use Rattle.mtr.specs.Words.{words_of, first_word, number_in, integer_in, row_id_in, row_in, naming_in, sides_of, assignment, AreAll};
 ghost use Rattle.mtr.specs.Number.{integer};
 
+use crate::cut::cut_at;
 use crate::number::{i64_of, u8_of, u16_of, u64_of};
 use rows::{Named, Row};
 use schema::RowId;
@@ -47,7 +48,7 @@ impl<'a> Words<'a> {
         ensures { option_map (λ x. (x.0.now, x.1)) result ≡ first_word self.entry }
     {
         let text = self.rest?;
-        match text.split_once(' ') {
+        match cut_at(text, b' ') {
             Some((word, rest)) => Some((word, Words { rest: Some(rest) })),
             None => Some((text, Words { rest: None })),
         }
@@ -168,8 +169,8 @@ fn assignment_of(word: &str) -> Option<(u8, i64)>
 fn sides_of(word: &str) -> Option<(&str, &str)>
     ensures { option_map (λ x. (x.0.now, x.1.now)) result ≡ sides_of word.now }
 {
-    let (left, right) = word.split_once('=')?;
-    match right.split_once('=') {
+    let (left, right) = cut_at(word, b'=')?;
+    match cut_at(right, b'=') {
         Some(_) => None,
         None => Some((left, right)),
     }

@@ -4,20 +4,24 @@ use super::*;
 use rows::{Change, Named};
 use std::test::Fail;
 
-/// The events that a script keeps, of which there are a thousand at most.
-fn events_of(alloc: Global, script: &Script) -> Result<Vec<Event>, Memory> {
-    match script.events.pieces().next(alloc)? {
-        Some((events, _)) => Ok(events),
-        None => Ok(Vec::new(alloc)),
+/// The events that a script keeps.
+fn events_of(alloc: Global, lines: EventLines) -> Result<Vec<Event>, Memory> {
+    let mut events = Vec::new(alloc);
+    let mut piece_events = Vec::new(alloc);
+    for piece in lines.into_pieces() {
+        piece.read_into(&mut piece_events)?;
+        events.extend_from_slice(&piece_events)?;
     }
+    Ok(events)
 }
 
 /// How many tables, rows and events a text says; or why it is none.
 fn counts(alloc: Global, text: &[u8]) -> Result<(usize, usize, usize), Stop> {
     let mut input = text;
     let script = Script::read(alloc, &mut input)?;
-    let events = events_of(alloc, &script)?;
-    Ok((script.tables.len(), script.base.len(), events.len()))
+    let (tables, base) = (script.tables.len(), script.base.len());
+    let events = events_of(alloc, script.events)?;
+    Ok((tables, base, events.len()))
 }
 
 fn bad(line: usize) -> Result<(usize, usize, usize), Stop> {
@@ -47,7 +51,7 @@ fn reads_what_a_script_says(rt: HostRuntime) -> Result<(), Fail> {
         [(RowId { table: 1, key: -3 }, base)].as_slice()
     );
     assert_eq!(rt;
-        events_of(rt.alloc(), &script)?.as_slice(),
+        events_of(rt.alloc(), script.events)?.as_slice(),
         [
             Event::Begin { session: 1 },
             Event::Write {
@@ -80,7 +84,7 @@ fn reads_updates_deletes_and_aborts(rt: HostRuntime) -> Result<(), Fail> {
     let row = RowId { table: 2, key: -3 };
     let columns = Named::of(&[(0, 7), (9, -8), (15, 0)]).ok_or("rising columns")?;
     assert_eq!(rt;
-        events_of(alloc, &script)?.as_slice(),
+        events_of(alloc, script.events)?.as_slice(),
         [
             Event::Write {
                 session: 1,

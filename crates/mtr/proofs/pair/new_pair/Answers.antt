@@ -1,5 +1,4 @@
-use Rattle.std.proofs.Common.{subst, ◌≡◌}
-use Rattle.schema.specs.Flags.{IsFlat}
+use Rattle.std.proofs.Common.{subst}
 use Rattle.rows.specs.Database.{Database}
 use Rattle.store_trait.specs.Fits.{Fits}
 use Rattle.source_core.proofs.New.{new_is_new}

@@ -1,36 +1,35 @@
-use Rattle.std.proofs.Common.{◌∙◌, sym, ap, ◌++◌, [], refl, append-nil}
+use Rattle.std.proofs.Common.{◌≡◌, ◌∙◌, sym, ap, ◌++◌, []}
 use Rattle.world.specs.Seen.{seen}
-use Rattle.mtr.proofs.Runs.{goes_nowhere, goes_further, goes_to, behind_piece}
+use Rattle.mtr.proofs.Runs.{goes_nowhere, goes_further, behind_piece}
 use Rattle.mtr.specs.Printing.{lines_of}
+use Rattle.mtr.specs.Events.{joined}
+use Rattle.std.specs.Vec.Iter.{into_iter_items}
 use Rattle.mtr.proofs.Pieces.{along}
 use Rattle.mtr.proofs.run.run_pieces.Goals as goal
 
-pub loop-text-init : goal.loop-text-init
-loop-text-init g c = record {
-  world = c.requires;
-  done = ([], refl, goes_nowhere g.R.RowStore.contents (seen c.args.world.now) (g.W.Write.contents c.args.output.now));
-}
+pub loop-piece-init : goal.loop-piece-init
+loop-piece-init g c =
+    let all : into_iter_items c.into_iter-piece-iterator.result ≡ c.args.pieces.items = c.into_iter-piece-iterator.ensures.into_iter_gives.0 in
+    record {
+      world = c.requires;
+      done = ([], ap joined all, goes_nowhere g.R.RowStore.contents (seen c.args.world.now) (g.W.Write.contents c.args.output.now));
+    }
 
-pub loop-text-preserved : goal.loop-text-preserved
-loop-text-preserved g c =
+pub loop-piece-preserved : goal.loop-piece-preserved
+loop-piece-preserved g c =
     let contents = g.R.RowStore.contents in
-    let done = c.loop-text.invariant.done in
-    let cut = rw c.in-Some.is at c.in_ok-piece.ensures in
+    let done = c.loop-piece.invariant.done in
+    let rest = into_iter_items c.next.new.self in
+    let read = c.deref.ensures.value ∙ c.in_ok-read_into.ensures in
     record {
       world = c.in_ok-replies.ensures.world;
       done = (
         done.0 ++ c.deref.result.now,
-        behind_piece done.0 c.loop-text.rest c.deref.result.now c.in-Some.behind c.args.events done.1 (cut.0 ∙ ap (λ piece. piece ++ c.in-Some.behind) (sym c.deref.ensures.value)),
-        goes_further contents (seen c.args.world.now) (seen c.loop-text.world) (seen c.run.new.self) done.0 c.deref.result.now c.in_ok-replies.replies.items
-            (g.W.Write.contents c.args.output.now) (g.W.Write.contents c.loop-text.output) (g.W.Write.contents c.print.new.output)
+        behind_piece done.0 (joined (into_iter_items c.loop-piece.piece-iterator)) c.deref.result.now (joined rest) (joined c.args.pieces.items) done.1
+            (ap joined c.in-Some.ensures.steps.0 ∙ ap (λ piece. piece ++ joined rest) (sym read)),
+        goes_further contents (seen c.args.world.now) (seen c.loop-piece.world) (seen c.run.new.self) done.0 c.deref.result.now c.in_ok-replies.replies.items
+            (g.W.Write.contents c.args.output.now) (g.W.Write.contents c.loop-piece.output) (g.W.Write.contents c.print.new.output)
             done.2 c.in_ok-replies.ensures.goes_on
-            (along (g.W.Write.contents c.loop-text.output) (g.W.Write.contents c.print.new.output) (lines_of c.deref-in-Some.result.now) (lines_of c.in_ok-replies.replies.items) (ap lines_of c.deref-in-Some.ensures.value) c.in_ok-print.ensures),
+            (along (g.W.Write.contents c.loop-piece.output) (g.W.Write.contents c.print.new.output) (lines_of c.deref-in-loop-piece.result.now) (lines_of c.in_ok-replies.replies.items) (ap lines_of c.deref-in-loop-piece.ensures.value) c.in_ok-print.ensures),
       );
     }
-
-pub returns : goal.returns
-returns g c =
-    let done = c.loop-text.invariant.done in
-    let none = rw c.in_default.is at c.in_ok-piece.ensures in
-    goes_to g.R.RowStore.contents (seen c.args.world.now) (seen c.loop-text.world) done.0 c.args.events (g.W.Write.contents c.args.output.now) (g.W.Write.contents c.loop-text.output)
-    (sym (append-nil done.0) ∙ ap (λ rest. done.0 ++ rest) (sym none) ∙ done.1) done.2

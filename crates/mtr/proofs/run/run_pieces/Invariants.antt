@@ -1,16 +1,15 @@
-use Rattle.std.proofs.Common.{◌≡◌, ◌++◌, List, length}
+use Rattle.std.proofs.Common.{◌≡◌, ◌++◌, List}
 use Rattle.world.specs.declared.events.Event.{Event}
 use Rattle.world.specs.State.{IsWorld}
 use Rattle.world.specs.Seen.{seen}
+use Rattle.std.specs.Vec.Iter.{into_iter_items}
+use Rattle.mtr.specs.Events.{joined}
 use Rattle.mtr.specs.Pair.{GoesOn}
 use Rattle.mtr.proofs.run.run_pieces.Given as goal
 
 -- the events so far were run, and are those before the rest
-abbrev pub invariant-loop-text : goal.invariant-loop-text
-invariant-loop-text g l = record {
+abbrev pub invariant-loop-piece : goal.invariant-loop-piece
+invariant-loop-piece g l = record {
   world : IsWorld g.R.RowStore.contents (seen l.world);
-  done : (events : List Event) × (events ++ l.rest ≡ l.fn.events) × GoesOn g.R.RowStore.contents (seen l.fn.world) (seen l.world) events (g.W.Write.contents l.fn.output) (g.W.Write.contents l.output);
+  done : (events : List Event) × (events ++ joined (into_iter_items l.piece-iterator) ≡ joined l.fn.pieces.items) × GoesOn g.R.RowStore.contents (seen l.fn.world) (seen l.world) events (g.W.Write.contents l.fn.output) (g.W.Write.contents l.output);
 }
-
-abbrev pub decreases-loop-text : goal.decreases-loop-text
-decreases-loop-text g l = length l.rest

@@ -1,6 +1,6 @@
 use Rattle.std.proofs.Common.{◌≡◌, ◌++◌}
 use Rattle.mtr.specs.Events.{events_left, bytes_left}
-use Rattle.mtr.proofs.events.Pieces.next.Given as goal
+use Rattle.mtr.proofs.events.Piece.read_into.Given as goal
 
 -- the events so far, and those of the rest, are all
 abbrev pub invariant-loop-rest : goal.invariant-loop-rest
