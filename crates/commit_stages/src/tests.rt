@@ -18,7 +18,7 @@ fn stages(alloc: Global) -> Result<Stages, AllocError>
 }
 
 #[test]
-fn two_groups(rt: HostRuntime) -> Result<(), Fail> {
+fn queues_are_made_again(rt: HostRuntime) -> Result<(), Fail> {
     let mut stages = stages(rt.alloc())?;
     stages.queue(256);
     stages.queue(1);

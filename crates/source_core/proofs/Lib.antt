@@ -15,6 +15,7 @@ pub mod Preparing
 pub mod Queueing
 pub mod Causes
 pub mod Writing
+pub mod Waiting
 pub mod Syncing
 pub mod New
 pub mod FlushEnds

@@ -1,5 +1,5 @@
 -- A new source: no session has a transaction, and nothing is logged.
-use Rattle.std.proofs.Common.{◌≡◌, ◌∙◌, sym, ap, refl, ℕ, zero, suc, ◌<◌, ◌≤◌, ◌^◌, List, [], ◌∷◌, length, map, replicate, Option, Some, None, arith}
+use Rattle.std.proofs.Common.{◌≡◌, ◌∙◌, sym, ap, refl, ℕ, zero, suc, ◌<◌, ◌^◌, List, [], ◌∷◌, length, map, replicate, Option, Some, None, arith}
 use Rattle.std.specs.FinMap.{empty}
 use Rattle.std.specs.Option.{option_map}
 use Rattle.std.proofs.Common.{eqb, false}
@@ -14,6 +14,7 @@ use Rattle.store_trait.specs.Batch.{Entry, put_batch}
 use Rattle.store_trait.specs.Fits.{Fits}
 use Rattle.record_codec.proofs.Logs.{empty_is_legal}
 use Rattle.row_locks.specs.Locks.{Locks, NoClash, no_locks}
+use Rattle.commit_stages.specs.Queues.{Queues, no_queues}
 use Rattle.source_core.specs.declared.transaction.Transaction.{Transaction}
 use Rattle.source_core.specs.Source.{Source, new_source, held_for}
 use Rattle.source_core.specs.Core.{Parts, IsCore, Holds, source_of, open_view, sessions_view, placed}
@@ -83,15 +84,15 @@ new_core ts rows base limit locks flat bound loaded_is fits none clear = record 
 }
 
 pub new_holds : (ts : List Table) (rows : Database) (base : List Entry) (limit : ℕ) (locks : Locks) → IsFlat ts → limit < 2 ^ 63 → put_batch base empty ≡ rows → Fits ts rows → locks ≡ no_locks → NoClash locks →
-    (log : List Record) (entries : List Seen) (places : List (Option Transaction)) (queue : List ℕ) → log ≡ [] → entries ≡ [] → places ≡ replicate 256 None → queue ≡ [] →
-    (room : ℕ) → 256 ≤ room → (IsSo : List Seen → Type 0) → IsSo [] → Holds (parts_over ts rows base limit log entries places queue locks) room (IsSo entries)
-new_holds ts rows base limit locks flat bound loaded_is fits none clear log entries places queue no_log no_entries no_places no_queue room enough IsSo so =
-    rw (no_log, no_entries, no_places, no_queue) (record { core = new_core ts rows base limit locks flat bound loaded_is fits none clear; room = enough; tracked = so })
+    (log : List Record) (entries : List Seen) (places : List (Option Transaction)) (stages : Queues) → log ≡ [] → entries ≡ [] → places ≡ replicate 256 None → stages ≡ no_queues →
+    (IsSo : List Seen → Type 0) → IsSo [] → Holds (parts_over ts rows base limit log entries places stages.flush locks) stages (IsSo entries)
+new_holds ts rows base limit locks flat bound loaded_is fits none clear log entries places stages no_log no_entries no_places no_stages IsSo so =
+    rw (no_log, no_entries, no_places, no_stages) (record { core = new_core ts rows base limit locks flat bound loaded_is fits none clear; syncing = refl; committing = refl; tracked = so })
 
-pub new_view : (ts : List Table) (rows : Database) (base : List Entry) (limit : ℕ) (locks : Locks) (kind : Kind) → (log : List Record) (entries : List Seen) (places : List (Option Transaction)) (queue : List ℕ) →
-    log ≡ [] → entries ≡ [] → places ≡ replicate 256 None → queue ≡ [] → source_of (parts_over ts rows base limit log entries places queue locks) kind false ≡ new_source ts base limit kind
-new_view ts rows base limit locks kind log entries places queue no_log no_entries no_places no_queue =
-    rw (no_log, no_entries, no_places, no_queue) (ap (λ sessions. record (new_source ts base limit kind) { sessions = sessions }) views_none)
+pub new_view : (ts : List Table) (rows : Database) (base : List Entry) (limit : ℕ) (locks : Locks) (kind : Kind) → (log : List Record) (entries : List Seen) (places : List (Option Transaction)) (stages : Queues) →
+    log ≡ [] → entries ≡ [] → places ≡ replicate 256 None → stages ≡ no_queues → source_of (parts_over ts rows base limit log entries places stages.flush locks) kind false ≡ new_source ts base limit kind
+new_view ts rows base limit locks kind log entries places stages no_log no_entries no_places no_stages =
+    rw (no_log, no_entries, no_places, no_stages) (ap (λ sessions. record (new_source ts base limit kind) { sessions = sessions }) views_none)
 
 -- a source that is new is new over its own tables, base, limit and kind
 pub new_is_new : (s : Source) (ts : List Table) (base : List Entry) (limit : ℕ) (kind : Kind) → s ≡ new_source ts base limit kind → s ≡ new_source s.tables s.base s.limit s.kind

@@ -1,7 +1,7 @@
 -- What stands once one session's transaction is another that is not queued, or none.
 use Rattle.std.specs.List.{list_any, IsDistinct}
 use Rattle.tracker_trait.specs.Kind.{Kind}
-use Rattle.std.proofs.Common.{IsTrue, is_some, false, Bool, eqb, ◌≡◌, ◌≢◌, ◌∙◌, sym, ap, subst, refl, ℕ, ◌+◌, ◌-◌, ◌<◌, ◌≤◌, List, [], ◌∷◌, length, map, get_or, set, Option, Some, None, inl, inr, arith}
+use Rattle.std.proofs.Common.{IsTrue, is_some, false, Bool, eqb, ◌≡◌, ◌≢◌, ◌∙◌, sym, ap, subst, refl, ℕ, ◌+◌, ◌-◌, ◌<◌, ◌≤◌, List, [], ◌∷◌, length, map, take, drop, get_or, set, Option, Some, None, inl, inr, arith}
 use Rattle.std.specs.Option.{option_map}
 use Rattle.std.specs.FinMap.{empty}
 use Rattle.std.proofs.lemmas.Bool.Decides.{eqb_tells}
@@ -17,6 +17,7 @@ use Rattle.source_core.specs.declared.transaction.Transaction.{Transaction}
 use Rattle.source_core.specs.Source.{held_for, locks_over}
 use Rattle.source_core.specs.Calls.{with_open}
 use Rattle.source_core.proofs.Stand.{held_at}
+use Rattle.commit_stages.specs.Queues.{Queues}
 use Rattle.source_core.specs.Core.{Parts, IsCore, Applies, IsReady, StandsAs, AreFlushed, AreQueued, Holds, open_view, sessions_view, source_of, placed}
 
 -- the transaction, if there is one, is neither queued nor flushed
@@ -167,10 +168,11 @@ pub nothing : (o : Option Transaction) → false ≡ is_some o → o ≡ None
 nothing None e = refl
 nothing (Some t) e = cc
 
--- what a source holds, once its parts are others
-pub holds : (p : Parts) (room : ℕ) (IsSo : Type 0) → Holds p room IsSo → (q : Parts) → IsCore q → Holds q room IsSo
-holds p room IsSo h q core = record { core = core; room = h.room; tracked = h.tracked }
-
--- the same, with a queue that has no less room
-pub holds_room : (p : Parts) (room : ℕ) (IsSo : Type 0) → Holds p room IsSo → (q : Parts) → IsCore q → (more : ℕ) → room ≤ more → Holds q more IsSo
-holds_room p room IsSo h q core more grows = record { core = core; room = omega (arith, h.room, grows); tracked = h.tracked }
+-- what a source holds, once its parts are others, and its records and the stages that own them as they were
+pub holds : (p : Parts) (stages : Queues) (IsSo : Type 0) → Holds p stages IsSo → (q : Parts) → IsCore q → q.owners ≡ p.owners → q.synced ≡ p.synced → q.committed ≡ p.committed → Holds q stages IsSo
+holds p stages IsSo h q core owners synced committed = record {
+  core = core;
+  syncing = h.syncing ∙ sym (λ i. drop (synced i) (owners i));
+  committing = h.committing ∙ sym (λ i. drop (committed i) (take (synced i) (owners i)));
+  tracked = h.tracked;
+}

@@ -1,17 +1,15 @@
 -- A session puts its prepared transaction last into the flush queue.
-use Rattle.std.proofs.Common.{◌≡◌, ◌∙◌, sym, ap, subst, refl, ℕ, ◌+◌, ◌-◌, ◌<◌, ◌≤◌, List, [], ◌∷◌, ◌++◌, length, length-append, set, get_or, slice_index_or, IsTrue, Bool, true, false, ◌||◌, eqb, Option, Some, None, inl, inr, arith}
+use Rattle.std.proofs.Common.{◌≡◌, ◌∙◌, sym, ap, subst, refl, ℕ, ◌+◌, ◌-◌, ◌<◌, ◌≤◌, List, [], ◌∷◌, ◌++◌, length, length-append, set, get_or, slice_index_or, IsTrue, Bool, true, false, eqb, Option, Some, None, inl, inr, arith}
 use Rattle.std.specs.Prelude.{option_and_then}
 use Rattle.std.specs.Option.{option_map}
-use Rattle.std.specs.List.{list_any, IsDistinct, AllByRecursion}
+use Rattle.std.specs.List.{list_any, IsDistinct}
 use Rattle.std.proofs.lemmas.Option.{same_Some}
-use Rattle.std.proofs.Math.ListN.{get_or-eq_default}
 use Rattle.std.proofs.lemmas.Cmp.{nat_eq_equiv}
-use Rattle.std.proofs.lemmas.Bool.{cases_lt, or_left, or_right}
+use Rattle.std.proofs.lemmas.Bool.{or_left, or_right}
 use Rattle.std.proofs.lemmas.Bool.Decides.{eqb_tells, nat_tests}
 use Rattle.std.proofs.lemmas.List.{get_or-set_same}
 use Rattle.std.proofs.lemmas.List.Folds.{list_any-append}
-use Rattle.std.proofs.lemmas.Map.Keys.{IsDistinct-push, IsDistinct-cons}
-use Rattle.std.proofs.lemmas.Map.Steps.{length-le_from_distinct_below}
+use Rattle.std.proofs.lemmas.Map.Keys.{IsDistinct-push}
 use Rattle.tracker_trait.specs.Kind.{Kind}
 use Rattle.source_core.specs.declared.transaction.Phase.{Phase}
 use Rattle.source_core.specs.declared.transaction.Phase.TheVariants.{Active, Prepared, Queued, Flushed}
@@ -24,7 +22,7 @@ use Rattle.source_core.proofs.Place.{placing, place_set, queued_stay, ready_stay
 
 -- ---- a queue in which no session comes twice
 
-none_is : (places : List (Option Transaction)) (session : ℕ) (queue : List ℕ) → AreQueued places queue → 1 ≤ session → IsFree (placed places (session - 1)) → list_any (eqb session) queue ≡ false
+pub none_is : (places : List (Option Transaction)) (session : ℕ) (queue : List ℕ) → AreQueued places queue → 1 ≤ session → IsFree (placed places (session - 1)) → list_any (eqb session) queue ≡ false
 none_is places session [] are least free = refl
 none_is places session (first ∷ queue) are least free =
     elim (eqb_tells session first) [
@@ -34,66 +32,6 @@ none_is places session (first ∷ queue) are least free =
 
 pub queue_distinct : (places : List (Option Transaction)) (session : ℕ) (queue : List ℕ) → AreQueued places queue → 1 ≤ session → IsFree (placed places (session - 1)) → IsDistinct eqb queue → IsDistinct eqb (queue ++ session ∷ [])
 queue_distinct places session queue are least free distinct = IsDistinct-push nat_eq_equiv queue session distinct (none_is places session queue are least free)
-
--- each session of a queue has a number of the places
-pub sessions_within : (places : List (Option Transaction)) (queue : List ℕ) → AreQueued places queue → (q : ℕ) → list_any (eqb q) queue ≡ true → (1 ≤ q) × (q ≤ length places)
-sessions_within places [] are q e = cc
-sessions_within places (first ∷ queue) are q e =
-    elim (eqb_tells q first) [
-      | inl same ↦
-          let there : first - 1 < length places = place_there places (first - 1) are.0.t are.0.place in
-          (omega (arith, are.0.least, same.1), omega (arith, are.0.least, there, same.1))
-      | inr apart ↦ sessions_within places queue are.1 q (rw apart.0 at e)
-    ]
-  where
-    place_there : (places : List (Option Transaction)) (i : ℕ) (t : Transaction) → placed places i ≡ Some t → i < length places
-    place_there places i t at =
-        elim (cases_lt i (length places)) [
-          | inl within ↦ within
-          | inr past ↦ absurd (cc (sym (get_or-eq_default places None past) ∙ at))
-        ]
-
--- a session number is not 0
-positive : (n : ℕ) → 1 ≤ n → eqb 0 n ≡ false
-positive n h = grind (arith, nat_tests)
-
-all_positive : (places : List (Option Transaction)) (session : ℕ) (queue : List ℕ) → AreQueued places queue → 1 ≤ session → AllByRecursion (λ y. eqb 0 y ≡ false) (queue ++ session ∷ [])
-all_positive places session [] are least = (positive session least, tt)
-all_positive places session (first ∷ queue) are least = (positive first are.0.least, all_positive places session queue are.1 least)
-
-only : (b : Bool) → (b || false) ≡ true → b ≡ true
-only true h = refl
-only false h = cc
-
-member : (places : List (Option Transaction)) (session : ℕ) (queue : List ℕ) → length places ≡ 256 → AreQueued places queue → 1 ≤ session → session ≤ 256 → (q : ℕ) →
-    (list_any (eqb q) queue || (eqb q session || false)) ≡ true → (1 ≤ q) × (q ≤ 256)
-member places session queue long are least greatest q e =
-    elim (eqb_tells q session) [
-      | inl same ↦ (omega (arith, least, same.1), omega (arith, greatest, same.1))
-      | inr apart ↦
-          let inside : list_any (eqb q) queue ≡ true = only (list_any (eqb q) queue) (rw apart.0 at e) in
-          let both = sessions_within places queue are q inside in
-          (both.0, omega (arith, both.1, long))
-    ]
-
-below : (places : List (Option Transaction)) (session : ℕ) (queue : List ℕ) → length places ≡ 256 → AreQueued places queue → 1 ≤ session → session ≤ 256 → (q : ℕ) →
-    list_any (eqb q) (0 ∷ (queue ++ session ∷ [])) ≡ true → q < 257
-below places session queue long are least greatest q e =
-    elim (eqb_tells q 0) [
-      | inl zero_ ↦ omega (arith, zero_.1)
-      | inr apart ↦
-          let inside : list_any (eqb q) (queue ++ session ∷ []) ≡ true = rw apart.0 at e in
-          let both = member places session queue long are least greatest q (sym (list_any-append (eqb q) queue (session ∷ [])) ∙ inside) in
-          omega (arith, both.1)
-    ]
-
--- with one more session the queue has at most 256
-pub queue_room : (places : List (Option Transaction)) (session : ℕ) (queue : List ℕ) → length places ≡ 256 → AreQueued places queue → 1 ≤ session → session ≤ 256 → IsFree (placed places (session - 1)) → IsDistinct eqb queue → length queue < 256
-queue_room places session queue long are least greatest free distinct =
-    let more = queue_distinct places session queue are least free distinct in
-    let few = length-le_from_distinct_below (0 ∷ (queue ++ session ∷ [])) 257 (IsDistinct-cons eqb 0 (queue ++ session ∷ []) (all_positive places session queue are least) more) (below places session queue long are least greatest) in
-    let count : length (queue ++ session ∷ []) ≡ length queue + 1 = length-append queue (session ∷ []) in
-    omega (arith, few, count)
 
 -- ---- the transaction
 
@@ -166,9 +104,6 @@ module _ (p : Parts) (core : IsCore p) (i session : ℕ) (within : i < 256) (is 
       subst (λ (x : Transaction). Applies p.tables p.rows x.overlay × StandsAs (placing p i now (behind p session) p.locks) (i + 1) x.overlay.changes x.phase) same
       (core.applies i w.t w.is, (ready_stays p i now (behind p session) p.locks (i + 1) w.t.overlay.changes order ready, subst (λ k. IsTrue (list_any (eqb k) (behind p session))) (sym is) (in_queue p.queue session)))
 
-  pub room_behind : length p.queue < 256
-  room_behind = queue_room p.places session p.queue core.sessions core.queued (omega (arith, is)) (omega (arith, is, within)) free_at core.distinct
-
   pub queued_core : length p.log + length p.queue < p.limit → IsCore (placing p i now (behind p session) p.locks)
   queued_core few =
       let count : length (behind p session) ≡ length p.queue + 1 = length-append p.queue (session ∷ []) in
@@ -222,5 +157,6 @@ queued_at_view p core kind halted i session within is order read found next read
     ∙ ap (λ (o : Option Transaction). source_of (placing p i o (p.queue ++ session ∷ []) p.locks) kind halted) (sym (next_is p core i within order w found next found_is next_told))
     ∙ queued_view p core i session within is order w kind halted
 
-pub room_at : (p : Parts) → IsCore p → (i session : ℕ) → i < 256 → i + 1 ≡ session → (order : ℕ) → (read : Option Transaction) → read ≡ get_or p.places i read → option_and_then prepared_order read ≡ Some order → length p.queue < 256
-room_at p core i session within is order read read_is told = room_behind p core i session within is order (at_place p core i within read read_is order told)
+-- the session's transaction is neither queued nor flushed before
+pub free_before : (p : Parts) → IsCore p → (i session : ℕ) → i < 256 → i + 1 ≡ session → (order : ℕ) → (read : Option Transaction) → read ≡ get_or p.places i read → option_and_then prepared_order read ≡ Some order → IsFree (placed p.places (session - 1))
+free_before p core i session within is order read read_is told = free_at p core i session within is order (at_place p core i within read read_is order told)

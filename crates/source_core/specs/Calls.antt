@@ -200,6 +200,10 @@ pub record Flushes (old : Source) (group : GroupValue) (new : Source) : Type 0 w
 
 -- synced
 
+-- the group is the oldest that is not synced: its records are those of the log from behind the synced ones to its last
+abbrev pub IsOldest : Source → GroupValue → Type 0
+IsOldest s group = codec.AreRecordsOf group (drop s.synced (take group.last s.log))
+
 abbrev pub with_synced : Source → ℕ → Source
 with_synced s last = record s { synced = last }
 

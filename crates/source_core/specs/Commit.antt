@@ -3,17 +3,12 @@ use Rattle.std.specs.Prelude.{ℕ, ◌-◌, ◌≤◌, Bool, if◌then◌else◌
 use Rattle.std.specs.Option.{option_map, option_map_or}
 use Rattle.schema.specs.declared.Table.{Table}
 use Rattle.rows.specs.Database.{Database}
-use Rattle.log_index.specs.declared.Entry.{Entry as Seen}
 use Rattle.overlay.specs.Pending.{Pending, none_pending}
 use Rattle.overlay.specs.Joining.{EachFollows, AllApart}
 use Rattle.row_locks.specs.Locks.{Locks, released}
 use Rattle.source_core.specs.declared.transaction.Transaction.{Transaction}
 use Rattle.source_core.specs.Calls.{is_flushed_by}
 use Rattle.source_core.specs.Core.{open_view, placed}
-
--- the sessions that these entries came from
-abbrev pub sessions_of : List Seen → List ℕ
-sessions_of entries = map (λ e. e.session) entries
 
 -- the number of a session
 abbrev pub IsSession : ℕ → Type 0

@@ -18,6 +18,7 @@ use Rattle.overlay.specs.Follows.{Follows}
 use Rattle.record_codec.specs.declared.records.Record.{Record}
 use Rattle.record_codec.specs.Log.{after, place_of, IsLegalLog}
 use Rattle.log_index.specs.declared.Entry.{Entry as Seen}
+use Rattle.commit_stages.specs.Queues.{Queues}
 use Rattle.row_locks.specs.Locks.{Locks, NoClash}
 use Rattle.tracker_trait.specs.History.{last_of}
 use Rattle.tracker_trait.specs.Kind.{Kind}
@@ -169,10 +170,13 @@ pub record IsTracked {T : Type 0} (agrees_ : T → List Table → List Seen → 
   pub agrees : agrees_ tracker ts entries
   pub whole : (t : T) (tables : List Table) (log : List Seen) → begins_ t tables log ≡ 0
 
--- what is true of a source whose queue has this room, and whose tracker is so
-pub record Holds (p : Parts) (capacity : ℕ) (IsSo : Type 0) : Type 0 where
+-- What is true of a source with these stages, and whose tracker is so: the sessions that wait for their sync own the records
+-- that are flushed and not synced, and those that wait for their commit the records that are synced and not committed,
+-- in log order.
+pub record Holds (p : Parts) (stages : Queues) (IsSo : Type 0) : Type 0 where
   pub core : IsCore p
-  pub room : 256 ≤ capacity
+  pub syncing : stages.sync ≡ drop p.synced p.owners
+  pub committing : stages.commit ≡ drop p.committed (take p.synced p.owners)
   pub tracked : IsSo
 
 -- the transaction in another phase

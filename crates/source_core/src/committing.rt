@@ -11,10 +11,9 @@ ghost use Rattle.overlay.specs.Joining.{joined, joined_all};
 ghost use Rattle.row_locks.specs.Locks.{NoClash};
 ghost use Rattle.source_core.specs.Calls.{receipt_as, receipts_for};
 ghost use Rattle.source_core.specs.Core.{placed};
-ghost use Rattle.source_core.specs.Commit.{sessions_of, IsSession, cleared, all_released, pending_in, pendings_of, AreApart};
+ghost use Rattle.source_core.specs.Commit.{IsSession, cleared, all_released, pending_in, pendings_of, AreApart};
 
 use crate::transaction::{Receipt, Transaction};
-use log_index::Entry;
 use overlay::Joined;
 use record_codec::Record;
 use row_locks::LockTable;
@@ -22,18 +21,18 @@ use schema::Memory;
 use std::alloc::Global;
 use store_trait::Batch;
 
-/// A receipt for each record, given the entries of the same records. The room for the list is taken once.
+/// A receipt for each record, given the sessions of the same records. The room for the list is taken once.
 pub(crate) fn receipts_of(
     alloc: Global,
-    entries: &[Entry],
+    sessions: &[u16],
     records: &[Record],
 ) -> Result<Vec<Receipt>, Memory>
-    requires { length entries.now ≡ length records.now }
-    ensures { IfOk result (λ given. given.items ≡ receipts_for (sessions_of entries.now) records.now) }
+    requires { length sessions.now ≡ length records.now }
+    ensures { IfOk result (λ given. given.items ≡ receipts_for sessions.now records.now) }
 {
     let mut given = Vec::with_capacity(alloc, records.len())?;
     for (i, made) in records.iter().enumerate() {
-        given.push(receipt_for(entries[i].session, made)?)?;
+        given.push(receipt_for(sessions[i], made)?)?;
     }
     Ok(given)
 }
@@ -51,21 +50,21 @@ fn receipt_for(session: u16, made: &Record) -> Result<Receipt, Memory>
     })
 }
 
-/// One batch of what the transactions of these entries leave, which stand in their sessions' places.
+/// One batch of what the transactions of these sessions leave, which stand in their places.
 pub(crate) fn join_all(
     alloc: Global,
-    entries: &[Entry],
+    sessions: &[u16],
     places: &[Option<Transaction>],
 ) -> Result<Batch, Memory>
-    requires sessions { AllByRecursion IsSession (sessions_of entries.now) }
+    requires each { AllByRecursion IsSession sessions.now }
     requires places { length places.now ≡ 256 }
-    requires there { AllByRecursion (λ session. IsSome (placed places.now (session - 1))) (sessions_of entries.now) }
-    requires apart { AreApart places.now (sessions_of entries.now) }
-    ensures { IfOk result (λ batch. batch ≡ joined_all [] (pendings_of places.now (sessions_of entries.now))) }
+    requires there { AllByRecursion (λ session. IsSome (placed places.now (session - 1))) sessions.now }
+    requires apart { AreApart places.now sessions.now }
+    ensures { IfOk result (λ batch. batch ≡ joined_all [] (pendings_of places.now sessions.now)) }
 {
     let mut rows = Joined::new(alloc);
-    for entry in entries {
-        join_one(&mut rows, &places[entry.session as usize - 1])?;
+    for session in sessions {
+        join_one(&mut rows, &places[*session as usize - 1])?;
     }
     Ok(rows.into_batch())
 }
@@ -82,17 +81,17 @@ fn join_one(rows: &mut Joined, place: &Option<Transaction>) -> Result<(), Memory
     }
 }
 
-/// Ends the transactions of these entries, and gives up their locks. It takes no memory.
-pub(crate) fn end_all(entries: &[Entry], places: &mut [Option<Transaction>], locks: &mut LockTable)
-    requires sessions { AllByRecursion IsSession (sessions_of entries.now) }
+/// Ends the transactions of these sessions, and gives up their locks. It takes no memory.
+pub(crate) fn end_all(sessions: &[u16], places: &mut [Option<Transaction>], locks: &mut LockTable)
+    requires each { AllByRecursion IsSession sessions.now }
     requires places { length places.old ≡ 256 }
     requires no_clash { NoClash locks.old }
-    ensures places { places.new ≡ cleared (sessions_of entries.now) places.old }
-    ensures locks { locks.new ≡ all_released (sessions_of entries.now) locks.old }
+    ensures places { places.new ≡ cleared sessions.now places.old }
+    ensures locks { locks.new ≡ all_released sessions.now locks.old }
     ensures no_clash { NoClash locks.new }
 {
-    for entry in entries {
-        places[entry.session as usize - 1] = None;
-        locks.release_all(entry.session);
+    for session in sessions {
+        places[*session as usize - 1] = None;
+        locks.release_all(*session);
     }
 }

@@ -5,8 +5,9 @@
 //! rows that it writes until it ends. It keeps true that the log is legal over the base, that its store contains the
 //! database after the committed records, that each open transaction's changes apply to that, and that no two of them
 //! clash (`specs/Core.antt`). What each call answers, its first cause of refusal in order, and what it leaves is defined
-//! in `specs/Calls.antt`. It stands on `overlay` for pending changes, on `row_locks` for who holds what, on `store_trait`
-//! for the rows, on `record_codec` for records and groups, and on a tracker of `tracker_trait` for the parents of records.
+//! in `specs/Calls.antt`. It stands on `overlay` for pending changes, on `row_locks` for who holds what, on `commit_stages` for
+//! who waits, on `store_trait` for the rows, on `record_codec` for records and groups, and on a tracker of `tracker_trait`
+//! for the parents of records.
 #![tactic(auto)]
 
 mod committing;

@@ -2,31 +2,31 @@ use Rattle.std.proofs.Common.{◌∙◌, ◌-◌, arith, IsSome}
 use Rattle.overlay.specs.Joining.{joined}
 use Rattle.source_core.specs.Core.{placed}
 use Rattle.source_core.specs.Commit.{IsSession, pending_in}
-use Rattle.source_core.proofs.CommitLoops.{session_at, place_at, not_yet, one_joined}
+use Rattle.source_core.proofs.FlushLists.{all_at}
+use Rattle.source_core.proofs.CommitLoops.{place_at, not_yet, one_joined}
 use Rattle.source_core.proofs.committing.join_all.Goals as goal
 
-pub overflow_sub-entry : goal.overflow_sub-entry
-overflow_sub-entry c =
-    (session_at IsSession c.args.entries.now c.loop-entry.entry-index c.entry-item.result c.requires.sessions c.loop-entry-test.true c.entry-item.is).0
+pub overflow_sub-session : goal.overflow_sub-session
+overflow_sub-session c = (all_at IsSession c.args.sessions.now c.loop-session.session-index 0 c.requires.each c.loop-session-test.true).0
 
-pub bounds-places-entry : goal.bounds-places-entry
-bounds-places-entry c =
-    let is = session_at IsSession c.args.entries.now c.loop-entry.entry-index c.entry-item.result c.requires.sessions c.loop-entry-test.true c.entry-item.is in
+pub bounds-places-session : goal.bounds-places-session
+bounds-places-session c =
+    let is = all_at IsSession c.args.sessions.now c.loop-session.session-index 0 c.requires.each c.loop-session-test.true in
     omega (arith, is.0, is.1, c.requires.places)
 
 pub join_one-requires-clause-there : goal.join_one-requires-clause-there
 join_one-requires-clause-there c =
-    let here = place_at c.args.places.now c.args.entries.now c.loop-entry.entry-index c.entry-item.result c.index-places-entry.result c.requires.sessions c.requires.places c.loop-entry-test.true c.entry-item.is c.index-places-entry.is in
-    rw here (session_at (λ session. IsSome (placed c.args.places.now (session - 1))) c.args.entries.now c.loop-entry.entry-index c.entry-item.result c.requires.there c.loop-entry-test.true c.entry-item.is)
+    let here = place_at c.args.places.now c.args.sessions.now c.loop-session.session-index c.index-places-session.result c.requires.each c.requires.places c.loop-session-test.true c.index-places-session.is in
+    rw here (all_at (λ session. IsSome (placed c.args.places.now (session - 1))) c.args.sessions.now c.loop-session.session-index 0 c.requires.there c.loop-session-test.true)
 
 pub join_one-requires-clause-apart : goal.join_one-requires-clause-apart
 join_one-requires-clause-apart c =
-    let here = place_at c.args.places.now c.args.entries.now c.loop-entry.entry-index c.entry-item.result c.index-places-entry.result c.requires.sessions c.requires.places c.loop-entry-test.true c.entry-item.is c.index-places-entry.is in
-    rw (here, c.loop-entry.invariant) (not_yet c.args.places.now c.args.entries.now c.loop-entry.entry-index c.entry-item.result c.requires.apart c.loop-entry-test.true c.entry-item.is)
+    let here = place_at c.args.places.now c.args.sessions.now c.loop-session.session-index c.index-places-session.result c.requires.each c.requires.places c.loop-session-test.true c.index-places-session.is in
+    rw (here, c.loop-session.invariant) (not_yet c.args.places.now c.args.sessions.now c.loop-session.session-index c.requires.apart c.loop-session-test.true)
 
-pub loop-entry-preserved : goal.loop-entry-preserved
-loop-entry-preserved c =
-    let here = place_at c.args.places.now c.args.entries.now c.loop-entry.entry-index c.entry-item.result c.index-places-entry.result c.requires.sessions c.requires.places c.loop-entry-test.true c.entry-item.is c.index-places-entry.is in
+pub loop-session-preserved : goal.loop-session-preserved
+loop-session-preserved c =
+    let here = place_at c.args.places.now c.args.sessions.now c.loop-session.session-index c.index-places-session.result c.requires.each c.requires.places c.loop-session-test.true c.index-places-session.is in
     c.in_ok-join_one.ensures
-    ∙ (λ k. joined (c.loop-entry.invariant k) (pending_in (here k)))
-    ∙ one_joined c.args.places.now c.args.entries.now c.loop-entry.entry-index c.entry-item.result c.loop-entry-test.true c.entry-item.is
+    ∙ (λ k. joined (c.loop-session.invariant k) (pending_in (here k)))
+    ∙ one_joined c.args.places.now c.args.sessions.now c.loop-session.session-index c.loop-session-test.true
