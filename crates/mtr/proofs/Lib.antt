@@ -6,3 +6,6 @@ pub mod Splits
 pub mod EventLists
 pub mod ReadLines
 pub mod Runs
+pub mod HexTexts
+pub mod LogTexts
+pub mod HexBack

@@ -8,3 +8,7 @@ pub mod Options
 pub mod Pair
 pub mod Printing
 pub mod Ending
+pub mod Hex
+pub mod LogLines
+pub mod Decode
+pub mod HexText

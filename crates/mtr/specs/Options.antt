@@ -7,18 +7,22 @@ use Rattle.clap.specs.declared.error.kind.ErrorKind.TheVariants as kinds
 use Rattle.mtr.specs.declared.options.LineFault.{LineFault}
 use Rattle.mtr.specs.declared.options.LineFault.TheVariants as faults
 use Rattle.mtr.specs.declared.options.Options.{Options}
-use Rattle.mtr.specs.declared.options.Options.TheVariants.{Run}
+use Rattle.mtr.specs.declared.options.Options.TheVariants.{Run, Decode}
 
 -- `run`
 abbrev pub run_shape : Shape
 run_shape = (new_app (codes "run")).top
+
+-- `decode`
+abbrev pub decode_shape : Shape
+decode_shape = (new_app (codes "decode")).top
 
 -- the words are those behind the program's name, and one of them has to be a subcommand; each has a version
 abbrev pub program : App
 program =
     let app = new_app (codes "mtr") in
     let top = record app.top { no_binary_name = true; subcommand_required = true; has_version = true; propagate_version = true } in
-    with_subcommand (record app { top = top }) run_shape
+    with_subcommand (with_subcommand (record app { top = top }) run_shape) decode_shape
 
 -- the subcommand that the words name
 abbrev pub subcommand : List Text → Option Text
@@ -27,6 +31,7 @@ subcommand words = option_map (λ found. found.0) (subcommand_of program words)
 -- the name of the subcommand that makes these options
 abbrev pub subcommand_for : Options → Text
 subcommand_for Run = codes "run"
+subcommand_for Decode = codes "decode"
 
 -- whether an error of this kind is what the words asked for
 abbrev pub is_asked : ErrorKind → Bool

@@ -1,5 +1,5 @@
 -- What the pair of a source and a replica answers, and what is printed of it.
-use Rattle.std.specs.Prelude.{◌≡◌, ℕ, ℤ, List, ◌++◌, map, Option, Some, Ok, IsPermutation}
+use Rattle.std.specs.Prelude.{◌≡◌, ℕ, ℤ, List, [], ◌∷◌, ◌++◌, map, Option, Some, Ok, IsPermutation}
 use Rattle.std.specs.FinMap.{empty}
 use Rattle.std.specs.Io.KnownBytes.{Appends}
 use Rattle.rows.specs.Database.{Database}
@@ -20,9 +20,13 @@ use Rattle.mtr.specs.Script.{Said, script_of}
 abbrev pub present : RowId × List ℤ → Entry
 present row = (row.0, Some row.1)
 
--- what the pair begins with: these tables, the rows that the batch loads, and parents by the commit order
+-- the identifier of the program's source
+abbrev pub source : List ℕ
+source = 109 ∷ 116 ∷ 114 ∷ 0 ∷ 0 ∷ 0 ∷ 64 ∷ 0 ∷ 128 ∷ 0 ∷ 0 ∷ 0 ∷ 0 ∷ 0 ∷ 0 ∷ 1 ∷ []
+
+-- what the pair begins with: this source, these tables, the rows that the batch loads, and parents by the commit order
 abbrev pub setup_of : List Table → List Entry → Setup
-setup_of ts base = record { tables = ts; base = all_rows (put_batch base empty); limit = 9223372036854775807; kind = by_order; workers = 1 }
+setup_of ts base = record { identifier = source; tables = ts; base = all_rows (put_batch base empty); limit = 9223372036854775807; kind = by_order; workers = 1 }
 
 -- The world goes on by these events from whatever runs it came by, by the source's own log, and the lines of
 -- the replies are appended, in order.

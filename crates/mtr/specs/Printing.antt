@@ -8,6 +8,9 @@ use Rattle.replica_core.specs.declared.ReplicaFault.{ReplicaFault}
 use Rattle.replica_core.specs.declared.ReplicaFault.TheVariants as replica
 use Rattle.record_codec.specs.declared.fault.CodecFault.{CodecFault}
 use Rattle.record_codec.specs.declared.fault.CodecFault.TheVariants as codec
+use Rattle.log_file.specs.declared.fault.LogFault.{LogFault}
+use Rattle.log_file.specs.declared.fault.LogFault.TheVariants as log
+use Rattle.mtr.specs.HexText.{hex_text}
 use Rattle.world.specs.declared.events.Reply.{Reply}
 use Rattle.world.specs.declared.events.Reply.TheVariants as replies
 
@@ -46,6 +49,14 @@ codec_text codec.BadOrder = codes "C5 BadOrder"
 codec_text codec.BadMask = codes "C6 BadMask"
 codec_text codec.BadCount = codes "C7 BadCount"
 codec_text codec.Memory = codes "C8 Memory"
+
+-- the number and name of a fault of the log
+abbrev pub log_text : LogFault → List ℕ
+log_text log.Device = codes "L1 Device"
+log_text log.BadMagic = codes "L2 BadMagic"
+log_text log.OutOfTurn = codes "L3 OutOfTurn"
+log_text log.Memory = codes "L4 Memory"
+log_text (log.Codec fault) = codec_text fault
 
 -- a column behind a space, which is 32
 abbrev pub column_text : ℤ → List ℕ
@@ -88,7 +99,8 @@ text_of (replies.Read upto None) = decimal upto ++ codes ": none"
 text_of (replies.Source fault) = source_text fault
 text_of (replies.Replica fault) = replica_text fault
 text_of (replies.Codec fault) = codec_text fault
-text_of replies.NoRoom = codes "L4 Memory"
+text_of (replies.Text bytes) = hex_text bytes
+text_of (replies.Log fault) = log_text fault
 
 -- its line; 10 is LF
 abbrev pub line_of : Reply → List ℕ

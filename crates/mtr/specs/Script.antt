@@ -53,6 +53,8 @@ Says text (Err stops.Memory) = Unit {0}
 Says text (Err stops.Stream) = Unit {0}
 Says text (Err stops.BadBase) = ⊥
 Says text (Err (stops.Schema fault)) = ⊥
+Says text (Err stops.BadHexadecimal) = ⊥
+Says text (Err (stops.Log fault)) = ⊥
 
 -- one line: it has no LF
 abbrev pub IsLine : List ℕ → Type 0

@@ -5,10 +5,11 @@ ghost use Rattle.std.specs.Prelude.{IfOk};
 ghost use Rattle.world.specs.State.{IsWorld};
 ghost use Rattle.world.specs.Seen.{seen};
 
-use crate::pair::{base_of, new_pair};
+use crate::decode::decode;
+use crate::pair::{Pair, base_of, new_pair};
 use crate::printing::write_reply;
-use btree_store::BTreeStore;
-use commit_order_tracker::CommitOrder;
+use log_device::Device;
+use log_file::LogFault;
 use record_codec::CodecFault;
 use replica_core::ReplicaFault;
 use rows::{Change, Named, Row};
@@ -20,8 +21,6 @@ use std::test::Fail;
 use store_trait::RowStore;
 use tracker_trait::Tracker;
 use world::{Event, Reply, World};
-
-type Pair = World<BTreeStore, CommitOrder, BTreeStore>;
 
 /// A row of table 1.
 fn row(key: i64) -> RowId {
@@ -43,7 +42,9 @@ fn pair(alloc: Global) -> Result<Pair, Memory>
     let schema = Schema::new(tables).map_err(|_| Memory)?;
     let values = Row::new(&[1, 2]).ok_or(Memory)?;
     let batch = base_of(alloc, &[(row(20), values)])?.ok_or(Memory)?;
-    new_pair(alloc, schema, batch)?.ok_or(Memory)
+    new_pair(alloc, schema, batch)
+        .map_err(|_| Memory)?
+        .ok_or(Memory)
 }
 
 /// The same, made once more where memory is refused.
@@ -63,14 +64,14 @@ fn lacks_memory(reply: &Reply) -> bool {
         Reply::Source(SourceFault::Memory)
             | Reply::Replica(ReplicaFault::Memory)
             | Reply::Codec(CodecFault::Memory)
-            | Reply::NoRoom
+            | Reply::Log(LogFault::Memory)
     )
 }
 
 /// What one event is answered, where memory was there.
-fn run_one<S: RowStore, T: Tracker, R: RowStore>(
+fn run_one<S: RowStore, T: Tracker, D: Device, R: RowStore>(
     alloc: Global,
-    world: &mut World<S, T, R>,
+    world: &mut World<S, T, D, R>,
     event: &Event,
 ) -> Result<Reply, Memory>
     requires { IsWorld R.contents (seen world.old) }
@@ -84,9 +85,9 @@ fn run_one<S: RowStore, T: Tracker, R: RowStore>(
 }
 
 /// What an event is answered, sent once more where memory was refused.
-fn run_again<S: RowStore, T: Tracker, R: RowStore>(
+fn run_again<S: RowStore, T: Tracker, D: Device, R: RowStore>(
     alloc: Global,
-    world: &mut World<S, T, R>,
+    world: &mut World<S, T, D, R>,
     event: &Event,
 ) -> Result<Reply, Memory>
     requires { IsWorld R.contents (seen world.old) }
@@ -109,9 +110,9 @@ fn print_again(text: &mut Vec<u8>, reply: &Reply) -> Result<(), Fail> {
 }
 
 /// The lines of what events are answered.
-fn replies_again<S: RowStore, T: Tracker, R: RowStore>(
+fn replies_again<S: RowStore, T: Tracker, D: Device, R: RowStore>(
     alloc: Global,
-    world: &mut World<S, T, R>,
+    world: &mut World<S, T, D, R>,
     events: &[Event],
     text: &mut Vec<u8>,
 ) -> Result<(), Fail>
@@ -126,10 +127,10 @@ fn replies_again<S: RowStore, T: Tracker, R: RowStore>(
 }
 
 /// What events are answered, in lines, is this.
-fn prints_again<S: RowStore, T: Tracker, R: RowStore>(
+fn prints_again<S: RowStore, T: Tracker, D: Device, R: RowStore>(
     rt: &impl Abort,
     alloc: Global,
-    world: &mut World<S, T, R>,
+    world: &mut World<S, T, D, R>,
     events: &[Event],
     want: &str,
 ) -> Result<(), Fail>
@@ -180,10 +181,11 @@ finished 1
 commit 1
 published 1
 1: 5 6
+4d54524c4f4730316d747200000040008000000000000001010000003d000000390000000000000001000000000000000100000000000000000000000001010001000000000000000a020000000000000005000000000000000600
 ";
 
-/// `examples/one_insert.mtr`.
-fn one_insert() -> Result<[Event; 13], Fail> {
+/// `examples/one_insert.mtr`, and the log.
+fn one_insert() -> Result<[Event; 14], Fail> {
     Ok([
         Event::Begin { session: 1 },
         insert(1, 10, [5, 6])?,
@@ -198,6 +200,7 @@ fn one_insert() -> Result<[Event; 13], Fail> {
         Event::Next,
         Event::Publish,
         Event::Read { row: row(10) },
+        Event::Log,
     ])
 }
 
@@ -317,4 +320,28 @@ fn groups_an_abort_and_a_delete_are_run_again(rt: HostRuntime) -> Result<(), Fai
     let alloc = rt.alloc();
     let mut world = pair_again(alloc)?;
     prints_again(&rt, alloc, &mut world, &groups()?, GROUPS_PRINT)
+}
+
+/// What `decode` prints of a text, once more where memory was refused.
+fn decoded_again(alloc: Global, text: &[u8]) -> Result<Vec<u8>, Fail> {
+    let mut printed = Vec::new(alloc);
+    let mut input = text;
+    if decode(alloc, &mut input, &mut printed).is_err() {
+        printed.clear();
+        let mut input = text;
+        decode(alloc, &mut input, &mut printed)?;
+    }
+    Ok(printed)
+}
+
+#[test]
+fn a_log_is_decoded_again(rt: HostRuntime) -> Result<(), Fail> {
+    let text =
+        b"4d54524c4f4730316d747200000040008000000000000001010000003d000000390000000000000001000000000000000100000000000000000000000001010001000000000000000a020000000000000005000000000000000600";
+    let printed = decoded_again(rt.alloc(), text)?;
+    assert_eq!(rt;
+        str::from_utf8(&printed).ok(),
+        Some("source 6d747200-0000-4000-8000-000000000001\n1 (1,0) insert 1 10 5 6\nclosed\n")
+    );
+    Ok(())
 }

@@ -32,6 +32,7 @@ pub enum Verb {
     Next,
     Publish,
     Read,
+    Log,
 }
 
 impl Verb {
@@ -59,6 +60,7 @@ impl Verb {
             "next" => Some(Verb::Next),
             "publish" => Some(Verb::Publish),
             "read" => Some(Verb::Read),
+            "log" => Some(Verb::Log),
             _ => None,
         }
     }
@@ -95,6 +97,7 @@ pub fn event_of(verb: Verb, words: Words) -> Option<Event>
         Verb::Next => bare(Event::Next, words),
         Verb::Publish => bare(Event::Publish, words),
         Verb::Read => alone(words.row_id()).map(|row| Event::Read { row }),
+        Verb::Log => bare(Event::Log, words),
     }
 }
 

@@ -3,7 +3,7 @@
 ghost use Rattle.std.specs.Prelude.{◌≡◌, ◌≢◌, [], ◌∷◌, false, map, codes, option_map, IfOk, IfErr, IfSome, IfNone, MatchResult, Some};
 ghost use Rattle.clap.specs.Words.{app_of, kind_of, shape_of, fault_of};
 ghost use Rattle.clap.specs.declared.builder.command.Command.TheViews.{out-Command as fields_of};
-ghost use Rattle.mtr.specs.Options.{program, run_shape, subcommand, subcommand_for, IsOfKind, IsOfWords};
+ghost use Rattle.mtr.specs.Options.{program, run_shape, decode_shape, subcommand, subcommand_for, IsOfKind, IsOfWords};
 
 use crate::options::{LineFault, Options};
 use clap::Command;
@@ -36,8 +36,8 @@ pub fn options<'a>(alloc: Global, words: &'a [&'a str]) -> Result<Options, LineF
     ensures named { IfOk result (λ asked. subcommand (map (λ w. w.now) words.entry.now) ≡ Some (subcommand_for asked)) }
     // Help and the version are told where the words ask for them, and faults of the command line where they don't.
     ensures told { MatchResult result (λ _. fault_of program (map (λ w. w.now) words.entry.now) ≡ []) (IsOfWords (map (λ w. w.now) words.entry.now)) }
-    // The words `run` alone are refused for want of memory only.
-    ensures run { IfErr result (λ fault. map (λ w. w.now) words.entry.now ≡ codes "run" ∷ [] → fault ≡ LineFault.Memory) }
+    // The name of a subcommand alone is refused for want of memory only.
+    ensures alone { IfErr result (λ fault. (asked : Options) → map (λ w. w.now) words.entry.now ≡ subcommand_for asked ∷ [] → fault ≡ LineFault.Memory) }
 {
     let matches = match command(alloc)?.try_get_matches_from(words) {
         Ok(matches) => matches,
@@ -52,10 +52,11 @@ pub fn options<'a>(alloc: Global, words: &'a [&'a str]) -> Result<Options, LineF
 /// What a subcommand asks for.
 fn asked_by(name: Option<&str>) -> Option<Options>
     ensures named { IfSome result (λ asked. option_map (λ n. n.now) name.entry ≡ Some (subcommand_for asked)) }
-    ensures none { IfNone result (option_map (λ n. n.now) name.entry ≢ Some (codes "run")) }
+    ensures none { IfNone result ((asked : Options) → option_map (λ n. n.now) name.entry ≢ Some (subcommand_for asked)) }
 {
     match name {
         Some("run") => Some(Options::Run),
+        Some("decode") => Some(Options::Decode),
         _ => None,
     }
 }
@@ -71,7 +72,8 @@ fn command<'a>(alloc: Global) -> Result<Command<'a>, AllocError>
         .no_binary_name(true)
         .bin_name("mtr")?
         .subcommand_required(true)
-        .subcommand(run_command(alloc))
+        .subcommand(run_command(alloc))?
+        .subcommand(decode_command(alloc))
 }
 
 /// `run`; each option's help has its range and its default.
@@ -80,6 +82,15 @@ fn run_command<'a>(alloc: Global) -> Command<'a>
     ensures local { (fields_of result).has_globals ≡ false }
 {
     Command::new(alloc, "run").about("Runs the script on standard input")
+}
+
+fn decode_command<'a>(alloc: Global) -> Command<'a>
+    ensures shape { shape_of result ≡ decode_shape }
+    ensures local { (fields_of result).has_globals ≡ false }
+{
+    Command::new(alloc, "decode").about(
+        "Prints the records of the log file on standard input, which is given as hexadecimal digits. Whitespace is ignored",
+    )
 }
 
 /// The fault that `clap` tells.
@@ -103,8 +114,9 @@ mod tests {
     use std::test::Fail;
 
     #[test]
-    fn reads_run(rt: HostRuntime) -> Result<(), Fail> {
+    fn reads_each_subcommand(rt: HostRuntime) -> Result<(), Fail> {
         assert_eq!(rt; options(rt.alloc(), &["run"])?, Options::Run);
+        assert_eq!(rt; options(rt.alloc(), &["decode"])?, Options::Decode);
         Ok(())
     }
 
@@ -123,8 +135,10 @@ mod tests {
         assert!(rt; is_refused(alloc, &[""]));
         assert!(rt; is_refused(alloc, &["Run"]));
         assert!(rt; is_refused(alloc, &["threads"]));
-        assert!(rt; is_refused(alloc, &["decode"]));
+        assert!(rt; is_refused(alloc, &["Decode"]));
         assert!(rt; is_refused(alloc, &["run", "x"]));
         assert!(rt; is_refused(alloc, &["run", "--fail", "5"]));
+        assert!(rt; is_refused(alloc, &["decode", "x"]));
+        assert!(rt; is_refused(alloc, &["run", "decode"]));
     }
 }

@@ -1,9 +1,12 @@
 //! How the program ends, and what it tells then.
 
-ghost use Rattle.std.specs.Prelude.{◌≡◌, ◌≢◌, ◌∷◌, [], ◌++◌, codes};
+ghost use Rattle.std.specs.Prelude.{◌≡◌, ◌≢◌, ◌∷◌, [], ◌++◌, codes, OnOk};
 ghost use Rattle.std.specs.Io.KnownBytes.{Appends};
 ghost use Rattle.mtr.specs.Ending.{status_of, ending_of, schema_text, stop_text};
 
+use crate::printing::log_text;
+use log_file::LogFault;
+use record_codec::CodecFault;
 use schema::{Memory, SchemaFault};
 use std::alloc::AllocError;
 use std::io;
@@ -16,8 +19,10 @@ pub enum Ending {
     Done,
     /// The command line is none.
     CommandLine,
-    /// The script, its schema or its base rows are bad.
+    /// The script, its schema or its base rows are bad, or hexadecimal text is.
     BadScript,
+    /// A log could not be opened.
+    BadLog,
     /// Memory ran out outside an event.
     NoMemory,
     /// A stream could not be read or written.
@@ -33,6 +38,7 @@ impl Ending {
             Ending::Done => 0,
             Ending::CommandLine => 2,
             Ending::BadScript => 3,
+            Ending::BadLog => 4,
             Ending::NoMemory => 5,
             Ending::Stream => 7,
         }
@@ -49,6 +55,10 @@ pub enum Stop {
     Schema(SchemaFault),
     /// The base rows do not fit the schema, or one comes twice.
     BadBase,
+    /// A text is not whole bytes as hexadecimal digits.
+    BadHexadecimal,
+    /// The log could not be opened. It is never `LogFault::Memory`, and never want of memory for a record.
+    Log(LogFault),
     /// Memory ran out.
     Memory,
     /// A stream could not be read or written.
@@ -100,13 +110,29 @@ impl From<SchemaFault> for Stop {
     }
 }
 
+impl From<LogFault> for Stop {
+    ghost use Rattle.std.specs.Prelude.{◌≡◌};
+    ghost use Rattle.mtr.specs.Ending.{stop_of_log};
+
+    ghost from_gives = { λ fault stop. stop ≡ stop_of_log fault };
+
+    fn from(fault: LogFault) -> Stop {
+        match fault {
+            LogFault::Memory | LogFault::Codec(CodecFault::Memory) => Stop::Memory,
+            fault => Stop::Log(fault),
+        }
+    }
+}
+
 impl Stop {
     /// How the program ends then.
     pub fn ending(self) -> Ending
         ensures { result ≡ ending_of self }
     {
         match self {
-            Stop::BadCommand { .. } | Stop::Schema(_) | Stop::BadBase => Ending::BadScript,
+            Stop::BadCommand { .. } | Stop::Schema(_) | Stop::BadBase | Stop::BadHexadecimal =>
+                Ending::BadScript,
+            Stop::Log(_) => Ending::BadLog,
             Stop::Memory => Ending::NoMemory,
             Stop::Stream => Ending::Stream,
         }
@@ -117,16 +143,26 @@ impl Stop {
         ensures ending { result ≢ Ending.Stream → result ≡ ending_of self }
         ensures text { result ≢ Ending.Stream → Appends (E.contents errors.old) (E.contents errors.new) (stop_text self ++ 10 ∷ []) }
     {
-        let told = match self {
+        if self == Stop::Stream {
+            return Ending::Stream;
+        }
+        match self.write_line(errors) {
+            Ok(()) => self.ending(),
+            Err(_) => Ending::Stream,
+        }
+    }
+
+    fn write_line<E: Write>(self, errors: &mut E) -> io::Result<()>
+        ensures { OnOk result (Appends (E.contents errors.old) (E.contents errors.new) (stop_text self ++ 10 ∷ [])) }
+    {
+        match self {
             Stop::BadCommand { line } => writeln!(errors, "line {line}: bad command"),
             Stop::Schema(fault) => writeln!(errors, "{}", schema_text(fault)),
             Stop::BadBase => writeln!(errors, "bad base"),
+            Stop::BadHexadecimal => writeln!(errors, "bad hexadecimal"),
+            Stop::Log(fault) => writeln!(errors, "{}", log_text(fault)),
             Stop::Memory => writeln!(errors, "no memory"),
-            Stop::Stream => return Ending::Stream,
-        };
-        match told {
-            Ok(()) => self.ending(),
-            Err(_) => Ending::Stream,
+            Stop::Stream => writeln!(errors),
         }
     }
 }

@@ -1,8 +1,10 @@
-//! The program `mtr`: it runs a script over one source and one replica, and prints what each event answers.
+//! The program `mtr`: it runs a script over one source and one replica, and prints what each event answers; or it
+//! prints the records of a log file.
 //!
-//! `command_line` reads what the words ask for, `script` the whole script, and `pair` makes the two sides; so
-//! nothing is done before all is read and checked. `run` runs the events piece by piece (`events`). What is printed
-//! stands in `printing`, each fault and its exit status in `ending`; `serve` does it all over any reader and two
+//! `command_line` reads what the words ask for. To run a script, `script` reads the whole of it, and `pair` makes the
+//! two sides; so nothing is done before all is read and checked. `run` runs the events piece by piece (`events`), and
+//! what they print stands in `printing`. To print a log file, `decode` reads it by `hex` and prints the lines of
+//! `log_lines`. Each fault and its exit status stand in `ending`; `serve` does it all over any reader and two
 //! writers.
 #![tactic(auto)]
 
@@ -11,8 +13,11 @@ mod again_tests;
 mod command;
 mod command_line;
 mod cut;
+mod decode;
 mod ending;
 mod events;
+mod hex;
+mod log_lines;
 mod number;
 mod options;
 mod pair;

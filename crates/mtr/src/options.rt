@@ -8,6 +8,8 @@ use thiserror::Error;
 pub enum Options {
     /// `run`: a script is read on standard input and run.
     Run,
+    /// `decode`: a log file is read on standard input as hexadecimal text, and its records are printed.
+    Decode,
 }
 
 /// Why the words ask for nothing.

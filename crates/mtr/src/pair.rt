@@ -1,6 +1,6 @@
-//! A source and a replica over one schema and equal rows.
+//! A source with a log file, and a replica, over one schema and equal rows.
 
-ghost use Rattle.std.specs.Prelude.{◌≡◌, [], map, IfOk, IfSome, IfNone, IsPermutation};
+ghost use Rattle.std.specs.Prelude.{◌≡◌, [], map, IfOk, IfErr, IfSome, IfNone, IsPermutation};
 ghost use Rattle.schema.specs.Flags.{IsFlat};
 ghost use Rattle.store_trait.specs.Batch.{put_batch};
 ghost use Rattle.store_trait.specs.Fits.{Fits};
@@ -10,10 +10,14 @@ ghost use Rattle.std.specs.Map.{keys_of};
 ghost use Rattle.schema.specs.RowId.{same_row};
 ghost use Rattle.world.specs.Run.{HasRun};
 ghost use Rattle.world.specs.Seen.{seen};
-ghost use Rattle.mtr.specs.Pair.{present, setup_of};
+ghost use Rattle.world.specs.Fresh.{IsNew};
+ghost use Rattle.mtr.specs.Pair.{source, present, setup_of};
 
+use crate::ending::Stop;
 use btree_store::BTreeStore;
 use commit_order_tracker::CommitOrder;
+use log_device::MemoryDevice;
+use log_file::LogFile;
 use published::plain::Plain;
 use replica_core::ReplicaCore;
 use rows::Row;
@@ -21,7 +25,13 @@ use schema::{Memory, RowId, Schema};
 use source_core::SourceCore;
 use std::alloc::{AllocError, Global};
 use store_trait::{Batch, RowStore, fits};
+use uuid::Uuid;
 use world::World;
+
+/// The identifier of the program's source, 6d747200-0000-4000-8000-000000000001.
+const SOURCE: [u8; 16] = [
+    0x6d, 0x74, 0x72, 0, 0, 0, 0x40, 0, 0x80, 0, 0, 0, 0, 0, 0, 1,
+];
 
 /// The greatest number of records of a log.
 const MAX_RECORDS: u64 = 9223372036854775807;
@@ -52,23 +62,55 @@ fn store_of(alloc: Global, base: &Batch) -> Result<BTreeStore, Memory>
     Ok(store)
 }
 
-/// A new source, whose records' parents are their order parents, and a new replica that hold these rows; `None` exactly where the schema has tables without keys or
-/// with parents, or the rows do not fit it.
-pub fn new_pair(
-    alloc: Global,
-    schema: Schema,
-    base: Batch,
-) -> Result<Option<World<BTreeStore, CommitOrder, BTreeStore>>, Memory>
+/// The program's world, whose log file is in memory.
+pub type Pair = World<BTreeStore, CommitOrder, MemoryDevice, BTreeStore>;
+
+/// A new log file of the program's source, on a device in memory.
+fn empty_log(alloc: Global) -> Result<LogFile<MemoryDevice>, Stop>
+    ensures new { IfOk result (λ log. IsNew log) }
+    ensures source { IfOk result (λ log. log.source ≡ source) }
+    ensures err { IfErr result (λ stop. stop ≡ Stop.Memory) }
+{
+    match LogFile::create(alloc, MemoryDevice::new(alloc), Uuid::from_bytes(SOURCE)) {
+        Ok(log) => Ok(log),
+        Err((fault, _)) => Err(Stop::from(fault)),
+    }
+}
+
+/// A new source, whose records' parents are their order parents, with a new log file, and a new replica that hold
+/// these rows; `None` exactly where the schema has tables without keys or with parents, or the rows do not fit it.
+/// The log file is made behind that check. Any other refusal is want of memory.
+pub fn new_pair(alloc: Global, schema: Schema, base: Batch) -> Result<Option<Pair>, Stop>
     ensures starts { IfOk result (λ made. IfSome made (λ pair. HasRun (λ rows. rows) (setup_of schema base) [] [] (seen pair))) }
     ensures fits { IfOk result (λ made. IfSome made (λ _. IsFlat schema × Fits schema (put_batch base empty))) }
     ensures refused { IfOk result (λ made. IfNone made (¬ (IsFlat schema × Fits schema (put_batch base empty)))) }
+    ensures memory { IfErr result (λ stop. stop ≡ Stop.Memory) }
 {
     let store = store_of(alloc, &base)?;
     if !schema.is_flat() || !fits(&schema, &store) {
         return Ok(None);
     }
+    let log = empty_log(alloc)?;
+    Ok(Some(pair_of(alloc, schema, base, store, log)?))
+}
+
+/// The pair over rows that fit, in a store for the source.
+fn pair_of(
+    alloc: Global,
+    schema: Schema,
+    base: Batch,
+    store: BTreeStore,
+    log: LogFile<MemoryDevice>,
+) -> Result<Pair, Memory>
+    requires flat { IsFlat schema }
+    requires rows { store ≡ put_batch base empty }
+    requires fits { Fits schema (put_batch base empty) }
+    requires new { IsNew log }
+    requires source { log.source ≡ source }
+    ensures { IfOk result (λ pair. HasRun (λ rows. rows) (setup_of schema base) [] [] (seen pair)) }
+{
     let source = SourceCore::new(alloc, schema.copy()?, store, CommitOrder, MAX_RECORDS)?;
     let replica = ReplicaCore::new(alloc, schema, store_of(alloc, &base)?)?;
     let shown = Plain::new(alloc, BTreeStore::new(alloc), base)?;
-    Ok(Some(World::new(alloc, source, replica, shown)))
+    Ok(World::new(alloc, source, log, replica, shown))
 }

@@ -14,6 +14,7 @@ use crate::events::Piece;
 use crate::pair::{base_of, new_pair};
 use crate::printing::write_replies;
 use crate::script::Script;
+use log_device::Device;
 use schema::Schema;
 use std::alloc::Global;
 use std::io::{BufRead, Write};
@@ -56,9 +57,9 @@ fn run_script<W: Write>(alloc: Global, script: Script, output: &mut W) -> Result
 
 /// Runs the events of the pieces, over a world that goes on from what was done before. At most one piece's events and
 /// replies are kept at a time, and no line of a piece that was run.
-fn run_pieces<S: RowStore, T: Tracker, R: RowStore, W: Write>(
+fn run_pieces<S: RowStore, T: Tracker, D: Device, R: RowStore, W: Write>(
     alloc: Global,
-    world: &mut World<S, T, R>,
+    world: &mut World<S, T, D, R>,
     pieces: Vec<Piece>,
     output: &mut W,
 ) -> Result<(), Stop>

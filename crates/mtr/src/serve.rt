@@ -1,11 +1,12 @@
 //! The program's work, over any reader and two writers.
 
-ghost use Rattle.std.specs.Prelude.{◌≡◌, ◌≢◌, ◌∷◌, [], ◌++◌, IfSome, OnOk, string_bytes};
-ghost use Rattle.std.specs.Io.KnownBytes.{Appends, Keeps};
-ghost use Rattle.mtr.specs.Ending.{status_of};
+ghost use Rattle.std.specs.Prelude.{◌≡◌, ◌≢◌, ◌∷◌, [], ◌++◌, IfErr, IfSome, OnOk};
+ghost use Rattle.std.specs.Io.KnownBytes.{Appends};
+ghost use Rattle.mtr.specs.Ending.{ending_of, stop_text};
 ghost use Rattle.mtr.specs.Pair.{PrintsText};
 
 use crate::command_line::{NOT_UTF8, asked};
+use crate::decode::decode;
 use crate::ending::{Ending, Stop};
 use crate::options::{LineFault, Options};
 use crate::run::run_text;
@@ -60,7 +61,7 @@ fn write_text<W: Write>(text: &str, out: &mut W) -> io::Result<()>
 }
 
 /// Does what the options ask for. A fault is one line on `errors`, and nothing is written to the output then,
-/// but where memory or a stream fails after a beginning of the events; a stream that fails has no line.
+/// but where memory or a stream fails after a beginning of what is printed; a stream that fails has no line.
 fn serve<R: Read, W: Write, E: Write>(
     alloc: Global,
     options: &Options,
@@ -69,10 +70,20 @@ fn serve<R: Read, W: Write, E: Write>(
     errors: &mut E,
 ) -> Ending {
     match options {
-        Options::Run => match run(alloc, input, output) {
-            Ok(()) => Ending::Done,
-            Err(stop) => stop.tell(errors),
-        },
+        Options::Run => tell(run(alloc, input, output), errors),
+        Options::Decode => tell(decode(alloc, input, output), errors),
+    }
+}
+
+/// How the work ended; where it stopped that is told.
+fn tell<E: Write>(done: Result<(), Stop>, errors: &mut E) -> Ending
+    ensures done { OnOk done (result ≡ Ending.Done) }
+    ensures stopped { IfErr done (λ stop. result ≢ Ending.Stream → result ≡ ending_of stop) }
+    ensures told { IfErr done (λ stop. result ≢ Ending.Stream → Appends (E.contents errors.old) (E.contents errors.new) (stop_text stop ++ 10 ∷ [])) }
+{
+    match done {
+        Ok(()) => Ending::Done,
+        Err(stop) => stop.tell(errors),
     }
 }
 

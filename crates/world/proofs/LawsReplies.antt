@@ -12,8 +12,10 @@ use Rattle.store_trait.specs.Operation.{loaded}
 use Rattle.record_codec.specs.Log.{IsLegalLog}
 use Rattle.record_codec.proofs.Logs.{place_is_number}
 use Rattle.source_core.specs.declared.fault.SourceFault.{SourceFault}
+use Rattle.source_core.specs.declared.fault.SourceFault.TheVariants as source
+use Rattle.log_file.specs.declared.fault.LogFault.TheVariants as log_file
 use Rattle.source_core.specs.Source.{seen_row}
-use Rattle.source_core.specs.Calls.{begin_fault, write_fault, read_fault, prepare_fault, prepare_answer, queue_fault, abort_fault}
+use Rattle.source_core.specs.Calls.{begin_fault, write_fault, read_fault, prepare_fault, prepare_answer, queue_fault, abort_fault, halted_fault}
 use Rattle.source_core.specs.declared.transaction.Prepared.{Prepared as Answer}
 use Rattle.source_core.specs.declared.transaction.Prepared.TheVariants as answers
 use Rattle.replica_core.specs.declared.Received.{Received}
@@ -27,8 +29,8 @@ use Rattle.world.specs.declared.events.Reply.{Reply}
 use Rattle.world.specs.declared.events.Reply.TheVariants as replies
 use Rattle.world.specs.Replies.{received_reply, prepared_reply, dispatch_reply, finish_reply, next_commit_reply}
 use Rattle.world.proofs.Received.{accepts_next, refuses_gaps, synced_place}
-use Rattle.world.specs.Past.{Past, flushed, unsynced, synced, source_committed, queue, accepted, dispatched, finished, replica_committed, published}
-use Rattle.world.specs.Legal.{Setup, rows_after, source_at, replica_at, refused_or, stamp_of, next_records, FlushAnswers, sync_reply, synced_record, Answers, is_source_memory, is_replica_memory, is_codec_memory, lacks_memory, Allowed}
+use Rattle.world.specs.Past.{Past, flushed, unsynced, synced, halted, source_committed, queue, accepted, dispatched, finished, replica_committed, published}
+use Rattle.world.specs.Legal.{Setup, rows_after, source_at, replica_at, refused_or, stamp_of, next_records, FlushAnswers, SyncAnswers, commit_reply, log_text, synced_record, Answers, is_source_memory, is_replica_memory, is_codec_memory, is_log_memory, lacks_memory, Allowed}
 
 -- the row of a read, after the first so many records
 abbrev pub ReadSays : Setup → List Record → ℕ → Event → Option (List ℤ) → Type 0
@@ -67,22 +69,23 @@ of_codec : (setup : Setup) (log : List Record) (past : Past) (event : Event) (re
 of_codec setup log past event (replies.Codec fault) h = tt
 of_codec setup log past event reply h = absurd (false≢true h)
 
-of_sync : (setup : Setup) (log : List Record) (past : Past) (reply : Reply) → lacks_memory events.Sync reply ≡ true → Says setup log past events.Sync reply
-of_sync setup log past replies.NoRoom h = tt
-of_sync setup log past reply h = absurd (false≢true h)
+of_log : (setup : Setup) (log : List Record) (past : Past) (event : Event) (reply : Reply) → is_log_memory reply ≡ true → Says setup log past event reply
+of_log setup log past event (replies.Log fault) h = tt
+of_log setup log past event reply h = absurd (false≢true h)
 
-lacking : (setup : Setup) (log : List Record) (past : Past) (event : Event) (reply : Reply) → lacks_memory event reply ≡ true → Says setup log past event reply
-lacking setup log past (events.Write session change) reply h = of_source setup log past _ reply h
-lacking setup log past (events.Prepare session) reply h = of_source setup log past _ reply h
-lacking setup log past events.Flush reply h = of_source setup log past _ reply h
-lacking setup log past events.Sync reply h = of_sync setup log past reply h
-lacking setup log past events.Commit reply h = of_source setup log past _ reply h
+lacking : (setup : Setup) (log : List Record) (past : Past) (event : Event) (reply : Reply) → lacks_memory (halted past) event reply ≡ true → Says setup log past event reply
+lacking setup log past (events.Write session change) reply h = of_source setup log past _ reply (and_parts (not (halted past)) (is_source_memory reply) h).1
+lacking setup log past (events.Prepare session) reply h = of_source setup log past _ reply (and_parts (not (halted past)) (is_source_memory reply) h).1
+lacking setup log past events.Flush reply h = of_source setup log past _ reply (and_parts (not (halted past)) (is_source_memory reply) h).1
+lacking setup log past events.Sync reply h = of_log setup log past _ reply (and_parts (not (halted past)) (is_log_memory reply) h).1
+lacking setup log past events.Commit reply h = of_source setup log past _ reply (and_parts (not (halted past)) (is_source_memory reply) h).1
 lacking setup log past (events.Deliver gno) reply h =
     elim (or_cases (is_replica_memory reply) (is_codec_memory reply) h) [ inl r ↦ of_replica setup log past _ reply r | inr c ↦ of_codec setup log past _ reply c ]
 lacking setup log past events.Dispatch reply h = of_replica setup log past _ reply h
 lacking setup log past (events.Finish gno) reply h = of_replica setup log past _ reply h
 lacking setup log past events.Next reply h = of_replica setup log past _ reply h
 lacking setup log past events.Publish reply h = of_replica setup log past _ reply h
+lacking setup log past events.Log reply h = of_log setup log past _ reply h
 lacking setup log past event reply h = absurd (false≢true h)
 
 -- ---- each event
@@ -98,13 +101,19 @@ prepare_says : (setup : Setup) (log : List Record) (past : Past) (event : Event)
 prepare_says setup log past event (answers.Parent parent) = tt
 prepare_says setup log past event answers.Empty = tt
 
-flush_says : (setup : Setup) (log : List Record) (past : Past) (waiting : List ℕ) (reply : Reply) → FlushAnswers setup log past waiting reply → Says setup log past events.Flush reply
-flush_says setup log past [] reply h = by setup log past events.Flush reply replies.Nothing h tt
-flush_says setup log past (session ∷ waiting) reply h = by setup log past events.Flush reply _ h.0 (refl, refl)
+flush_says : (setup : Setup) (log : List Record) (past : Past) (halts : Bool) (waiting : List ℕ) (reply : Reply) → FlushAnswers setup log past halts waiting reply → Says setup log past events.Flush reply
+flush_says setup log past true waiting reply h = by setup log past events.Flush reply (replies.Source source.Halted) h tt
+flush_says setup log past false [] reply h = by setup log past events.Flush reply replies.Nothing h tt
+flush_says setup log past false (session ∷ waiting) reply h = by setup log past events.Flush reply _ h.0 (refl, refl)
 
-sync_says : (setup : Setup) (log : List Record) (past : Past) (groups : List (ℕ × ℕ)) → unsynced past ≡ groups → Says setup log past events.Sync (sync_reply groups)
-sync_says setup log past [] e = tt
-sync_says setup log past (group ∷ groups) e = (groups, e)
+sync_says : (setup : Setup) (log : List Record) (past : Past) (halts : Bool) (groups : List (ℕ × ℕ)) (reply : Reply) → unsynced past ≡ groups → SyncAnswers halts groups reply → Says setup log past events.Sync reply
+sync_says setup log past true groups reply e h = by setup log past events.Sync reply (replies.Source source.Halted) h tt
+sync_says setup log past false [] reply e h = by setup log past events.Sync reply replies.Nothing h tt
+sync_says setup log past false (group ∷ groups) reply e h =
+    elim h [
+      | inl put ↦ by setup log past events.Sync reply (replies.Synced group.0 group.1) put (groups, e)
+      | inr failed ↦ by setup log past events.Sync reply (replies.Log log_file.Device) failed tt
+    ]
 
 commit_says : (setup : Setup) (log : List Record) (past : Past) (all : Bool) → Says setup log past events.Commit (if all then replies.Nothing else replies.Committed (source_committed past + 1) (synced past))
 commit_says setup log past true = tt
@@ -166,9 +175,9 @@ answers_say setup log past (events.Queue session) reply legal within h =
     by setup log past _ reply _ h (refused_says setup log past _ (queue_fault (source_at setup log past) session) replies.Done tt)
 answers_say setup log past (events.Abort session) reply legal within h =
     by setup log past _ reply _ h (refused_says setup log past _ (abort_fault (source_at setup log past) session) replies.Done tt)
-answers_say setup log past events.Flush reply legal within h = flush_says setup log past (queue past) reply h
-answers_say setup log past events.Sync reply legal within h = by setup log past _ reply _ h (sync_says setup log past (unsynced past) refl)
-answers_say setup log past events.Commit reply legal within h = by setup log past _ reply _ h (commit_says setup log past (source_committed past == synced past))
+answers_say setup log past events.Flush reply legal within h = flush_says setup log past (halted past) (queue past) reply h
+answers_say setup log past events.Sync reply legal within h = sync_says setup log past (halted past) (unsynced past) reply refl h
+answers_say setup log past events.Commit reply legal within h = by setup log past _ reply _ h (refused_says setup log past _ (halted_fault (source_at setup log past)) (commit_reply past) (commit_says setup log past (source_committed past == synced past)))
 answers_say setup log past (events.Deliver gno) reply legal within h =
     by setup log past _ reply _ h (deliver_says setup log past gno legal within (synced_record log past gno) refl)
 answers_say setup log past events.Dispatch reply legal within h = by setup log past _ reply _ h (dispatch_says setup log past (is_eligible (replica_at setup log past)) (eligible setup log past))
@@ -178,6 +187,7 @@ answers_say setup log past (events.Finish gno) reply legal within h =
 answers_say setup log past events.Next reply legal within h = by setup log past _ reply _ h (next_says setup log past (list_any (λ n. n == replica_committed past + 1) (finished past)) (λ t. t))
 answers_say setup log past events.Publish reply legal within h = by setup log past _ reply _ h refl
 answers_say setup log past (events.Read id) reply legal within h = by setup log past _ reply _ h (refl, refl)
+answers_say setup log past events.Log reply legal within h = by setup log past _ reply (replies.Text (log_text setup log past)) h tt
 
 pub says : (setup : Setup) (log : List Record) (past : Past) (event : Event) (reply : Reply) → IsLegalLog setup.tables (loaded setup.base) log → accepted past ≤ length log → Allowed setup log past event reply → Says setup log past event reply
 says setup log past event reply legal within allowed =

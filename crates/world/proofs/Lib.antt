@@ -5,9 +5,12 @@ pub mod Received
 pub mod SourceEvents
 pub mod ReplicaEvents
 pub mod LogEvents
+pub mod Put
+pub mod SyncEvents
 pub mod Deliver
 pub mod Publish
 pub mod LawsReplies
 pub mod LawsSteps
 pub mod LawsRuns
+pub mod LawsHalts
 pub mod Run

@@ -1,17 +1,23 @@
 -- Facts of the parts of a world that every event uses.
 use mathlib.Core.List.{IsPrefix}
 use base.Growing.{prefix_refl}
-use Rattle.std.proofs.Common.{◌≡◌, ◌∙◌, sym, ap, ℕ, ◌≤◌, List, ◌∷◌, length, take, Option, arith}
+use Rattle.std.proofs.Common.{◌≡◌, ◌∙◌, sym, ap, refl, ℕ, ◌≤◌, Bool, true, false, not, ◌&&◌, Some, IsSome, Result, List, ◌∷◌, length, take, Option, arith}
 use Rattle.std.proofs.lemmas.List.{take-append-le}
 use Rattle.rows.specs.Database.{Database}
 use Rattle.record_codec.specs.declared.records.Record.{Record}
 use Rattle.source_core.specs.Source.{Source, Open}
+use Rattle.source_core.specs.Calls.{cause}
+use Rattle.source_core.specs.declared.fault.SourceFault.{SourceFault}
+use Rattle.source_core.specs.declared.fault.SourceFault.TheVariants as faults
 use Rattle.replica_core.specs.Replica.{Replica}
 use Rattle.world.specs.declared.events.Event.{Event}
 use Rattle.world.specs.declared.events.Reply.{Reply}
-use Rattle.world.specs.Past.{Past, flushed, unsynced, accepted, transaction_of, transaction_after, transactions}
+use Rattle.log_file.specs.Log.{Log}
+use Rattle.std.specs.Result.{result_err, IsErrOf}
+use Rattle.std.proofs.lemmas.Bool.{false≢true}
+use Rattle.world.specs.Past.{Past, flushed, unsynced, synced_groups, halted, is_failure, accepted, transaction_of, transaction_after, transactions}
 use Rattle.world.specs.Legal.{Setup, source_at, replica_at, Allowed}
-use Rattle.world.specs.State.{World, SourceIs, SidesAre, IsWorld, Stands, Goes}
+use Rattle.world.specs.State.{World, SourceIs, SidesAre, IsWorld, Stands, TellsFailure, Goes}
 use Rattle.world.proofs.Sessions.{none_told}
 
 -- the first records of a longer list are those of the list
@@ -30,11 +36,35 @@ replica_is contents setup past w log h st longer =
     let same : take (accepted past) log ≡ take (accepted past) w.source.log = take_longer w.source.log log longer (accepted past) within in
     ap (λ (l : List Record). record (replica_at setup log past) { accepted = l }) same ∙ sym st.replica.is
 
+-- a reply that tells of no failure, where the log file is as it was
+pub unfailed : (reply : Reply) (log : Log) → is_failure reply ≡ false → TellsFailure reply log log
+unfailed reply log none = record {
+  counts = omega arith;
+  quiet = λ _. refl;
+  told = λ failed. absurd (false≢true (sym none ∙ failed));
+  seen = λ running failed. absurd (false≢true (sym running ∙ failed));
+}
+
 -- an event that changes nothing
-pub stays : {R : Type 0} (contents : R → Database) (w : World R) (event : Event) (reply : Reply) → IsWorld contents w →
+pub stays : {R : Type 0} (contents : R → Database) (w : World R) (event : Event) (reply : Reply) → IsWorld contents w → is_failure reply ≡ false →
     ((setup : Setup) (past : Past) → Stands setup past w → Stands setup ((event, reply) ∷ past) w) →
     ((setup : Setup) (past : Past) (log : List Record) → Stands setup past w → IsPrefix w.source.log log → Allowed setup log past event reply) → Goes contents w event reply w
-stays contents w event reply h stands allowed = record { world = h; grows = prefix_refl w.source.log; stands = stands; allowed = allowed }
+stays contents w event reply h none stands allowed = record { world = h; grows = prefix_refl w.source.log; device = unfailed reply w.wire.log none; stands = stands; allowed = allowed }
+
+-- the pairs say that the source runs where it does, and that it is halted where it is
+pub halted_as : {R : Type 0} (setup : Setup) (past : Past) (w : World R) (b : Bool) → Stands setup past w → w.source.halted ≡ b → halted past ≡ b
+halted_as setup past w b st e = ap (λ (s : Source). s.halted) (sym st.source.is) ∙ e
+
+-- a source that runs may lack memory
+pub may_lack : {R : Type 0} (setup : Setup) (past : Past) (w : World R) → Stands setup past w → w.source.halted ≡ false → (not (halted past) && true) ≡ true
+may_lack setup past w st runs = ap (λ b. not b && true) (halted_as setup past w false st runs)
+
+-- a call that lacks memory was made of a source that runs
+pub runs_if_lacking : {T : Type 0} (halts : Bool) (later : Option SourceFault) (answer : Result T SourceFault) → (IsSome (cause halts faults.Halted later) → result_err answer ≡ cause halts faults.Halted later) → IsErrOf answer faults.Memory → halts ≡ false
+runs_if_lacking true later answer refused memory = absurd (other (sym (ap result_err memory) ∙ refused refl)) where
+  other : Some faults.Memory ≡ Some faults.Halted → ⊥
+  other e = cc e
+runs_if_lacking false later answer refused memory = refl
 
 -- the same world, with another source, or with another replica
 abbrev pub with_source : {R : Type 0} → World R → Source → World R
@@ -57,7 +87,7 @@ source_untold setup past log s event reply says is = record {
 
 -- a pair of which no side has anything
 pub untold : {R : Type 0} (setup : Setup) (past : Past) (w : World R) (event : Event) (reply : Reply) → ((k : ℕ) → transaction_after past k event reply (transaction_of past k) ≡ transaction_of past k) → Stands setup past w →
-    SidesAre (with_transactions setup w.source.log past (transactions ((event, reply) ∷ past))) (flushed past) (unsynced past) (replica_at setup w.source.log past) (accepted past) w.source w.wire w.replica
+    SidesAre (with_transactions setup w.source.log past (transactions ((event, reply) ∷ past))) (flushed past) setup.identifier (unsynced past) (synced_groups past) (replica_at setup w.source.log past) (accepted past) w.source w.wire w.replica
 untold setup past w event reply says st = record {
   source = source_untold setup past w.source.log w.source event reply says st.source;
   wire = st.wire;

@@ -26,12 +26,12 @@ use Rattle.replica_core.specs.Calls.{unless_stopped, next_job, dispatched_next, 
 use Rattle.world.specs.declared.events.Event.{Event}
 use Rattle.world.specs.declared.events.Event.TheVariants as events
 use Rattle.world.specs.declared.events.Reply.TheVariants as replies
-use Rattle.world.specs.Past.{Past, published, replica_committed, finished}
+use Rattle.world.specs.Past.{Past, halted, published, replica_committed, finished}
 use Rattle.world.specs.Legal.{Setup, replica_at, rows_after, taken_reply, lacks_memory, Allowed}
 use Rattle.world.specs.Replies.{dispatch_reply, finish_reply, finish_refused, next_commit_reply}
 use Rattle.world.specs.State.{World, IsWorld, Stands, Goes}
 use Rattle.world.specs.Run.{ShowsOperations}
-use Rattle.world.proofs.Parts.{replica_is, take_longer, stays, with_replica, untold, source_untold}
+use Rattle.world.proofs.Parts.{replica_is, take_longer, stays, with_replica, untold, source_untold, unfailed}
 use Rattle.store_trait.specs.Operation.{loaded, left_by}
 
 -- a replica that runs answers what it is asked
@@ -48,10 +48,11 @@ dispatch_answered contents w job h e =
     by_cases job (λ setup past log st longer. inr (ap (λ (o : Option ℕ). dispatch_reply (Ok o)) (sym (ap next_job (replica_is contents setup past w log h st longer) ∙ e)))) where
       by_cases : (o : Option ℕ) → ((setup : Setup) (past : Past) (log : List Record) → Stands setup past w → IsPrefix w.source.log log → Allowed setup log past events.Dispatch (dispatch_reply (Ok o))) →
           Goes contents w events.Dispatch (dispatch_reply (Ok o)) (with_replica w (if is_some o then dispatched_next w.replica else w.replica))
-      by_cases None allowed = stays contents w events.Dispatch replies.Nothing h (λ setup past st. untold setup past w events.Dispatch replies.Nothing (λ k. refl) st) allowed
+      by_cases None allowed = stays contents w events.Dispatch replies.Nothing h refl (λ setup past st. untold setup past w events.Dispatch replies.Nothing (λ k. refl) st) allowed
       by_cases (Some gno) allowed = record {
         world = stepped contents w _ _ h;
         grows = prefix_refl w.source.log;
+        device = unfailed _ w.wire.log refl;
         stands = λ setup past st. record { source = source_untold setup past w.source.log w.source events.Dispatch (replies.Job gno) (λ k. refl) st.source; wire = st.wire; replica = record { accepted = st.replica.accepted; is = ap dispatched_next st.replica.is } };
         allowed = allowed;
       }
@@ -90,7 +91,7 @@ shows_operations contents w h =
 
 pub read_goes : {R : Type 0} (contents : R → Database) (w : World R) (id : RowId) (row : Option (List ℤ)) (upto : ℕ) → IsWorld contents w → row ≡ get (contents w.shown.store) id → upto ≡ w.shown.upto →
     Goes contents w (events.Read id) (replies.Read upto row) w
-read_goes {R} contents w id row upto h row_is upto_is = stays contents w _ _ h (λ setup past st. untold setup past w (events.Read id) (replies.Read upto row) (λ k. refl) st) (λ setup past log st longer.
+read_goes {R} contents w id row upto h row_is upto_is = stays contents w _ _ h refl (λ setup past st. untold setup past w (events.Read id) (replies.Read upto row) (λ k. refl) st) (λ setup past log st longer.
     let number : upto ≡ published past = upto_is ∙ h.readers.shows ∙ ap (λ (r : Replica). r.published) st.replica.is in
     let found : row ≡ option_and_then (λ db. get db id) (rows_after setup log (published past)) = row_is ∙ sym (ap (option_and_then (λ db. get db id)) (shown_rows contents setup past w log h st longer)) in
     inr (λ i. replies.Read (number i) (found i)))
@@ -107,7 +108,7 @@ commit_answered contents w commit h e =
 
       by_cases : (o : Option ℕ) → next_commit w.replica ≡ o → ((setup : Setup) (past : Past) (log : List Record) → Stands setup past w → IsPrefix w.source.log log → Allowed setup log past events.Next (next_commit_reply (Ok o))) →
           Goes contents w events.Next (next_commit_reply (Ok o)) (with_replica w (if is_some o then committed_next w.replica else w.replica))
-      by_cases None k allowed = stays contents w events.Next replies.Nothing h (λ setup past st. untold setup past w events.Next replies.Nothing (λ k. refl) st) allowed
+      by_cases None k allowed = stays contents w events.Next replies.Nothing h refl (λ setup past st. untold setup past w events.Next replies.Nothing (λ k. refl) st) allowed
       by_cases (Some gno) k allowed = record {
         world = record {
           source = h.source;
@@ -116,6 +117,7 @@ commit_answered contents w commit h e =
           readers = record { shows = h.readers.shows; rows = h.readers.rows; upto = h.readers.upto; later = h.readers.later; done = omega (arith, h.readers.done); there = h.readers.there; are = h.readers.are };
         };
         grows = prefix_refl w.source.log;
+        device = unfailed _ w.wire.log refl;
         stands = λ setup past st.
             let number : replica_committed past + 1 ≡ gno = ap (λ (r : Replica). r.committed + 1) (sym st.replica.is) ∙ sym (next_is w.replica gno k) in
             let without = λ (n : ℕ). record (replica_at setup w.source.log past) { committed = replica_committed past + 1; finished = filter (λ m. not (m == n)) (finished past) } in
@@ -124,10 +126,10 @@ commit_answered contents w commit h e =
       }
 
 -- want of memory leaves the replica as it was
-pub no_memory : {R : Type 0} (contents : R → Database) (w : World R) (event : Event) (next : Replica) → IsWorld contents w → lacks_memory event (replies.Replica faults.Memory) ≡ true →
+pub no_memory : {R : Type 0} (contents : R → Database) (w : World R) (event : Event) (next : Replica) → IsWorld contents w → ((halts : Bool) → lacks_memory halts event (replies.Replica faults.Memory) ≡ true) →
     ((setup : Setup) (past : Past) → Stands setup past w → Stands setup ((event, replies.Replica faults.Memory) ∷ past) w) → next ≡ w.replica → Goes contents w event (replies.Replica faults.Memory) (with_replica w next)
 no_memory {R} contents w event next h lacks stands same =
-    subst (λ (r : Replica). Goes {R = R} contents w event (replies.Replica faults.Memory) (with_replica w r)) (sym same) (stays contents w event (replies.Replica faults.Memory) h stands (λ setup past log st longer. inl lacks))
+    subst (λ (r : Replica). Goes {R = R} contents w event (replies.Replica faults.Memory) (with_replica w r)) (sym same) (stays contents w event (replies.Replica faults.Memory) h refl stands (λ setup past log st longer. inl (lacks (halted past))))
 
 pub next_goes : {R : Type 0} (contents : R → Database) (w : World R) (answer : Result (Option ℕ) ReplicaFault) (next : Replica) →
     IsWorld contents w → IsErrOf answer faults.Memory ⊎ (answer ≡ unless_stopped w.replica (next_commit w.replica)) →
@@ -135,7 +137,7 @@ pub next_goes : {R : Type 0} (contents : R → Database) (w : World R) (answer :
     Goes contents w events.Next (next_commit_reply answer) (with_replica w next)
 next_goes {R} contents w answer next h (inl memory) ok err =
     subst (λ (a : Result (Option ℕ) ReplicaFault). OnErr a (next ≡ w.replica) → Goes {R = R} contents w events.Next (next_commit_reply a) (with_replica w next)) (sym memory)
-    (no_memory contents w events.Next next h refl (λ setup past st. untold setup past w events.Next (replies.Replica faults.Memory) (λ k. refl) st)) err
+    (no_memory contents w events.Next next h (λ halts. refl) (λ setup past st. untold setup past w events.Next (replies.Replica faults.Memory) (λ k. refl) st)) err
 next_goes {R} contents w answer next h (inr is) ok err =
     let gives : answer ≡ Ok (next_commit w.replica) = is ∙ running_answer w.replica (next_commit w.replica) h.replica.going in
     subst (λ (a : Result (Option ℕ) ReplicaFault). IfOk a (λ commit. next ≡ (if is_some commit then committed_next w.replica else w.replica)) → Goes {R = R} contents w events.Next (next_commit_reply a) (with_replica w next)) (sym gives)
@@ -190,13 +192,14 @@ refused_finish r gno going =
 
 finish_nothing : {R : Type 0} (contents : R → Database) (w : World R) (gno : ℕ) (fault : ReplicaFault) → IsWorld contents w → finish_fault w.replica gno ≡ Some fault → finish_refused fault ≡ replies.Nothing → Goes contents w (events.Finish gno) replies.Nothing w
 finish_nothing contents w gno fault h e nothing =
-    stays contents w (events.Finish gno) replies.Nothing h (λ setup past st. untold setup past w (events.Finish gno) replies.Nothing (λ k. refl) st)
+    stays contents w (events.Finish gno) replies.Nothing h refl (λ setup past st. untold setup past w (events.Finish gno) replies.Nothing (λ k. refl) st)
     (λ setup past log st longer. inr (sym (ap (λ (r : Replica). taken_reply r gno) (replica_is contents setup past w log h st longer) ∙ ap (λ (o : Option ReplicaFault). finish_reply gno (option_map_or (λ f. Err f) o (Ok tt))) e ∙ nothing)))
 
 finish_taken : {R : Type 0} (contents : R → Database) (w : World R) (gno : ℕ) → IsWorld contents w → finish_fault w.replica gno ≡ None → Goes contents w (events.Finish gno) (replies.Finished gno) (with_replica w (with_finished w.replica gno))
 finish_taken contents w gno h e = record {
   world = stepped contents w _ _ h;
   grows = prefix_refl w.source.log;
+  device = unfailed _ w.wire.log refl;
   stands = λ setup past st. record { source = source_untold setup past w.source.log w.source (events.Finish gno) (replies.Finished gno) (λ k. refl) st.source; wire = st.wire; replica = record { accepted = st.replica.accepted; is = ap (λ (r : Replica). with_finished r gno) st.replica.is } };
   allowed = λ setup past log st longer.
       inr (sym (ap (λ (r : Replica). taken_reply r gno) (replica_is contents setup past w log h st longer) ∙ ap (λ (o : Option ReplicaFault). finish_reply gno (option_map_or (λ f. Err f) o (Ok tt))) e));
@@ -217,7 +220,7 @@ pub finish_goes : {R : Type 0} (contents : R → Database) (w : World R) (gno : 
     Goes contents w (events.Finish gno) (finish_reply gno answer) (with_replica w next)
 finish_goes {R} contents w gno answer next h order (inl memory) ok err =
     subst (λ (a : Result (Unit {0}) ReplicaFault). IfErr a (λ f. next ≡ left_by_fault w.replica f) → Goes {R = R} contents w (events.Finish gno) (finish_reply gno a) (with_replica w next)) (sym memory)
-    (no_memory contents w (events.Finish gno) next h refl (λ setup past st. untold setup past w (events.Finish gno) (replies.Replica faults.Memory) (λ k. refl) st)) err
+    (no_memory contents w (events.Finish gno) next h (λ halts. refl) (λ setup past st. untold setup past w (events.Finish gno) (replies.Replica faults.Memory) (λ k. refl) st)) err
 finish_goes {R} contents w gno answer next h order (inr is) ok err =
     elim (refused_finish w.replica gno h.replica.going) [
       | inl due ↦

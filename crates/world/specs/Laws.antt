@@ -5,6 +5,8 @@ use Rattle.std.specs.FinMap.{get}
 use Rattle.schema.specs.declared.RowId.{RowId}
 use Rattle.store_trait.specs.Operation.{left_by}
 use Rattle.record_codec.specs.declared.records.Record.{Record}
+use Rattle.log_file.specs.declared.fault.LogFault.TheVariants as log_file
+use Rattle.source_core.specs.declared.fault.SourceFault.TheVariants as source
 use Rattle.replica_core.specs.declared.ReplicaFault.{ReplicaFault}
 use Rattle.replica_core.specs.declared.ReplicaFault.TheVariants as replica
 use Rattle.replica_core.specs.Replica.{operations}
@@ -96,6 +98,28 @@ abbrev pub RefusesOnlyGaps : Type 0
 RefusesOnlyGaps = (setup : Setup) (log : List Record) (events_ : List Event) (replies_ : List Reply) → AreLegal setup log events_ replies_ →
     (place : ℕ) (fault : ReplicaFault) → slice_get replies_ place ≡ Some (replies.Replica fault) →
     (fault ≡ replica.Memory) ⊎ ((fault ≡ replica.Gap) × (gno : ℕ) × (slice_get events_ place ≡ Some (events.Deliver gno)))
+
+-- an event that asks the source: those of its sessions, a flush, a sync and a commit
+abbrev pub asks_source : Event → Bool
+asks_source event = elim event [
+  | events.Begin session ↦ true
+  | events.Write session change ↦ true
+  | events.See session id ↦ true
+  | events.Prepare session ↦ true
+  | events.Queue session ↦ true
+  | events.Abort session ↦ true
+  | events.Flush ↦ true
+  | events.Sync ↦ true
+  | events.Commit ↦ true
+  | _ ↦ false
+]
+
+-- Once a sync is answered that the device of the log failed, each later event that asks the source is answered that it
+-- is halted.
+abbrev pub HaltsForGood : Type 0
+HaltsForGood = (setup : Setup) (log : List Record) (events_ : List Event) (replies_ : List Reply) → AreLegal setup log events_ replies_ →
+    (before later : ℕ) (event : Event) → before < later → slice_get replies_ before ≡ Some (replies.Log log_file.Device) →
+    slice_get events_ later ≡ Some event → asks_source event ≡ true → slice_get replies_ later ≡ Some (replies.Source source.Halted)
 
 -- At each moment the operations of the published records, put in order into an empty store, leave the rows that readers
 -- have: those of the source after as many records.

@@ -1,5 +1,6 @@
 -- Legal replies: each reply is the one that the pairs before it and one legal log allow.
-use Rattle.std.specs.Prelude.{◌≡◌, ℕ, ◌+◌, ◌-◌, Bool, true, false, ◌&&◌, ◌||◌, ◌==◌, nat_le, if◌then◌else◌, List, [], ◌∷◌, length, map, take, drop, slice_get, Option, Some, None, Ok, Err, option_and_then, ◌⊎◌}
+use Rattle.std.specs.Prelude.{◌≡◌, ℕ, ◌+◌, ◌-◌, Bool, true, false, not, ◌&&◌, ◌||◌, ◌==◌, nat_le, if◌then◌else◌, List, [], ◌∷◌, length, map, take, drop, slice_get, Option, Some, None, Ok, Err, option_and_then, ◌⊎◌}
+use Rattle.std.specs.List.{flat_map}
 use Rattle.std.specs.Option.{option_map_or}
 use Rattle.std.specs.FinMap.{get}
 use Rattle.schema.specs.declared.Table.{Table}
@@ -8,10 +9,14 @@ use Rattle.store_trait.specs.Batch.{Entry}
 use Rattle.record_codec.specs.declared.records.Record.{Record}
 use Rattle.record_codec.specs.declared.fault.CodecFault.TheVariants as codec
 use Rattle.record_codec.specs.Log.{after, IsLegalLog}
+use Rattle.record_codec.specs.Group.{GroupValue}
+use Rattle.record_codec.specs.Spelling.{spelling}
 use Rattle.source_core.specs.declared.fault.SourceFault.{SourceFault}
 use Rattle.source_core.specs.declared.fault.SourceFault.TheVariants as source
+use Rattle.log_file.specs.declared.fault.LogFault.TheVariants as log_file
+use Rattle.log_file.specs.Text.{text}
 use Rattle.source_core.specs.Source.{Source, seen_row}
-use Rattle.source_core.specs.Calls.{begin_fault, write_fault, read_fault, prepare_fault, prepare_answer, queue_fault, abort_fault, AreRecordsOf, seen_log}
+use Rattle.source_core.specs.Calls.{begin_fault, write_fault, read_fault, prepare_fault, prepare_answer, queue_fault, abort_fault, halted_fault, AreRecordsOf, seen_log}
 use Rattle.tracker_trait.specs.Kind.{Kind}
 use Rattle.replica_core.specs.declared.ReplicaFault.TheVariants as replica
 use Rattle.replica_core.specs.Replica.{Replica}
@@ -21,12 +26,13 @@ use Rattle.world.specs.declared.events.Event.TheVariants as events
 use Rattle.world.specs.declared.events.Reply.{Reply}
 use Rattle.world.specs.declared.events.Reply.TheVariants as replies
 use Rattle.world.specs.Replies.{received_reply, prepared_reply, dispatch_reply, finish_reply, next_commit_reply}
-use Rattle.world.specs.Past.{Past, flushed, unsynced, synced, source_committed, queue, owners, transactions, accepted, dispatched, finished, replica_committed, published}
+use Rattle.world.specs.Past.{Past, flushed, unsynced, synced_groups, synced, halted, source_committed, queue, owners, transactions, accepted, dispatched, finished, replica_committed, published}
 use Rattle.store_trait.specs.Operation.{loaded}
 
--- what a run begins with: the schema, the rows that both sides hold, the greatest number of records, how the source
--- finds parents, and the number of workers
+-- what a run begins with: the source's identifier, the schema, the rows that both sides hold, the greatest number of
+-- records, how the source finds parents, and the number of workers
 pub record Setup : Type 0 where
+  pub identifier : List ℕ
   pub tables : List Table
   pub base : List Entry
   pub limit : ℕ
@@ -50,7 +56,7 @@ source_at setup log past = record {
   owners = owners past;
   sessions = transactions past;
   queue = queue past;
-  halted = false;
+  halted = halted past;
 }
 
 -- the replica
@@ -79,19 +85,22 @@ stamp_of of = (of.sequence, of.parent)
 abbrev pub next_records : List Record → Past → List Record
 next_records log past = take (length (queue past)) (drop (flushed past) log)
 
--- `nothing` exactly where none is queued. Else the queued transactions are the next records, in the order of
--- the queue: each has its transaction's changes, in order, and the parent that the mode gives it behind the records
--- before it
-abbrev pub FlushAnswers : Setup → List Record → Past → List ℕ → Reply → Type 0
-FlushAnswers setup log past [] reply = reply ≡ replies.Nothing
-FlushAnswers setup log past (first ∷ rest) reply =
+-- A halted source refuses. Else `nothing` exactly where none is queued; else the queued transactions are the next
+-- records, in the order of the queue: each has its transaction's changes, in order, and the parent that the mode gives
+-- it behind the records before it.
+abbrev pub FlushAnswers : Setup → List Record → Past → Bool → List ℕ → Reply → Type 0
+FlushAnswers setup log past true sessions reply = reply ≡ replies.Source source.Halted
+FlushAnswers setup log past false [] reply = reply ≡ replies.Nothing
+FlushAnswers setup log past false (first ∷ rest) reply =
     (reply ≡ replies.Flushed (flushed past + 1) (map stamp_of (next_records log past)))
     × AreRecordsOf (source_at setup log past) (seen_log (source_at setup log past)) (first ∷ rest) (next_records log past)
 
--- the oldest group that was flushed and is not synced
-abbrev pub sync_reply : List (ℕ × ℕ) → Reply
-sync_reply [] = replies.Nothing
-sync_reply (group ∷ groups) = replies.Synced group.0 group.1
+-- A halted source refuses. Else `nothing` exactly where no group is flushed and not synced; else the oldest of these is
+-- on the log, or the log's device failed, and the source is halted from then on.
+abbrev pub SyncAnswers : Bool → List (ℕ × ℕ) → Reply → Type 0
+SyncAnswers true groups reply = reply ≡ replies.Source source.Halted
+SyncAnswers false [] reply = reply ≡ replies.Nothing
+SyncAnswers false (group ∷ groups) reply = (reply ≡ replies.Synced group.0 group.1) ⊎ (reply ≡ replies.Log log_file.Device)
 
 -- all that is synced and not committed
 abbrev pub commit_reply : Past → Reply
@@ -100,6 +109,18 @@ commit_reply past = if source_committed past == synced past then replies.Nothing
 -- the record of this number, counted from 1, where it is synced
 abbrev pub synced_record : List Record → Past → ℕ → Option Record
 synced_record log past gno = if nat_le 1 gno && nat_le gno (synced past) then slice_get log (gno - 1) else None
+
+-- the group of the records from one number to another, by their spellings
+abbrev pub group_between : List Record → ℕ × ℕ → GroupValue
+group_between log ends = record {
+  first = ends.0;
+  last = ends.1;
+  bytes = flat_map spelling (drop (ends.0 - 1) (take ends.1 log));
+}
+
+-- the log file as its device is to have it: its header, the synced groups, and the last gate
+abbrev pub log_text : Setup → List Record → Past → List ℕ
+log_text setup log past = text setup.identifier (map (group_between log) (synced_groups past))
 
 -- only synced records are delivered, to the replica's `received`
 abbrev pub deliver_reply : Setup → List Record → Past → ℕ → Reply
@@ -110,7 +131,8 @@ deliver_reply setup log past gno =
 abbrev pub taken_reply : Replica → ℕ → Reply
 taken_reply r gno = finish_reply gno (option_map_or (λ fault. Err fault) (finish_fault r gno) (Ok tt))
 
--- The one reply that an event has after these pairs. No other reply is legal.
+-- The reply that an event has after these pairs; no other is legal. Only a sync that has a group to write may have one of
+-- two.
 abbrev pub Answers : Setup → List Record → Past → Event → Reply → Type 0
 Answers setup log past (events.Begin session) reply =
     reply ≡ refused_or (begin_fault (source_at setup log past) session) replies.Done
@@ -124,9 +146,9 @@ Answers setup log past (events.Queue session) reply =
     reply ≡ refused_or (queue_fault (source_at setup log past) session) replies.Done
 Answers setup log past (events.Abort session) reply =
     reply ≡ refused_or (abort_fault (source_at setup log past) session) replies.Done
-Answers setup log past events.Flush reply = FlushAnswers setup log past (queue past) reply
-Answers setup log past events.Sync reply = reply ≡ sync_reply (unsynced past)
-Answers setup log past events.Commit reply = reply ≡ commit_reply past
+Answers setup log past events.Flush reply = FlushAnswers setup log past (halted past) (queue past) reply
+Answers setup log past events.Sync reply = SyncAnswers (halted past) (unsynced past) reply
+Answers setup log past events.Commit reply = reply ≡ refused_or (halted_fault (source_at setup log past)) (commit_reply past)
 Answers setup log past (events.Deliver gno) reply = reply ≡ deliver_reply setup log past gno
 Answers setup log past events.Dispatch reply = let r = replica_at setup log past in reply ≡ dispatch_reply (unless_stopped r (next_job r))
 Answers setup log past (events.Finish gno) reply = reply ≡ taken_reply (replica_at setup log past) gno
@@ -134,6 +156,7 @@ Answers setup log past events.Next reply = let r = replica_at setup log past in 
 Answers setup log past events.Publish reply = reply ≡ replies.Published (replica_committed past)
 Answers setup log past (events.Read id) reply =
     reply ≡ replies.Read (published past) (option_and_then (λ db. get db id) (rows_after setup log (published past)))
+Answers setup log past events.Log reply = reply ≡ replies.Text (log_text setup log past)
 
 abbrev pub is_source_memory : Reply → Bool
 is_source_memory reply = elim reply [ replies.Source fault ↦ (elim fault [ source.Memory ↦ true | _ ↦ false ]) | _ ↦ false ]
@@ -144,25 +167,29 @@ is_replica_memory reply = elim reply [ replies.Replica fault ↦ (elim fault [ r
 abbrev pub is_codec_memory : Reply → Bool
 is_codec_memory reply = elim reply [ replies.Codec fault ↦ (elim fault [ codec.Memory ↦ true | _ ↦ false ]) | _ ↦ false ]
 
--- whether an event may be answered so for want of memory. It changes nothing then
-abbrev pub lacks_memory : Event → Reply → Bool
-lacks_memory event reply = elim event [
-  | events.Write session change ↦ is_source_memory reply
-  | events.Prepare session ↦ is_source_memory reply
-  | events.Flush ↦ is_source_memory reply
-  | events.Sync ↦ (elim reply [ replies.NoRoom ↦ true | _ ↦ false ])
-  | events.Commit ↦ is_source_memory reply
+abbrev pub is_log_memory : Reply → Bool
+is_log_memory reply = elim reply [ replies.Log fault ↦ (elim fault [ log_file.Memory ↦ true | _ ↦ false ]) | _ ↦ false ]
+
+-- Whether an event may be answered so for want of memory. It changes nothing then. A halted source asks for none.
+abbrev pub lacks_memory : Bool → Event → Reply → Bool
+lacks_memory halts event reply = elim event [
+  | events.Write session change ↦ not halts && is_source_memory reply
+  | events.Prepare session ↦ not halts && is_source_memory reply
+  | events.Flush ↦ not halts && is_source_memory reply
+  | events.Sync ↦ not halts && is_log_memory reply
+  | events.Commit ↦ not halts && is_source_memory reply
   | events.Deliver gno ↦ is_replica_memory reply || is_codec_memory reply
   | events.Dispatch ↦ is_replica_memory reply
   | events.Finish gno ↦ is_replica_memory reply
   | events.Next ↦ is_replica_memory reply
   | events.Publish ↦ is_replica_memory reply
+  | events.Log ↦ is_log_memory reply
   | _ ↦ false
 ]
 
 -- a reply that the pairs so far allow
 abbrev pub Allowed : Setup → List Record → Past → Event → Reply → Type 0
-Allowed setup log past event reply = (lacks_memory event reply ≡ true) ⊎ Answers setup log past event reply
+Allowed setup log past event reply = (lacks_memory (halted past) event reply ≡ true) ⊎ Answers setup log past event reply
 
 -- each reply is allowed behind the pairs before it
 abbrev pub AreAllowed : Setup → List Record → Past → List Event → List Reply → Type 0

@@ -4,6 +4,7 @@ pub mod Replies
 pub mod State
 pub mod Seen
 pub mod Appended
+pub mod Put
 pub mod Laws
 pub mod Fresh
 pub mod Run

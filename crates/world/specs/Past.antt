@@ -1,10 +1,11 @@
 -- What the pairs of event and reply so far say. They are listed with the newest first.
-use Rattle.std.specs.Prelude.{ℕ, ◌+◌, Bool, true, false, not, ◌&&◌, ◌==◌, if◌then◌else◌, List, [], ◌∷◌, ◌++◌, length, map, drop, filter, Option, Some, None}
+use Rattle.std.specs.Prelude.{ℕ, ◌+◌, Bool, true, false, not, ◌&&◌, ◌||◌, ◌==◌, if◌then◌else◌, List, [], ◌∷◌, ◌++◌, length, map, drop, filter, Option, Some, None}
 use Rattle.std.specs.List.{range_with_len}
 use Rattle.std.specs.Option.{option_map}
 use Rattle.source_core.specs.declared.transaction.Phase.TheVariants.{Active, Prepared}
 use Rattle.source_core.specs.Source.{Open}
 use Rattle.source_core.specs.Calls.{flushed_open, queued_phase, is_flushed_by}
+use Rattle.log_file.specs.declared.fault.LogFault.TheVariants as log_file
 use Rattle.world.specs.declared.events.Event.{Event}
 use Rattle.world.specs.declared.events.Event.TheVariants as events
 use Rattle.world.specs.declared.events.Reply.{Reply}
@@ -29,6 +30,20 @@ unsynced (pair ∷ past) = elim pair.1 [
   | replies.Synced first last ↦ drop 1 (unsynced past)
   | _ ↦ unsynced past
 ]
+
+-- the groups that are synced, the oldest first, by the same numbers
+abbrev pub synced_groups : Past → List (ℕ × ℕ)
+synced_groups [] = []
+synced_groups (pair ∷ past) = elim pair.1 [ replies.Synced first last ↦ synced_groups past ++ (first, last) ∷ [] | _ ↦ synced_groups past ]
+
+-- a reply that the device of the log failed
+abbrev pub is_failure : Reply → Bool
+is_failure reply = elim reply [ replies.Log fault ↦ (elim fault [ log_file.Device ↦ true | _ ↦ false ]) | _ ↦ false ]
+
+-- whether the source is halted: the device of the log failed in an earlier sync
+abbrev pub halted : Past → Bool
+halted [] = false
+halted (pair ∷ past) = is_failure pair.1 || halted past
 
 -- the number of records synced
 abbrev pub synced : Past → ℕ

@@ -1,6 +1,7 @@
 -- How a world came to be.
 use mathlib.Core.List.{IsPrefix}
-use Rattle.std.specs.Prelude.{◌≡◌, List, [], length}
+use Rattle.std.specs.Prelude.{◌≡◌, ◌≤◌, true, false, List, [], length}
+use Rattle.std.specs.List.{list_any}
 use Rattle.rows.specs.Database.{Database}
 use Rattle.store_trait.specs.Operation.{loaded, left_by}
 use Rattle.record_codec.specs.declared.records.Record.{Record}
@@ -8,6 +9,9 @@ use Rattle.record_codec.specs.Log.{IsLegalLog}
 use Rattle.replica_core.specs.Replica.{operations}
 use Rattle.world.specs.declared.events.Event.{Event}
 use Rattle.world.specs.declared.events.Reply.{Reply}
+use Rattle.log_file.specs.Log.{Log}
+use Rattle.world.specs.Put.{DeviceFailed}
+use Rattle.world.specs.Past.{is_failure}
 use Rattle.world.specs.Legal.{Setup, AreLegal}
 use Rattle.world.specs.Laws.{pairs_after}
 use Rattle.world.specs.State.{World, IsWorld, Stands}
@@ -21,6 +25,14 @@ pub record HasRun {R : Type 0} (contents : R → Database) (setup : Setup) (even
   -- the replies are legal by the source's own log, and by each longer log that goes on legally from it
   pub legal : AreLegal setup w.source.log events_ replies_
   pub onward : (log : List Record) → IsPrefix w.source.log log → IsLegalLog setup.tables (loaded setup.base) log → AreLegal setup log events_ replies_
+
+-- What the replies of a run tell of the log's device: the count of its failures never fell, and stayed where no reply says
+-- that it failed. Where one does, and where the log file failed meanwhile, it failed by its count.
+pub record TellFailures (replies_ : List Reply) (old new : Log) : Type 0 where
+  pub counts : old.faults ≤ new.faults
+  pub quiet : list_any is_failure replies_ ≡ false → new.faults ≡ old.faults
+  pub told : list_any is_failure replies_ ≡ true → DeviceFailed old new
+  pub seen : old.failed ≡ false → new.failed ≡ true → DeviceFailed old new
 
 -- Readers have the rows that the operations of the published records leave of an empty store: as many of the source's
 -- log as they are told.

@@ -2,5 +2,5 @@
 use Rattle.world.specs.declared.machine.World.{World as Machine}
 use Rattle.world.specs.State.{World}
 
-abbrev pub seen : {S T R : Type 0} → Machine S T R → World R
-seen w = record { source = w.source; wire = record { groups = w.groups.items; synced = w.synced }; replica = w.replica; shown = w.shown }
+abbrev pub seen : {S T D R : Type 0} → Machine S T D R → World R
+seen w = record { source = w.source; wire = record { log = w.log; waiting = w.waiting.items }; replica = w.replica; shown = w.shown }

@@ -1,6 +1,6 @@
 -- How the parts of a world stand together, and to the pairs of event and reply so far.
 use mathlib.Core.List.{IsPrefix}
-use Rattle.std.specs.Prelude.{◌≡◌, ℕ, ◌≤◌, false, List, [], ◌∷◌, ◌++◌, length, map, take, drop, Option, Some, None}
+use Rattle.std.specs.Prelude.{◌≡◌, ℕ, ◌≤◌, Bool, true, false, List, [], ◌∷◌, ◌++◌, length, map, take, drop, Option, Some, None}
 use Rattle.rows.specs.Database.{Database}
 use Rattle.store_trait.specs.Operation.{batch_of, loaded}
 use Rattle.record_codec.specs.declared.records.Record.{Record}
@@ -11,16 +11,19 @@ use Rattle.schema.specs.declared.Table.{Table}
 use Rattle.store_trait.specs.Batch.{Entry}
 use Rattle.replica_core.specs.Replica.{Replica, commits}
 use Rattle.published.specs.Plain.{Shown}
+use Rattle.log_file.specs.Log.{Log}
+use Rattle.world.specs.Put.{DeviceFailed}
 use Rattle.world.specs.declared.events.Event.{Event}
 use Rattle.world.specs.declared.events.Reply.{Reply}
-use Rattle.world.specs.Past.{Past, flushed, accepted, unsynced}
+use Rattle.world.specs.Past.{Past, flushed, accepted, unsynced, synced_groups, is_failure}
 use Rattle.world.specs.Legal.{Setup, source_at, replica_at, Allowed}
 
 -- what lies between the two sides
 pub record Wire : Type 0 where
-  -- each group that was flushed, the oldest first; the first so many are on the log
-  pub groups : List GroupValue
-  pub synced : ℕ
+  -- the log file, which has the groups that are synced
+  pub log : Log
+  -- the groups that are flushed and not synced, the oldest first
+  pub waiting : List GroupValue
 
 -- a world as the values of its parts
 pub record World (R : Type 0) : Type 0 where
@@ -35,17 +38,19 @@ abbrev pub Hold : List GroupValue → List Record → Type 0
 Hold [] records = records ≡ []
 Hold (group ∷ groups) records = (its rest : List Record) × (records ≡ its ++ rest) × AreRecordsOf group its × Hold groups rest
 
--- The source is sound, and its log did not fail.
+-- The source is sound.
 pub record IsSource (s : Source) : Type 0 where
   pub sound : IsSound s
-  pub running : s.halted ≡ false
 
--- The wire of a source with this log, of which so many records are synced: the groups that are synced hold these, and
--- those behind them hold the rest. What came over it is a beginning of the synced log.
-pub record IsWire (log : List Record) (synced_ : ℕ) (accepted_ : List Record) (wire : Wire) : Type 0 where
-  pub few : wire.synced ≤ length wire.groups
-  pub on_log : Hold (take wire.synced wire.groups) (take synced_ log)
-  pub waiting : Hold (drop wire.synced wire.groups) (drop synced_ log)
+-- The wire of a source with this log, of which so many records are synced: these are the log file's, and its groups hold
+-- them; the groups that wait hold the rest. The source is halted where the log file failed; where it did not, no group is
+-- in it that waits for its sync. What came over the wire is a beginning of the synced log.
+pub record IsWire (log : List Record) (synced_ : ℕ) (halted_ : Bool) (accepted_ : List Record) (wire : Wire) : Type 0 where
+  pub on_log : Hold wire.log.groups (take synced_ log)
+  pub records : wire.log.records ≡ take synced_ log
+  pub waiting : Hold wire.waiting (drop synced_ log)
+  pub failed : wire.log.failed ≡ halted_
+  pub ready : wire.log.failed ≡ false → wire.log.waiting ≡ None
   pub front : accepted_ ≡ take (length accepted_) log
   pub within : length accepted_ ≤ synced_
 
@@ -70,7 +75,7 @@ pub record IsShown {R : Type 0} (contents : R → Database) (ts : List Table) (b
 -- What is true of every world, whatever came before.
 pub record IsWorld {R : Type 0} (contents : R → Database) (w : World R) : Type 0 where
   pub source : IsSource w.source
-  pub wire : IsWire w.source.log w.source.synced w.replica.accepted w.wire
+  pub wire : IsWire w.source.log w.source.synced w.source.halted w.replica.accepted w.wire
   pub replica : IsReplica w.source.tables w.source.base w.replica.tables w.replica.base w.replica.workers w.replica.stopped
   pub readers : IsShown contents w.replica.tables w.replica.base w.replica.accepted w.replica.committed w.replica.published w.shown
 
@@ -82,9 +87,11 @@ pub record SourceIs (said : Source) (flushed_ : ℕ) (s : Source) : Type 0 where
   pub flushed : flushed_ ≡ length s.log
   pub is : s ≡ said
 
--- These groups are flushed and not synced.
-pub record WireIs (unsynced_ : List (ℕ × ℕ)) (wire : Wire) : Type 0 where
-  pub unsynced : map ends_of (drop wire.synced wire.groups) ≡ unsynced_
+-- The log file is that of this source; these groups are flushed and not synced, and these are synced.
+pub record WireIs (identifier_ : List ℕ) (unsynced_ synced_ : List (ℕ × ℕ)) (wire : Wire) : Type 0 where
+  pub identifier : wire.log.source ≡ identifier_
+  pub unsynced : map ends_of wire.waiting ≡ unsynced_
+  pub synced : map ends_of wire.log.groups ≡ synced_
 
 -- The replica is as it is said to be, with so many records accepted.
 pub record ReplicaIs (said : Replica) (accepted_ : ℕ) (r : Replica) : Type 0 where
@@ -92,20 +99,29 @@ pub record ReplicaIs (said : Replica) (accepted_ : ℕ) (r : Replica) : Type 0 w
   pub is : r ≡ said
 
 -- Each side is as it is said to be. What readers see follows from the replica's side.
-pub record SidesAre (source_ : Source) (flushed_ : ℕ) (unsynced_ : List (ℕ × ℕ)) (replica_ : Replica) (accepted_ : ℕ) (s : Source) (wire_ : Wire) (r : Replica) : Type 0 where
+pub record SidesAre (source_ : Source) (flushed_ : ℕ) (identifier_ : List ℕ) (unsynced_ synced_ : List (ℕ × ℕ)) (replica_ : Replica) (accepted_ : ℕ) (s : Source) (wire_ : Wire) (r : Replica) : Type 0 where
   pub source : SourceIs source_ flushed_ s
-  pub wire : WireIs unsynced_ wire_
+  pub wire : WireIs identifier_ unsynced_ synced_ wire_
   pub replica : ReplicaIs replica_ accepted_ r
 
 -- the world is the one that the pairs so far leave
 abbrev pub Stands : {R : Type 0} → Setup → Past → World R → Type 0
 Stands setup past w =
-    SidesAre (source_at setup w.source.log past) (flushed past) (unsynced past) (replica_at setup w.source.log past) (accepted past) w.source w.wire w.replica
+    SidesAre (source_at setup w.source.log past) (flushed past) setup.identifier (unsynced past) (synced_groups past) (replica_at setup w.source.log past) (accepted past) w.source w.wire w.replica
+
+-- What a reply tells of the log's device: the count of its failures never falls, and stays where the reply says nothing of
+-- a failure. Where the reply says so, and where the log file failed meanwhile, the device failed by its count.
+pub record TellsFailure (reply : Reply) (old new : Log) : Type 0 where
+  pub counts : old.faults ≤ new.faults
+  pub quiet : is_failure reply ≡ false → new.faults ≡ old.faults
+  pub told : is_failure reply ≡ true → DeviceFailed old new
+  pub seen : old.failed ≡ false → new.failed ≡ true → DeviceFailed old new
 
 -- One event: the world stays one, its log grows at its end, and, whatever pairs the world stood for, it stands
 -- for these and the new one, and the reply is allowed by each log that the world's log begins.
 pub record Goes {R : Type 0} (contents : R → Database) (old : World R) (event : Event) (reply : Reply) (new : World R) : Type 0 where
   pub world : IsWorld contents new
   pub grows : IsPrefix old.source.log new.source.log
+  pub device : TellsFailure reply old.wire.log new.wire.log
   pub stands : (setup : Setup) (past : Past) → Stands setup past old → Stands setup ((event, reply) ∷ past) new
   pub allowed : (setup : Setup) (past : Past) (log : List Record) → Stands setup past old → IsPrefix new.source.log log → Allowed setup log past event reply

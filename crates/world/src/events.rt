@@ -2,6 +2,7 @@
 
 ghost use Rattle.std.specs.Prelude.{◌≡◌};
 
+use log_file::LogFault;
 use record_codec::CodecFault;
 use replica_core::ReplicaFault;
 use rows::{Change, Row};
@@ -26,7 +27,7 @@ pub enum Event {
     Abort { session: u16 },
     /// The queued transactions become the next records of the log.
     Flush,
-    /// The oldest group of records that is not yet synced is written to the log.
+    /// The oldest group of records that is not yet synced is written to the log file.
     Sync,
     /// The synced transactions are committed.
     Commit,
@@ -42,6 +43,8 @@ pub enum Event {
     Publish,
     /// A read at the replica.
     Read { row: RowId },
+    /// The log file is shown, as its device is to have it: its header, the synced groups, and the last gate.
+    Log,
 }
 
 /// The stamps of the records of a group, in log order: sequence number and parent of each.
@@ -71,6 +74,36 @@ impl Stamps {
         ensures { result.now ≡ self.now }
     {
         &self.list
+    }
+}
+
+/// The bytes of a log file.
+#[derive(Debug, Drop)]
+pub struct LogText {
+    bytes: Vec<u8>,
+}
+
+impl Model for LogText {
+    ghost use Rattle.std.specs.Prelude.{List, ℕ};
+
+    ghost Value = { List ℕ };
+
+    ghost view = { λ t. t.bytes.items };
+}
+
+impl LogText {
+    /// These bytes. It takes no memory.
+    pub fn new(bytes: Vec<u8>) -> LogText
+        ensures { result ≡ bytes.items }
+    {
+        LogText { bytes }
+    }
+
+    /// The bytes.
+    pub fn bytes(&self) -> &[u8]
+        ensures { result.now ≡ self.now }
+    {
+        &self.bytes
     }
 }
 
@@ -115,6 +148,8 @@ pub enum Reply {
     Replica(ReplicaFault),
     /// The record could not be read from its bytes.
     Codec(CodecFault),
-    /// There was no memory to write the group to the log.
-    NoRoom,
+    /// The log file.
+    Text(LogText),
+    /// The device of the log failed, and the source is halted; or there was no memory for the log file.
+    Log(LogFault),
 }

@@ -12,6 +12,7 @@ ghost use Rattle.world.specs.Laws.{
   NothingUnsyncedIsAccepted,
   RefusesOnlyGaps,
   OperationsLeaveRows,
+  HaltsForGood,
 };
 
 /// Each read at the replica is answered, with the row as the source had it after a beginning of its log that is synced.
@@ -46,6 +47,12 @@ pub fn nothing_unsynced_is_accepted()
 /// The replica refuses no call but the delivery of a record past the next, unless memory runs out. So it never stops.
 pub fn refuses_only_gaps()
     ensures { RefusesOnlyGaps }
+{}
+
+/// Once a sync is answered that the log's device failed, the source refuses each later event that asks it, syncs and
+/// commits among them. The replica, its readers and the log go on.
+pub fn halts_for_good()
+    ensures { HaltsForGood }
 {}
 
 /// The rows that readers have are what the load of the base and the published commits leave of an empty store.

@@ -301,7 +301,6 @@ fn refuses_what_comes_later(rt: HostRuntime) {
     for text in [
         "table 1 2 keyless",
         "table 1 2 keyed parent 0 3",
-        "log",
         "executed",
     ] {
         assert_eq!(rt; counts(rt.alloc(), text.as_bytes()), bad(1), "{text:?}");

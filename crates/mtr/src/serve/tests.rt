@@ -1,5 +1,8 @@
 //! The scripts of `examples/`, every text and status that the program ends with, and streams and memory that fail.
 
+mod decode;
+mod log;
+
 use super::*;
 use std::process::Abort;
 use std::test::Fail;
@@ -978,8 +981,9 @@ A source with group commit, and a replica that applies its log in parallel
 Usage: mtr <COMMAND>
 
 Commands:
-  run   Runs the script on standard input
-  help  Print this message or the help of the given subcommand(s)
+  run     Runs the script on standard input
+  decode  Prints the records of the log file on standard input, which is given as hexadecimal digits. Whitespace is ignored
+  help    Print this message or the help of the given subcommand(s)
 
 Options:
   -h, --help     Print help
@@ -1045,7 +1049,7 @@ fn faults_of_the_command_line_are_told(rt: HostRuntime) {
         asked_of(alloc, &["mtr"]),
         2,
         "",
-        "error: 'mtr' requires a subcommand but one was not provided\n  [subcommands: run, help]\n\nUsage: mtr <COMMAND>\n\nFor more information, try '--help'.\n",
+        "error: 'mtr' requires a subcommand but one was not provided\n  [subcommands: run, decode, help]\n\nUsage: mtr <COMMAND>\n\nFor more information, try '--help'.\n",
     );
     let mut input: &[u8] = b"";
     let words = Err(io::Error::from(ErrorKind::InvalidData));

@@ -1,4 +1,4 @@
-use Rattle.std.proofs.Common.{◌≡◌, ◌∙◌, ◌⊎◌, inl, inr, sym, subst, map, ap, ap₂, refl, Bool, true, false, not, ◌||◌, codes, List, [], ◌∷◌, Option, Some, None, option_map}
+use Rattle.std.proofs.Common.{◌≡◌, ◌∙◌, ◌⊎◌, inl, inr, sym, subst, map, ap, ap₂, refl, Bool, true, false, not, ◌||◌, List, [], ◌∷◌, Option, Some, None, option_map, Result, Ok, Err, IfErr}
 use Rattle.std.specs.List.{list_any}
 use Rattle.clap.specs.declared.error.kind.ErrorKind.{ErrorKind}
 use Rattle.clap.specs.declared.error.kind.ErrorKind.TheVariants as kinds
@@ -6,22 +6,23 @@ use Rattle.mtr.specs.declared.options.LineFault.{LineFault}
 use Rattle.mtr.specs.declared.options.LineFault.TheVariants as faults
 use Rattle.clap.specs.Words.{Text, takes, subcommand_of, is_simple, is_simple_and_free, fault_of, app_of, kind_of, IsAmong}
 use Rattle.clap.proofs.OnLiterals.{clap_on_literals}
-use Rattle.mtr.specs.Options.{program, subcommand, is_asked, is_mistake, IsOfKind, IsOfWords}
+use Rattle.mtr.specs.declared.options.Options.{Options}
+use Rattle.mtr.specs.declared.options.Options.TheVariants.{Run, Decode}
+use Rattle.mtr.specs.Options.{program, subcommand, subcommand_for, is_asked, is_mistake, IsOfKind, IsOfWords}
 use Rattle.mtr.proofs.command_line.options.Goals as goal
 
-abbrev run : List Text
-run = codes "run" ∷ []
-
-is_taken : takes program run ≡ true
+is_taken : (asked : Options) → takes program (subcommand_for asked ∷ []) ≡ true
 unfolding clap_on_literals
-is_taken = refl
+is_taken Run = refl
+is_taken Decode = refl
 
-is_named : subcommand run ≡ Some (codes "run")
+is_named : (asked : Options) → subcommand (subcommand_for asked ∷ []) ≡ Some (subcommand_for asked)
 unfolding clap_on_literals
-is_named = refl
+is_named Run = refl
+is_named Decode = refl
 
-pub returns-in-Err-clause-run : goal.returns-in-Err-clause-run
-returns-in-Err-clause-run c = λ alone. c.fault_of.ensures.memory (c.in-Err.ensures.passes (ap₂ takes c.in_ok-command.ensures alone ∙ is_taken))
+pub returns-in-Err-clause-alone : goal.returns-in-Err-clause-alone
+returns-in-Err-clause-alone c = λ asked alone. c.fault_of.ensures.memory (c.in-Err.ensures.passes (ap₂ takes c.in_ok-command.ensures alone ∙ is_taken asked))
 
 is_free_program : is_simple_and_free program ≡ true
 unfolding clap_on_literals
@@ -71,8 +72,19 @@ option_map-option_map : {A B C : Type 0} (f : B → C) (g : A → B) (o : Option
 option_map-option_map f g None = refl
 option_map-option_map f g (Some x) = refl
 
-pub returns-clause-run : goal.returns-clause-run
-returns-clause-run c = λ alone.
+if_err_always : {T E : Type 0} (r : Result T E) (P : E → Type 0) → ((e : E) → P e) → IfErr r P
+if_err_always (Ok v) P h = tt
+if_err_always (Err e) P h = h e
+
+pub returns-in_err-from_str-in-None-clause-alone : goal.returns-in_err-from_str-in-None-clause-alone
+returns-in_err-from_str-in-None-clause-alone c =
+    if_err_always c.from_residual-in_err-from_str-in-None.result _ (λ fault asked alone.
     let found = c.in-Ok.ensures.matches (ap is_simple c.in_ok-command.ensures ∙ is_simple_program) in
     let name = c.subcommand_name.ensures ∙ option_map-option_map (λ p. p.0) _ _ in
-    absurd (c.in-None.ensures.none (name ∙ ap (option_map (λ p. p.0)) (found.1 ∙ ap₂ subcommand_of c.in_ok-command.ensures alone) ∙ is_named))
+    absurd (c.in-None.ensures.none asked (name ∙ ap (option_map (λ p. p.0)) (found.1 ∙ ap₂ subcommand_of c.in_ok-command.ensures alone) ∙ is_named asked)))
+
+pub returns-clause-alone : goal.returns-clause-alone
+returns-clause-alone c = λ asked alone.
+    let found = c.in-Ok.ensures.matches (ap is_simple c.in_ok-command.ensures ∙ is_simple_program) in
+    let name = c.subcommand_name.ensures ∙ option_map-option_map (λ p. p.0) _ _ in
+    absurd (c.in-None.ensures.none asked (name ∙ ap (option_map (λ p. p.0)) (found.1 ∙ ap₂ subcommand_of c.in_ok-command.ensures alone) ∙ is_named asked))

@@ -1,11 +1,7 @@
 use Rattle.std.proofs.Common.{subst}
 use Rattle.rows.specs.Database.{Database}
 use Rattle.store_trait.specs.Fits.{Fits}
-use Rattle.source_core.proofs.New.{new_is_new}
 use Rattle.mtr.proofs.pair.new_pair.Goals as goal
-
-pub new-requires-5-clause-source : goal.new-requires-5-clause-source
-new-requires-5-clause-source c = new_is_new c.in_ok-source.source _ _ _ _ c.in_ok-source.ensures.new
 
 pub returns-clause-fits : goal.returns-clause-fits
 returns-clause-fits c = (

@@ -1,6 +1,6 @@
-use Rattle.std.proofs.Common.{◌∷◌, [], refl, ap}
+use Rattle.std.proofs.Common.{refl, ap}
 use Rattle.std.proofs.KnownBytes.{Appends-nil}
-use Rattle.mtr.proofs.Pieces.{piece_more, pieces_all, along, then_text}
+use Rattle.mtr.proofs.Pieces.{piece_more, pieces_all, along}
 use Rattle.mtr.specs.Printing.{column_text, columns_text}
 use Rattle.mtr.proofs.printing.write_columns.Goals as goal
 
@@ -14,6 +14,4 @@ pub returns : goal.returns
 returns g c =
     let contents = g.W.Write.contents in
     let all = pieces_all column_text c.columns-column-items.result.now c.loop-column.column-index (contents c.args.out.now) (contents c.loop-column.out) c.loop-column-test.false c.loop-column.invariant in
-    then_text c.writeln.result (contents c.args.out.now) (contents c.loop-column.out) (contents c.writeln.new.self) (columns_text c.args.row.now) (10 ∷ [])
-    (along _ _ _ _ (ap columns_text c.columns-column-items.ensures.value) all)
-    c.writeln.ensures.bytes
+    along _ _ _ _ (ap columns_text c.columns-column-items.ensures.value) all

@@ -1,0 +1,5 @@
+use Rattle.world.proofs.LawsHalts.{for_good}
+use Rattle.world.proofs.laws.halts_for_good.Goals as goal
+
+pub returns : goal.returns
+returns c = for_good
