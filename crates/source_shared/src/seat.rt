@@ -1,0 +1,177 @@
+//! Seats: what a session calls by.
+ghost use Rattle.std.specs.Prelude.{◌≡◌, ◌≤◌, ◌-◌, true, length, take, OnOk, OnErr, MatchBool};
+ghost use Rattle.std.specs.Bool.{OnTrue};
+ghost use Rattle.source_shared.specs.Seat.{new_seat, begun_seat, wrote, aborted_seat, given_to, IsFor};
+
+use crate::book::{Naming, Receipt};
+use rows::{Change, Named};
+use schema::Memory;
+use source_core::Receipt as Given;
+use std::alloc::Global;
+use std::marker::{Model, PhantomData};
+
+/// The one seat of a session. It keeps the changes that the session wrote since it last began, to compare them with the
+/// receipt that it is given. It may go to any thread.
+#[derive(Drop)]
+pub struct SessionSeat<J: Naming> {
+    session: u16,
+    changes: Vec<Change>,
+    last: u64,
+    underway: bool,
+    of: PhantomData<J>,
+}
+
+impl<J: Naming> Model for SessionSeat<J> {
+    ghost use Rattle.std.specs.Prelude.{◌≤◌};
+    ghost use Rattle.source_shared.specs.Seat.{Seat};
+
+    ghost Value = { Seat };
+
+    ghost view = { λ s. record { session = s.session; changes = s.changes.items; last = s.last; underway = s.underway } };
+
+    ghost invariant = { λ s. (1 ≤ s.session) × (s.session ≤ 256) };
+}
+
+impl<J: Naming> SessionSeat<J> {
+    // The seat of a session that wrote nothing.
+    pub(crate) fn new(alloc: Global, session: u16) -> SessionSeat<J>
+        requires { (1 ≤ session) × (session ≤ 256) }
+        ensures { result ≡ new_seat session }
+    {
+        SessionSeat {
+            session,
+            changes: Vec::new(alloc),
+            last: 0,
+            underway: false,
+            of: PhantomData,
+        }
+    }
+
+    /// Its session's number, 1 to 256.
+    pub fn session(&self) -> u16
+        ensures number { result ≡ self.now.session }
+        ensures least { 1 ≤ result }
+        ensures greatest { result ≤ 256 }
+    {
+        self.session
+    }
+
+    // Whether its transaction is queued.
+    pub(crate) fn is_underway(&self) -> bool
+        ensures { result ≡ self.now.underway }
+    {
+        self.underway
+    }
+
+    // Its transaction is queued.
+    pub(crate) fn queued(&mut self)
+        ensures { self.new ≡ record self.old { underway = true } }
+    {
+        self.underway = true;
+    }
+
+    // It begins a transaction.
+    pub(crate) fn begun(&mut self)
+        ensures { self.new ≡ begun_seat self.old }
+    {
+        self.changes.clear();
+        self.underway = false;
+    }
+
+    // Its transaction is aborted.
+    pub(crate) fn aborted(&mut self)
+        ensures { self.new ≡ aborted_seat self.old }
+    {
+        self.changes.clear();
+    }
+
+    // It wrote a change.
+    pub(crate) fn wrote(&mut self, change: Change) -> Result<(), Memory>
+        ensures ok { OnOk result (self.new ≡ wrote self.old change) }
+        ensures err { OnErr result (self.new ≡ self.old) }
+    {
+        self.changes.push(change)?;
+        Ok(())
+    }
+
+    // It did not write the last change.
+    pub(crate) fn unwrote(&mut self)
+        ensures { self.new ≡ record self.old { changes = take (length self.old.changes - 1) self.old.changes } }
+    {
+        self.changes.truncate(self.changes.len().saturating_sub(1));
+    }
+
+    // Whether the receipt is one that it may be given. If so, it is given.
+    pub(crate) fn takes(&mut self, receipt: &Receipt<J>) -> bool
+        ensures { MatchBool result (IsFor self.old receipt.now × (self.new ≡ given_to self.old receipt.now)) (self.new ≡ self.old) }
+    {
+        let fits = self.fits(receipt.given());
+        if fits {
+            self.last = receipt.given().gno;
+            self.underway = false;
+        }
+        fits
+    }
+
+    // Whether the receipt is of its session and of its changes, and its gno above those of its earlier ones.
+    fn fits(&self, given: &Given) -> bool
+        ensures { OnTrue result (IsFor self.now given.now) }
+    {
+        given.session == self.session
+            && given.gno > self.last
+            && are_same(given.changes.list(), &self.changes)
+    }
+}
+
+// Whether the changes are the same, in the same order.
+fn are_same(one: &[Change], other: &[Change]) -> bool
+    ensures { OnTrue result (one.now ≡ other.now) }
+{
+    if one.len() != other.len() {
+        return false;
+    }
+    for i in 0..one.len() {
+        if !is_same(&one[i], &other[i]) {
+            return false;
+        }
+    }
+    true
+}
+
+// Whether the two are one change.
+fn is_same(one: &Change, other: &Change) -> bool
+    ensures { OnTrue result (one.now ≡ other.now) }
+{
+    match (one, other) {
+        (
+            Change::Insert { row, values },
+            Change::Insert {
+                row: id,
+                values: columns,
+            },
+        ) => { row == id && is_same_list(values.columns(), columns.columns()) }
+        (
+            Change::Update { row, columns },
+            Change::Update {
+                row: id,
+                columns: named,
+            },
+        ) => { row == id && is_same_naming(columns, named) }
+        (Change::Delete { row }, Change::Delete { row: id }) => row == id,
+        _ => false,
+    }
+}
+
+// Whether both name the same columns, with the same values.
+fn is_same_naming(one: &Named, other: &Named) -> bool
+    ensures { OnTrue result (one.now ≡ other.now) }
+{
+    one.mask() == other.mask() && is_same_list(one.values(), other.values())
+}
+
+// Whether the numbers are the same.
+fn is_same_list(one: &[i64], other: &[i64]) -> bool
+    ensures { OnTrue result (one.now ≡ other.now) }
+{
+    one == other
+}
