@@ -12,8 +12,10 @@ ghost use Rattle.rows.specs.Database.{target};
 
 pub mod laws;
 mod naming;
+mod shape;
 
 pub use naming::Named;
+pub use shape::{has_columns, is_shaped};
 use schema::RowId;
 use std::marker::Model;
 use thiserror::Error;

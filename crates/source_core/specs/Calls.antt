@@ -7,6 +7,7 @@ use Rattle.schema.specs.Schema.{table_at}
 use Rattle.rows.specs.declared.Change.{Change}
 use Rattle.rows.specs.declared.Change.TheVariants.{Insert, Update, Delete}
 use Rattle.rows.specs.Database.{target, writes}
+use Rattle.rows.specs.Shape.{has_columns}
 use Rattle.record_codec.specs.declared.records.Record.{Record}
 use Rattle.record_codec.specs.Group as codec
 use Rattle.record_codec.specs.Group.{GroupValue}
@@ -52,13 +53,6 @@ abbrev pub begun : Source → ℕ → Source
 begun s session = with_open s session (Some (record { changes = []; phase = Active }))
 
 -- write
-
--- whether a table has the columns that a change gives or names: an insert gives each of them a value, and an
--- update names columns from the first to the last of them
-abbrev pub has_columns : Table → Change → Bool
-has_columns table (Insert row columns) = length columns == table.columns
-has_columns table (Update row named) = nat_lt named.mask (2 ^ table.columns)
-has_columns table (Delete row) = true
 
 -- a change that the schema does not allow, whatever the rows
 abbrev pub shape_fault : List Table → Change → Option SourceFault → Option SourceFault
