@@ -15,8 +15,8 @@ mod naming;
 mod shape;
 
 pub use naming::Named;
-pub use shape::{has_columns, is_shaped};
 use schema::RowId;
+pub use shape::{has_columns, is_shaped};
 use std::marker::Model;
 use thiserror::Error;
 

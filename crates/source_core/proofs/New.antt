@@ -65,6 +65,7 @@ unfolding no_locks
 new_core ts rows base limit locks flat bound loaded_is fits none clear = record {
   flat = flat;
   legal = empty_is_legal ts (put_batch base empty);
+  shaped = λ n made is. absurd (cc is);
   few = omega arith;
   bound = bound;
   synced_within = omega arith;

@@ -116,6 +116,7 @@ place_set p core i within now free queue locks few queued distinct grows are cle
     record {
       flat = core.flat;
       legal = core.legal;
+      shaped = core.shaped;
       few = few;
       bound = core.bound;
       synced_within = core.synced_within;

@@ -102,7 +102,9 @@ each_applies p kind halted core session =
 pub is_sound : (p : Parts) (kind : Kind) (halted : Bool) → IsCore p → IsSound (source_of p kind halted)
 is_sound p kind halted core = record {
   legal = core.legal;
+  shaped = core.shaped;
   few = omega (arith, core.few);
+  bound = core.bound;
   synced_within = core.synced_within;
   committed_within = core.committed_within;
   owned = core.owned;

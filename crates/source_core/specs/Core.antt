@@ -1,5 +1,5 @@
 -- How a source's parts stand together.
-use Rattle.std.specs.Prelude.{◌≡◌, ℕ, ℤ, ◌+◌, ◌-◌, ◌<◌, ◌≤◌, ◌^◌, IsTrue, if◌then◌else◌, Bool, List, [], ◌∷◌, length, map, take, drop, slice_get, slice_index_or, Option, Some, None}
+use Rattle.std.specs.Prelude.{◌≡◌, ℕ, ℤ, ◌+◌, ◌-◌, ◌<◌, ◌≤◌, ◌^◌, IsTrue, true, if◌then◌else◌, Bool, List, [], ◌∷◌, length, map, take, drop, slice_get, slice_index_or, Option, Some, None}
 use Rattle.std.specs.FinMap.{empty}
 use Rattle.std.specs.List.{list_any, IsDistinct}
 use Rattle.std.specs.Option.{option_map}
@@ -30,7 +30,7 @@ use Rattle.source_core.specs.declared.fault.SourceFault.TheVariants.{RowExists, 
 use Rattle.source_core.specs.declared.transaction.Prepared.{Prepared as Answer}
 use Rattle.source_core.specs.declared.transaction.Prepared.TheVariants as answers
 use Rattle.source_core.specs.Calls.{is_empty_list}
-use Rattle.source_core.specs.Source.{Source, Open, locks_over, entries_of}
+use Rattle.source_core.specs.Source.{Source, Open, locks_over, entries_of, are_shaped, HasShape}
 
 abbrev pub open_view : Transaction → Open
 open_view t = record { changes = t.overlay.changes; phase = t.phase }
@@ -85,12 +85,13 @@ refusal (Delete row) = NoRow
 abbrev pub touched_over : List Table → Database → List Change → Touched
 touched_over ts rows changes = record { writes = writes changes; refs = kin ts changes rows }
 
--- a transaction's changes apply to the committed rows, and its overlay is what they leave: rows that the schema
--- allows
+-- a transaction's changes are such as the schema allows, and apply to the committed rows, and its overlay is what
+-- they leave: rows that the schema allows
 pub record Applies (ts : List Table) (rows : Database) (pending : Pending) : Type 0 where
   pub leaves : Database
   pub follows : Follows ts rows pending leaves
   pub fits : Fits ts leaves
+  pub shaped : are_shaped ts pending.changes ≡ true
   pub few : length pending.changes ≤ 1024
 
 -- A transaction of this session is prepared: its order parent was committed then and covers it in the whole log, and
@@ -142,12 +143,14 @@ abbrev pub AreQueued : List (Option Transaction) → List ℕ → Type 0
 AreQueued places [] = Unit {0}
 AreQueued places (session ∷ queue) = IsQueued places session × AreQueued places queue
 
--- The log is legal, and the store has the rows after the committed records, which the schema allows. Each open
--- transaction applies to these rows, and holds its rows and their kin; no two sessions clash. The records that are not
--- committed are those of the flushed transactions, and the queue those that are queued, each once.
+-- The log is legal, and its changes are such as the schema allows; the store has the rows after the committed records,
+-- which the schema allows. Each open transaction applies to these rows, and holds its rows and their kin; no two
+-- sessions clash. The records that are not committed are those of the flushed transactions, and the queue those that are
+-- queued, each once.
 pub record IsCore (p : Parts) : Type 0 where
   pub flat : IsFlat p.tables
   pub legal : IsLegalLog p.tables (put_batch p.base empty) p.log
+  pub shaped : HasShape p.tables p.log
   pub few : length p.log + length p.queue ≤ p.limit
   pub bound : p.limit < 2 ^ 63
   pub synced_within : p.synced ≤ length p.log

@@ -1,11 +1,13 @@
 -- What a source is seen as.
-use Rattle.std.specs.Prelude.{◌≡◌, ℕ, ℤ, ◌-◌, ◌≤◌, Bool, false, ◌&&◌, nat_le, List, [], ◌∷◌, map, take, length, replicate, slice_index_or, Option, None, IsSome, option_and_then}
+use Rattle.std.specs.Prelude.{◌≡◌, ℕ, ℤ, ◌-◌, ◌<◌, ◌≤◌, ◌^◌, Bool, true, false, ◌&&◌, nat_le, List, [], ◌∷◌, map, take, length, replicate, slice_get, slice_index_or, Option, Some, None, IsSome, option_and_then}
 use Rattle.std.specs.Option.{option_map, option_map_or}
+use Rattle.std.specs.List.{list_all}
 use Rattle.std.specs.FinMap.{empty, get}
 use Rattle.schema.specs.declared.Table.{Table}
 use Rattle.schema.specs.declared.RowId.{RowId}
 use Rattle.rows.specs.declared.Change.{Change}
 use Rattle.rows.specs.Database.{Database, target, writes, kin, apply, effect}
+use Rattle.rows.specs.Shape.{is_shaped}
 use Rattle.store_trait.specs.Batch.{Entry}
 use Rattle.record_codec.specs.declared.records.Record.{Record}
 use Rattle.record_codec.specs.Log.{after, IsLegalLog}
@@ -118,10 +120,21 @@ new_source ts base limit kind = record {
   halted = false;
 }
 
--- What is true of every source: its log is legal, not too long, and its counts are in order.
+-- whether each change is of a table of the schema that has the columns that it gives or names
+abbrev pub are_shaped : List Table → List Change → Bool
+are_shaped ts changes = list_all (is_shaped ts) changes
+
+-- and so are those of each record
+abbrev pub HasShape : List Table → List Record → Type 0
+HasShape ts log = (n : ℕ) (made : Record) → slice_get log n ≡ Some made → are_shaped ts made.changes ≡ true
+
+-- What is true of every source: its log is legal and not too long, its changes are such as the schema allows, and its
+-- counts are in order.
 pub record IsSound (s : Source) : Type 0 where
   pub legal : IsLegalLog s.tables (loaded s.base) s.log
+  pub shaped : HasShape s.tables s.log
   pub few : length s.log ≤ s.limit
+  pub bound : s.limit < 2 ^ 63
   pub synced_within : s.synced ≤ length s.log
   pub committed_within : s.committed ≤ s.synced
   pub owned : length s.owners ≡ length s.log
