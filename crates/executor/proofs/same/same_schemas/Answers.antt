@@ -1,0 +1,8 @@
+use Rattle.std.proofs.lemmas.Slice.Eq.{slice_eq-Decides}
+use Rattle.executor.proofs.Comparing.{along, table_Decides}
+use Rattle.executor.proofs.same.same_schemas.Goals as goal
+
+pub returns : goal.returns
+returns c =
+    along c.eq.result c.tables.ensures.value c.tables-2.ensures.value
+    (slice_eq-Decides (table_Decides) c.tables.result.now c.tables-2.result.now c.eq.result c.eq.ensures)

@@ -1,0 +1,60 @@
+-- What a relay makes of a legal log.
+use Rattle.std.proofs.Common.{◌≡◌, ℕ, ◌+◌, ◌<◌, true, List, [], ◌∷◌, ◌++◌, length, take, refl, sym, ap, subst, ◌∙◌, arith, inl, inr, length-append, length-take}
+use Rattle.std.specs.List.{list_all}
+use Rattle.std.proofs.lemmas.Bool.{cases_eq, cases_lt}
+use Rattle.schema.specs.declared.Table.{Table}
+use Rattle.rows.specs.Shape.{is_shaped}
+use Rattle.record_codec.specs.declared.records.Record.{Record}
+use Rattle.relay.specs.Relay.{received, IsAcceptable}
+use Rattle.relay.specs.Laws.{AreShaped, LegalIsAcceptable, ReceivesOfLog}
+use Rattle.relay.proofs.Acceptable.{split_at}
+use Rattle.relay.proofs.Judged.{well_formed_record, acceptable_is_accepted, is_skipped, is_gap, by_number, at_most, at_next, past_next}
+
+shaped_in : (ts : List Table) (front rest : List Record) (new : Record) → AreShaped ts (front ++ new ∷ rest) → list_all (is_shaped ts) new.changes ≡ true
+shaped_in ts [] rest new all = all.0
+shaped_in ts (r ∷ front) rest new all = shaped_in ts front rest new all.1
+
+within : (log front rest : List Record) (new : Record) → log ≡ front ++ new ∷ rest → length front < length log
+within log front rest new e = omega (arith, ap length e, length-append front (new ∷ rest))
+
+pub legal_is_acceptable : LegalIsAcceptable
+legal_is_acceptable ts base log legal shaped few = λ front new rest e.
+    let next = legal front new rest e in
+    let lt = within log front rest new e in
+    record {
+      gno = next.gno;
+      sequence = next.sequence;
+      bound = omega (arith, next.gno);
+      below = next.below;
+      covers = next.covers;
+      shaped = shaped_in ts front rest new (subst (λ (l : List Record). AreShaped ts l) e shaped);
+    }
+
+take_front : (front rest : List Record) (new : Record) → take (length front) (front ++ new ∷ rest) ≡ front
+take_front [] rest new = refl
+take_front (r ∷ front) rest new = ap (λ l. r ∷ l) (take_front front rest new)
+
+-- what is answered to a record whose number is this
+answered : (ts : List Table) (source : List ℕ) (accepted front : List Record) (n : ℕ) (new : Record) →
+    length accepted ≡ n → IsAcceptable ts front new → (length front ≡ n → accepted ≡ front) →
+    received (record { tables = ts; source = source; accepted = accepted }) source new ≡ by_number new.gno n
+answered ts source accepted front n new long is same =
+    elim (cases_lt n new.gno) [
+      | inl lt ↦
+          elim (cases_eq new.gno (n + 1)) [
+            | inl e ↦
+                let here : IsAcceptable ts accepted new = subst (λ (l : List Record). IsAcceptable ts l new) (sym (same (omega (arith, is.gno)))) is in
+                acceptable_is_accepted (record { tables = ts; source = source; accepted = accepted }) source new refl here ∙ sym (at_next new.gno n e)
+            | inr ne ↦
+                is_gap (record { tables = ts; source = source; accepted = accepted }) source new refl (well_formed_record ts front new is) (omega arith)
+                ∙ sym (past_next new.gno n (omega arith))
+          ]
+      | inr le ↦
+          is_skipped (record { tables = ts; source = source; accepted = accepted }) source new refl (well_formed_record ts front new is) (omega arith) ∙ sym (at_most new.gno n le)
+    ]
+
+pub receives_of_log : ReceivesOfLog
+receives_of_log ts base source log n place new legal shaped few le at =
+    let w = split_at log place new at in
+    let is = legal_is_acceptable ts base log legal shaped few w.0 new w.1 w.2 in
+    answered ts source (take n log) w.0 n new (omega (arith, length-take n log)) is (λ e. ap (take n) w.2 ∙ ap (λ k. take k (w.0 ++ new ∷ w.1)) (sym e) ∙ take_front w.0 w.1 new)

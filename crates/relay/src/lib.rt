@@ -1,0 +1,186 @@
+//! What a replica accepts of a source's log.
+//!
+//! A `Relay` keeps the records that it accepted, in order. Nothing that is received is trusted: a record is accepted only from
+//! its source, in the form that this source's tables allow, as the next, and with a parent that covers what was
+//! accepted before. So whatever is received, the records that it keeps may be applied by many workers. What a record's changes
+//! do to the rows is not looked at. It stands on `record_codec` for records.
+#![tactic(auto)]
+
+ghost use Rattle.std.specs.Prelude.{◌≡◌, ◌⊎◌, IfOk, OnErr, IsErrOf, [], Ok};
+ghost use Rattle.relay.specs.Relay.{received, left_by_receive, AreAcceptable};
+
+mod judging;
+pub mod laws;
+
+use judging::{is_malformed, none_conflicts};
+use record_codec::Record;
+use schema::{Memory, Schema};
+use std::alloc::{AllocFailed, Global};
+use std::marker::Model;
+use thiserror::Error;
+use uuid::Uuid;
+
+/// What became of a record that was received.
+#[derive(Clone, Copy, Debug, PartialEq, Eq)]
+pub enum Received {
+    /// It was the next, and is accepted.
+    Accepted,
+    /// A record of its number was accepted before.
+    Skipped,
+}
+
+/// Why a call of the replica was refused. The text is the fault's number and name.
+#[derive(Clone, Copy, Debug, PartialEq, Eq, Error)]
+pub enum ReplicaFault {
+    /// The record's number is past the next.
+    #[error("P1 Gap")]
+    Gap,
+    /// The record is of another source.
+    #[error("P2 ForeignSource")]
+    ForeignSource,
+    /// The record's numbers, or the form of its changes, are none that its source writes.
+    #[error("P3 Malformed")]
+    Malformed,
+    /// The record's parent does not cover the records before it.
+    #[error("P4 BadParent")]
+    BadParent,
+    /// The record of this number could not be applied. Every call answers so from then on.
+    #[error("P5 Stopped {0}")]
+    Stopped(u64),
+    /// The record of this number was never dispatched.
+    #[error("P6 Stranger")]
+    Stranger,
+    /// A result of this record was taken before.
+    #[error("P7 Double")]
+    Double,
+    /// The result's job is not the one that was handed out.
+    #[error("P8 WrongInput")]
+    WrongInput,
+    /// Memory ran out.
+    #[error("P9 Memory")]
+    Memory,
+}
+
+impl From<Memory> for ReplicaFault {
+    ghost use Rattle.std.specs.Prelude.{◌≡◌};
+    ghost use Rattle.relay.specs.declared.ReplicaFault.TheVariants as faults;
+
+    ghost from_gives = { λ _ e. e ≡ faults.Memory };
+
+    fn from(_memory: Memory) -> ReplicaFault {
+        ReplicaFault::Memory
+    }
+}
+
+impl<T: Drop> From<AllocFailed<T>> for ReplicaFault {
+    ghost use Rattle.std.specs.Prelude.{◌≡◌};
+    ghost use Rattle.relay.specs.declared.ReplicaFault.TheVariants as faults;
+
+    ghost from_gives = { λ _ e. e ≡ faults.Memory };
+
+    fn from(_error: AllocFailed<T>) -> ReplicaFault {
+        ReplicaFault::Memory
+    }
+}
+
+/// The records accepted of one source, over one schema. `new` makes it.
+#[derive(Debug, Drop)]
+pub struct Relay {
+    schema: Schema,
+    source: Uuid,
+    accepted: Vec<Record>,
+}
+
+impl Model for Relay {
+    ghost use Rattle.relay.specs.Relay.{Relay, AreAcceptable};
+
+    ghost Value = { Relay };
+
+    ghost view = { λ r. record { tables = r.schema; source = r.source; accepted = r.accepted.items } };
+
+    ghost invariant = { λ r. AreAcceptable r.schema r.accepted.items };
+}
+
+impl Relay {
+    /// A relay that accepted nothing. It takes no memory.
+    pub fn new(alloc: Global, schema: Schema, source: Uuid) -> Relay
+        ensures { result ≡ record { tables = schema; source = source; accepted = [] } }
+    {
+        Relay {
+            schema,
+            source,
+            accepted: Vec::new(alloc),
+        }
+    }
+
+    /// Accepts a copy of the record where it is the next, and skips one that was accepted before. It is refused, in this order,
+    /// with `P2` where it is not of the relay's source; with `P3` where no source of these tables writes it: a number of 0 or
+    /// from 2 to the power 63 on, a sequence number that is not the gno, a parent that is not below it, or a change of no
+    /// table or of columns that its table lacks; skipped; with `P1` where its number is past the next; with `P4` where a
+    /// record that was accepted, and is numbered above its parent, conflicts with it; and with `P9`. The time is that of a walk
+    /// over the tables for each change, of the copy and, with n records behind the parent and b changes and r refs in each,
+    /// of n * b * (b + r) tests. Only the copy takes memory.
+    pub fn receive(&mut self, from: Uuid, new: &Record) -> Result<Received, ReplicaFault>
+        ensures answer { IsErrOf result ReplicaFault.Memory ⊎ (result ≡ received self.old from new.now) }
+
+        // Memory runs out only in the place of an acceptance.
+        ensures memory { IsErrOf result ReplicaFault.Memory
+            → received self.old from new.now ≡ Ok Received.Accepted }
+        ensures ok { IfOk result (λ answer. self.new ≡ left_by_receive self.old new.now answer) }
+        ensures err { OnErr result (self.new ≡ self.old) }
+    {
+        let answer = self.judge(from, new)?;
+        if answer == Received::Accepted {
+            self.accepted.push(new.copy()?)?;
+        }
+        Ok(answer)
+    }
+
+    /// What the record would be answered if there were memory enough.
+    fn judge(&self, from: Uuid, new: &Record) -> Result<Received, ReplicaFault>
+        ensures { result ≡ received self.now from new.now }
+    {
+        if from != self.source {
+            return Err(ReplicaFault::ForeignSource);
+        }
+        if is_malformed(&self.schema, new) {
+            return Err(ReplicaFault::Malformed);
+        }
+        let next = self.accepted.len() as u64 + 1;
+        if new.gno < next {
+            return Ok(Received::Skipped);
+        }
+        if new.gno > next {
+            return Err(ReplicaFault::Gap);
+        }
+        if !none_conflicts(&self.accepted[new.parent as usize..], new) {
+            return Err(ReplicaFault::BadParent);
+        }
+        Ok(Received::Accepted)
+    }
+
+    /// The records accepted, in order, the record of number 1 first.
+    pub fn accepted(&self) -> &[Record]
+        ensures value { result.now ≡ self.now.accepted }
+        ensures valid { AreAcceptable self.now.tables self.now.accepted }
+    {
+        &self.accepted
+    }
+
+    /// The tables of the source.
+    pub fn schema(&self) -> &Schema
+        ensures { result.now ≡ self.now.tables }
+    {
+        &self.schema
+    }
+
+    /// The identifier of the source.
+    pub fn source(&self) -> Uuid
+        ensures { result ≡ self.now.source }
+    {
+        self.source
+    }
+}
+
+#[cfg(test)]
+mod tests;

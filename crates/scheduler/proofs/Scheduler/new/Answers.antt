@@ -1,0 +1,5 @@
+use Rattle.scheduler.proofs.Marks.{new_places}
+use Rattle.scheduler.proofs.Scheduler.new.Goals as goal
+
+pub invariant_of-result : goal.invariant_of-result
+invariant_of-result c = new_places

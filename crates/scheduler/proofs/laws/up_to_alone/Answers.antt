@@ -1,0 +1,5 @@
+use Rattle.scheduler.proofs.Marks.{up_to_alone}
+use Rattle.scheduler.proofs.laws.up_to_alone.Goals as goal
+
+pub returns : goal.returns
+returns c = up_to_alone
