@@ -9,3 +9,4 @@ pub mod Runs
 pub mod HexTexts
 pub mod LogTexts
 pub mod HexBack
+mod OptionNumbers

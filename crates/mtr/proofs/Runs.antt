@@ -61,25 +61,25 @@ some_length (e ∷ es) h = omega arith
 pub shorter : (rest piece behind : List Event) → rest ≡ piece ++ behind → piece ≢ [] → length behind < length rest
 shorter rest piece behind e some = omega (arith, some_length piece some, ap length e, length-append piece behind)
 
-prints_it : {R : Type 0} (contents : R → Database) (script : Said) (base : List Entry) (old new : World R) (events : List Event) (before after : Option (List ℕ)) → IsPermutation (map present script.base) base → HasRun contents (setup_of script.tables base) [] [] old → events ≡ script.events → GoesOn contents old new events before after → Prints script before after
-prints_it contents script base old new events before after given starts all goes =
+prints_it : {R : Type 0} (contents : R → Database) (script : Said) (workers : ℕ) (base : List Entry) (old new : World R) (events : List Event) (before after : Option (List ℕ)) → IsPermutation (map present script.base) base → HasRun contents (setup_of script.tables base workers) [] [] old → events ≡ script.events → GoesOn contents old new events before after → Prints workers script before after
+prints_it contents script workers base old new events before after given starts all goes =
     let to = goes_to contents old new events script.events before after all goes in
     record {
       base = base;
       given = given;
       replies = to.replies;
       log = new.source.log;
-      legal = (to.goes_on (setup_of script.tables base) [] [] starts).legal;
+      legal = (to.goes_on (setup_of script.tables base workers) [] [] starts).legal;
       lines = to.lines;
     }
 
 -- what a new pair prints
-pub prints : {R T E : Type 0} (contents : R → Database) (r : Result T E) (script : Said) (base : List Entry) (old new : World R) (events : List Event) (before after : Option (List ℕ)) → IsPermutation (map present script.base) base → HasRun contents (setup_of script.tables base) [] [] old → events ≡ script.events → OnOk r (GoesOn contents old new events before after) → OnOk r (Prints script before after)
-prints contents (Ok v) script base old new events before after given starts all goes = prints_it contents script base old new events before after given starts all goes
-prints contents (Err e) script base old new events before after given starts all goes = goes
+pub prints : {R T E : Type 0} (contents : R → Database) (r : Result T E) (script : Said) (workers : ℕ) (base : List Entry) (old new : World R) (events : List Event) (before after : Option (List ℕ)) → IsPermutation (map present script.base) base → HasRun contents (setup_of script.tables base workers) [] [] old → events ≡ script.events → OnOk r (GoesOn contents old new events before after) → OnOk r (Prints workers script before after)
+prints contents (Ok v) script workers base old new events before after given starts all goes = prints_it contents script workers base old new events before after given starts all goes
+prints contents (Err e) script workers base old new events before after given starts all goes = goes
 
 pub given_along : (rows given : List (RowId × List ℤ)) (base : List Entry) → given ≡ rows → IsPermutation (map present given) base → IsPermutation (map present rows) base
 given_along rows given base e h = let P : List (RowId × List ℤ) → Type 0 = λ x. IsPermutation (map present x) base in subst P e h
 
-pub starts_along : {R : Type 0} (contents : R → Database) (tables given : List Table) (base : List Entry) (w : World R) → given ≡ tables → HasRun contents (setup_of given base) [] [] w → HasRun contents (setup_of tables base) [] [] w
-starts_along contents tables given base w e h = let P : List Table → Type 0 = λ x. HasRun contents (setup_of x base) [] [] w in subst P e h
+pub starts_along : {R : Type 0} (contents : R → Database) (tables given : List Table) (base : List Entry) (workers : ℕ) (w : World R) → given ≡ tables → HasRun contents (setup_of given base workers) [] [] w → HasRun contents (setup_of tables base workers) [] [] w
+starts_along contents tables given base workers w e h = let P : List Table → Type 0 = λ x. HasRun contents (setup_of x base workers) [] [] w in subst P e h

@@ -19,6 +19,7 @@ status_of endings.CommandLine = 2
 status_of endings.BadScript = 3
 status_of endings.BadLog = 4
 status_of endings.NoMemory = 5
+status_of endings.Different = 6
 status_of endings.Stream = 7
 
 -- how the program ends where its work stopped

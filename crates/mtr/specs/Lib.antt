@@ -12,3 +12,4 @@ pub mod Hex
 pub mod LogLines
 pub mod Decode
 pub mod HexText
+pub mod Threads

@@ -24,9 +24,10 @@ present row = (row.0, Some row.1)
 abbrev pub source : List ℕ
 source = 109 ∷ 116 ∷ 114 ∷ 0 ∷ 0 ∷ 0 ∷ 64 ∷ 0 ∷ 128 ∷ 0 ∷ 0 ∷ 0 ∷ 0 ∷ 0 ∷ 0 ∷ 1 ∷ []
 
--- what the pair begins with: this source, these tables, the rows that the batch loads, and parents by the commit order
-abbrev pub setup_of : List Table → List Entry → Setup
-setup_of ts base = record { identifier = source; tables = ts; base = all_rows (put_batch base empty); limit = 9223372036854775807; kind = by_order; workers = 1 }
+-- what the pair begins with: this source, these tables, the rows that the batch loads, parents by the commit order, and so
+-- many workers
+abbrev pub setup_of : List Table → List Entry → ℕ → Setup
+setup_of ts base workers = record { identifier = source; tables = ts; base = all_rows (put_batch base empty); limit = 9223372036854775807; kind = by_order; workers = workers }
 
 -- The world goes on by these events from whatever runs it came by, by the source's own log, and the lines of
 -- the replies are appended, in order.
@@ -35,19 +36,19 @@ pub record GoesOn {R : Type 0} (contents : R → Database) (old new : World R) (
   pub goes_on : (setup : Setup) (es : List Event) (rs : List Reply) → HasRun contents setup es rs old → HasRun contents setup (es ++ events) (rs ++ replies) new
   pub lines : Appends before printed (lines_of replies)
 
--- What a script prints: over a pair that begins with its tables and its rows, one reply to each of its events.
+-- What a script prints: over a pair of so many workers that begins with its tables and its rows, one reply to each of its events.
 -- They are legal over one log that is legal over the rows: each read at the replica answers as the source's
 -- database after one beginning of that log. Their lines are appended, in order.
-pub record Prints (script : Said) (before printed : Option (List ℕ)) : Type 0 where
+pub record Prints (workers : ℕ) (script : Said) (before printed : Option (List ℕ)) : Type 0 where
   pub base : List Entry
   pub given : IsPermutation (map present script.base) base
   pub replies : List Reply
   pub log : List Record
-  pub legal : AreLegal (setup_of script.tables base) log script.events replies
+  pub legal : AreLegal (setup_of script.tables base workers) log script.events replies
   pub lines : Appends before printed (lines_of replies)
 
 -- what a text prints that is a script
-pub record PrintsText (text : List ℕ) (before printed : Option (List ℕ)) : Type 0 where
+pub record PrintsText (workers : ℕ) (text : List ℕ) (before printed : Option (List ℕ)) : Type 0 where
   pub script : Said
   pub says : script_of text ≡ Ok script
-  pub prints : Prints script before printed
+  pub prints : Prints workers script before printed

@@ -4,8 +4,8 @@ use Rattle.std.specs.List.{flat_map}
 use Rattle.std.specs.Fmt.{decimal, signed_decimal}
 use Rattle.source_core.specs.declared.fault.SourceFault.{SourceFault}
 use Rattle.source_core.specs.declared.fault.SourceFault.TheVariants as source
-use Rattle.replica_core.specs.declared.ReplicaFault.{ReplicaFault}
-use Rattle.replica_core.specs.declared.ReplicaFault.TheVariants as replica
+use Rattle.relay.specs.declared.ReplicaFault.{ReplicaFault}
+use Rattle.relay.specs.declared.ReplicaFault.TheVariants as replica
 use Rattle.record_codec.specs.declared.fault.CodecFault.{CodecFault}
 use Rattle.record_codec.specs.declared.fault.CodecFault.TheVariants as codec
 use Rattle.log_file.specs.declared.fault.LogFault.{LogFault}
@@ -33,10 +33,13 @@ source_text source.Exhausted = codes "S15 Exhausted"
 -- the number and name of the replica's refusal; where it stopped, also the record's number
 abbrev pub replica_text : ReplicaFault → List ℕ
 replica_text replica.Gap = codes "P1 Gap"
+replica_text replica.ForeignSource = codes "P2 ForeignSource"
 replica_text replica.Malformed = codes "P3 Malformed"
+replica_text replica.BadParent = codes "P4 BadParent"
 replica_text (replica.Stopped gno) = codes "P5 Stopped " ++ decimal gno
 replica_text replica.Stranger = codes "P6 Stranger"
 replica_text replica.Double = codes "P7 Double"
+replica_text replica.WrongInput = codes "P8 WrongInput"
 replica_text replica.Memory = codes "P9 Memory"
 
 -- the number and name of the first fault of a record's bytes

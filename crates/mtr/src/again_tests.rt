@@ -11,7 +11,7 @@ use crate::printing::write_reply;
 use log_device::Device;
 use log_file::LogFault;
 use record_codec::CodecFault;
-use replica_core::ReplicaFault;
+use relay::ReplicaFault;
 use rows::{Change, Named, Row};
 use schema::{Memory, RowId, Schema, Table};
 use source_core::SourceFault;
@@ -42,7 +42,7 @@ fn pair(alloc: Global) -> Result<Pair, Memory>
     let schema = Schema::new(tables).map_err(|_| Memory)?;
     let values = Row::new(&[1, 2]).ok_or(Memory)?;
     let batch = base_of(alloc, &[(row(20), values)])?.ok_or(Memory)?;
-    new_pair(alloc, schema, batch)
+    new_pair(alloc, schema, batch, 4)
         .map_err(|_| Memory)?
         .ok_or(Memory)
 }

@@ -1,13 +1,13 @@
 //! The command line.
 
-ghost use Rattle.std.specs.Prelude.{◌≡◌, ◌≢◌, [], ◌∷◌, false, map, codes, option_map, IfOk, IfErr, IfSome, IfNone, MatchResult, Some};
-ghost use Rattle.clap.specs.Words.{app_of, kind_of, shape_of, fault_of};
+ghost use Rattle.std.specs.Prelude.{◌≡◌, [], ◌∷◌, false, map, codes, option_map, option_and_then, Some, IfOk, IfErr, IfSome, IfNone, MatchResult};
+ghost use Rattle.clap.specs.Words.{Text, app_of, rule_of, rows_of, found_of, kind_of, fault_of, subcommand_rows_of};
 ghost use Rattle.clap.specs.declared.builder.command.Command.TheViews.{out-Command as fields_of};
-ghost use Rattle.mtr.specs.Options.{program, run_shape, decode_shape, subcommand, subcommand_for, IsOfKind, IsOfWords};
+ghost use Rattle.mtr.specs.Options.{program, run_app, threads_app, decode_app, workers_rule, number_rule, number_of, IsUpTo, threads_options, options_for, options_of, IsInRange, IsByDefault, IsOfKind, IsOfWords};
 
-use crate::options::{LineFault, Options};
-use clap::Command;
+use crate::options::{LineFault, Options, Plan};
 use clap::error::ErrorKind;
+use clap::{Arg, ArgMatches, Command, value_parser};
 use std::alloc::{AllocError, Global};
 use std::env::Args;
 
@@ -24,7 +24,9 @@ For more information, try '--help'.
 ";
 
 /// What the words of a command line ask for, of which the first is the program's name.
-pub fn asked(alloc: Global, words: Args) -> Result<Options, LineFault> {
+pub fn asked(alloc: Global, words: Args) -> Result<Options, LineFault>
+    ensures ranges { IfOk result IsInRange }
+{
     let words: Vec<String> = words.skip(1).collect(alloc)?;
     let texts: Vec<&str> = words.iter().map(|word| word.as_str()).collect(alloc)?;
     options(alloc, &texts)
@@ -32,32 +34,72 @@ pub fn asked(alloc: Global, words: Args) -> Result<Options, LineFault> {
 
 /// What the words behind the program's name ask for.
 pub fn options<'a>(alloc: Global, words: &'a [&'a str]) -> Result<Options, LineFault>
-    // What is answered is what the words name.
-    ensures named { IfOk result (λ asked. subcommand (map (λ w. w.now) words.entry.now) ≡ Some (subcommand_for asked)) }
+    // The subcommand is the one that the words name, and each of its options has the number that they give it, or its
+    // default.
+    ensures named { IfOk result (λ asked. options_of (map (λ w. w.now) words.entry.now) ≡ Some asked) }
+    ensures ranges { IfOk result IsInRange }
     // Help and the version are told where the words ask for them, and faults of the command line where they don't.
     ensures told { MatchResult result (λ _. fault_of program (map (λ w. w.now) words.entry.now) ≡ []) (IsOfWords (map (λ w. w.now) words.entry.now)) }
-    // The name of a subcommand alone is refused for want of memory only.
-    ensures alone { IfErr result (λ fault. (asked : Options) → map (λ w. w.now) words.entry.now ≡ subcommand_for asked ∷ [] → fault ≡ LineFault.Memory) }
+    // The name of a subcommand alone asks for its defaults, and is refused for want of memory only.
+    ensures alone { (name : Text) (asked : Options) → IsByDefault name asked → map (λ w. w.now) words.entry.now ≡ name ∷ [] → MatchResult result (λ given. given ≡ asked) (λ fault. fault ≡ LineFault.Memory) }
 {
     let matches = match command(alloc)?.try_get_matches_from(words) {
         Ok(matches) => matches,
         Err(error) => return Err(fault_of(alloc, &error)),
     };
-    match asked_by(matches.subcommand_name()) {
+    match options_in(&matches) {
         Some(asked) => Ok(asked),
         None => Err(LineFault::Line(String::from_str(alloc, "error: no subcommand\n")?)),
     }
 }
 
-/// What a subcommand asks for.
-fn asked_by(name: Option<&str>) -> Option<Options>
-    ensures named { IfSome result (λ asked. option_map (λ n. n.now) name.entry ≡ Some (subcommand_for asked)) }
-    ensures none { IfNone result ((asked : Options) → option_map (λ n. n.now) name.entry ≢ Some (subcommand_for asked)) }
+/// What the subcommand that was found asks for.
+fn options_in(matches: &ArgMatches) -> Option<Options>
+    ensures named { result ≡ option_and_then options_for (subcommand_rows_of matches.now) }
+    ensures ranges { IfSome result IsInRange }
+{
+    let (name, found) = matches.subcommand()?;
+    options_for(name, found)
+}
+
+/// What a subcommand of this name asks for.
+fn options_for(name: &str, found: &ArgMatches) -> Option<Options>
+    ensures named { result ≡ options_for (name.now, rows_of (found_of found.now)) }
+    ensures ranges { IfSome result IsInRange }
 {
     match name {
-        Some("run") => Some(Options::Run),
-        Some("decode") => Some(Options::Decode),
+        "run" => Some(Options::Run {
+            workers: number(found, "workers", 64)?,
+        }),
+        "threads" => Some(Options::Threads(plan(found)?)),
+        "decode" => Some(Options::Decode),
         _ => None,
+    }
+}
+
+/// What the options of `threads` ask for.
+fn plan(found: &ArgMatches) -> Option<Plan>
+    ensures named { option_map (λ plan. Options.Threads plan) result ≡ threads_options (rows_of (found_of found.now)) }
+    ensures ranges { IfSome result (λ plan. IsInRange (Options.Threads plan)) }
+{
+    Some(Plan {
+        workers: number(found, "workers", 64)?,
+        sessions: number(found, "sessions", 16)?,
+        transactions: number(found, "transactions", 1000)?,
+        seats: number(found, "seats", 32)?,
+    })
+}
+
+/// The number of an option.
+fn number(found: &ArgMatches, name: &str, greatest: usize) -> Option<usize>
+    ensures value { result ≡ number_of name.now greatest (rows_of (found_of found.now)) }
+    ensures range { IfSome result (IsUpTo greatest) }
+{
+    let number = found.get_one(name)?;
+    if 1 <= number && number <= greatest {
+        Some(number)
+    } else {
+        None
     }
 }
 
@@ -72,25 +114,92 @@ fn command<'a>(alloc: Global) -> Result<Command<'a>, AllocError>
         .no_binary_name(true)
         .bin_name("mtr")?
         .subcommand_required(true)
-        .subcommand(run_command(alloc))?
+        .subcommand(run_command(alloc)?)?
+        .subcommand(threads_command(alloc)?)?
         .subcommand(decode_command(alloc))
 }
 
-/// `run`; each option's help has its range and its default.
-fn run_command<'a>(alloc: Global) -> Command<'a>
-    ensures shape { shape_of result ≡ run_shape }
-    ensures local { (fields_of result).has_globals ≡ false }
+/// `run`; each option's help has its range, and clap adds its default.
+fn run_command<'a>(alloc: Global) -> Result<Command<'a>, AllocError>
+    ensures shape { IfOk result (λ command. app_of command ≡ run_app) }
+    ensures local { IfOk result (λ command. (fields_of command).has_globals ≡ false) }
 {
-    Command::new(alloc, "run").about("Runs the script on standard input")
+    Command::new(alloc, "run")
+        .about("Runs the script on standard input")
+        .arg(workers_option(alloc))
+}
+
+fn threads_command<'a>(alloc: Global) -> Result<Command<'a>, AllocError>
+    ensures shape { IfOk result (λ command. app_of command ≡ threads_app) }
+    ensures local { IfOk result (λ command. (fields_of command).has_globals ≡ false) }
+{
+    Command::new(alloc, "threads")
+        .about(
+            "Commits in many threads at the source, applies in many at the replica, and compares both",
+        )
+        .arg(workers_option(alloc))?
+        .arg(number_option(
+            alloc,
+            "sessions",
+            16,
+            "4",
+            "The sessions at the source, 1 to 16",
+        ))?
+        .arg(number_option(
+            alloc,
+            "transactions",
+            1000,
+            "10",
+            "The transactions of each session, 1 to 1000",
+        ))?
+        .arg(number_option(
+            alloc,
+            "seats",
+            32,
+            "2",
+            "The readers of the replica, 1 to 32",
+        ))
 }
 
 fn decode_command<'a>(alloc: Global) -> Command<'a>
-    ensures shape { shape_of result ≡ decode_shape }
+    ensures shape { app_of result ≡ decode_app }
     ensures local { (fields_of result).has_globals ≡ false }
 {
     Command::new(alloc, "decode").about(
         "Prints the records of the log file on standard input, which is given as hexadecimal digits. Whitespace is ignored",
     )
+}
+
+fn workers_option<'a>(alloc: Global) -> Arg<'a>
+    ensures rule { rule_of result ≡ workers_rule }
+    ensures local { result.global ≡ false }
+{
+    number_option(
+        alloc,
+        "workers",
+        64,
+        "4",
+        "The workers at the replica, 1 to 64",
+    )
+}
+
+/// The option `--NAME N` of a number from 1 to the greatest.
+fn number_option<'a>(
+    alloc: Global,
+    name: &'a str,
+    greatest: u16,
+    default: &'a str,
+    help: &'a str,
+) -> Arg<'a>
+    ensures rule { rule_of result ≡ number_rule name.entry.now greatest default.entry.now }
+    ensures local { result.global ≡ false }
+{
+    Arg::new(alloc, name)
+        .long(name)
+        .value_name("N")
+        .default_value(default)
+        .help(help)
+        .value_parser(value_parser!(usize).range(1..=i64::from(greatest)))
 }
 
 /// The fault that `clap` tells.
@@ -113,10 +222,50 @@ mod tests {
     use super::*;
     use std::test::Fail;
 
+    /// `threads` with what its options have by default.
+    const THREADS: Plan = Plan {
+        workers: 4,
+        sessions: 4,
+        transactions: 10,
+        seats: 2,
+    };
+
     #[test]
     fn reads_each_subcommand(rt: HostRuntime) -> Result<(), Fail> {
-        assert_eq!(rt; options(rt.alloc(), &["run"])?, Options::Run);
-        assert_eq!(rt; options(rt.alloc(), &["decode"])?, Options::Decode);
+        let alloc = rt.alloc();
+        assert_eq!(rt; options(alloc, &["run"])?, Options::Run { workers: 4 });
+        assert_eq!(rt; options(alloc, &["threads"])?, Options::Threads(THREADS));
+        assert_eq!(rt; options(alloc, &["decode"])?, Options::Decode);
+        Ok(())
+    }
+
+    #[test]
+    fn reads_the_ends_of_each_range(rt: HostRuntime) -> Result<(), Fail> {
+        let alloc = rt.alloc();
+        let words = ["run", "--workers", "1"];
+        assert_eq!(rt; options(alloc, &words)?, Options::Run { workers: 1 });
+        let words = ["run", "--workers=64"];
+        assert_eq!(rt; options(alloc, &words)?, Options::Run { workers: 64 });
+        let words = [
+            "threads",
+            "--seats=32",
+            "--transactions=1000",
+            "--sessions=16",
+            "--workers=64",
+        ];
+        let most = Plan {
+            workers: 64,
+            sessions: 16,
+            transactions: 1000,
+            seats: 32,
+        };
+        assert_eq!(rt; options(alloc, &words)?, Options::Threads(most));
+        let words = ["threads", "--sessions", "1"];
+        let one = Plan {
+            sessions: 1,
+            ..THREADS
+        };
+        assert_eq!(rt; options(alloc, &words)?, Options::Threads(one));
         Ok(())
     }
 
@@ -134,11 +283,29 @@ mod tests {
         assert!(rt; is_refused(alloc, &[]));
         assert!(rt; is_refused(alloc, &[""]));
         assert!(rt; is_refused(alloc, &["Run"]));
-        assert!(rt; is_refused(alloc, &["threads"]));
         assert!(rt; is_refused(alloc, &["Decode"]));
         assert!(rt; is_refused(alloc, &["run", "x"]));
-        assert!(rt; is_refused(alloc, &["run", "--fail", "5"]));
         assert!(rt; is_refused(alloc, &["decode", "x"]));
         assert!(rt; is_refused(alloc, &["run", "decode"]));
+        assert!(rt; is_refused(alloc, &["run", "--fail", "5"]));
+        assert!(rt; is_refused(alloc, &["run", "--tracker", "writeset"]));
+        assert!(rt; is_refused(alloc, &["run", "--sessions", "4"]));
+        assert!(rt; is_refused(alloc, &["decode", "--workers", "4"]));
+    }
+
+    #[test]
+    fn refuses_numbers_out_of_range(rt: HostRuntime) {
+        let alloc = rt.alloc();
+        assert!(rt; is_refused(alloc, &["run", "--workers"]));
+        assert!(rt; is_refused(alloc, &["run", "--workers", "0"]));
+        assert!(rt; is_refused(alloc, &["run", "--workers", "65"]));
+        assert!(rt; is_refused(alloc, &["run", "--workers", "-1"]));
+        assert!(rt; is_refused(alloc, &["run", "--workers", "four"]));
+        assert!(rt; is_refused(alloc, &["run", "--workers", "4", "--workers", "4"]));
+        assert!(rt; is_refused(alloc, &["threads", "--workers", "65"]));
+        assert!(rt; is_refused(alloc, &["threads", "--sessions", "17"]));
+        assert!(rt; is_refused(alloc, &["threads", "--transactions", "0"]));
+        assert!(rt; is_refused(alloc, &["threads", "--transactions", "1001"]));
+        assert!(rt; is_refused(alloc, &["threads", "--seats", "33"]));
     }
 }

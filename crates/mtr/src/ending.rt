@@ -25,6 +25,8 @@ pub enum Ending {
     BadLog,
     /// Memory ran out outside an event.
     NoMemory,
+    /// The two sides did not come to the same.
+    Different,
     /// A stream could not be read or written.
     Stream,
 }
@@ -40,6 +42,7 @@ impl Ending {
             Ending::BadScript => 3,
             Ending::BadLog => 4,
             Ending::NoMemory => 5,
+            Ending::Different => 6,
             Ending::Stream => 7,
         }
     }

@@ -1,11 +1,11 @@
-//! The program `mtr`: it runs a script over one source and one replica, and prints what each event answers; or it
-//! prints the records of a log file.
+//! The program `mtr`: it runs a script over one source and one replica, and prints what each event answers; it runs a
+//! source and a replica in many threads, and compares them; or it prints the records of a log file.
 //!
 //! `command_line` reads what the words ask for. To run a script, `script` reads the whole of it, and `pair` makes the
 //! two sides; so nothing is done before all is read and checked. `run` runs the events piece by piece (`events`), and
-//! what they print stands in `printing`. To print a log file, `decode` reads it by `hex` and prints the lines of
-//! `log_lines`. Each fault and its exit status stand in `ending`; `serve` does it all over any reader and two
-//! writers.
+//! what they print stands in `printing`. `threads` runs both sides in many threads. To print a log file, `decode` reads
+//! it by `hex` and prints the lines of `log_lines`. Each fault and its exit status stand in `ending`; `serve` does it
+//! all over any reader and two writers.
 #![tactic(auto)]
 
 #[cfg(test)]
@@ -25,6 +25,7 @@ mod printing;
 mod run;
 mod script;
 mod serve;
+mod threads;
 mod words;
 
 use serve::run_program;
@@ -33,6 +34,7 @@ use std::process::ExitCode;
 
 fn main(rt: HostRuntime) -> ExitCode {
     ExitCode::from(run_program(
+        &rt,
         rt.alloc(),
         env::args(&rt),
         &mut rt.stdin(),

@@ -6,10 +6,25 @@ use thiserror::Error;
 /// What the words behind the program's name ask for.
 #[derive(Clone, Copy, Debug, PartialEq, Eq)]
 pub enum Options {
-    /// `run`: a script is read on standard input and run.
-    Run,
+    /// `run`: a script is read on standard input and run, by so many workers at the replica, 1 to 64.
+    Run { workers: usize },
+    /// `threads`: sessions, workers and readers run in threads of their own.
+    Threads(Plan),
     /// `decode`: a log file is read on standard input as hexadecimal text, and its records are printed.
     Decode,
+}
+
+/// How many threads there are of each kind, and how much they do.
+#[derive(Clone, Copy, Debug, PartialEq, Eq)]
+pub struct Plan {
+    /// The workers at the replica, 1 to 64.
+    pub workers: usize,
+    /// The sessions at the source, 1 to 16.
+    pub sessions: usize,
+    /// The transactions of each session, 1 to 1000.
+    pub transactions: usize,
+    /// The readers of the replica, 1 to 32.
+    pub seats: usize,
 }
 
 /// Why the words ask for nothing.

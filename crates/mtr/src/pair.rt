@@ -1,6 +1,6 @@
 //! A source with a log file, and a replica, over one schema and equal rows.
 
-ghost use Rattle.std.specs.Prelude.{◌≡◌, [], map, IfOk, IfErr, IfSome, IfNone, IsPermutation};
+ghost use Rattle.std.specs.Prelude.{◌≡◌, ◌≤◌, [], map, IfOk, IfErr, IfSome, IfNone, IsPermutation};
 ghost use Rattle.schema.specs.Flags.{IsFlat};
 ghost use Rattle.store_trait.specs.Batch.{put_batch};
 ghost use Rattle.store_trait.specs.Fits.{Fits};
@@ -29,12 +29,12 @@ use uuid::Uuid;
 use world::World;
 
 /// The identifier of the program's source, 6d747200-0000-4000-8000-000000000001.
-const SOURCE: [u8; 16] = [
+pub const SOURCE: [u8; 16] = [
     0x6d, 0x74, 0x72, 0, 0, 0, 0x40, 0, 0x80, 0, 0, 0, 0, 0, 0, 1,
 ];
 
 /// The greatest number of records of a log.
-const MAX_RECORDS: u64 = 9223372036854775807;
+pub const MAX_RECORDS: u64 = 9223372036854775807;
 
 /// The batch of these rows, in any order; `None` exactly where one comes twice. The time is n log n.
 pub fn base_of(alloc: Global, rows: &[(RowId, Row)]) -> Result<Option<Batch>, Memory>
@@ -66,7 +66,7 @@ fn store_of(alloc: Global, base: &Batch) -> Result<BTreeStore, Memory>
 pub type Pair = World<BTreeStore, CommitOrder, MemoryDevice, BTreeStore>;
 
 /// A new log file of the program's source, on a device in memory.
-fn empty_log(alloc: Global) -> Result<LogFile<MemoryDevice>, Stop>
+pub fn empty_log(alloc: Global) -> Result<LogFile<MemoryDevice>, Stop>
     ensures new { IfOk result (λ log. IsNew log) }
     ensures source { IfOk result (λ log. log.source ≡ source) }
     ensures err { IfErr result (λ stop. stop ≡ Stop.Memory) }
@@ -77,11 +77,18 @@ fn empty_log(alloc: Global) -> Result<LogFile<MemoryDevice>, Stop>
     }
 }
 
-/// A new source, whose records' parents are their order parents, with a new log file, and a new replica that hold
-/// these rows; `None` exactly where the schema has tables without keys or with parents, or the rows do not fit it.
+/// A new source, whose records' parents are their order parents, with a new log file, and a new replica of so many workers
+/// that hold these rows; `None` exactly where the schema has tables without keys or with parents, or the rows do not fit it.
 /// The log file is made behind that check. Any other refusal is want of memory.
-pub fn new_pair(alloc: Global, schema: Schema, base: Batch) -> Result<Option<Pair>, Stop>
-    ensures starts { IfOk result (λ made. IfSome made (λ pair. HasRun (λ rows. rows) (setup_of schema base) [] [] (seen pair))) }
+pub fn new_pair(
+    alloc: Global,
+    schema: Schema,
+    base: Batch,
+    workers: usize,
+) -> Result<Option<Pair>, Stop>
+    requires some { 1 ≤ workers }
+    requires few { workers ≤ 64 }
+    ensures starts { IfOk result (λ made. IfSome made (λ pair. HasRun (λ rows. rows) (setup_of schema base workers) [] [] (seen pair))) }
     ensures fits { IfOk result (λ made. IfSome made (λ _. IsFlat schema × Fits schema (put_batch base empty))) }
     ensures refused { IfOk result (λ made. IfNone made (¬ (IsFlat schema × Fits schema (put_batch base empty)))) }
     ensures memory { IfErr result (λ stop. stop ≡ Stop.Memory) }
@@ -91,7 +98,7 @@ pub fn new_pair(alloc: Global, schema: Schema, base: Batch) -> Result<Option<Pai
         return Ok(None);
     }
     let log = empty_log(alloc)?;
-    Ok(Some(pair_of(alloc, schema, base, store, log)?))
+    Ok(Some(pair_of(alloc, schema, base, workers, store, log)?))
 }
 
 /// The pair over rows that fit, in a store for the source.
@@ -99,18 +106,22 @@ fn pair_of(
     alloc: Global,
     schema: Schema,
     base: Batch,
+    workers: usize,
     store: BTreeStore,
     log: LogFile<MemoryDevice>,
 ) -> Result<Pair, Memory>
+    requires some { 1 ≤ workers }
+    requires few { workers ≤ 64 }
     requires flat { IsFlat schema }
     requires rows { store ≡ put_batch base empty }
     requires fits { Fits schema (put_batch base empty) }
     requires new { IsNew log }
     requires source { log.source ≡ source }
-    ensures { IfOk result (λ pair. HasRun (λ rows. rows) (setup_of schema base) [] [] (seen pair)) }
+    ensures { IfOk result (λ pair. HasRun (λ rows. rows) (setup_of schema base workers) [] [] (seen pair)) }
 {
     let source = SourceCore::new(alloc, schema.copy()?, store, CommitOrder, MAX_RECORDS)?;
-    let replica = ReplicaCore::new(alloc, schema, store_of(alloc, &base)?)?;
+    let from = Uuid::from_bytes(SOURCE);
+    let replica = ReplicaCore::new(alloc, schema, from, store_of(alloc, &base)?, workers)?;
     let shown = Plain::new(alloc, BTreeStore::new(alloc), base)?;
     Ok(World::new(alloc, source, log, replica, shown))
 }

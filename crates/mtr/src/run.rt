@@ -1,6 +1,6 @@
 //! A script's events, run piece by piece: each piece's replies are printed before the next is run.
 
-ghost use Rattle.std.specs.Prelude.{◌≡◌, ◌++◌, [], IfSome, OnOk};
+ghost use Rattle.std.specs.Prelude.{◌≡◌, ◌≤◌, ◌++◌, [], IfSome, OnOk};
 ghost use Rattle.std.specs.Io.KnownBytes.{Appends};
 ghost use Rattle.world.specs.State.{IsWorld};
 ghost use Rattle.world.specs.Seen.{seen};
@@ -22,22 +22,32 @@ use store_trait::RowStore;
 use tracker_trait::Tracker;
 use world::{Reply, World};
 
-/// Reads a script, and runs it over a new pair. The whole of it is read and checked before the first event: the
+/// Reads a script, and runs it over a new pair of so many workers. The whole of it is read and checked before the first event: the
 /// first bad line, then the tables, then the rows at the start. Each event's reply is a line of the output; where
 /// the work stops after a beginning of the events, so does the output, after a whole line.
 pub fn run_text<R: BufRead, W: Write>(
     alloc: Global,
+    workers: usize,
     input: &mut R,
     output: &mut W,
 ) -> Result<(), Stop>
-    ensures { OnOk result (IfSome (R.remaining input.old) (λ text. PrintsText text (W.contents output.old) (W.contents output.new))) }
+    requires some { 1 ≤ workers }
+    requires few { workers ≤ 64 }
+    ensures { OnOk result (IfSome (R.remaining input.old) (λ text. PrintsText workers text (W.contents output.old) (W.contents output.new))) }
 {
-    run_script(alloc, Script::read(alloc, input)?, output)
+    run_script(alloc, workers, Script::read(alloc, input)?, output)
 }
 
 /// Runs a script over a new pair.
-fn run_script<W: Write>(alloc: Global, script: Script, output: &mut W) -> Result<(), Stop>
-    ensures { OnOk result (Prints (said script) (W.contents output.old) (W.contents output.new)) }
+fn run_script<W: Write>(
+    alloc: Global,
+    workers: usize,
+    script: Script,
+    output: &mut W,
+) -> Result<(), Stop>
+    requires some { 1 ≤ workers }
+    requires few { workers ≤ 64 }
+    ensures { OnOk result (Prints workers (said script) (W.contents output.old) (W.contents output.new)) }
 {
     let Script {
         tables,
@@ -48,7 +58,7 @@ fn run_script<W: Write>(alloc: Global, script: Script, output: &mut W) -> Result
     let Some(batch) = base_of(alloc, &base)? else {
         return Err(Stop::BadBase);
     };
-    let Some(mut world) = new_pair(alloc, schema, batch)? else {
+    let Some(mut world) = new_pair(alloc, schema, batch, workers)? else {
         return Err(Stop::BadBase);
     };
     drop(base);

@@ -1,8 +1,9 @@
-//! The program's work, over any reader and two writers.
+//! The program's work, over any reader and two writers. Only `threads` uses the handle.
 
-ghost use Rattle.std.specs.Prelude.{◌≡◌, ◌≢◌, ◌∷◌, [], ◌++◌, IfErr, IfSome, OnOk};
+ghost use Rattle.std.specs.Prelude.{◌≡◌, ◌≢◌, ◌≤◌, ◌∷◌, [], ◌++◌, IfErr, IfSome, OnOk};
 ghost use Rattle.std.specs.Io.KnownBytes.{Appends};
 ghost use Rattle.mtr.specs.Ending.{ending_of, stop_text};
+ghost use Rattle.mtr.specs.Options.{IsInRange};
 ghost use Rattle.mtr.specs.Pair.{PrintsText};
 
 use crate::command_line::{NOT_UTF8, asked};
@@ -10,17 +11,21 @@ use crate::decode::decode;
 use crate::ending::{Ending, Stop};
 use crate::options::{LineFault, Options};
 use crate::run::run_text;
+use crate::threads::run_threads;
 use std::alloc::Global;
 use std::env::Args;
 use std::io;
 use std::io::{BufReader, ErrorKind, Read, Write};
+use std::sync::Wait;
+use std::thread::Threads;
 
 /// As many bytes are read at once.
 const CHUNK: usize = 65536;
 
 /// Does what the words of a command line ask for, of which the first is the program's name, and answers the exit
 /// status. Help and the version go to the output, and faults of the command line to `errors`.
-pub fn run_program<R: Read, W: Write, E: Write>(
+pub fn run_program<H: Threads + Wait + Sync, R: Read, W: Write, E: Write>(
+    rt: &H,
     alloc: Global,
     words: io::Result<Args>,
     input: &mut R,
@@ -29,7 +34,7 @@ pub fn run_program<R: Read, W: Write, E: Write>(
 ) -> u8 {
     let ending = match words {
         Ok(words) => match asked(alloc, words) {
-            Ok(options) => serve(alloc, &options, input, output, errors),
+            Ok(options) => serve(rt, alloc, &options, input, output, errors),
             Err(LineFault::Asked(text)) => show(&text, output, Ending::Done),
             Err(LineFault::Line(text)) => show(&text, errors, Ending::CommandLine),
             Err(LineFault::Memory) => Stop::Memory.tell(errors),
@@ -62,15 +67,22 @@ fn write_text<W: Write>(text: &str, out: &mut W) -> io::Result<()>
 
 /// Does what the options ask for. A fault is one line on `errors`, and nothing is written to the output then,
 /// but where memory or a stream fails after a beginning of what is printed; a stream that fails has no line.
-fn serve<R: Read, W: Write, E: Write>(
+fn serve<H: Threads + Wait + Sync, R: Read, W: Write, E: Write>(
+    rt: &H,
     alloc: Global,
     options: &Options,
     input: &mut R,
     output: &mut W,
     errors: &mut E,
-) -> Ending {
+) -> Ending
+    requires { IsInRange options.now }
+{
     match options {
-        Options::Run => tell(run(alloc, input, output), errors),
+        Options::Run { workers } => tell(run(alloc, *workers, input, output), errors),
+        Options::Threads(plan) => match run_threads(rt, alloc, plan, output) {
+            Ok(ending) => ending,
+            Err(stop) => stop.tell(errors),
+        },
         Options::Decode => tell(decode(alloc, input, output), errors),
     }
 }
@@ -87,12 +99,19 @@ fn tell<E: Write>(done: Result<(), Stop>, errors: &mut E) -> Ending
     }
 }
 
-/// Runs the script of a reader.
-fn run<R: Read, W: Write>(alloc: Global, input: &mut R, output: &mut W) -> Result<(), Stop>
-    ensures { OnOk result (IfSome (R.remaining input.old) (λ text. PrintsText text (W.contents output.old) (W.contents output.new))) }
+/// Runs the script of a reader, with so many workers.
+fn run<R: Read, W: Write>(
+    alloc: Global,
+    workers: usize,
+    input: &mut R,
+    output: &mut W,
+) -> Result<(), Stop>
+    requires some { 1 ≤ workers }
+    requires few { workers ≤ 64 }
+    ensures { OnOk result (IfSome (R.remaining input.old) (λ text. PrintsText workers text (W.contents output.old) (W.contents output.new))) }
 {
     let mut input = BufReader::with_capacity(alloc, CHUNK, input)?;
-    run_text(alloc, &mut input, output)
+    run_text(alloc, workers, &mut input, output)
 }
 
 #[cfg(test)]

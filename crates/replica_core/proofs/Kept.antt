@@ -1,123 +1,322 @@
--- What a replica keeps, as it accepts one more record, executes the next, and commits it.
-use Rattle.std.proofs.Common.{◌≡◌, ◌∙◌, sym, ap, subst, refl, ℕ, zero, suc, ◌+◌, ◌-◌, ◌<◌, ◌≤◌, List, [], ◌∷◌, ◌++◌, length, take, drop, Option, Some, None, arith, add-zero, slice_get, get_or, length-drop, Bool, true, true≢false, Ok}
-use Rattle.std.specs.Option.{option_and_then, option_map}
-use Rattle.std.proofs.lemmas.Option.{none-some, same_Some, slice_get_within, slice_get_read}
-use Rattle.std.proofs.lemmas.List.{take-append-le, length_push}
-use Rattle.schema.specs.declared.Table.{Table}
-use Rattle.rows.specs.declared.Change.{Change}
+-- What a replica keeps, at each of its steps.
+use Rattle.std.proofs.Common.{◌≡◌, ◌∙◌, sym, ap, subst, refl, ℕ, zero, suc, ◌+◌, ◌-◌, ◌<◌, ◌≤◌, Bool, true, false, ◌&&◌, inl, inr, List, [], ◌∷◌, ◌++◌, map, length, take, drop, Option, Some, None, is_some, arith, slice_get, slice_set, get_or, length-drop, add-one}
+use Rattle.std.specs.Option.{option_and_then, option_map, option_map_or}
+use Rattle.std.proofs.lemmas.Bool.{and_parts, cases_lt, cases_eq, ltb-true, leb-true}
+use Rattle.std.proofs.lemmas.Option.{none-some, same_Some, slice_get_within}
+use Rattle.std.proofs.lemmas.List.{map-append, take-append-le, length_push, length-map, length-set, map-set, drop-drop, drop-map, get_or-drop, get_or_append_left, get_or-set_same, get_or-set_other}
+use Rattle.std.proofs.Math.Seq.{get_or-append_seam}
 use Rattle.rows.specs.Database.{Database, effect, writes}
 use Rattle.store_trait.specs.Batch.{Entry, rows_in, put_batch}
+use Rattle.store_trait.specs.Operation.{loaded}
 use Rattle.store_trait.proofs.Batches.{put_batch-writes}
 use Rattle.store_trait.specs.declared.Op.{Op}
 use Rattle.store_trait.specs.declared.Op.TheVariants.{Commit}
 use Rattle.record_codec.specs.declared.records.Record.{Record}
 use Rattle.record_codec.specs.Log.{after}
-use Rattle.replica_core.specs.declared.Job.{Job}
-use Rattle.replica_core.specs.declared.Job.TheVariants.{Idle, Dispatched, Done}
-use Rattle.replica_core.specs.Replica.{commits_from}
-use Rattle.record_codec.specs.Group.{AreNumbered}
-use Rattle.replica_core.specs.Core.{IsJob, IsKept, CommitsJob}
+use Rattle.executor.specs.declared.Job.{Job}
+use Rattle.executor.specs.Job.{Finished, rows_of}
+use Rattle.executor.specs.declared.Outcome.TheVariants.{Output}
+use Rattle.executor.specs.Laws.{LeavesThere}
+use Rattle.executor.proofs.Elsewhere.{output_is_there}
+use Rattle.relay.specs.Relay.{AreAcceptable}
+use Rattle.scheduler.specs.Marks.{Marks, all_up_to}
+use Rattle.commit_order.specs.Turns.{Line, place_of, entered, with_result, turn, passed}
+use Rattle.replica_core.specs.Replica.{Replica, dispatched, rows_at, working_rows, job_over, job_of, commits_from}
+use Rattle.replica_core.specs.Sound.{IsSound, IsUnderWay, AreEligible}
+use Rattle.replica_core.specs.Calls.{with_accepted, is_eligible, dispatched_next, with_finished, stopped_at, committed_next, with_published}
+use Rattle.replica_core.specs.Core.{IsKept, IsTaken}
 use Rattle.replica_core.proofs.Commits.{after-next, length-committed, waiting-next}
+use Rattle.replica_core.proofs.Jobs.{slice_get-push, hold_along, job_at, job_parts, job_stays, job_stays_behind}
 
--- ---- one more record
+-- ---- lists
 
-numbered-push : (gno : ℕ) (xs : List Record) (new : Record) → AreNumbered gno xs → new.gno ≡ gno + length xs → AreNumbered gno (xs ++ new ∷ [])
-numbered-push gno [] new h is = (is ∙ add-zero gno, tt)
-numbered-push gno (x ∷ xs) new h is =
-    let next : new.gno ≡ gno + 1 + length xs = omega arith in
-    (h.0, numbered-push (gno + 1) xs new h.1 next)
+slice_get-seam : {X : Type 0} (xs : List X) (y : X) (ys : List X) → slice_get (xs ++ y ∷ ys) (length xs) ≡ Some y
+slice_get-seam [] y ys = refl
+slice_get-seam (x ∷ xs) y ys = slice_get-seam xs y ys
 
-slice_get-push : {X : Type 0} (xs : List X) (y : X) (n : ℕ) (x : X) → slice_get xs n ≡ Some x → slice_get (xs ++ y ∷ []) n ≡ Some x
-slice_get-push [] y n x is = absurd (none-some x is)
-slice_get-push (z ∷ xs) y zero x is = is
-slice_get-push (z ∷ xs) y (suc n) x is = slice_get-push xs y n x is
+slice_get-behind : {X : Type 0} (xs : List X) (n : ℕ) → slice_get (drop 1 xs) n ≡ slice_get xs (n + 1)
+slice_get-behind [] n = refl
+slice_get-behind (x ∷ xs) n = ap (slice_get (x ∷ xs)) (sym (add-one n))
 
-job-push : (ts : List Table) (rows : Database) (accepted : List Record) (committed : ℕ) (job : Job) (new : Record) → IsJob ts rows accepted committed job → IsJob ts rows (accepted ++ new ∷ []) committed job
-job-push ts rows accepted committed Idle new h = rw length_push (omega arith)
-job-push ts rows accepted committed Dispatched new h = rw length_push (omega arith)
-job-push ts rows accepted committed (Done batch) new h = record {
-  next = h.next;
-  is_next = slice_get-push accepted new committed h.next h.is_next;
-  leaves = h.leaves;
-  applies = h.applies;
-  batch_is = h.batch_is;
-}
+-- a place that is taken is one of the list
+pub taken_within : {X : Type 0} (xs : List (Option X)) (n : ℕ) (x : X) → get_or xs n None ≡ Some x → n < length xs
+taken_within [] n x is = absurd (none-some x is)
+taken_within (y ∷ xs) zero x is = omega arith
+taken_within (y ∷ xs) (suc n) x is = let rest = taken_within xs n x is in omega arith
 
--- what is committed was accepted
-pub committed_within : (ts : List Table) (rows : Database) (accepted : List Record) (committed : ℕ) (job : Job) → IsJob ts rows accepted committed job → committed ≤ length accepted
-committed_within ts rows accepted committed Idle h = h
-committed_within ts rows accepted committed Dispatched h = omega arith
-committed_within ts rows accepted committed (Done batch) h = omega (arith, slice_get_within accepted committed h.next h.is_next)
+-- the next record may be dispatched: it is there, its parent is committed, and a worker is free
+pub record IsNext (r : Replica) (rec : Record) : Type 0 where
+  pub got : slice_get r.accepted (dispatched r) ≡ Some rec
+  pub parent : rec.parent ≤ r.committed
+  pub free : length r.under_way < r.workers
 
-option_map_some : {A B : Type 0} (f : A → B) (o : Option A) (y : B) → option_map f o ≡ Some y → (x : A) × (o ≡ Some x) × (f x ≡ y)
-option_map_some f None y is = absurd (none-some y is)
-option_map_some f (Some x) y is = (x, refl, same_Some (f x) y is)
+module _ (r : Replica) (marks : Marks) (line : Line) (jobs : List Job) (rows : Database) (ops : List Op) where
+  pub kept_sound : IsKept r marks line jobs rows ops → IsSound r
+  kept_sound h = record {
+    accepted = h.acceptable;
+    published = h.published;
+    dispatched = h.dispatched;
+    busy = h.busy;
+    some = h.some;
+    few = h.few;
+    rows = rows;
+    rows_are = h.rows_are;
+    eligible = h.eligible;
+    jobs = hold_along r h.acceptable h.eligible;
+  }
 
-module _ (ts : List Table) (base : Database) (accepted : List Record) (committed published : ℕ) (rows : Database) (waiting : List Op) where
-  pub kept-push : (job : Job) (new : Record) → IsKept ts base accepted committed published job rows waiting → new.gno ≡ length accepted + 1 → IsKept ts base (accepted ++ new ∷ []) committed published job rows waiting
-  kept-push job new h is =
-      let within : committed ≤ length accepted = committed_within ts rows accepted committed job h.job_is in
-      let same : take committed (accepted ++ new ∷ []) ≡ take committed accepted = take-append-le committed accepted (new ∷ []) within in
-      let number : new.gno ≡ 1 + length accepted = omega arith in
+  pub length_places : IsKept r marks line jobs rows ops → length line.places ≡ length r.under_way
+  length_places h = sym (length-map line.places is_some) ∙ ap length (sym h.places)
+
+  -- ---- one more record accepted
+
+  pub kept_accepted : (new : Record) → IsKept r marks line jobs rows ops → AreAcceptable r.tables (r.accepted ++ new ∷ []) → IsKept (with_accepted r new) marks line jobs rows ops
+  kept_accepted new h acceptable =
+      let all = h.dispatched in
+      let within : r.committed ≤ length r.accepted = omega arith in
+      let same : take r.committed (r.accepted ++ new ∷ []) ≡ take r.committed r.accepted = take-append-le r.committed r.accepted (new ∷ []) within in
+      let stays : (gno : ℕ) → IsUnderWay r gno → job_of (with_accepted r new) gno ≡ job_of r gno = λ gno under.
+      job_stays_behind r gno new (kept_sound h) (omega arith) (omega arith) in
       record {
-        numbered = numbered-push 1 accepted new h.numbered number;
-        rows_are = ap (after ts base) same ∙ h.rows_are;
-        job_is = job-push ts rows accepted committed job new h.job_is;
-        earlier = h.earlier;
-        waiting_are = h.waiting_are ∙ ap (λ l. drop published (commits_from ts base 1 l)) (sym same);
+        flat = h.flat;
+        acceptable = acceptable;
+        rows_are = ap (after r.tables (loaded r.base)) same ∙ h.rows_are;
+        published = h.published;
+        ops_are = h.ops_are ∙ ap (λ l. drop r.published (commits_from r.tables (loaded r.base) 1 l)) (sym same);
+        marks_are = h.marks_are;
+        dispatched = rw (length_push r.accepted new) (omega arith);
+        busy = h.busy;
+        some = h.some;
+        few = h.few;
+        eligible = λ gno rec under got. h.eligible gno rec under (sym (slice_get-push r.accepted (new ∷ []) (gno - 1) (omega arith)) ∙ got);
+        first = h.first;
+        places = h.places;
+        count = h.count;
+        jobs = λ gno under. h.jobs gno under ∙ sym (stays gno under);
+        results = λ gno result under is.
+            let t = h.results gno result under is in
+            record { job = stays gno under ∙ t.job; left = t.left; output = t.output; applies = t.applies };
+      }
+
+  -- ---- the next record dispatched
+
+  pub kept_dispatched : (rec : Record) (job : Job) → IsKept r marks line jobs rows ops → IsNext r rec → job_of r (dispatched r + 1) ≡ Some job → IsKept (dispatched_next r) marks (entered line) (jobs ++ job ∷ []) rows ops
+  kept_dispatched rec job h next made =
+      let lengths = length_places h in
+      let free = next.free in
+      let within : dispatched r < length r.accepted = slice_get_within r.accepted (dispatched r) rec next.got in
+      let one_more : length (r.under_way ++ false ∷ []) ≡ length r.under_way + 1 = length_push r.under_way false in
+      record {
+        flat = h.flat;
+        acceptable = h.acceptable;
+        rows_are = h.rows_are;
+        published = h.published;
+        ops_are = h.ops_are;
+        marks_are = h.marks_are;
+        dispatched = rw one_more (omega arith);
+        busy = rw one_more (omega arith);
+        some = h.some;
+        few = h.few;
+        eligible = λ gno rec' under got. elim (cases_lt (dispatched r) gno) [
+          | inl new ↦
+              let place : gno - 1 ≡ dispatched r = (let last = under.1 in omega (arith, one_more)) in
+              let same : rec ≡ rec' = same_Some rec rec' (sym next.got ∙ ap (slice_get r.accepted) (sym place) ∙ got) in
+              let parent : rec.parent ≡ rec'.parent = ap (λ (x : Record). x.parent) same in
+              (let below = next.parent in omega arith)
+          | inr old ↦ h.eligible gno rec' (under.0, old) got
+        ];
+        first = h.first;
+        places = ap (λ l. l ++ false ∷ []) h.places ∙ sym (map-append is_some line.places (None ∷ []));
+        count = length_push jobs job ∙ ap (λ n. n + 1) h.count ∙ sym one_more;
+        jobs = λ gno under. elim (cases_lt (dispatched r) gno) [
+          | inl new ↦
+              let number : gno ≡ dispatched r + 1 = (let last = under.1 in omega (arith, one_more)) in
+              let place : gno - r.committed - 1 ≡ length jobs = (let count = h.count in omega arith) in
+              ap (slice_get (jobs ++ job ∷ [])) place ∙ slice_get-seam jobs job [] ∙ sym made ∙ ap (job_of r) (sym number)
+          | inr old ↦ slice_get-push jobs (job ∷ []) (gno - r.committed - 1) (let count = h.count in let low = under.0 in omega arith) ∙ h.jobs gno (under.0, old)
+        ];
+        results = λ gno result under is. elim (cases_lt (dispatched r) gno) [
+          | inl new ↦
+              let place : gno - line.first ≡ length line.places = (let first = h.first in let last = under.1 in omega (arith, one_more)) in
+              absurd (none-some result (sym (get_or-append_seam line.places None [] None) ∙ ap (λ n. get_or (line.places ++ None ∷ []) n None) (sym place) ∙ is))
+          | inr old ↦
+              let t = h.results gno result (under.0, old) (sym (get_or_append_left line.places (None ∷ []) None (gno - line.first) (let first = h.first in let low = under.0 in omega arith)) ∙ is) in
+              record { job = t.job; left = t.left; output = t.output; applies = t.applies }
+        ];
+      }
+
+  -- ---- a result taken
+
+  pub kept_finished : (gno : ℕ) (result : Finished) → IsKept r marks line jobs rows ops → IsUnderWay r gno → result.job.gno ≡ gno → IsTaken r gno result → IsKept (with_finished r gno) marks (with_result line result) jobs rows ops
+  kept_finished gno result h under number taken =
+      let lengths = length_places h in
+      let first = h.first in
+      let low = under.0 in
+      let high = under.1 in
+      let here : result.job.gno - line.first ≡ gno - r.committed - 1 = omega arith in
+      let as_many : length (slice_set r.under_way (gno - r.committed - 1) true) ≡ length r.under_way = length-set r.under_way (gno - r.committed - 1) true in
+      record {
+        flat = h.flat;
+        acceptable = h.acceptable;
+        rows_are = h.rows_are;
+        published = h.published;
+        ops_are = h.ops_are;
+        marks_are = h.marks_are;
+        dispatched = rw as_many h.dispatched;
+        busy = rw as_many h.busy;
+        some = h.some;
+        few = h.few;
+        eligible = λ g rec u got. h.eligible g rec (u.0, (let last = u.1 in omega (arith, as_many))) got;
+        first = h.first;
+        places =
+            (λ i. slice_set (h.places i) (sym here i) true)
+            ∙ sym (map-set is_some line.places (result.job.gno - line.first) (Some result));
+        count = h.count ∙ sym as_many;
+        jobs = λ g u. h.jobs g (u.0, (let last = u.1 in omega (arith, as_many)));
+        results = λ g other u is.
+            let u_old : IsUnderWay r g = (u.0, (let last = u.1 in omega (arith, as_many))) in
+            let t : IsTaken r g other = elim (cases_eq g gno) [
+              | inl same ↦
+                  let place : g - line.first ≡ result.job.gno - line.first = omega arith in
+                  let within : result.job.gno - line.first < length line.places = omega arith in
+                  let got : Some result ≡ Some other =
+                  sym (get_or-set_same line.places (result.job.gno - line.first) (Some result) None within)
+                  ∙ ap (λ n. get_or (slice_set line.places (result.job.gno - line.first) (Some result)) n None) (sym place) ∙ is in
+                  subst (λ (f : Finished). IsTaken r g f) (same_Some result other got) (subst (λ n. IsTaken r n result) (sym same) taken)
+              | inr differs ↦
+                  let at_least = u.0 in
+                  h.results g other u_old
+                  (sym (get_or-set_other line.places (result.job.gno - line.first) (g - line.first) (Some result) None (λ e. differs (omega arith))) ∙ is)
+            ] in
+            record { job = t.job; left = t.left; output = t.output; applies = t.applies };
+      }
+
+  pub kept_stopped : (gno : ℕ) → IsKept r marks line jobs rows ops → IsKept (stopped_at r gno) marks line jobs rows ops
+  kept_stopped gno h = record {
+    flat = h.flat;
+    acceptable = h.acceptable;
+    rows_are = h.rows_are;
+    published = h.published;
+    ops_are = h.ops_are;
+    marks_are = h.marks_are;
+    dispatched = h.dispatched;
+    busy = h.busy;
+    some = h.some;
+    few = h.few;
+    eligible = h.eligible;
+    first = h.first;
+    places = h.places;
+    count = h.count;
+    jobs = h.jobs;
+    results = λ g result u is. let t = h.results g result u is in record { job = t.job; left = t.left; output = t.output; applies = t.applies };
+  }
+
+  -- ---- the next commit
+
+  -- the record behind the committed ones applies to the working rows, and leaves these at what it writes
+  pub record LeavesNext (left : List Entry) : Type 0 where
+    pub rec : Record
+    pub leaves : Database
+    pub got : slice_get r.accepted r.committed ≡ Some rec
+    pub applies : effect r.tables rec.changes rows ≡ Some leaves
+    pub left_is : left ≡ rows_in (writes rec.changes) leaves
+
+  leaves_next : (result : Finished) → IsKept r marks line jobs rows ops → (t : IsTaken r (r.committed + 1) result) → LeavesNext t.left
+  leaves_next result h t =
+      let parts = job_parts r (r.committed + 1) result.job t.job in
+      let here : r.committed + 1 - 1 ≡ r.committed = omega arith in
+      let same : parts.rows ≡ rows = same_Some parts.rows rows (sym parts.rows_are ∙ h.rows_are) in
+      let tables : result.job.schema ≡ r.tables = ap (λ (j : Job). j.schema) parts.job_is in
+      let of : result.job.rec ≡ parts.rec = ap (λ (j : Job). j.rec) parts.job_is in
+      let there : LeavesThere result.job.schema result.job.rec.changes parts.rows t.left =
+      output_is_there result.job parts.rows t.left (rw tables h.flat)
+      (ap (λ (j : Job). j.input) parts.job_is ∙ ap (λ (x : Record). rows_in (rows_of x) parts.rows) (sym of)) t.applies in
+      record {
+        rec = parts.rec;
+        leaves = there.after_;
+        got = ap (slice_get r.accepted) (sym here) ∙ parts.got;
+        applies = (λ i. effect (sym tables i) ((sym of i).changes) (sym same i)) ∙ there.applies;
+        left_is = there.rows ∙ ap (λ (x : Record). rows_in (writes x.changes) there.after_) of;
+      }
+
+  pub kept_committed : (result : Finished) (left : List Entry) → IsKept r marks line jobs rows ops → turn line ≡ Some result → result.outcome ≡ Output left → IsKept (committed_next r) (all_up_to (r.committed + 1)) (passed line) (drop 1 jobs) (put_batch left rows) (ops ++ Commit (r.committed + 1) left ∷ [])
+  kept_committed result left h is output =
+      let lengths = length_places h in
+      let first = h.first in
+      let all = h.dispatched in
+      let some : 0 < length line.places = taken_within line.places 0 result is in
+      let under : IsUnderWay r (r.committed + 1) = (omega arith, omega arith) in
+      let front : r.committed + 1 - line.first ≡ 0 = omega arith in
+      let taken = h.results (r.committed + 1) result under (ap (λ n. get_or line.places n None) front ∙ is) in
+      let same_left : taken.left ≡ left = cc (taken.output) in
+      let next : LeavesNext left = subst LeavesNext same_left (leaves_next result h taken) in
+      let fewer : length (drop 1 r.under_way) ≡ length r.under_way - 1 = length-drop 1 r.under_way in
+      let rows_then : rows_at r (r.committed + 1) ≡ Some next.leaves =
+      after-next r.tables (loaded r.base) r.accepted r.committed next.rec next.got
+      ∙ ap (option_and_then (effect r.tables next.rec.changes)) h.rows_are ∙ next.applies in
+      let put : put_batch left rows ≡ next.leaves = ap (λ b. put_batch b rows) next.left_is ∙ put_batch-writes r.tables next.rec.changes rows next.leaves next.applies in
+      let was : (gno : ℕ) → IsUnderWay (committed_next r) gno → IsUnderWay r gno = λ gno u.
+      (let low = u.0 in omega arith, let high = u.1 in omega (arith, fewer)) in
+      let stays : (gno : ℕ) → IsUnderWay (committed_next r) gno → job_of (committed_next r) gno ≡ job_of r gno = λ gno u.
+      job_stays r gno next.leaves (kept_sound h) (was gno u) u.0 rows_then in
+      record {
+        flat = h.flat;
+        acceptable = h.acceptable;
+        rows_are = rows_then ∙ ap Some (sym put);
+        published = (let before = h.published in omega arith);
+        ops_are =
+            (λ i. h.ops_are i ++ Commit (r.committed + 1) (next.left_is i) ∷ [])
+            ∙ waiting-next r.tables (loaded r.base) r.accepted r.committed r.published next.rec rows next.leaves next.got h.rows_are next.applies h.published;
+        marks_are = refl;
+        dispatched = rw fewer (omega arith);
+        busy = rw fewer (let busy = h.busy in omega arith);
+        some = h.some;
+        few = h.few;
+        eligible = λ gno rec u got. (let before = h.eligible gno rec (was gno u) got in omega arith);
+        first = ap (λ n. n + 1) h.first;
+        places = ap (drop 1) h.places ∙ drop-map is_some 1 line.places;
+        count = length-drop 1 jobs ∙ ap (λ n. n - 1) h.count ∙ sym fewer;
+        jobs = λ gno u.
+            let low = u.0 in
+            let place : gno - (r.committed + 1) - 1 + 1 ≡ gno - r.committed - 1 = omega arith in
+            slice_get-behind jobs (gno - (r.committed + 1) - 1) ∙ ap (slice_get jobs) place ∙ h.jobs gno (was gno u) ∙ sym (stays gno u);
+        results = λ gno other u at.
+            let low = u.0 in
+            let place : 1 + (gno - (line.first + 1)) ≡ gno - line.first = omega arith in
+            let t = h.results gno other (was gno u) (ap (λ n. get_or line.places n None) (sym place) ∙ sym (get_or-drop 1 line.places (gno - (line.first + 1)) None) ∙ at) in
+            record { job = stays gno u ∙ t.job; left = t.left; output = t.output; applies = t.applies };
       }
 
   -- ---- publishing
 
-  pub length-waiting : (job : Job) → IsKept ts base accepted committed published job rows waiting → length waiting ≡ committed - published
-  length-waiting job h =
-      let all = length-committed ts base accepted committed rows (committed_within ts rows accepted committed job h.job_is) h.rows_are in
-      ap length h.waiting_are ∙ length-drop published (commits_from ts base 1 (take committed accepted)) ∙ ap (λ n. n - published) all
+  pub length_ops : IsKept r marks line jobs rows ops → length ops ≡ r.committed - r.published
+  length_ops h =
+      let all = h.dispatched in
+      let within : r.committed ≤ length r.accepted = omega arith in
+      ap length h.ops_are ∙ length-drop r.published (commits_from r.tables (loaded r.base) 1 (take r.committed r.accepted))
+      ∙ ap (λ n. n - r.published) (length-committed r.tables (loaded r.base) r.accepted r.committed rows within h.rows_are)
 
-  -- ---- the next commit
-
-  kept-commit : (batch : List Entry) → IsKept ts base accepted committed published (Done batch) rows waiting → IsKept ts base accepted (committed + 1) published Idle (put_batch batch rows) (waiting ++ Commit (committed + 1) batch ∷ [])
-  kept-commit batch h =
-      let job = h.job_is in
-      let within : committed < length accepted = slice_get_within accepted committed job.next job.is_next in
-      let put : put_batch batch rows ≡ job.leaves = ap (λ b. put_batch b rows) job.batch_is ∙ put_batch-writes ts job.next.changes rows job.leaves job.applies in
+  pub kept_published : (upto : ℕ) → IsKept r marks line jobs rows ops → r.published ≤ upto → upto ≤ r.committed → IsKept (with_published r upto) marks line jobs rows (drop (upto - r.published) ops)
+  kept_published upto h later done =
+      let sum : r.published + (upto - r.published) ≡ upto = omega arith in
       record {
-        numbered = h.numbered;
-        rows_are =
-            after-next ts base accepted committed job.next job.is_next
-            ∙ ap (option_and_then (effect ts job.next.changes)) h.rows_are ∙ job.applies ∙ ap Some (sym put);
-        job_is = omega arith;
-        earlier = (let e = h.earlier in omega arith);
-        waiting_are =
-            (λ i. h.waiting_are i ++ Commit (committed + 1) (job.batch_is i) ∷ [])
-            ∙ waiting-next ts base accepted committed published job.next rows job.leaves job.is_next h.rows_are job.applies h.earlier;
-      }
-
-  pub kept-commits : (job : Job) (done : Bool) (job' : Job) (rows' : Database) (waiting' : List Op) → IsKept ts base accepted committed published job rows waiting → done ≡ true → CommitsJob (committed + 1) job rows waiting (Ok done) job' rows' waiting' → IsKept ts base accepted (committed + 1) published job' rows' waiting'
-  kept-commits Idle done job' rows' waiting' h is put = absurd (true≢false (sym is ∙ put.0))
-  kept-commits Dispatched done job' rows' waiting' h is put = absurd (true≢false (sym is ∙ put.0))
-  kept-commits (Done batch) done job' rows' waiting' h is put = rw (put.1, put.2, put.3) (kept-commit batch h)
-
-  -- ---- what was executed
-
-  pub next_dispatched : (job : Job) (next : Record) → IsKept ts base accepted committed published job rows waiting → job ≡ Dispatched → next ≡ get_or accepted committed next → slice_get accepted committed ≡ Some next
-  next_dispatched job next h dispatched got =
-      let within : committed < length accepted = subst (IsJob ts rows accepted committed) dispatched h.job_is in
-      slice_get_read accepted (length accepted) committed next refl within got
-
-  pub kept-done : (job : Job) (next : Record) (changes : List Change) (left : Option (List Entry)) (batch : List Entry) → IsKept ts base accepted committed published job rows waiting → job ≡ Dispatched → next ≡ get_or accepted committed next → changes ≡ next.changes → left ≡ option_map (λ leaves. rows_in (writes changes) leaves) (effect ts changes rows) → left ≡ Some batch → IsKept ts base accepted committed published (Done batch) rows waiting
-  kept-done job next changes left batch h dispatched got same made_is some =
-      let made = option_map_some (λ leaves. rows_in (writes changes) leaves) (effect ts changes rows) batch (sym made_is ∙ some) in
-      record {
-        numbered = h.numbered;
+        flat = h.flat;
+        acceptable = h.acceptable;
         rows_are = h.rows_are;
-        job_is = record {
-          next = next;
-          is_next = next_dispatched job next h dispatched got;
-          leaves = made.0;
-          applies = ap (λ c. effect ts c rows) (sym same) ∙ made.1;
-          batch_is = sym made.2 ∙ ap (λ c. rows_in (writes c) made.0) same;
-        };
-        earlier = h.earlier;
-        waiting_are = h.waiting_are;
+        published = done;
+        ops_are =
+            ap (drop (upto - r.published)) h.ops_are
+            ∙ drop-drop (upto - r.published) r.published (commits_from r.tables (loaded r.base) 1 (take r.committed r.accepted))
+            ∙ ap (λ n. drop n (commits_from r.tables (loaded r.base) 1 (take r.committed r.accepted))) sum;
+        marks_are = h.marks_are;
+        dispatched = h.dispatched;
+        busy = h.busy;
+        some = h.some;
+        few = h.few;
+        eligible = h.eligible;
+        first = h.first;
+        places = h.places;
+        count = h.count;
+        jobs = h.jobs;
+        results = λ g result u is. let t = h.results g result u is in record { job = t.job; left = t.left; output = t.output; applies = t.applies };
       }

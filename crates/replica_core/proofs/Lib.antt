@@ -1,3 +1,6 @@
 pub mod Commits
+pub mod Apart
+pub mod Jobs
 pub mod Kept
-pub mod Finished
+pub mod Steps
+pub mod Copies

@@ -1,29 +1,32 @@
 -- What each call of a replica answers, and what it leaves.
-use Rattle.std.specs.Prelude.{ℕ, ◌+◌, ◌-◌, Bool, false, not, ◌&&◌, ◌||◌, ◌==◌, nat_lt, nat_le, if◌then◌else◌, List, [], ◌∷◌, ◌++◌, length, filter, slice_get, Option, Some, None, is_some, Result, Ok, Err}
-use Rattle.std.specs.Option.{option_and_then, option_map_or, option_or}
-use Rattle.std.specs.List.{list_any}
+use Rattle.std.specs.Prelude.{◌≡◌, ℕ, ◌+◌, ◌-◌, Bool, true, false, not, ◌&&◌, ◌||◌, ◌==◌, nat_le, nat_lt, if◌then◌else◌, List, [], ◌∷◌, ◌++◌, length, drop, slice_get, slice_set, slice_index_or, Option, Some, None, is_some, Result, Ok, Err}
+use Rattle.std.specs.Option.{option_map_or, option_or}
 use Rattle.schema.specs.declared.Table.{Table}
-use Rattle.rows.specs.Database.{effect}
 use Rattle.store_trait.specs.Batch.{Entry}
 use Rattle.record_codec.specs.declared.records.Record.{Record}
-use Rattle.replica_core.specs.declared.ReplicaFault.{ReplicaFault}
-use Rattle.replica_core.specs.declared.ReplicaFault.TheVariants.{Gap, Malformed, Stopped, Stranger, Double, Memory}
-use Rattle.replica_core.specs.declared.Received.{Received}
-use Rattle.replica_core.specs.declared.Received.TheVariants.{Accepted, Skipped}
-use Rattle.replica_core.specs.Replica.{Replica, working_rows}
+use Rattle.executor.specs.declared.Job.{Job}
+use Rattle.executor.specs.declared.Outcome.{Outcome}
+use Rattle.executor.specs.declared.Outcome.TheVariants as outcomes
+use Rattle.executor.specs.Job.{Finished}
+use Rattle.relay.specs.declared.ReplicaFault.{ReplicaFault}
+use Rattle.relay.specs.declared.ReplicaFault.TheVariants.{Gap, ForeignSource, Malformed, BadParent, Stopped, Stranger, Double, WrongInput, Memory}
+use Rattle.relay.specs.declared.Received.{Received}
+use Rattle.relay.specs.declared.Received.TheVariants.{Accepted, Skipped}
+use Rattle.relay.specs.Relay as relay
+use Rattle.replica_core.specs.Replica.{Replica, dispatched, job_of}
 
 -- new: nothing is accepted yet
 
-abbrev pub new_over : List Table → List Entry → Replica
-new_over ts base = record {
+abbrev pub new_over : List Table → List ℕ → List Entry → ℕ → Replica
+new_over ts source base workers = record {
   tables = ts;
+  source = source;
   base = base;
   accepted = [];
-  dispatched = 0;
-  finished = [];
   committed = 0;
   published = 0;
-  workers = 1;
+  under_way = [];
+  workers = workers;
   stopped = None;
 }
 
@@ -35,15 +38,13 @@ stop_fault r = option_map_or (λ gno. Some (Stopped gno)) r.stopped None
 abbrev pub unless_stopped : {T : Type 0} → Replica → T → Result T ReplicaFault
 unless_stopped r answer = option_map_or (λ gno. Err (Stopped gno)) r.stopped (Ok answer)
 
--- receive: the next record is accepted, and one that was accepted before is skipped
+-- receive: what its relay does with the record
 
-abbrev pub received : Replica → Record → Result Received ReplicaFault
-received r new =
-    option_map_or (λ gno. Err (Stopped gno)) r.stopped
-    (if new.gno == 0 then Err Malformed
-    else if nat_le new.gno (length r.accepted) then Ok Skipped
-    else if new.gno == length r.accepted + 1 then Ok Accepted
-    else Err Gap)
+abbrev pub relay_of : Replica → relay.Relay
+relay_of r = record { tables = r.tables; source = r.source; accepted = r.accepted }
+
+abbrev pub received : Replica → List ℕ → Record → Result Received ReplicaFault
+received r from new = option_map_or (λ gno. Err (Stopped gno)) r.stopped (relay.received (relay_of r) from new)
 
 abbrev pub with_accepted : Replica → Record → Replica
 with_accepted r new = record r { accepted = r.accepted ++ new ∷ [] }
@@ -57,67 +58,63 @@ left_by_receive r new Skipped = r
 
 abbrev pub is_eligible : Replica → Bool
 is_eligible r =
-    option_map_or (λ next. nat_le next.parent r.committed) (slice_get r.accepted r.dispatched) false
-    && nat_lt r.dispatched (r.committed + r.workers)
+    option_map_or (λ next. nat_le next.parent r.committed) (slice_get r.accepted (dispatched r)) false
+    && nat_lt (length r.under_way) r.workers
 
-abbrev pub next_job : Replica → Option ℕ
-next_job r = if is_eligible r then Some (r.dispatched + 1) else None
+abbrev pub next_job : Replica → Option Job
+next_job r = if is_eligible r then job_of r (dispatched r + 1) else None
 
 abbrev pub dispatched_next : Replica → Replica
-dispatched_next r = record r { dispatched = r.dispatched + 1 }
+dispatched_next r = record r { under_way = r.under_way ++ false ∷ [] }
 
--- finish: the result of a record that was dispatched, and whose job was not finished
+-- finish: the result of a job that was handed out, and of which none was taken
 
--- among the first so many, which are committed, or among those whose results were taken
-abbrev pub is_finished : ℕ → List ℕ → ℕ → Bool
-is_finished committed finished gno = nat_le gno committed || list_any (λ n. n == gno) finished
-
+-- among those committed, or among those whose results were taken
 abbrev pub was_finished : Replica → ℕ → Bool
-was_finished r gno = is_finished r.committed r.finished gno
-
--- where so many are dispatched, and so many of these committed
-abbrev pub job_fault : ℕ → ℕ → List ℕ → ℕ → Option ReplicaFault
-job_fault dispatched committed finished gno =
-    if not (nat_le 1 gno && nat_le gno dispatched) then Some Stranger
-    else if is_finished committed finished gno then Some Double
-    else None
+was_finished r gno = nat_le gno r.committed || slice_index_or r.under_way (gno - r.committed - 1) false
 
 abbrev pub finish_fault : Replica → ℕ → Option ReplicaFault
-finish_fault r gno = option_or (stop_fault r) (job_fault r.dispatched r.committed r.finished gno)
+finish_fault r gno =
+    option_or (stop_fault r)
+    (if not (nat_le 1 gno && nat_le gno (dispatched r)) then Some Stranger
+    else if was_finished r gno then Some Double
+    else None)
 
--- the changes of the accepted record of this number, counted from 1, apply to the working rows, over which its job was
--- dispatched. Nothing else is asked of the records before it
-abbrev pub applies : Replica → ℕ → Bool
-applies r gno =
-    is_some (option_and_then (λ next. option_and_then (effect r.tables next.changes) (working_rows r)) (slice_get r.accepted (gno - 1)))
+-- the result is of the job that was handed out: the record, the rows and the schema
+abbrev pub IsHandedOut : Replica → Finished → Type 0
+IsHandedOut r result = job_of r result.job.gno ≡ Some result.job
+
+-- what is answered to a result of the job that was handed out: where its changes do not apply the replica stops
+abbrev pub taken_as : Finished → Outcome → Result (Unit {0}) (ReplicaFault × Finished)
+taken_as result (outcomes.Output batch) = Ok tt
+taken_as result outcomes.Undefined = Err (Stopped result.job.gno, result)
+taken_as result outcomes.Memory = Err (Memory, result)
 
 abbrev pub with_finished : Replica → ℕ → Replica
-with_finished r gno = record r { finished = r.finished ++ gno ∷ [] }
+with_finished r gno = record r { under_way = slice_set r.under_way (gno - r.committed - 1) true }
 
 abbrev pub stopped_at : Replica → ℕ → Replica
 stopped_at r gno = record r { stopped = Some gno }
-
--- a record whose changes do not apply stops the replica
-abbrev pub finish_answer : Replica → ℕ → Result (Unit {0}) ReplicaFault
-finish_answer r gno =
-    option_map_or (λ fault. Err fault) (finish_fault r gno) (if applies r gno then Ok tt else Err (Stopped gno))
 
 -- a refusal leaves the replica as it was, but for a stop
 abbrev pub left_by_fault : Replica → ReplicaFault → Replica
 left_by_fault r (Stopped gno) = stopped_at r gno
 left_by_fault r Gap = r
+left_by_fault r ForeignSource = r
 left_by_fault r Malformed = r
+left_by_fault r BadParent = r
 left_by_fault r Stranger = r
 left_by_fault r Double = r
+left_by_fault r WrongInput = r
 left_by_fault r Memory = r
 
 -- commit_next: the next record in log order, once its result was taken
 
 abbrev pub next_commit : Replica → Option ℕ
-next_commit r = if list_any (λ n. n == r.committed + 1) r.finished then Some (r.committed + 1) else None
+next_commit r = if slice_index_or r.under_way 0 false then Some (r.committed + 1) else None
 
 abbrev pub committed_next : Replica → Replica
-committed_next r = record r { committed = r.committed + 1; finished = filter (λ n. not (n == r.committed + 1)) r.finished }
+committed_next r = record r { committed = r.committed + 1; under_way = drop 1 r.under_way }
 
 -- publish
 

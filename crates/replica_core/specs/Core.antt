@@ -1,77 +1,93 @@
--- What the parts of a replica with one worker keep: at most one record is between dispatch and commit.
-use Rattle.std.specs.Prelude.{◌≡◌, ℕ, ◌+◌, ◌<◌, ◌≤◌, Bool, true, false, List, [], ◌∷◌, ◌++◌, length, take, drop, slice_get, Option, Some, Result, Ok, Err}
+-- What the parts of a replica keep.
+use Rattle.std.specs.Prelude.{◌≡◌, ◌⊎◌, ℕ, ◌+◌, ◌-◌, ◌≤◌, Bool, true, false, List, [], ◌∷◌, ◌++◌, map, length, slice_get, Option, Some, None, is_some, option_and_then, Result, Ok, Err}
 use Rattle.schema.specs.declared.Memory.{Memory}
-use Rattle.schema.specs.declared.Table.{Table}
-use Rattle.rows.specs.Database.{Database, effect, writes}
-use Rattle.store_trait.specs.Batch.{Entry, rows_in, put_batch}
-use Rattle.store_trait.specs.declared.Op.{Op}
+use Rattle.schema.specs.Flags.{IsFlat}
+use Rattle.rows.specs.Database.{Database}
+use Rattle.store_trait.specs.Batch.{Entry, put_batch}
 use Rattle.store_trait.specs.declared.Op.TheVariants.{Commit}
-use Rattle.record_codec.specs.declared.records.Record.{Record}
-use Rattle.record_codec.specs.Log.{after}
-use Rattle.replica_core.specs.declared.Job.{Job}
-use Rattle.replica_core.specs.declared.Job.TheVariants.{Idle, Dispatched, Done}
-use Rattle.replica_core.specs.Replica.{Replica, commits}
-use Rattle.record_codec.specs.Group.{AreNumbered}
-
--- how many records are dispatched, where so many are committed
-abbrev pub dispatched_with : ℕ → Job → ℕ
-dispatched_with committed Idle = committed
-dispatched_with committed Dispatched = committed + 1
-dispatched_with committed (Done batch) = committed + 1
-
-abbrev pub is_idle : Job → Bool
-is_idle Idle = true
-is_idle Dispatched = false
-is_idle (Done batch) = false
-
--- the numbers of those whose results were taken
-abbrev pub finished_with : ℕ → Job → List ℕ
-finished_with committed Idle = []
-finished_with committed Dispatched = []
-finished_with committed (Done batch) = (committed + 1) ∷ []
+use Rattle.store_trait.specs.declared.Op.{Op}
+use Rattle.executor.specs.declared.Job.{Job}
+use Rattle.executor.specs.declared.Outcome.TheVariants.{Output}
+use Rattle.executor.specs.Job.{Finished, executed, output_of}
+use Rattle.relay.specs.declared.ReplicaFault.{ReplicaFault}
+use Rattle.relay.specs.declared.ReplicaFault.TheVariants.{WrongInput}
+use Rattle.relay.specs.Relay as relay
+use Rattle.relay.specs.Relay.{AreAcceptable}
+use Rattle.scheduler.specs.Marks.{Marks, all_up_to}
+use Rattle.commit_order.specs.Turns.{Line, place_of, turn, passed}
+use Rattle.replica_core.specs.Replica.{Replica, dispatched, working_rows, job_of, waiting}
+use Rattle.replica_core.specs.Sound.{IsUnderWay, AreEligible}
+use Rattle.replica_core.specs.Calls.{finish_fault, IsHandedOut}
 
 -- a replica of these parts
-abbrev pub seen_as : List Table → List Entry → List Record → ℕ → ℕ → Job → Option ℕ → Replica
-seen_as ts base accepted committed published job stopped = record {
-  tables = ts;
+abbrev pub seen_as : relay.Relay → List Entry → Marks → ℕ → Line → ℕ → Option ℕ → Replica
+seen_as received base marks published line workers stopped = record {
+  tables = received.tables;
+  source = received.source;
   base = base;
-  accepted = accepted;
-  dispatched = dispatched_with committed job;
-  finished = finished_with committed job;
-  committed = committed;
+  accepted = received.accepted;
+  committed = marks.low;
   published = published;
-  workers = 1;
+  under_way = map is_some line.places;
+  workers = workers;
   stopped = stopped;
 }
 
--- the changes of the next record apply to the rows, and leave this batch of the rows that they write
-pub record IsDone (ts : List Table) (rows : Database) (accepted : List Record) (committed : ℕ) (batch : List Entry) : Type 0 where
-  pub next : Record
-  pub is_next : slice_get accepted committed ≡ Some next
-  pub leaves : Database
-  pub applies : effect ts next.changes rows ≡ Some leaves
-  pub batch_is : batch ≡ rows_in (writes next.changes) leaves
+-- the result of the job that was handed out, and its record applies
+pub record IsTaken (r : Replica) (gno : ℕ) (result : Finished) : Type 0 where
+  pub job : job_of r gno ≡ Some result.job
+  pub left : List Entry
+  pub output : result.outcome ≡ Output left
+  pub applies : executed result.job ≡ Output left
 
--- a record that is dispatched was accepted, and what was executed are its changes
-abbrev pub IsJob : List Table → Database → List Record → ℕ → Job → Type 0
-IsJob ts rows accepted committed Idle = committed ≤ length accepted
-IsJob ts rows accepted committed Dispatched = committed < length accepted
-IsJob ts rows accepted committed (Done batch) = IsDone ts rows accepted committed batch
+-- No table has a parent. The store contains the rows after the committed records, and the operations are the commits that
+-- are not published. The copies of the jobs are those of the records between dispatch and commit, in order, and each
+-- result that was taken is of its record's job.
+pub record IsKept (r : Replica) (marks : Marks) (line : Line) (copies : List Job) (rows : Database) (ops : List Op) : Type 0 where
+  pub flat : IsFlat r.tables
+  pub acceptable : AreAcceptable r.tables r.accepted
+  pub rows_are : working_rows r ≡ Some rows
+  pub published : r.published ≤ r.committed
+  pub ops_are : ops ≡ waiting r
+  pub marks_are : marks ≡ all_up_to r.committed
+  pub dispatched : dispatched r ≤ length r.accepted
+  pub busy : length r.under_way ≤ r.workers
+  pub some : 1 ≤ r.workers
+  pub few : r.workers ≤ 64
+  pub eligible : AreEligible r
+  pub first : line.first ≡ r.committed + 1
+  pub places : r.under_way ≡ map is_some line.places
+  pub count : length copies ≡ length r.under_way
+  pub jobs : (gno : ℕ) → IsUnderWay r gno → slice_get copies (gno - r.committed - 1) ≡ job_of r gno
+  pub results : (gno : ℕ) (result : Finished) → IsUnderWay r gno → place_of line gno ≡ Some result → IsTaken r gno result
 
--- where the job was done its batch was put, and kept as the commit of this number. Else nothing changes
-abbrev pub CommitsJob : ℕ → Job → Database → List Op → Result Bool Memory → Job → Database → List Op → Type 0
-CommitsJob gno (Done batch) rows waiting (Ok done) job left kept =
-    (done ≡ true) × (job ≡ Idle) × (left ≡ put_batch batch rows) × (kept ≡ waiting ++ Commit gno batch ∷ [])
-CommitsJob gno (Done batch) rows waiting (Err memory) job left kept = (job ≡ Done batch) × (left ≡ rows) × (kept ≡ waiting)
-CommitsJob gno Idle rows waiting (Ok done) job left kept = (done ≡ false) × (job ≡ Idle) × (left ≡ rows) × (kept ≡ waiting)
-CommitsJob gno Dispatched rows waiting (Ok done) job left kept = (done ≡ false) × (job ≡ Dispatched) × (left ≡ rows) × (kept ≡ waiting)
-CommitsJob gno Idle rows waiting (Err memory) job left kept = ⊥
-CommitsJob gno Dispatched rows waiting (Err memory) job left kept = ⊥
+-- the rows of the result whose turn has come, where it has any
+abbrev pub turn_output : Line → Option (List Entry)
+turn_output line = option_and_then (λ (result : Finished). output_of result.outcome) (turn line)
 
--- the rows are those after the committed records, and the operations are the commits that are not published
-pub record IsKept (ts : List Table) (base : Database) (accepted : List Record) (committed published : ℕ) (job : Job) (rows : Database) (waiting : List Op) : Type 0 where
-  pub numbered : AreNumbered 1 accepted
-  pub rows_are : after ts base (take committed accepted) ≡ Some rows
-  pub job_is : IsJob ts rows accepted committed job
-  pub earlier : published ≤ committed
-  pub waiting_are : waiting ≡ drop published (commits ts base accepted committed)
+-- the rows of the result whose turn had come were put, and kept as the commit of this number
+pub record CommitsTurn (gno : ℕ) (line : Line) (rows : Database) (ops : List Op) (line_then : Line) (rows_then : Database) (ops_then : List Op) : Type 0 where
+  pub left : List Entry
+  pub output : turn_output line ≡ Some left
+  pub line_is : line_then ≡ passed line
+  pub rows_are : rows_then ≡ put_batch left rows
+  pub ops_are : ops_then ≡ ops ++ Commit gno left ∷ []
+
+-- no result has its turn, or memory ran out, and nothing changed
+pub record LeavesTurn (output : Option (List Entry)) (is_there : Bool) (line : Line) (rows : Database) (ops : List Op) (line_then : Line) (rows_then : Database) (ops_then : List Op) : Type 0 where
+  pub there : is_some output ≡ is_there
+  pub line_is : line_then ≡ line
+  pub rows_are : rows_then ≡ rows
+  pub ops_are : ops_then ≡ ops
+
+abbrev pub TakesTurn : ℕ → Line → Database → List Op → Result Bool Memory → Line → Database → List Op → Type 0
+TakesTurn gno line rows ops (Ok true) line_then rows_then ops_then = CommitsTurn gno line rows ops line_then rows_then ops_then
+TakesTurn gno line rows ops (Ok false) line_then rows_then ops_then = LeavesTurn (turn_output line) false line rows ops line_then rows_then ops_then
+TakesTurn gno line rows ops (Err memory) line_then rows_then ops_then = LeavesTurn (turn_output line) true line rows ops line_then rows_then ops_then
+
+-- what is told of a result: it is of a job that was handed out and of which none was taken, or this refuses it
+abbrev pub IsJudged : Replica → Finished → Result (Unit {0}) ReplicaFault → Type 0
+IsJudged r result (Ok done) = (finish_fault r result.job.gno ≡ None) × IsHandedOut r result
+IsJudged r result (Err fault) =
+    (finish_fault r result.job.gno ≡ Some fault)
+    ⊎ ((finish_fault r result.job.gno ≡ None) × (IsHandedOut r result → ⊥) × (fault ≡ WrongInput))

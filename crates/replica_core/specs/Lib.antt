@@ -1,5 +1,5 @@
 pub mod Replica
-pub mod Order
+pub mod Sound
 pub mod Calls
-pub mod Core
 pub mod Laws
+pub mod Core

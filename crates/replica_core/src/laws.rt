@@ -1,6 +1,6 @@
-//! What follows from the definitions alone. Each function states laws by its contract, and does nothing.
+//! What follows from the definitions alone. Each function states a law by its contract, and does nothing.
 
-ghost use Rattle.replica_core.specs.Laws.{OneCommitMore, OneCommitEach, FirstCommits, OperationsLeaveRows};
+ghost use Rattle.replica_core.specs.Laws.{OneCommitMore, OneCommitEach, FirstCommits, OperationsLeaveRows, JobIsOfItsRecord, EachHasJob, JobStays, JobStaysBehind, OthersLeaveJobs};
 
 /// The commits of records grow with the records, one each.
 pub fn commits()
@@ -12,4 +12,18 @@ pub fn commits()
 /// Operations put in order leave the working rows.
 pub fn operations()
     ensures { OperationsLeaveRows }
+{}
+
+/// Each accepted record has a job, of the record itself.
+pub fn jobs()
+    ensures of_record { JobIsOfItsRecord }
+    ensures each { EachHasJob }
+{}
+
+/// The job of a record that is dispatched stays as it is, whatever is committed, accepted, dispatched, finished or
+/// published.
+pub fn jobs_stay()
+    ensures committed { JobStays }
+    ensures accepted { JobStaysBehind }
+    ensures others { OthersLeaveJobs }
 {}

@@ -1,224 +1,179 @@
-//! The replica: it accepts the records of a log in order, executes and commits them in that order, and hands
-//! out what is to be published.
+//! The replica: it accepts the records of a log in order, hands them out to many workers, commits what comes back in log
+//! order, and hands out what is to be published.
 //!
 //! A `ReplicaCore` is a plain machine that is stepped by calls; it has no handle and no thread. Contracts see it
 //! as the record `Replica` of `specs/Replica.antt`. It keeps true that its store contains the database after the
 //! committed records, and that its waiting operations are their commits past the published ones. What each call
-//! answers and leaves is defined in `specs/Calls.antt`. Nothing that is received is trusted: a record is known
-//! to apply once it was executed. It stands on `overlay` for executing, on `store_trait` for the rows, and on
-//! `record_codec` for records.
+//! answers and leaves is defined in `specs/Calls.antt`, and what is true of every replica in `specs/Sound.antt`. Nothing
+//! that is received is trusted: the parent of each accepted record covers those before it (`relay`), so the rows of a job
+//! are those of every database up to its record's place, and a record is known to apply once it was executed. It
+//! stands on `relay`, `scheduler`, `executor` and `commit_order`, on `store_trait` for the rows, and on `record_codec`
+//! for records.
 #![tactic(auto)]
 
-ghost use Rattle.std.specs.Prelude.{◌≡◌, ◌≤◌, ◌⊎◌, IfOk, OnOk, OnErr, IfErr, IsErrOf, IsSome, is_some, if◌then◌else◌};
+ghost use Rattle.std.specs.Prelude.{◌≡◌, ◌≤◌, ◌⊎◌, IfOk, IfSome, OnOk, OnErr, IfErr, IsErrOf, IsSome, None, Err, Ok, is_some, true, ◌+◌, if◌then◌else◌};
+ghost use Rattle.std.specs.Option.{option_map_or};
 ghost use Rattle.schema.specs.Flags.{IsFlat};
 ghost use Rattle.store_trait.specs.Batch.{all_rows};
 ghost use Rattle.store_trait.specs.Fits.{Fits};
-ghost use Rattle.replica_core.specs.Replica.{working_rows, waiting};
-ghost use Rattle.replica_core.specs.Order.{IsInOrder};
-ghost use Rattle.replica_core.specs.Calls.{new_over, unless_stopped, received, left_by_receive, next_job, dispatched_next, finish_fault, finish_answer, with_finished, left_by_fault, next_commit, committed_next, with_published};
 ghost use Rattle.store_trait.specs.Operation.{loaded};
+ghost use Rattle.replica_core.specs.Replica.{working_rows, waiting, dispatched, job_of};
+ghost use Rattle.replica_core.specs.Sound.{IsSound};
+ghost use Rattle.replica_core.specs.Core.{IsJudged};
+ghost use Rattle.replica_core.specs.Calls.{new_over, unless_stopped, received, left_by_receive, is_eligible, next_job, dispatched_next, finish_fault, IsHandedOut, taken_as, with_finished, left_by_fault, next_commit, committed_next, with_published};
 
+mod committing;
+mod dispatching;
 pub mod laws;
-mod steps;
 
+use commit_order::{PLACES, Turns};
+use committing::{commit_turn, drop_first};
+use dispatching::{job_over, refuse_finish, refuse_stopped};
+use executor::{Job, JobResult, Outcome};
 use record_codec::Record;
+use relay::{Received, Relay, ReplicaFault};
+use scheduler::Scheduler;
 use schema::{Memory, Schema};
-use std::alloc::{AllocFailed, Global};
+use std::alloc::Global;
 use std::marker::Model;
-use steps::{commit_job, drop_first, execute, is_eligible, refuse_finish, refuse_stopped};
 use store_trait::{Batch, Op, RowStore, snapshot};
-use thiserror::Error;
+use uuid::Uuid;
 
-/// What became of a record that was received.
-#[derive(Clone, Copy, Debug, PartialEq, Eq)]
-pub enum Received {
-    /// It was the next, and is accepted.
-    Accepted,
-    /// A record of its number was accepted before.
-    Skipped,
-}
-
-/// Why a call of the replica was refused. The text is the fault's number and name.
-#[derive(Clone, Copy, Debug, PartialEq, Eq, Error)]
-pub enum ReplicaFault {
-    /// The record's number is past the next.
-    #[error("P1 Gap")]
-    Gap,
-    /// The record's number is 0.
-    #[error("P3 Malformed")]
-    Malformed,
-    /// The record of this number could not be applied. Every call answers so from then on.
-    #[error("P5 Stopped {0}")]
-    Stopped(u64),
-    /// The record of this number was never dispatched.
-    #[error("P6 Stranger")]
-    Stranger,
-    /// The job of this record was finished before.
-    #[error("P7 Double")]
-    Double,
-    /// Memory ran out.
-    #[error("P9 Memory")]
-    Memory,
-}
-
-impl From<Memory> for ReplicaFault {
-    ghost use Rattle.std.specs.Prelude.{◌≡◌};
-    ghost use Rattle.replica_core.specs.declared.ReplicaFault.TheVariants as faults;
-
-    ghost from_gives = { λ _ e. e ≡ faults.Memory };
-
-    fn from(_memory: Memory) -> ReplicaFault {
-        ReplicaFault::Memory
-    }
-}
-
-impl<T: Drop> From<AllocFailed<T>> for ReplicaFault {
-    ghost use Rattle.std.specs.Prelude.{◌≡◌};
-    ghost use Rattle.replica_core.specs.declared.ReplicaFault.TheVariants as faults;
-
-    ghost from_gives = { λ _ e. e ≡ faults.Memory };
-
-    fn from(_error: AllocFailed<T>) -> ReplicaFault {
-        ReplicaFault::Memory
-    }
-}
-
-/// How far the record behind the committed ones has come.
-#[derive(Debug, Drop)]
-enum Job {
-    /// It is not dispatched.
-    Idle,
-    /// It is dispatched.
-    Dispatched,
-    /// It was executed, and this is what it leaves of the rows that it writes.
-    Done(Batch),
-}
-
-/// A replica with one worker. `new` makes it.
+/// A replica with up to 64 workers. `new` makes it.
 #[derive(Drop)]
 pub struct ReplicaCore<S: RowStore> {
-    schema: Schema,
+    relay: Relay,
     base: Batch,
     store: S,
-    accepted: Vec<Record>,
-    committed: u64,
+    scheduler: Scheduler,
+    turns: Turns,
+    /// A copy of each job that was handed out and is not committed, in order.
+    jobs: Vec<Job>,
+    workers: usize,
     published: u64,
-    job: Job,
     waiting: Vec<Op>,
     stopped: Option<u64>,
 }
 
 impl<S: RowStore> Model for ReplicaCore<S> {
-    ghost use Rattle.std.specs.FinMap.{empty};
-    ghost use Rattle.store_trait.specs.Batch.{put_batch};
     ghost use Rattle.replica_core.specs.Replica.{Replica};
     ghost use Rattle.replica_core.specs.Core.{seen_as, IsKept};
 
     ghost Value = { Replica };
 
     ghost view = { λ c.
-        seen_as c.schema c.base c.accepted.items c.committed c.published c.job c.stopped };
+        seen_as c.relay c.base c.scheduler c.published c.turns c.workers c.stopped };
 
     ghost invariant = { λ c.
-        IsKept c.schema (put_batch c.base empty) c.accepted.items c.committed c.published c.job
-        (S.contents c.store) c.waiting.items };
+        IsKept (seen_as c.relay c.base c.scheduler c.published c.turns c.workers c.stopped)
+        c.scheduler c.turns c.jobs.items (S.contents c.store) c.waiting.items };
 }
 
 impl<S: RowStore> ReplicaCore<S> {
-    /// A replica that has accepted nothing, over the rows of the store. The time is that of a walk over them.
-    pub fn new(alloc: Global, schema: Schema, store: S) -> Result<ReplicaCore<S>, Memory>
+    /// A replica that has accepted nothing, over the rows of the store, which takes the records of this source. The time
+    /// is that of a walk over the rows. It takes the places of 64 jobs.
+    pub fn new(
+        alloc: Global,
+        schema: Schema,
+        source: Uuid,
+        store: S,
+        workers: usize,
+    ) -> Result<ReplicaCore<S>, Memory>
     where
         S: Drop,
         requires fits { Fits schema (S.contents store) }
         requires flat { IsFlat schema }
-        ensures fresh { IfOk result (λ core. core ≡ new_over schema (all_rows (S.contents store))) }
+        requires some { 1 ≤ workers }
+        requires few { workers ≤ 64 }
+        ensures fresh { IfOk result (λ core. core ≡ new_over schema source (all_rows (S.contents store)) workers) }
         ensures rows { IfOk result (λ core. loaded core.base ≡ S.contents store) }
     {
         let base = snapshot(alloc, &store, &schema)?;
+        let turns = Turns::new(alloc)?;
+        let jobs = Vec::with_capacity(alloc, PLACES)?;
         Ok(ReplicaCore {
-            schema,
+            relay: Relay::new(alloc, schema, source),
             base,
             store,
-            accepted: Vec::new(alloc),
-            committed: 0,
+            scheduler: Scheduler::new(),
+            turns,
+            jobs,
+            workers,
             published: 0,
-            job: Job::Idle,
             waiting: Vec::new(alloc),
             stopped: None,
         })
     }
 
-    /// Accepts a copy of the record where it is the next, and skips one that was accepted before. The refusals in
-    /// order: stopped, the number 0, a number past the next. The record's parent and changes are not looked at.
-    /// The time is that of the copy.
-    pub fn receive(&mut self, new: &Record) -> Result<Received, ReplicaFault>
-        ensures answer { IsErrOf result ReplicaFault.Memory ⊎ (result ≡ received self.old new.now) }
+    /// Accepts a copy of the record where it is the next, and skips one that was accepted before, as `Relay::receive`
+    /// does. A stop comes before its refusals.
+    pub fn receive(&mut self, from: Uuid, new: &Record) -> Result<Received, ReplicaFault>
+        ensures answer { IsErrOf result ReplicaFault.Memory ⊎ (result ≡ received self.old from new.now) }
 
         // Memory runs out only in the place of an acceptance.
         ensures memory { IsErrOf result ReplicaFault.Memory
-            → received self.old new.now ≡ Ok Received.Accepted }
+            → received self.old from new.now ≡ Ok Received.Accepted }
         ensures ok { IfOk result (λ answer. self.new ≡ left_by_receive self.old new.now answer) }
         ensures err { OnErr result (self.new ≡ self.old) }
     {
         refuse_stopped(self.stopped)?;
-        let next = self.accepted.len() as u64 + 1;
-        if new.gno == 0 {
-            return Err(ReplicaFault::Malformed);
-        }
-        if new.gno < next {
-            return Ok(Received::Skipped);
-        }
-        if new.gno > next {
-            return Err(ReplicaFault::Gap);
-        }
-        self.accepted.push(new.copy()?)?;
-        Ok(Received::Accepted)
+        self.relay.receive(from, new)
     }
 
-    /// Dispatches the next record in log order, and answers its number, once its parent is committed (as MySQL's
-    /// `LOGICAL_CLOCK` has it) and the worker is free. It takes no memory, and constant time.
-    pub fn dispatch(&mut self) -> Result<Option<u64>, ReplicaFault>
-        ensures answer { result ≡ unless_stopped self.old (next_job self.old) }
+    /// Hands out the job of the next record in log order, once its parent is committed (as MySQL's `LOGICAL_CLOCK` has
+    /// it) and a worker is free: fewer are dispatched and not committed than there are workers. The job has copies of the
+    /// record, of the schema and of the rows that the record writes and refers to; the core keeps one of its own. The time and
+    /// the memory are those of two jobs.
+    pub fn dispatch(&mut self) -> Result<Option<Job>, ReplicaFault>
+        ensures answer { IsErrOf result ReplicaFault.Memory ⊎ (result ≡ unless_stopped self.old (next_job self.old)) }
+
+        // Memory runs out only in the place of a job.
+        ensures memory { IsErrOf result ReplicaFault.Memory → (self.old.stopped ≡ None) × IsSome (next_job self.old) }
         ensures ok { IfOk result (λ job.
             self.new ≡ (if is_some job then dispatched_next self.old else self.old)) }
         ensures err { OnErr result (self.new ≡ self.old) }
     {
         refuse_stopped(self.stopped)?;
-        if !is_eligible(&self.job, &self.accepted, self.committed) {
+        if !self.is_eligible() {
             return Ok(None);
         }
-        self.job = Job::Dispatched;
-        Ok(Some(self.committed + 1))
+        let job = self.next_job()?;
+        self.jobs.push(job.copy()?)?;
+        self.turns.enter(job.gno);
+        Ok(Some(job))
     }
 
-    /// Executes the job of this number on the working rows, which stay as they are. Where its changes apply it
-    /// waits for its turn; else the replica stops. The refusals in order: stopped, a record that was never dispatched,
-    /// a job that was finished before. With b changes the time is that of 2b look-ups and of sorting b rows.
-    pub fn finish(&mut self, gno: u64) -> Result<(), ReplicaFault>
-        ensures answer { IsErrOf result ReplicaFault.Memory ⊎ (result ≡ finish_answer self.old gno) }
-
-        // Memory runs out only where the result may be taken.
-        ensures memory { IsErrOf result ReplicaFault.Memory → finish_fault self.old gno ≡ None }
-        ensures ok { OnOk result (self.new ≡ with_finished self.old gno) }
-        ensures err { IfErr result (λ fault. self.new ≡ left_by_fault self.old fault) }
+    /// Takes the result of a job that was handed out; it waits for its turn. Each refusal hands the result back: in this
+    /// order a stop; `P6` where no record of its number was dispatched; `P7` where a result of it was taken; `P8` where its record,
+    /// its rows or its schema are not those handed out; `P5` where the changes do not apply to the rows, which stops the
+    /// replica; and `P9` where the result itself tells of memory that ran out, so that its job may be executed and finished
+    /// again. It takes no memory. The time is that of comparing the jobs.
+    pub fn finish(&mut self, done: JobResult) -> Result<(), (ReplicaFault, JobResult)>
+        ensures refused { IfSome (finish_fault self.old done.job.gno) (λ fault. result ≡ Err (fault, done)) }
+        ensures other { finish_fault self.old done.job.gno ≡ None → ¬ IsHandedOut self.old done
+            → result ≡ Err (ReplicaFault.WrongInput, done) }
+        ensures taken { finish_fault self.old done.job.gno ≡ None → IsHandedOut self.old done
+            → result ≡ taken_as done done.outcome }
+        ensures ok { OnOk result (self.new ≡ with_finished self.old done.job.gno) }
+        ensures err { IfErr result (λ e. self.new ≡ left_by_fault self.old e.0) }
     {
-        refuse_stopped(self.stopped)?;
-        refuse_finish(&self.job, self.committed, gno)?;
-        let next = &self.accepted[self.committed as usize];
-        let alloc = *self.waiting.allocator();
-        match execute(alloc, &self.schema, &self.store, next.changes.list())? {
-            Some(batch) => {
-                self.job = Job::Done(batch);
+        if let Err(fault) = self.judge(&done) {
+            return Err((fault, done));
+        }
+        match done.outcome() {
+            Outcome::Output(_) => {
+                self.turns.finish(done);
                 Ok(())
             }
-            None => {
-                self.stopped = Some(gno);
-                Err(ReplicaFault::Stopped(gno))
+            Outcome::Undefined => {
+                self.stopped = Some(done.gno());
+                Err((ReplicaFault::Stopped(done.gno()), done))
             }
+            Outcome::Memory => Err((ReplicaFault::Memory, done)),
         }
     }
 
-    /// Commits the next record in log order, once its job is finished, and answers its number: puts what it leaves
+    /// Commits the next record in log order, once its result was taken, and answers its number: puts what it leaves
     /// into the store, and keeps that as an operation that waits for `publish`. So commits come in the order of the source's log, as
     /// with MySQL's `replica_preserve_commit_order`. The time is that of putting the rows that the record writes.
     pub fn commit_next(&mut self) -> Result<Option<u64>, ReplicaFault>
@@ -233,11 +188,12 @@ impl<S: RowStore> ReplicaCore<S> {
         ensures err { OnErr result (self.new ≡ self.old) }
     {
         refuse_stopped(self.stopped)?;
-        let gno = self.committed + 1;
-        if !commit_job(&mut self.store, &mut self.waiting, &mut self.job, gno)? {
+        let gno = self.scheduler.low_water() + 1;
+        if !commit_turn(&mut self.store, &mut self.waiting, &mut self.turns, gno)? {
             return Ok(None);
         }
-        self.committed = gno;
+        drop_first(&mut self.jobs, 1);
+        self.scheduler.committed(gno);
         Ok(Some(gno))
     }
 
@@ -274,21 +230,21 @@ impl<S: RowStore> ReplicaCore<S> {
     pub fn accepted(&self) -> &[Record]
         ensures { result.now ≡ self.now.accepted }
     {
-        &self.accepted
+        self.relay.accepted()
     }
 
     /// The number of records committed: the first so many of those accepted.
     pub fn committed(&self) -> u64
         ensures value { result ≡ self.now.committed }
-        ensures order { IsInOrder self.now }
+        ensures sound { IsSound self.now }
     {
-        self.committed
+        self.scheduler.low_water()
     }
 
     /// The number of commits published: the first so many of those committed.
     pub fn published(&self) -> u64
         ensures value { result ≡ self.now.published }
-        ensures order { IsInOrder self.now }
+        ensures sound { IsSound self.now }
     {
         self.published
     }
@@ -303,9 +259,83 @@ impl<S: RowStore> ReplicaCore<S> {
     /// The working rows: those after the committed records.
     pub fn store(&self) -> &S
         ensures rows { working_rows self.now ≡ Some (S.contents result.now) }
-        ensures order { IsInOrder self.now }
+        ensures sound { IsSound self.now }
     {
         &self.store
+    }
+
+    /// The identifier of the source whose records it takes.
+    pub fn source(&self) -> Uuid
+        ensures { result ≡ self.now.source }
+    {
+        self.relay.source()
+    }
+
+    /// How many records may be dispatched and not committed.
+    pub fn workers(&self) -> usize
+        ensures { result ≡ self.now.workers }
+    {
+        self.workers
+    }
+
+    /// Whether the next record in log order may be dispatched.
+    fn is_eligible(&self) -> bool
+        ensures { result ≡ is_eligible self.now }
+    {
+        match self.relay.accepted().get(self.dispatched() as usize) {
+            Some(next) => self.scheduler.eligible(next.parent) && self.turns.len() < self.workers,
+            None => false,
+        }
+    }
+
+    /// The number of records dispatched: the first so many of those accepted.
+    fn dispatched(&self) -> u64
+        ensures { result ≡ dispatched self.now }
+    {
+        self.scheduler.low_water() + self.turns.len() as u64
+    }
+
+    /// The job of the next record in log order.
+    fn next_job(&self) -> Result<Job, Memory>
+        requires { is_eligible self.now ≡ true }
+        ensures { IfOk result (λ job. job_of self.now (dispatched self.now + 1) ≡ Some job) }
+    {
+        let dispatched = self.dispatched();
+        let next = &self.relay.accepted()[dispatched as usize];
+        let alloc = *self.waiting.allocator();
+        job_over(
+            alloc,
+            dispatched + 1,
+            next,
+            &self.store,
+            self.relay.schema(),
+        )
+    }
+
+    /// Refuses a result that is not of a job that was handed out, or of which one was taken.
+    fn judge(&self, done: &JobResult) -> Result<(), ReplicaFault>
+        ensures { IsJudged self.now done.now result }
+    {
+        self.refuse(done.gno())?;
+        let place = (done.gno() - self.scheduler.low_water() - 1) as usize;
+        if self.jobs[place].equals(done.job()) {
+            Ok(())
+        } else {
+            Err(ReplicaFault::WrongInput)
+        }
+    }
+
+    /// Refuses the number of a result, whatever the result is.
+    fn refuse(&self, gno: u64) -> Result<(), ReplicaFault>
+        ensures { result ≡ option_map_or (λ fault. Err fault) (finish_fault self.now gno) (Ok tt) }
+    {
+        refuse_stopped(self.stopped)?;
+        refuse_finish(
+            &self.turns,
+            self.scheduler.low_water(),
+            self.dispatched(),
+            gno,
+        )
     }
 }
 

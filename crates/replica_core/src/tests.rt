@@ -1,80 +1,88 @@
-//! The worked deliveries, a record that stops the replica, changes from end to end at the bounds of the product, and
-//! refused calls that are made again.
+//! Results that come out of turn, workers that are busy, records that wait for their parents, what is refused and in which
+//! order, a record at the bounds, and refused calls that are made again.
 
-use crate::{Received, ReplicaCore, ReplicaFault};
+ghost use Rattle.std.specs.Prelude.{◌≤◌};
+
+use crate::ReplicaCore;
 use btree_store::BTreeStore;
+use executor::{Job, JobResult, execute};
 use record_codec::{Changes, Flags, Record, Refs};
+use relay::{Received, ReplicaFault};
 use rows::{Change, Named, Row};
 use schema::{Memory, RowId, Schema, Table};
 use std::alloc::Global;
 use std::process::Abort;
 use std::test::Fail;
 use store_trait::{Batch, Op, RowStore, fits};
+use uuid::Uuid;
 
 type Replica = ReplicaCore<BTreeStore>;
 
-/// The number of columns of each row.
-const COLUMNS: u8 = 16;
+/// The identifier of the replica's source.
+fn source() -> Uuid {
+    Uuid::from_u128(0x6d74_7200_0000_4000_8000_0000_0000_0001)
+}
 
 fn id(key: i64) -> RowId {
     RowId { table: 1, key }
 }
 
-/// The row whose columns are all this value.
-fn row(value: i64) -> Option<Row> {
-    Row::new(&[value; 16])
+fn row(first: i64, second: i64) -> Option<Row> {
+    Row::new(&[first, second])
 }
 
-/// The schema of one table of 16 columns.
-fn schema(alloc: Global) -> Result<Schema, Memory> {
-    let mut tables = Vec::new(alloc);
-    tables.push(Table {
+/// The schema of one table of so many columns.
+fn schema(alloc: Global, columns: u8) -> Result<Schema, Memory> {
+    let table = Table {
         id: 1,
-        columns: COLUMNS,
+        columns,
         keyed: true,
         parent: None,
-    })?;
-    Schema::new(tables).map_err(|_| Memory)
+    };
+    Schema::new(vec![in alloc; table]?).map_err(|_| Memory)
 }
 
-/// The rows of so many keys from 0 on.
-fn rows(alloc: Global, count: i64) -> Result<Vec<(RowId, Option<Row>)>, Memory> {
-    let mut entries = Vec::new(alloc);
-    for key in 0..count {
-        entries.push((id(key), row(key)))?;
-    }
-    Ok(entries)
-}
-
-/// A store of the rows of so many keys from 0 on.
-fn store(alloc: Global, count: i64) -> Result<BTreeStore, Memory> {
-    let batch = Batch::from_entries(rows(alloc, count)?).ok_or(Memory)?;
-    let mut store = BTreeStore::new(alloc);
-    store.put_all(&batch)?;
-    Ok(store)
-}
-
-/// A new replica of these rows.
-fn replica_of(alloc: Global, store: BTreeStore) -> Result<Replica, Memory> {
-    let schema = schema(alloc)?;
+/// A new replica of these rows with so many workers.
+fn replica_of(alloc: Global, store: BTreeStore, workers: usize) -> Result<Replica, Memory>
+    requires some { 1 ≤ workers }
+    requires few { workers ≤ 64 }
+{
+    let schema = schema(alloc, 2)?;
     if schema.is_flat() && fits(&schema, &store) {
-        ReplicaCore::new(alloc, schema, store)
+        ReplicaCore::new(alloc, schema, source(), store, workers)
     } else {
         Err(Memory)
     }
 }
 
 /// A new replica of no rows.
-fn replica(alloc: Global) -> Result<Replica, Memory> {
-    replica_of(alloc, BTreeStore::new(alloc))
+fn replica(alloc: Global, workers: usize) -> Result<Replica, Memory>
+    requires some { 1 ≤ workers }
+    requires few { workers ≤ 64 }
+{
+    replica_of(alloc, BTreeStore::new(alloc), workers)
 }
 
-/// The record of this number with these changes.
-fn record_of(alloc: Global, gno: u64, list: Vec<Change>) -> Result<Record, Memory> {
+fn insert(key: i64, first: i64, second: i64) -> Result<Change, Memory> {
+    Ok(Change::Insert {
+        row: id(key),
+        values: row(first, second).ok_or(Memory)?,
+    })
+}
+
+fn set(key: i64, column: u8, value: i64) -> Result<Change, Memory> {
+    Ok(Change::Update {
+        row: id(key),
+        columns: Named::of(&[(column, value)]).ok_or(Memory)?,
+    })
+}
+
+/// The record of this number and parent with these changes.
+fn record_of(alloc: Global, gno: u64, parent: u64, list: Vec<Change>) -> Result<Record, Memory> {
     Ok(Record {
         gno,
         sequence: gno,
-        parent: 0,
+        parent,
         flags: Flags {
             fk: false,
             missing_keys: false,
@@ -84,29 +92,49 @@ fn record_of(alloc: Global, gno: u64, list: Vec<Change>) -> Result<Record, Memor
     })
 }
 
-/// The record of this number that inserts the rows of these keys.
-fn inserts(alloc: Global, gno: u64, from: i64, to: i64) -> Result<Record, Memory> {
-    let mut list = Vec::new(alloc);
-    for key in from..to {
-        list.push(Change::Insert {
-            row: id(key),
-            values: row(key).ok_or(Memory)?,
-        })?;
-    }
-    record_of(alloc, gno, list)
+/// The record of this number and parent with one change.
+fn record(alloc: Global, gno: u64, parent: u64, change: Change) -> Result<Record, Memory> {
+    record_of(alloc, gno, parent, vec![in alloc; change]?)
 }
 
-/// The record of this number that inserts row 10 so many times.
-fn record(alloc: Global, gno: u64, times: usize) -> Result<Record, Memory> {
-    let values = row(10).ok_or(Memory)?;
-    record_of(
-        alloc,
-        gno,
-        vec![in alloc; Change::Insert {
-            row: id(10),
-            values
-        }; times]?,
-    )
+/// The record of this number and no parent that inserts the row of this key.
+fn insert_of(alloc: Global, gno: u64, key: i64) -> Result<Record, Memory> {
+    record(alloc, gno, 0, insert(key, 5, 6)?)
+}
+
+// Each call of the replica stands in a function of its own, and what the tests compare in others.
+
+fn receive(replica: &mut Replica, next: &Record) -> Result<Received, ReplicaFault> {
+    replica.receive(source(), next)
+}
+
+fn dispatch(replica: &mut Replica) -> Result<Option<Job>, ReplicaFault> {
+    replica.dispatch()
+}
+
+fn finish(replica: &mut Replica, done: JobResult) -> Result<(), (ReplicaFault, JobResult)> {
+    replica.finish(done)
+}
+
+fn commit_next(replica: &mut Replica) -> Result<Option<u64>, ReplicaFault> {
+    replica.commit_next()
+}
+
+/// Publishes up to this number, where so many are committed and no more published.
+fn publish(replica: &mut Replica, upto: u64) -> Option<Result<u64, ReplicaFault>> {
+    if replica.published() > upto || replica.committed() < upto {
+        return None;
+    }
+    Some(replica.publish(upto))
+}
+
+fn pending(replica: &Replica) -> &[Op] {
+    replica.pending()
+}
+
+/// The row of this key, and how many rows there are.
+fn stored(replica: &Replica, key: i64) -> (Option<Row>, usize) {
+    (replica.store().get(id(key)), replica.store().len())
 }
 
 fn receives(
@@ -115,314 +143,486 @@ fn receives(
     next: &Record,
     want: Result<Received, ReplicaFault>,
 ) {
-    assert_eq!(rt; replica.receive(next), want);
+    assert_eq!(rt; receive(replica, next), want);
 }
 
-fn dispatches(rt: &impl Abort, replica: &mut Replica, want: Result<Option<u64>, ReplicaFault>) {
-    assert_eq!(rt; replica.dispatch(), want);
-}
-
-fn finishes(rt: &impl Abort, replica: &mut Replica, gno: u64, want: Result<(), ReplicaFault>) {
-    assert_eq!(rt; replica.finish(gno), want);
-}
-
-fn commits(rt: &impl Abort, replica: &mut Replica, want: Result<Option<u64>, ReplicaFault>) {
-    assert_eq!(rt; replica.commit_next(), want);
-}
-
-/// Publishes all that is committed.
-fn publishes(rt: &impl Abort, replica: &mut Replica, want: Result<u64, ReplicaFault>) {
-    let upto = replica.committed();
-    assert_eq!(rt; replica.publish(upto), want);
-}
-
-/// Receives, dispatches, finishes and commits this record.
-fn commit(rt: &impl Abort, replica: &mut Replica, next: &Record) {
+/// The record is received, and accepted.
+fn accepts(rt: &impl Abort, replica: &mut Replica, next: &Record) {
     receives(rt, replica, next, Ok(Received::Accepted));
-    dispatches(rt, replica, Ok(Some(next.gno)));
-    finishes(rt, replica, next.gno, Ok(()));
-    commits(rt, replica, Ok(Some(next.gno)));
 }
 
-/// Receives and dispatches this record, and stops where it is finished.
-fn stops(rt: &impl Abort, replica: &mut Replica, next: &Record) {
-    receives(rt, replica, next, Ok(Received::Accepted));
-    dispatches(rt, replica, Ok(Some(next.gno)));
-    let stopped = ReplicaFault::Stopped(next.gno);
-    finishes(rt, replica, next.gno, Err(stopped));
-    assert_eq!(rt; replica.stopped(), Some(next.gno));
-}
-
-#[test]
-fn records_are_accepted_in_order(rt: HostRuntime) -> Result<(), Fail> {
-    let mut replica = replica(rt.alloc())?;
-    let first = record(rt.alloc(), 1, 1)?;
-    let third = record(rt.alloc(), 3, 1)?;
-    let none = record(rt.alloc(), 0, 1)?;
-    receives(&rt, &mut replica, &first, Ok(Received::Accepted));
-    receives(&rt, &mut replica, &first, Ok(Received::Skipped));
-    receives(&rt, &mut replica, &first, Ok(Received::Skipped));
-    receives(&rt, &mut replica, &third, Err(ReplicaFault::Gap));
-    receives(&rt, &mut replica, &none, Err(ReplicaFault::Malformed));
-    assert_eq!(rt; replica.accepted().len(), 1);
-    Ok(())
-}
-
-#[test]
-fn one_insert_is_published(rt: HostRuntime) -> Result<(), Fail> {
-    let mut replica = replica(rt.alloc())?;
-    let next = record(rt.alloc(), 1, 1)?;
-    dispatches(&rt, &mut replica, Ok(None));
-    receives(&rt, &mut replica, &next, Ok(Received::Accepted));
-    finishes(&rt, &mut replica, 1, Err(ReplicaFault::Stranger));
-    dispatches(&rt, &mut replica, Ok(Some(1)));
-    dispatches(&rt, &mut replica, Ok(None));
-    commits(&rt, &mut replica, Ok(None));
-    finishes(&rt, &mut replica, 1, Ok(()));
-    finishes(&rt, &mut replica, 1, Err(ReplicaFault::Double));
-    commits(&rt, &mut replica, Ok(Some(1)));
-    commits(&rt, &mut replica, Ok(None));
-    assert_eq!(rt; replica.pending().len(), 1);
-    publishes(&rt, &mut replica, Ok(1));
-    assert_eq!(rt; replica.pending().len(), 0);
-    assert!(rt; replica.store().get(id(10)) == row(10));
-    Ok(())
-}
-
-/// Each call is refused with this.
-fn is_stopped(rt: &impl Abort, replica: &mut Replica, next: &Record, stopped: ReplicaFault) {
-    receives(rt, replica, next, Err(stopped));
-    dispatches(rt, replica, Err(stopped));
-    finishes(rt, replica, 1, Err(stopped));
-    commits(rt, replica, Err(stopped));
-    publishes(rt, replica, Err(stopped));
-}
-
-#[test]
-fn a_record_that_does_not_apply_stops_the_replica(rt: HostRuntime) -> Result<(), Fail> {
-    let mut replica = replica(rt.alloc())?;
-    let twice = record(rt.alloc(), 1, 2)?;
-    stops(&rt, &mut replica, &twice);
-    is_stopped(&rt, &mut replica, &twice, ReplicaFault::Stopped(1));
-    assert_eq!(rt; replica.stopped(), Some(1));
-    assert_eq!(rt; replica.pending().len(), 0);
-    Ok(())
-}
-
-#[test]
-fn a_record_behind_a_good_one_stops_at_its_own_number(rt: HostRuntime) -> Result<(), Fail> {
-    let mut replica = replica(rt.alloc())?;
-    commit(&rt, &mut replica, &inserts(rt.alloc(), 1, 0, 20)?);
-    stops(&rt, &mut replica, &record(rt.alloc(), 2, 1)?);
-    assert_eq!(rt; replica.committed(), 1);
-    assert_eq!(rt; replica.pending().len(), 1);
-    assert_eq!(rt; replica.store().len(), 20);
-    commits(&rt, &mut replica, Err(ReplicaFault::Stopped(2)));
-    Ok(())
-}
-
-#[test]
-fn a_record_of_256_changes_is_received(rt: HostRuntime) -> Result<(), Fail> {
-    let mut replica = replica(rt.alloc())?;
-    let wide = inserts(rt.alloc(), 1, -128, 128)?;
-    receives(&rt, &mut replica, &wide, Ok(Received::Accepted));
-    let [accepted] = replica.accepted() else {
-        return Err(Fail::new("one record is accepted"));
+/// The job that is dispatched, which is of this number.
+fn job(rt: &impl Abort, replica: &mut Replica, gno: u64) -> Result<Job, Fail> {
+    let Some(job) = dispatch(replica)? else {
+        return Err(Fail::new("a job is dispatched"));
     };
-    assert_eq!(rt; accepted.changes.list().len(), 256);
-    assert!(rt; accepted.changes.list() == wide.changes.list());
+    assert_eq!(rt; job.gno, gno);
+    Ok(job)
+}
+
+/// No record may be dispatched.
+fn waits(rt: &impl Abort, replica: &mut Replica) -> Result<(), Fail> {
+    assert!(rt; dispatch(replica)?.is_none());
     Ok(())
 }
 
-#[test]
-fn a_record_of_1024_changes_is_committed(rt: HostRuntime) -> Result<(), Fail> {
-    let mut replica = replica_of(rt.alloc(), store(rt.alloc(), 1500)?)?;
-    assert_eq!(rt; replica.base().copy()?.entries().len(), 1500);
-    commit(&rt, &mut replica, &inserts(rt.alloc(), 1, -1024, 0)?);
-    assert_eq!(rt; replica.store().len(), 2524);
-    assert!(rt; replica.store().get(id(-1024)) == row(-1024));
-    assert!(rt; replica.store().get(id(-1)) == row(-1));
-    let [only] = replica.pending() else {
-        return Err(Fail::new("one commit waits"));
+fn finishes(
+    rt: &impl Abort,
+    replica: &mut Replica,
+    done: JobResult,
+    want: Result<(), ReplicaFault>,
+) {
+    assert_eq!(rt; finish(replica, done).map_err(|refused| refused.0), want);
+}
+
+fn commits(rt: &impl Abort, replica: &mut Replica, want: Option<u64>) {
+    assert_eq!(rt; commit_next(replica), Ok(want));
+}
+
+fn publishes(rt: &impl Abort, replica: &mut Replica, upto: u64, want: Result<u64, ReplicaFault>) {
+    assert_eq!(rt; publish(replica, upto), Some(want));
+}
+
+/// The record that is dispatched, which is of this number, is executed and finished.
+fn runs(rt: &(impl Abort + AllocGlobal), replica: &mut Replica, gno: u64) -> Result<(), Fail> {
+    let done = execute(rt.alloc(), job(rt, replica, gno)?);
+    finishes(rt, replica, done, Ok(()));
+    Ok(())
+}
+
+/// The record is received, dispatched, finished and committed.
+fn passes(
+    rt: &(impl Abort + AllocGlobal),
+    replica: &mut Replica,
+    next: &Record,
+) -> Result<(), Fail> {
+    accepts(rt, replica, next);
+    runs(rt, replica, next.gno)?;
+    commits(rt, replica, Some(next.gno));
+    Ok(())
+}
+
+/// The operation is the commit of this number, which leaves one row so.
+fn is_commit(rt: &impl Abort, op: &Op, gno: u64, key: i64, left: Option<Row>) -> Result<(), Fail> {
+    let Op::Commit { gno: number, batch } = op else {
+        return Err(Fail::new("a commit waits"));
     };
-    let copy = only.copy()?;
-    assert!(rt; matches!(&copy, Op::Commit { gno: 1, .. }));
-    assert_eq!(rt; copy.batch().entries().len(), 1024);
-    assert!(rt; copy.batch().entries() == only.batch().entries());
+    assert_eq!(rt; *number, gno);
+    let [entry] = batch.entries() else {
+        return Err(Fail::new("one row is written"));
+    };
+    assert!(rt; *entry == (id(key), left));
     Ok(())
 }
 
-/// The update of column 15 of the row of this key.
-fn update(key: i64, value: i64) -> Result<Change, Memory> {
-    let columns = Named::new(1 << 15, &[value]).ok_or(Memory)?;
-    Ok(Change::Update {
-        row: id(key),
-        columns,
-    })
+/// The operations are three commits, each of the row of this key, which it leaves so.
+fn are_commits(
+    rt: &impl Abort,
+    ops: &[Op],
+    keys: [i64; 3],
+    left: [Option<Row>; 3],
+) -> Result<(), Fail> {
+    let [first, second, third] = ops else {
+        return Err(Fail::new("three commits wait"));
+    };
+    is_commit(rt, first, 1, keys[0], left[0])?;
+    is_commit(rt, second, 2, keys[1], left[1])?;
+    is_commit(rt, third, 3, keys[2], left[2])
 }
 
-/// A replica of the rows 0 to 2 that has committed an update of row 2 and a delete of row 0.
-fn changed_replica(rt: &(impl Abort + AllocGlobal)) -> Result<Replica, Memory> {
+/// The result of the next record, which is of this number.
+fn result(
+    rt: &(impl Abort + AllocGlobal),
+    replica: &mut Replica,
+    gno: u64,
+) -> Result<JobResult, Fail> {
+    Ok(execute(rt.alloc(), job(rt, replica, gno)?))
+}
+
+/// A replica of so many workers that has accepted the inserts of the rows 10 to 12.
+fn three_inserts(rt: &(impl Abort + AllocGlobal), workers: usize) -> Result<Replica, Fail>
+    requires some { 1 ≤ workers }
+    requires few { workers ≤ 64 }
+{
     let alloc = rt.alloc();
-    let mut replica = replica_of_three(alloc)?;
-    let list = vec![in alloc; update(2, 40)?, Change::Delete { row: id(0) }]?;
-    commit(rt, &mut replica, &record_of(alloc, 1, list)?);
+    let mut replica = replica(alloc, workers)?;
+    accepts(rt, &mut replica, &insert_of(alloc, 1, 10)?);
+    accepts(rt, &mut replica, &insert_of(alloc, 2, 11)?);
+    accepts(rt, &mut replica, &insert_of(alloc, 3, 12)?);
+    Ok(replica)
+}
+
+/// The second record is finished before the first; the third waits for a worker.
+fn finishes_out_of_turn(
+    rt: &(impl Abort + AllocGlobal),
+    replica: &mut Replica,
+) -> Result<(), Fail> {
+    let first = result(rt, replica, 1)?;
+    let second = result(rt, replica, 2)?;
+    waits(rt, replica)?;
+    finishes(rt, replica, second, Ok(()));
+    waits(rt, replica)?;
+    commits(rt, replica, None);
+    finishes(rt, replica, first, Ok(()));
+    waits(rt, replica)
+}
+
+#[test]
+fn results_are_committed_in_turn(rt: HostRuntime) -> Result<(), Fail> {
+    let mut replica = three_inserts(&rt, 2)?;
+    finishes_out_of_turn(&rt, &mut replica)?;
+    commits(&rt, &mut replica, Some(1));
+    runs(&rt, &mut replica, 3)?;
+    commits(&rt, &mut replica, Some(2));
+    commits(&rt, &mut replica, Some(3));
+    commits(&rt, &mut replica, None);
+    are_commits(&rt, pending(&replica), [10, 11, 12], [row(5, 6); 3])?;
+    assert_eq!(rt; stored(&replica, 10), (row(5, 6), 3));
+    Ok(())
+}
+
+#[test]
+fn one_worker_is_busy_until_the_commit(rt: HostRuntime) -> Result<(), Fail> {
+    let mut replica = three_inserts(&rt, 1)?;
+    let done = result(&rt, &mut replica, 1)?;
+    waits(&rt, &mut replica)?;
+    finishes(&rt, &mut replica, done, Ok(()));
+    waits(&rt, &mut replica)?;
+    commits(&rt, &mut replica, Some(1));
+    runs(&rt, &mut replica, 2)?;
+    assert_eq!(rt; replica.workers(), 1);
+    assert!(rt; replica.source() == source());
+    Ok(())
+}
+
+/// A replica that has accepted the insert of row 10 as `[5, 6]`, and two updates of it, each with the one before as
+/// its parent.
+fn serial_replica(rt: &(impl Abort + AllocGlobal)) -> Result<Replica, Fail> {
+    let alloc = rt.alloc();
+    let mut replica = replica(alloc, 64)?;
+    accepts(rt, &mut replica, &record(alloc, 1, 0, insert(10, 5, 6)?)?);
+    accepts(rt, &mut replica, &record(alloc, 2, 1, set(10, 0, 7)?)?);
+    accepts(rt, &mut replica, &record(alloc, 3, 2, set(10, 1, 8)?)?);
     Ok(replica)
 }
 
 #[test]
-fn an_update_and_a_delete_are_committed(rt: HostRuntime) -> Result<(), Fail> {
-    let replica = changed_replica(&rt)?;
-    let updated = Row::new(&[2, 2, 2, 2, 2, 2, 2, 2, 2, 2, 2, 2, 2, 2, 2, 40]);
-    assert_eq!(rt; replica.store().len(), 2);
-    assert!(rt; replica.store().get(id(2)) == updated);
-    assert!(rt; replica.store().get(id(0)).is_none());
-    assert_eq!(rt; first_pending(&replica), Some(1));
-    let [only] = replica.pending() else {
-        return Err(Fail::new("one commit waits"));
-    };
-    let entries = only.batch().entries();
-    assert_eq!(rt; entries.len(), 2);
-    assert!(rt; entries[0] == (id(0), None));
-    assert!(rt; entries[1] == (id(2), updated));
+fn records_wait_for_their_parents(rt: HostRuntime) -> Result<(), Fail> {
+    let mut replica = serial_replica(&rt)?;
+    for gno in 1..4 {
+        runs(&rt, &mut replica, gno)?;
+        waits(&rt, &mut replica)?;
+        commits(&rt, &mut replica, Some(gno));
+    }
+    are_commits(
+        &rt,
+        pending(&replica),
+        [10; 3],
+        [row(5, 6), row(7, 6), row(7, 8)],
+    )?;
+    assert_eq!(rt; stored(&replica, 10), (row(7, 8), 1));
+    assert_eq!(rt; replica.accepted().len(), 3);
     Ok(())
 }
 
 #[test]
-fn an_update_of_an_absent_row_stops_the_replica(rt: HostRuntime) -> Result<(), Fail> {
+fn what_is_received_is_judged_by_the_relay(rt: HostRuntime) -> Result<(), Fail> {
+    let mut replica = serial_replica(&rt)?;
+    let third = record(rt.alloc(), 3, 2, set(10, 1, 8)?)?;
+    receives(&rt, &mut replica, &third, Ok(Received::Skipped));
+    let gap = insert_of(rt.alloc(), 5, 10)?;
+    receives(&rt, &mut replica, &gap, Err(ReplicaFault::Gap));
+    let lying = record(rt.alloc(), 4, 2, set(10, 1, 9)?)?;
+    receives(&rt, &mut replica, &lying, Err(ReplicaFault::BadParent));
+    assert_eq!(rt; replica.accepted().len(), 3);
+    Ok(())
+}
+
+/// Each call is refused with this.
+fn is_stopped(
+    rt: &impl Abort,
+    replica: &mut Replica,
+    next: &Record,
+    done: JobResult,
+    stopped: ReplicaFault,
+) {
+    receives(rt, replica, next, Err(stopped));
+    assert_eq!(rt; dispatch(replica).map(|job| job.is_some()), Err(stopped));
+    finishes(rt, replica, done, Err(stopped));
+    assert_eq!(rt; commit_next(replica), Err(stopped));
+    publishes(rt, replica, 0, Err(stopped));
+}
+
+#[test]
+fn a_record_that_does_not_apply_stops_the_replica(rt: HostRuntime) -> Result<(), Fail> {
     let alloc = rt.alloc();
-    let mut replica = changed_replica(&rt)?;
-    // It is the second of its record's changes, and the first is dropped with it.
-    let list = vec![in alloc; update(1, 41)?, update(0, 41)?]?;
-    stops(&rt, &mut replica, &record_of(alloc, 2, list)?);
-    assert_eq!(rt; replica.committed(), 1);
-    assert_eq!(rt; replica.pending().len(), 1);
-    assert!(rt; replica.store().get(id(1)) == row(1));
+    let mut replica = replica(alloc, 2)?;
+    let absent = record(alloc, 1, 0, set(10, 0, 7)?)?;
+    accepts(&rt, &mut replica, &absent);
+    accepts(&rt, &mut replica, &insert_of(alloc, 2, 11)?);
+    let first = result(&rt, &mut replica, 1)?;
+    let second = result(&rt, &mut replica, 2)?;
+    finishes(&rt, &mut replica, first, Err(ReplicaFault::Stopped(1)));
+    is_stopped(&rt, &mut replica, &absent, second, ReplicaFault::Stopped(1));
+    assert_eq!(rt; replica.stopped(), Some(1));
+    assert_eq!(rt; pending(&replica).len(), 0);
+    Ok(())
+}
+
+/// The result of a job of this number that was never handed out.
+fn stranger(alloc: Global, gno: u64) -> Result<JobResult, Memory> {
+    let job = Job::new(
+        gno,
+        insert_of(alloc, gno, 10)?,
+        Batch::new(alloc),
+        schema(alloc, 2)?,
+    );
+    Ok(execute(alloc, job))
+}
+
+/// No such record was dispatched.
+fn is_stranger(
+    rt: &(impl Abort + AllocGlobal),
+    replica: &mut Replica,
+    gno: u64,
+) -> Result<(), Fail> {
+    let done = stranger(rt.alloc(), gno)?;
+    finishes(rt, replica, done, Err(ReplicaFault::Stranger));
+    Ok(())
+}
+
+#[test]
+fn results_of_no_job_are_refused(rt: HostRuntime) -> Result<(), Fail> {
+    let mut replica = three_inserts(&rt, 2)?;
+    is_stranger(&rt, &mut replica, 1)?;
+    runs(&rt, &mut replica, 1)?;
+    is_stranger(&rt, &mut replica, 0)?;
+    is_stranger(&rt, &mut replica, 2)?;
+    is_stranger(&rt, &mut replica, 5)?;
+    Ok(())
+}
+
+#[test]
+fn second_results_are_refused(rt: HostRuntime) -> Result<(), Fail> {
+    let mut replica = three_inserts(&rt, 2)?;
+    let job = job(&rt, &mut replica, 1)?;
+    let first = execute(rt.alloc(), job.copy()?);
+    let second = execute(rt.alloc(), job.copy()?);
+    let third = execute(rt.alloc(), job);
+    finishes(&rt, &mut replica, first, Ok(()));
+    finishes(&rt, &mut replica, second, Err(ReplicaFault::Double));
+    commits(&rt, &mut replica, Some(1));
+    finishes(&rt, &mut replica, third, Err(ReplicaFault::Double));
+    Ok(())
+}
+
+/// The result of the job with another row in the place of what it looks at.
+fn over_other_row(alloc: Global, job: Job) -> Result<JobResult, Memory> {
+    let input = Batch::from_rising(vec![in alloc; (id(10), row(1, 1))]?);
+    Ok(execute(alloc, Job::new(job.gno, job.rec, input, job.schema)))
+}
+
+/// The result of the job with another record.
+fn of_other_record(alloc: Global, job: Job) -> Result<JobResult, Memory> {
+    let rec = record(alloc, 1, 0, insert(10, 5, 7)?)?;
+    Ok(execute(alloc, Job::new(job.gno, rec, job.input, job.schema)))
+}
+
+/// The result of the job over another schema.
+fn over_other_schema(alloc: Global, job: Job) -> Result<JobResult, Memory> {
+    let schema = schema(alloc, 3)?;
+    Ok(execute(alloc, Job::new(job.gno, job.rec, job.input, schema)))
+}
+
+#[test]
+fn results_of_another_job_are_refused(rt: HostRuntime) -> Result<(), Fail> {
+    let alloc = rt.alloc();
+    let mut replica = three_inserts(&rt, 2)?;
+    let job = job(&rt, &mut replica, 1)?;
+    let wrong = Err(ReplicaFault::WrongInput);
+    let other = over_other_row(alloc, job.copy()?)?;
+    finishes(&rt, &mut replica, other, wrong);
+    let other = of_other_record(alloc, job.copy()?)?;
+    finishes(&rt, &mut replica, other, wrong);
+    let other = over_other_schema(alloc, job.copy()?)?;
+    finishes(&rt, &mut replica, other, wrong);
+    finishes(&rt, &mut replica, execute(alloc, job), Ok(()));
+    Ok(())
+}
+
+/// The results of the records 1 to 64, which are received and dispatched.
+fn all_busy(
+    rt: &(impl Abort + AllocGlobal),
+    replica: &mut Replica,
+) -> Result<Vec<JobResult>, Fail> {
+    let alloc = rt.alloc();
+    let mut results = Vec::new(alloc);
+    for gno in 1..65 {
+        accepts(rt, replica, &insert_of(alloc, gno, gno as i64)?);
+        results.push(result(rt, replica, gno)?)?;
+    }
+    Ok(results)
+}
+
+/// Finishes 64 results, the last one first.
+fn finish_backwards(
+    rt: &impl Abort,
+    replica: &mut Replica,
+    results: &mut Vec<JobResult>,
+) -> Result<(), Fail> {
+    for _ in 0..64 {
+        let done = results.pop().ok_or("a result")?;
+        finishes(rt, replica, done, Ok(()));
+    }
+    Ok(())
+}
+
+#[test]
+fn sixty_four_workers_are_busy(rt: HostRuntime) -> Result<(), Fail> {
+    let mut replica = replica(rt.alloc(), 64)?;
+    let mut results = all_busy(&rt, &mut replica)?;
+    accepts(&rt, &mut replica, &insert_of(rt.alloc(), 65, 65)?);
+    waits(&rt, &mut replica)?;
+    finish_backwards(&rt, &mut replica, &mut results)?;
+    for gno in 1..65 {
+        commits(&rt, &mut replica, Some(gno));
+    }
+    runs(&rt, &mut replica, 65)?;
+    assert_eq!(rt; stored(&replica, 64), (row(5, 6), 64));
     Ok(())
 }
 
 /// The number of the commit that waits first.
 fn first_pending(replica: &Replica) -> Option<u64> {
-    match replica.pending().first()? {
+    match pending(replica).first()? {
         Op::Load(_) => None,
         Op::Commit { gno, .. } => Some(*gno),
     }
 }
 
-/// Commits the records 1 to 300, each an insert of one row.
-fn commit_each(rt: &(impl Abort + AllocGlobal), replica: &mut Replica) -> Result<(), Memory> {
+#[test]
+fn three_hundred_commits_are_published_in_parts(rt: HostRuntime) -> Result<(), Fail> {
+    let mut replica = replica(rt.alloc(), 1)?;
     for gno in 1..301 {
-        let next = inserts(rt.alloc(), gno, gno as i64, gno as i64 + 1)?;
-        commit(rt, replica, &next);
+        passes(&rt, &mut replica, &insert_of(rt.alloc(), gno, gno as i64)?)?;
     }
+    assert_eq!(rt;
+        (first_pending(&replica), pending(&replica).len()),
+        (Some(1), 300)
+    );
+    publishes(&rt, &mut replica, 100, Ok(100));
+    assert_eq!(rt;
+        (first_pending(&replica), pending(&replica).len()),
+        (Some(101), 200)
+    );
+    publishes(&rt, &mut replica, 300, Ok(300));
+    assert_eq!(rt;
+        (first_pending(&replica), pending(&replica).len()),
+        (None, 0)
+    );
     Ok(())
 }
 
-/// Publishes up to this number, and leaves so many commits that wait.
-fn publishes_part(
-    rt: &impl Abort,
-    replica: &mut Replica,
-    upto: u64,
-    left: usize,
-) -> Result<(), Fail> {
-    if replica.published() > upto || replica.committed() < upto {
-        return Err(Fail::new("so many are committed"));
+/// A store of the rows 0 to 1499.
+fn large_store(alloc: Global) -> Result<BTreeStore, Memory> {
+    let mut entries = Vec::new(alloc);
+    for key in 0..1500 {
+        entries.push((id(key), row(key, key)))?;
     }
-    assert_eq!(rt; replica.publish(upto), Ok(upto));
-    assert_eq!(rt; replica.pending().len(), left);
-    Ok(())
+    let mut store = BTreeStore::new(alloc);
+    store.put_all(&Batch::from_entries(entries).ok_or(Memory)?)?;
+    Ok(store)
+}
+
+/// The record of 1024 changes: the rows -1 and down are inserted, and each is updated.
+fn large_record(alloc: Global) -> Result<Record, Memory> {
+    let mut list = Vec::new(alloc);
+    for key in -512..0 {
+        list.push(insert(key, 5, 6)?)?;
+        list.push(set(key, 1, key)?)?;
+    }
+    record_of(alloc, 1, 0, list)
 }
 
 #[test]
-fn three_hundred_commits_are_published_in_parts(rt: HostRuntime) -> Result<(), Fail> {
-    let mut replica = replica(rt.alloc())?;
-    commit_each(&rt, &mut replica)?;
-    assert_eq!(rt; replica.pending().len(), 300);
-    assert_eq!(rt; (replica.published(), replica.committed()), (0, 300));
-    assert_eq!(rt; first_pending(&replica), Some(1));
-    publishes_part(&rt, &mut replica, 100, 200)?;
-    assert_eq!(rt; first_pending(&replica), Some(101));
-    publishes_part(&rt, &mut replica, 300, 0)?;
-    assert_eq!(rt; replica.store().len(), 300);
+fn a_record_of_1024_changes_is_committed(rt: HostRuntime) -> Result<(), Fail> {
+    let mut replica = replica_of(rt.alloc(), large_store(rt.alloc())?, 1)?;
+    assert_eq!(rt; replica.base().entries().len(), 1500);
+    passes(&rt, &mut replica, &large_record(rt.alloc())?)?;
+    assert_eq!(rt; stored(&replica, -512), (row(5, -512), 2012));
+    let [only] = pending(&replica) else {
+        return Err(Fail::new("one commit waits"));
+    };
+    assert_eq!(rt; only.batch().entries().len(), 512);
     Ok(())
+}
+
+/// Made where one of two tries has memory.
+fn replica_again(alloc: Global) -> Result<Replica, Memory> {
+    replica(alloc, 2).or_else(|_| replica(alloc, 2))
+}
+
+/// Made where one of two tries has memory.
+fn record_again(alloc: Global) -> Result<Record, Memory> {
+    insert_of(alloc, 1, 10).or_else(|_| insert_of(alloc, 1, 10))
 }
 
 /// Receives the record, once more where it is refused, which leaves the replica as it was.
 fn receive_again(rt: &impl Abort, replica: &mut Replica, next: &Record) {
-    let first = replica.receive(next);
+    let first = receive(replica, next);
     if first == Ok(Received::Accepted) {
         return;
     }
     assert_eq!(rt; first, Err(ReplicaFault::Memory));
     assert_eq!(rt; replica.accepted().len(), 0);
-    assert_eq!(rt; replica.receive(next), Ok(Received::Accepted));
+    accepts(rt, replica, next);
 }
 
-/// Finishes record 1, once more where it is refused, which leaves the job dispatched.
-fn finish_again(rt: &impl Abort, replica: &mut Replica) {
-    let first = replica.finish(1);
-    if first == Ok(()) {
-        return;
+/// Dispatches record 1, once more where it is refused, which leaves the worker free.
+fn job_again(rt: &impl Abort, replica: &mut Replica) -> Result<Job, Fail> {
+    match dispatch(replica) {
+        Ok(Some(job)) => Ok(job),
+        Ok(None) => Err(Fail::new("a job is dispatched")),
+        Err(fault) => {
+            assert_eq!(rt; fault, ReplicaFault::Memory);
+            job(rt, replica, 1)
+        }
     }
-    assert_eq!(rt; first, Err(ReplicaFault::Memory));
-    assert_eq!(rt; replica.commit_next(), Ok(None));
-    assert_eq!(rt; replica.finish(1), Ok(()));
+}
+
+/// Finishes the job, and executes and finishes it once more where its result tells of memory that ran out.
+fn finish_again(rt: &(impl Abort + AllocGlobal), replica: &mut Replica, job: Job) {
+    let Err((fault, done)) = finish(replica, execute(rt.alloc(), job)) else {
+        return;
+    };
+    assert_eq!(rt; fault, ReplicaFault::Memory);
+    commits(rt, replica, None);
+    finishes(rt, replica, execute(rt.alloc(), done.into_job()), Ok(()));
 }
 
 /// Commits record 1, once more where it is refused, which leaves the rows and the waiting commits as they were.
 fn commit_again(rt: &impl Abort, replica: &mut Replica) {
-    let first = replica.commit_next();
+    let first = commit_next(replica);
     if first == Ok(Some(1)) {
         return;
     }
     assert_eq!(rt; first, Err(ReplicaFault::Memory));
-    assert_eq!(rt; replica.store().len(), 3);
-    assert_eq!(rt; replica.pending().len(), 0);
-    assert_eq!(rt; replica.commit_next(), Ok(Some(1)));
-}
-
-/// A replica of three rows, made again where memory was refused.
-fn replica_again(alloc: Global) -> Result<Replica, Memory> {
-    replica_of_three(alloc).or_else(|_| replica_of_three(alloc))
-}
-
-/// The record of 40 inserts, made again where memory was refused.
-fn inserts_again(alloc: Global) -> Result<Record, Memory> {
-    inserts(alloc, 1, -40, 0).or_else(|_| inserts(alloc, 1, -40, 0))
+    assert_eq!(rt;
+        (stored(replica, 10), pending(replica).len()),
+        ((None, 0), 0)
+    );
+    commits(rt, replica, Some(1));
 }
 
 /// With one allocation after another refused, each call answers at its second try as if none had been.
 #[test]
-fn refused_calls_are_made_again(rt: HostRuntime) -> Result<(), Memory> {
+fn refused_calls_are_made_again(rt: HostRuntime) -> Result<(), Fail> {
     let mut replica = replica_again(rt.alloc())?;
-    receive_again(&rt, &mut replica, &inserts_again(rt.alloc())?);
-    dispatches(&rt, &mut replica, Ok(Some(1)));
-    finish_again(&rt, &mut replica);
+    receive_again(&rt, &mut replica, &record_again(rt.alloc())?);
+    let job = job_again(&rt, &mut replica)?;
+    finish_again(&rt, &mut replica, job);
     commit_again(&rt, &mut replica);
-    assert_eq!(rt; replica.base().entries().len(), 3);
-    assert_eq!(rt; replica.accepted().len(), 1);
-    assert_eq!(rt; replica.store().len(), 43);
-    assert!(rt; replica.store().get(id(-40)) == row(-40));
-    assert_eq!(rt; replica.pending().len(), 1);
-    Ok(())
-}
-
-fn replica_of_three(alloc: Global) -> Result<Replica, Memory> {
-    replica_of(alloc, store(alloc, 3)?)
-}
-
-#[test]
-fn faults_have_their_texts(rt: HostRuntime) -> Result<(), Fail> {
-    let texts = [
-        (ReplicaFault::Gap, "P1 Gap"),
-        (ReplicaFault::Malformed, "P3 Malformed"),
-        (ReplicaFault::Stopped(7), "P5 Stopped 7"),
-        (ReplicaFault::Stranger, "P6 Stranger"),
-        (ReplicaFault::Double, "P7 Double"),
-        (ReplicaFault::Memory, "P9 Memory"),
-    ];
-    for (fault, text) in texts {
-        assert_eq!(rt; format!(in rt.alloc(); "{fault}")?.as_str(), text);
-    }
+    assert_eq!(rt; stored(&replica, 10), (row(5, 6), 1));
+    assert_eq!(rt; first_pending(&replica), Some(1));
     Ok(())
 }

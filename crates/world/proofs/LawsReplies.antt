@@ -1,16 +1,10 @@
 -- What a reply that the pairs so far allow says of them.
-use Rattle.std.proofs.Common.{◌≡◌, sym, subst, refl, ℕ, ◌+◌, ◌-◌, ◌<◌, ◌≤◌, Bool, true, false, not, ◌&&◌, ◌==◌, nat_le, List, [], ◌∷◌, map, take, length, Option, Some, None, Result, Ok, Err, ◌⊎◌, inl, inr, slice_get, if◌then◌else◌, arith}
-use Rattle.std.specs.Prelude.{ℤ, option_and_then}
-use Rattle.std.specs.Option.{option_map_or}
-use Rattle.std.specs.List.{list_any}
+use Rattle.std.proofs.Common.{◌≡◌, sym, subst, refl, ℕ, ◌+◌, ◌<◌, ◌≤◌, Bool, true, false, not, ◌&&◌, ◌==◌, nat_le, List, [], ◌∷◌, map, length, Option, Some, None, Ok, ◌⊎◌, inl, inr, if◌then◌else◌, arith}
+use Rattle.std.specs.Prelude.{ℤ, option_and_then, nat_lt, slice_index_or}
 use Rattle.std.specs.FinMap.{get}
-use Rattle.std.proofs.lemmas.Bool.{false≢true, or_cases, and_parts, leb-true}
-use Rattle.std.proofs.lemmas.Option.{slice_get_within}
-use Rattle.std.proofs.lemmas.List.{length-take, length-take-le}
+use Rattle.std.proofs.lemmas.Bool.{false≢true, or_cases, and_parts, leb-true, eqb-true}
+use Rattle.std.proofs.lemmas.Bool.Decides.{nat_tests}
 use Rattle.record_codec.specs.declared.records.Record.{Record}
-use Rattle.store_trait.specs.Operation.{loaded}
-use Rattle.record_codec.specs.Log.{IsLegalLog}
-use Rattle.record_codec.proofs.Logs.{place_is_number}
 use Rattle.source_core.specs.declared.fault.SourceFault.{SourceFault}
 use Rattle.source_core.specs.declared.fault.SourceFault.TheVariants as source
 use Rattle.log_file.specs.declared.fault.LogFault.TheVariants as log_file
@@ -18,19 +12,15 @@ use Rattle.source_core.specs.Source.{seen_row}
 use Rattle.source_core.specs.Calls.{begin_fault, write_fault, read_fault, prepare_fault, prepare_answer, queue_fault, abort_fault, halted_fault}
 use Rattle.source_core.specs.declared.transaction.Prepared.{Prepared as Answer}
 use Rattle.source_core.specs.declared.transaction.Prepared.TheVariants as answers
-use Rattle.replica_core.specs.declared.Received.{Received}
-use Rattle.replica_core.specs.declared.Received.TheVariants.{Accepted, Skipped}
-use Rattle.replica_core.specs.declared.ReplicaFault.{ReplicaFault}
-use Rattle.replica_core.specs.declared.ReplicaFault.TheVariants as replica
-use Rattle.replica_core.specs.Calls.{received, is_eligible, was_finished}
+use Rattle.relay.specs.declared.ReplicaFault.TheVariants as replica
 use Rattle.world.specs.declared.events.Event.{Event}
 use Rattle.world.specs.declared.events.Event.TheVariants as events
 use Rattle.world.specs.declared.events.Reply.{Reply}
 use Rattle.world.specs.declared.events.Reply.TheVariants as replies
-use Rattle.world.specs.Replies.{received_reply, prepared_reply, dispatch_reply, finish_reply, next_commit_reply}
-use Rattle.world.proofs.Received.{accepts_next, refuses_gaps, synced_place}
-use Rattle.world.specs.Past.{Past, flushed, unsynced, synced, halted, source_committed, queue, accepted, dispatched, finished, replica_committed, published}
-use Rattle.world.specs.Legal.{Setup, rows_after, source_at, replica_at, refused_or, stamp_of, next_records, FlushAnswers, SyncAnswers, commit_reply, log_text, synced_record, Answers, is_source_memory, is_replica_memory, is_codec_memory, is_log_memory, lacks_memory, Allowed}
+use Rattle.world.specs.Replies.{prepared_reply}
+use Rattle.world.specs.Past.{Past, flushed, unsynced, synced, halted, source_committed, queue, accepted, dispatched, under_way, replica_committed, published}
+use Rattle.world.proofs.ReplicaEvents.{some_under}
+use Rattle.world.specs.Legal.{Setup, rows_after, source_at, refused_or, stamp_of, next_records, FlushAnswers, SyncAnswers, commit_reply, log_text, may_dispatch, is_out, Answers, is_source_memory, is_replica_memory, is_codec_memory, is_log_memory, lacks_memory, Allowed}
 
 -- the row of a read, after the first so many records
 abbrev pub ReadSays : Setup → List Record → ℕ → Event → Option (List ℤ) → Type 0
@@ -44,8 +34,7 @@ Says setup log past event (replies.Synced first last) = (groups : List (ℕ × �
 Says setup log past event (replies.Committed first last) = last ≡ synced past
 Says setup log past event replies.Accepted = (gno : ℕ) × (event ≡ events.Deliver gno) × (gno ≤ synced past) × (gno ≡ accepted past + 1)
 Says setup log past event (replies.Job gno) = dispatched past < accepted past
-Says setup log past event (replies.Finished gno) = gno ≤ dispatched past
-Says setup log past event (replies.Commit gno) = (gno ≡ replica_committed past + 1) × (list_any (λ n. n == replica_committed past + 1) (finished past) ≡ true)
+Says setup log past event (replies.Commit gno) = (gno ≡ replica_committed past + 1) × (1 ≤ length (under_way past))
 Says setup log past event (replies.Published upto) = upto ≡ replica_committed past
 Says setup log past event (replies.Read upto row) = (upto ≡ published past) × ReadSays setup log upto event row
 Says setup log past event (replies.Replica fault) = (fault ≡ replica.Memory) ⊎ ((fault ≡ replica.Gap) × (gno : ℕ) × (event ≡ events.Deliver gno))
@@ -119,79 +108,60 @@ commit_says : (setup : Setup) (log : List Record) (past : Past) (all : Bool) →
 commit_says setup log past true = tt
 commit_says setup log past false = refl
 
--- the record that is delivered has its number, and is received
-deliver_says : (setup : Setup) (log : List Record) (past : Past) (gno : ℕ) → IsLegalLog setup.tables (loaded setup.base) log → accepted past ≤ length log → (got : Option Record) → synced_record log past gno ≡ got →
-    Says setup log past (events.Deliver gno) (option_map_or (λ new. received_reply (received (replica_at setup log past) new)) got replies.Unsynced)
-deliver_says setup log past gno legal within None e = tt
-deliver_says setup log past gno legal within (Some new) e = by_answer (received (replica_at setup log past) new) refl where
-  by_answer : (answer : Result Received ReplicaFault) → received (replica_at setup log past) new ≡ answer → Says setup log past (events.Deliver gno) (received_reply answer)
-  by_answer (Ok Accepted) is =
-      let place = synced_place log past gno new e in
-      let number : new.gno ≡ gno = omega (arith, (place_is_number setup.tables (loaded setup.base) log (gno - 1) new legal place.2).gno, place.0) in
-      (gno, refl, place.1, omega (arith, number, accepts_next (replica_at setup log past) new refl is, length-take-le (accepted past) log within))
-  by_answer (Ok Skipped) is = tt
-  by_answer (Err fault) is =
-      let place = synced_place log past gno new e in
-      let number : new.gno ≡ gno = omega (arith, (place_is_number setup.tables (loaded setup.base) log (gno - 1) new legal place.2).gno, place.0) in
-      inr (refuses_gaps (replica_at setup log past) new fault refl (omega (arith, number, place.0)) is, gno, refl)
+-- only the next record is accepted, once it is synced, and only a gap is refused
+deliver_says : (setup : Setup) (log : List Record) (past : Past) (gno : ℕ) (is_synced_ old next : Bool) → (is_synced_ ≡ true → gno ≤ synced past) → (next ≡ true → gno ≡ accepted past + 1) →
+    Says setup log past (events.Deliver gno) (if not is_synced_ then replies.Unsynced else if old then replies.Skipped else if next then replies.Accepted else replies.Replica replica.Gap)
+deliver_says setup log past gno false old next within is = tt
+deliver_says setup log past gno true true next within is = tt
+deliver_says setup log past gno true false true within is = (gno, refl, within refl, is refl)
+deliver_says setup log past gno true false false within is = inr (refl, gno, refl)
 
-dispatch_says : (setup : Setup) (log : List Record) (past : Past) (may : Bool) → (may ≡ true → dispatched past < accepted past) →
-    Says setup log past events.Dispatch (dispatch_reply (Ok (if may then Some (dispatched past + 1) else None)))
+dispatch_says : (setup : Setup) (log : List Record) (past : Past) (may : Bool) → (may ≡ true → dispatched past < accepted past) → Says setup log past events.Dispatch (if may then replies.Job (dispatched past + 1) else replies.Nothing)
 dispatch_says setup log past false h = tt
 dispatch_says setup log past true h = h refl
 
-finish_says : (setup : Setup) (log : List Record) (past : Past) (gno : ℕ) (known is_double : Bool) → (known ≡ true → gno ≤ dispatched past) →
-    Says setup log past (events.Finish gno) (finish_reply gno (option_map_or (λ fault. Err fault) (if not known then Some replica.Stranger else if is_double then Some replica.Double else None) (Ok tt)))
-finish_says setup log past gno false is_double h = tt
-finish_says setup log past gno true true h = tt
-finish_says setup log past gno true false h = h refl
+finish_says : (setup : Setup) (log : List Record) (past : Past) (gno : ℕ) (out : Bool) → Says setup log past (events.Finish gno) (if out then replies.Finished gno else replies.Nothing)
+finish_says setup log past gno false = tt
+finish_says setup log past gno true = tt
 
-next_says : (setup : Setup) (log : List Record) (past : Past) (is_finished_ : Bool) → (is_finished_ ≡ true → list_any (λ n. n == replica_committed past + 1) (finished past) ≡ true) →
-    Says setup log past events.Next (next_commit_reply (Ok (if is_finished_ then Some (replica_committed past + 1) else None)))
+next_says : (setup : Setup) (log : List Record) (past : Past) (done : Bool) → (done ≡ true → 1 ≤ length (under_way past)) → Says setup log past events.Next (if done then replies.Commit (replica_committed past + 1) else replies.Nothing)
 next_says setup log past false h = tt
 next_says setup log past true h = (refl, h refl)
 
 -- a record that may be dispatched is accepted
-some_within : (got : Option Record) (test : Record → Bool) → option_map_or test got false ≡ true → (x : Record) × (got ≡ Some x)
-some_within None test h = absurd (false≢true h)
-some_within (Some x) test h = (x, refl)
+below : (a b : ℕ) → nat_lt a b ≡ true → a < b
+below a b e = grind (arith, nat_tests)
 
-eligible : (setup : Setup) (log : List Record) (past : Past) → is_eligible (replica_at setup log past) ≡ true → dispatched past < accepted past
-eligible setup log past h =
-    let got = some_within (slice_get (take (accepted past) log) (dispatched past)) (λ next. nat_le next.parent (replica_committed past)) (and_parts _ _ h).0 in
-    let within = slice_get_within (take (accepted past) log) (dispatched past) got.0 got.1 in
-    omega (arith, within, length-take (accepted past) log)
-
-answers_say : (setup : Setup) (log : List Record) (past : Past) (event : Event) (reply : Reply) → IsLegalLog setup.tables (loaded setup.base) log → accepted past ≤ length log → Answers setup log past event reply → Says setup log past event reply
-answers_say setup log past (events.Begin session) reply legal within h =
+answers_say : (setup : Setup) (log : List Record) (past : Past) (event : Event) (reply : Reply) → Answers setup log past event reply → Says setup log past event reply
+answers_say setup log past (events.Begin session) reply h =
     by setup log past _ reply _ h (refused_says setup log past _ (begin_fault (source_at setup log past) session) replies.Done tt)
-answers_say setup log past (events.Write session change) reply legal within h =
+answers_say setup log past (events.Write session change) reply h =
     by setup log past _ reply _ h (refused_says setup log past _ (write_fault (source_at setup log past) session change) replies.Done tt)
-answers_say setup log past (events.See session id) reply legal within h =
+answers_say setup log past (events.See session id) reply h =
     by setup log past _ reply _ h (refused_says setup log past _ (read_fault (source_at setup log past) session id) (replies.Seen (seen_row (source_at setup log past) session id)) tt)
-answers_say setup log past (events.Prepare session) reply legal within h =
+answers_say setup log past (events.Prepare session) reply h =
     by setup log past _ reply _ h (refused_says setup log past _ (prepare_fault (source_at setup log past) session) _ (prepare_says setup log past _ (prepare_answer (source_at setup log past) session)))
-answers_say setup log past (events.Queue session) reply legal within h =
+answers_say setup log past (events.Queue session) reply h =
     by setup log past _ reply _ h (refused_says setup log past _ (queue_fault (source_at setup log past) session) replies.Done tt)
-answers_say setup log past (events.Abort session) reply legal within h =
+answers_say setup log past (events.Abort session) reply h =
     by setup log past _ reply _ h (refused_says setup log past _ (abort_fault (source_at setup log past) session) replies.Done tt)
-answers_say setup log past events.Flush reply legal within h = flush_says setup log past (halted past) (queue past) reply h
-answers_say setup log past events.Sync reply legal within h = sync_says setup log past (halted past) (unsynced past) reply refl h
-answers_say setup log past events.Commit reply legal within h = by setup log past _ reply _ h (refused_says setup log past _ (halted_fault (source_at setup log past)) (commit_reply past) (commit_says setup log past (source_committed past == synced past)))
-answers_say setup log past (events.Deliver gno) reply legal within h =
-    by setup log past _ reply _ h (deliver_says setup log past gno legal within (synced_record log past gno) refl)
-answers_say setup log past events.Dispatch reply legal within h = by setup log past _ reply _ h (dispatch_says setup log past (is_eligible (replica_at setup log past)) (eligible setup log past))
-answers_say setup log past (events.Finish gno) reply legal within h =
-    by setup log past _ reply _ h (finish_says setup log past gno (nat_le 1 gno && nat_le gno (dispatched past)) (was_finished (replica_at setup log past) gno)
-    (λ t. leb-true gno (dispatched past) (and_parts _ _ t).1))
-answers_say setup log past events.Next reply legal within h = by setup log past _ reply _ h (next_says setup log past (list_any (λ n. n == replica_committed past + 1) (finished past)) (λ t. t))
-answers_say setup log past events.Publish reply legal within h = by setup log past _ reply _ h refl
-answers_say setup log past (events.Read id) reply legal within h = by setup log past _ reply _ h (refl, refl)
-answers_say setup log past events.Log reply legal within h = by setup log past _ reply (replies.Text (log_text setup log past)) h tt
+answers_say setup log past events.Flush reply h = flush_says setup log past (halted past) (queue past) reply h
+answers_say setup log past events.Sync reply h = sync_says setup log past (halted past) (unsynced past) reply refl h
+answers_say setup log past events.Commit reply h = by setup log past _ reply _ h (refused_says setup log past _ (halted_fault (source_at setup log past)) (commit_reply past) (commit_says setup log past (source_committed past == synced past)))
+answers_say setup log past (events.Deliver gno) reply h =
+    by setup log past _ reply _ h (deliver_says setup log past gno (nat_le 1 gno && nat_le gno (synced past)) (nat_le gno (accepted past)) (gno == accepted past + 1)
+    (λ t. leb-true gno (synced past) (and_parts _ _ t).1) (eqb-true gno (accepted past + 1)))
+answers_say setup log past events.Dispatch reply h =
+    by setup log past _ reply _ h (dispatch_says setup log past (may_dispatch setup log past) (λ t. below (dispatched past) (accepted past) (and_parts _ _ (and_parts _ _ t).0).0))
+answers_say setup log past (events.Finish gno) reply h = by setup log past _ reply _ h (finish_says setup log past gno (is_out past gno))
+answers_say setup log past events.Next reply h = by setup log past _ reply _ h (next_says setup log past (slice_index_or (under_way past) 0 false) (some_under (under_way past)))
+answers_say setup log past events.Publish reply h = by setup log past _ reply _ h refl
+answers_say setup log past (events.Read id) reply h = by setup log past _ reply _ h (refl, refl)
+answers_say setup log past events.Log reply h = by setup log past _ reply (replies.Text (log_text setup log past)) h tt
 
-pub says : (setup : Setup) (log : List Record) (past : Past) (event : Event) (reply : Reply) → IsLegalLog setup.tables (loaded setup.base) log → accepted past ≤ length log → Allowed setup log past event reply → Says setup log past event reply
-says setup log past event reply legal within allowed =
+pub says : (setup : Setup) (log : List Record) (past : Past) (event : Event) (reply : Reply) → Allowed setup log past event reply → Says setup log past event reply
+says setup log past event reply allowed =
     elim allowed [
       | inl lacks ↦ lacking setup log past event reply lacks
-      | inr answers ↦ answers_say setup log past event reply legal within answers
+      | inr answers ↦ answers_say setup log past event reply answers
     ]

@@ -1,5 +1,5 @@
 -- The laws of runs with legal replies.
-use Rattle.std.proofs.Common.{◌≡◌, ◌∙◌, sym, ap, subst, refl, ℕ, zero, suc, ◌+◌, ◌≤◌, List, [], ◌∷◌, length, take, drop, Some, slice_get, inl, inr, arith, cond, count_by}
+use Rattle.std.proofs.Common.{◌≡◌, ◌∙◌, sym, ap, subst, refl, ℕ, zero, suc, ◌+◌, ◌≤◌, List, [], ◌∷◌, take, drop, Some, slice_get, inl, inr, arith, cond, count_by}
 use Rattle.std.proofs.lemmas.Bool.{false≢true}
 use Rattle.std.proofs.lemmas.Option.{none-some, same_Some}
 use Rattle.std.proofs.lemmas.List.Sums.{sum_by-cons}
@@ -13,7 +13,7 @@ use Rattle.world.specs.declared.events.Event.{Event}
 use Rattle.world.specs.declared.events.Event.TheVariants as events
 use Rattle.world.specs.declared.events.Reply.{Reply}
 use Rattle.world.specs.declared.events.Reply.TheVariants as replies
-use Rattle.world.specs.Past.{Past, accepted, replica_committed, published}
+use Rattle.world.specs.Past.{Past, replica_committed, published}
 use Rattle.world.specs.Legal.{Setup, Allowed, AreAllowed, AreLegal}
 use Rattle.world.specs.Laws.{pairs_after, past_at, is_commit, ReadsArePrefixes, ReadsAreAnswered, ReadsAreSynced, ReadsNeverGoBack, PublishedWithin, NumbersNeverFall, NoneFalls, EachCommitOnceInOrder, NothingUnsyncedIsAccepted, RefusesOnlyGaps, OperationsLeaveRows}
 use Rattle.world.proofs.LawsReplies.{Says, says}
@@ -39,31 +39,23 @@ answered_at setup log past (e ∷ es) (r ∷ rs) allowed (suc place) event got =
 
 -- ---- each moment
 
--- no more are accepted than the log has
-few : (log : List Record) (past : Past) → Holds log past → accepted past ≤ length log
-few log past h = let o = in_order log past h in omega (arith, o.accepted_within, o.synced_within, o.flushed_within)
-
--- what a reply says of the pairs before it, at a moment of which the numbers are in order
-said : (setup : Setup) (log : List Record) (past : Past) (event : Event) (reply : Reply) → IsLegalLog setup.tables (loaded setup.base) log → Holds log past → Allowed setup log past event reply → Says setup log past event reply
-said setup log past event reply legal h allowed = says setup log past event reply legal (few log past h) allowed
-
-holds_from : (setup : Setup) (log : List Record) (past : Past) (es : List Event) (rs : List Reply) → IsLegalLog setup.tables (loaded setup.base) log → AreAllowed setup log past es rs → Holds log past → (moment : ℕ) → Holds log (pairs_after past (take moment es) (take moment rs))
-holds_from setup log past es rs legal allowed h zero = h
-holds_from setup log past [] [] legal allowed h (suc moment) = h
-holds_from setup log past [] (r ∷ rs) legal allowed h (suc moment) = absurd allowed
-holds_from setup log past (e ∷ es) [] legal allowed h (suc moment) = absurd allowed
-holds_from setup log past (e ∷ es) (r ∷ rs) legal allowed h (suc moment) =
-    holds_from setup log ((e, r) ∷ past) es rs legal allowed.1 (step setup log past e r (said setup log past e r legal h allowed.0) h) moment
+holds_from : (setup : Setup) (log : List Record) (past : Past) (es : List Event) (rs : List Reply) → AreAllowed setup log past es rs → Holds log past → (moment : ℕ) → Holds log (pairs_after past (take moment es) (take moment rs))
+holds_from setup log past es rs allowed h zero = h
+holds_from setup log past [] [] allowed h (suc moment) = h
+holds_from setup log past [] (r ∷ rs) allowed h (suc moment) = absurd allowed
+holds_from setup log past (e ∷ es) [] allowed h (suc moment) = absurd allowed
+holds_from setup log past (e ∷ es) (r ∷ rs) allowed h (suc moment) =
+    holds_from setup log ((e, r) ∷ past) es rs allowed.1 (step setup log past e r (says setup log past e r allowed.0) h) moment
 
 holds_at : (setup : Setup) (log : List Record) (es : List Event) (rs : List Reply) → AreLegal setup log es rs → (moment : ℕ) → Holds log (past_at es rs moment)
-holds_at setup log es rs legal moment = holds_from setup log [] es rs legal.legal legal.allowed (at_first log) moment
+holds_at setup log es rs legal moment = holds_from setup log [] es rs legal.allowed (at_first log) moment
 
 -- the event of a reply, and what the reply says of the pairs before it
 said_at : (setup : Setup) (log : List Record) (es : List Event) (rs : List Reply) → AreLegal setup log es rs → (place : ℕ) (reply : Reply) → slice_get rs place ≡ Some reply →
     (event : Event) × (slice_get es place ≡ Some event) × Says setup log (past_at es rs place) event reply
 said_at setup log es rs legal place reply got =
     let at = allowed_at setup log [] es rs legal.allowed place reply got in
-    (at.0, at.1, said setup log (past_at es rs place) at.0 reply legal.legal (holds_at setup log es rs legal place) at.2)
+    (at.0, at.1, says setup log (past_at es rs place) at.0 reply at.2)
 
 -- ---- reads
 
@@ -138,28 +130,28 @@ pub numbers_in_order : PublishedWithin
 numbers_in_order setup log es rs legal moment = in_order log (past_at es rs moment) (holds_at setup log es rs legal moment)
 
 -- from the beginning of these pairs on
-grown_from : (setup : Setup) (log : List Record) (past : Past) (es : List Event) (rs : List Reply) → IsLegalLog setup.tables (loaded setup.base) log → AreAllowed setup log past es rs → Holds log past → (moment : ℕ) → NoneFalls past (pairs_after past (take moment es) (take moment rs))
-grown_from setup log past es rs legal allowed h zero = same past
-grown_from setup log past [] [] legal allowed h (suc moment) = same past
-grown_from setup log past [] (r ∷ rs) legal allowed h (suc moment) = absurd allowed
-grown_from setup log past (e ∷ es) [] legal allowed h (suc moment) = absurd allowed
-grown_from setup log past (e ∷ es) (r ∷ rs) legal allowed h (suc moment) =
-    let so = said setup log past e r legal h allowed.0 in
+grown_from : (setup : Setup) (log : List Record) (past : Past) (es : List Event) (rs : List Reply) → AreAllowed setup log past es rs → Holds log past → (moment : ℕ) → NoneFalls past (pairs_after past (take moment es) (take moment rs))
+grown_from setup log past es rs allowed h zero = same past
+grown_from setup log past [] [] allowed h (suc moment) = same past
+grown_from setup log past [] (r ∷ rs) allowed h (suc moment) = absurd allowed
+grown_from setup log past (e ∷ es) [] allowed h (suc moment) = absurd allowed
+grown_from setup log past (e ∷ es) (r ∷ rs) allowed h (suc moment) =
+    let so = says setup log past e r allowed.0 in
     onward past ((e, r) ∷ past) _ (grows setup log past e r so h)
-    (grown_from setup log ((e, r) ∷ past) es rs legal allowed.1 (step setup log past e r so h) moment)
+    (grown_from setup log ((e, r) ∷ past) es rs allowed.1 (step setup log past e r so h) moment)
 
-grown_between : (setup : Setup) (log : List Record) (past : Past) (es : List Event) (rs : List Reply) → IsLegalLog setup.tables (loaded setup.base) log → AreAllowed setup log past es rs → Holds log past → (before later : ℕ) → before ≤ later →
+grown_between : (setup : Setup) (log : List Record) (past : Past) (es : List Event) (rs : List Reply) → AreAllowed setup log past es rs → Holds log past → (before later : ℕ) → before ≤ later →
     NoneFalls (pairs_after past (take before es) (take before rs)) (pairs_after past (take later es) (take later rs))
-grown_between setup log past es rs legal allowed h zero later le = grown_from setup log past es rs legal allowed h later
-grown_between setup log past es rs legal allowed h (suc before) zero le = absurd (omega (arith, le))
-grown_between setup log past [] [] legal allowed h (suc before) (suc later) le = same past
-grown_between setup log past [] (r ∷ rs) legal allowed h (suc before) (suc later) le = absurd allowed
-grown_between setup log past (e ∷ es) [] legal allowed h (suc before) (suc later) le = absurd allowed
-grown_between setup log past (e ∷ es) (r ∷ rs) legal allowed h (suc before) (suc later) le =
-    grown_between setup log ((e, r) ∷ past) es rs legal allowed.1 (step setup log past e r (said setup log past e r legal h allowed.0) h) before later (omega (arith, le))
+grown_between setup log past es rs allowed h zero later le = grown_from setup log past es rs allowed h later
+grown_between setup log past es rs allowed h (suc before) zero le = absurd (omega (arith, le))
+grown_between setup log past [] [] allowed h (suc before) (suc later) le = same past
+grown_between setup log past [] (r ∷ rs) allowed h (suc before) (suc later) le = absurd allowed
+grown_between setup log past (e ∷ es) [] allowed h (suc before) (suc later) le = absurd allowed
+grown_between setup log past (e ∷ es) (r ∷ rs) allowed h (suc before) (suc later) le =
+    grown_between setup log ((e, r) ∷ past) es rs allowed.1 (step setup log past e r (says setup log past e r allowed.0) h) before later (omega (arith, le))
 
 pub none_falls : NumbersNeverFall
-none_falls setup log es rs legal before later le = grown_between setup log [] es rs legal.legal legal.allowed (at_first log) before later le
+none_falls setup log es rs legal before later le = grown_between setup log [] es rs legal.allowed (at_first log) before later le
 
 pub never_back : ReadsNeverGoBack
 never_back setup log es rs legal before later m n row seen lt first second =

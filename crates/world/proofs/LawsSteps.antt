@@ -1,13 +1,12 @@
 -- The numbers of a run stay in order.
-use Rattle.std.proofs.Common.{◌≡◌, sym, ap, subst, refl, ℕ, ◌+◌, ◌≤◌, Bool, true, false, not, ◌==◌, cond, List, [], ◌∷◌, ◌++◌, length, map, drop, inl, inr, arith}
-use Rattle.std.specs.List.{list_any, filter}
-use Rattle.std.proofs.lemmas.Bool.{false≢true, or_cases, eqb-true}
-use Rattle.std.proofs.lemmas.List.{length-take, length-drop, length-map}
+use Rattle.std.proofs.Common.{◌≡◌, sym, ap, subst, refl, ℕ, ◌+◌, ◌-◌, ◌≤◌, Bool, true, false, List, [], ◌∷◌, ◌++◌, length, length-append, map, drop, arith}
+use Rattle.std.specs.Prelude.{slice_set}
+use Rattle.std.proofs.lemmas.List.{length-set, length-take, length-drop, length-map}
 use Rattle.record_codec.specs.declared.records.Record.{Record}
 use Rattle.world.specs.declared.events.Event.{Event}
 use Rattle.world.specs.declared.events.Reply.{Reply}
 use Rattle.world.specs.declared.events.Reply.TheVariants as replies
-use Rattle.world.specs.Past.{Past, flushed, unsynced, synced, source_committed, queue, accepted, dispatched, finished, replica_committed, published}
+use Rattle.world.specs.Past.{Past, flushed, unsynced, synced, source_committed, queue, accepted, dispatched, under_way, replica_committed, published}
 use Rattle.world.specs.Legal.{Setup, stamp_of, next_records}
 use Rattle.world.specs.Laws.{AreInOrder, NoneFalls}
 use Rattle.world.proofs.LawsReplies.{Says}
@@ -27,36 +26,6 @@ Follow-push : (from : ℕ) (groups : List (ℕ × ℕ)) (to first last : ℕ) �
 Follow-push from [] to first last h is up = (omega (arith, h, is), omega (arith, h, up), refl)
 Follow-push from (group ∷ groups) to first last h is up = (h.0, h.1, Follow-push group.1 groups to first last h.2 is up)
 
--- ---- the numbers of finished records
-
-abbrev pub AllUpTo : ℕ → List ℕ → Type 0
-AllUpTo top [] = Unit {0}
-AllUpTo top (n ∷ ns) = (n ≤ top) × AllUpTo top ns
-
-AllUpTo-next : (top : ℕ) (ns : List ℕ) → AllUpTo top ns → AllUpTo (top + 1) ns
-AllUpTo-next top [] h = tt
-AllUpTo-next top (n ∷ ns) h = (omega (arith, h.0), AllUpTo-next top ns h.1)
-
-AllUpTo-push : (top : ℕ) (ns : List ℕ) (last : ℕ) → AllUpTo top ns → last ≤ top → AllUpTo top (ns ++ last ∷ [])
-AllUpTo-push top [] last h le = (le, tt)
-AllUpTo-push top (n ∷ ns) last h le = (h.0, AllUpTo-push top ns last h.1 le)
-
-AllUpTo-filter : (top : ℕ) (test : ℕ → Bool) (ns : List ℕ) → AllUpTo top ns → AllUpTo top (filter test ns)
-AllUpTo-filter top test [] h = tt
-AllUpTo-filter top test (n ∷ ns) h =
-    elim (test n) as (λ b. AllUpTo top (cond b (n ∷ filter test ns) (filter test ns))) [
-      | true ↦ (h.0, AllUpTo-filter top test ns h.1)
-      | false ↦ AllUpTo-filter top test ns h.1
-    ]
-
-AllUpTo-any : (top one : ℕ) (ns : List ℕ) → AllUpTo top ns → list_any (λ n. n == one) ns ≡ true → one ≤ top
-AllUpTo-any top one [] h any = absurd (false≢true any)
-AllUpTo-any top one (n ∷ ns) h any =
-    elim (or_cases (n == one) (list_any (λ k. k == one) ns) any) [
-      | inl here ↦ omega (arith, h.0, eqb-true n one here)
-      | inr there ↦ AllUpTo-any top one ns h.1 there
-    ]
-
 -- ---- each moment
 
 -- What holds of the source's numbers: the groups not yet synced are all records from the synced up to the flushed ones.
@@ -65,26 +34,25 @@ pub record SourceInOrder (log : List Record) (flushed_ : ℕ) (groups : List (�
   pub in_log : flushed_ ≤ length log
   pub committed_within : source_committed_ ≤ synced_
 
--- And of the jobs: what is finished was dispatched, and what is committed too.
-pub record JobsInOrder (accepted_ dispatched_ : ℕ) (done : List ℕ) (replica_committed_ : ℕ) : Type 0 where
+-- And of the jobs: what is dispatched was accepted, and is committed or under way.
+pub record JobsInOrder (accepted_ dispatched_ : ℕ) (under : List Bool) (replica_committed_ : ℕ) : Type 0 where
   pub dispatched_within : dispatched_ ≤ accepted_
-  pub done_within : AllUpTo dispatched_ done
-  pub committed_within : replica_committed_ ≤ dispatched_
+  pub counted : dispatched_ ≡ replica_committed_ + length under
 
-pub record InOrder (log : List Record) (flushed_ : ℕ) (groups : List (ℕ × ℕ)) (synced_ source_committed_ accepted_ dispatched_ : ℕ) (done : List ℕ) (replica_committed_ published_ : ℕ) : Type 0 where
+pub record InOrder (log : List Record) (flushed_ : ℕ) (groups : List (ℕ × ℕ)) (synced_ source_committed_ accepted_ dispatched_ : ℕ) (under : List Bool) (replica_committed_ published_ : ℕ) : Type 0 where
   pub source : SourceInOrder log flushed_ groups synced_ source_committed_
   pub delivered : accepted_ ≤ synced_
-  pub jobs : JobsInOrder accepted_ dispatched_ done replica_committed_
+  pub jobs : JobsInOrder accepted_ dispatched_ under replica_committed_
   pub shown : published_ ≤ replica_committed_
 
 abbrev pub Holds : List Record → Past → Type 0
-Holds log past = InOrder log (flushed past) (unsynced past) (synced past) (source_committed past) (accepted past) (dispatched past) (finished past) (replica_committed past) (published past)
+Holds log past = InOrder log (flushed past) (unsynced past) (synced past) (source_committed past) (accepted past) (dispatched past) (under_way past) (replica_committed past) (published past)
 
 pub at_first : (log : List Record) → Holds log []
 at_first log = record {
   source = record { follow = refl; in_log = omega arith; committed_within = omega arith };
   delivered = omega arith;
-  jobs = record { dispatched_within = omega arith; done_within = tt; committed_within = omega arith };
+  jobs = record { dispatched_within = omega arith; counted = refl };
   shown = omega arith;
 }
 
@@ -115,20 +83,20 @@ step setup log past event (replies.Synced first last) s h =
 step setup log past event (replies.Committed first last) s h =
     record { source = record { follow = h.source.follow; in_log = h.source.in_log; committed_within = omega (arith, s) }; delivered = h.delivered; jobs = h.jobs; shown = h.shown }
 step setup log past event replies.Accepted s h =
-    let jobs : JobsInOrder (accepted past + 1) (dispatched past) (finished past) (replica_committed past) = record { dispatched_within = omega (arith, h.jobs.dispatched_within); done_within = h.jobs.done_within; committed_within = h.jobs.committed_within } in
+    let jobs : JobsInOrder (accepted past + 1) (dispatched past) (under_way past) (replica_committed past) = record { dispatched_within = omega (arith, h.jobs.dispatched_within); counted = h.jobs.counted } in
     record { source = h.source; delivered = omega (arith, s.2, s.3); jobs = jobs; shown = h.shown }
 step setup log past event (replies.Job gno) s h =
-    let done = AllUpTo-next (dispatched past) (finished past) h.jobs.done_within in
-    let jobs : JobsInOrder (accepted past) (dispatched past + 1) (finished past) (replica_committed past) = record { dispatched_within = omega (arith, s); done_within = done; committed_within = omega (arith, h.jobs.committed_within) } in
+    let jobs : JobsInOrder (accepted past) (dispatched past + 1) (under_way past ++ false ∷ []) (replica_committed past) =
+    record { dispatched_within = omega (arith, s); counted = omega (arith, h.jobs.counted, length-append (under_way past) (false ∷ [])) } in
     record { source = h.source; delivered = h.delivered; jobs = jobs; shown = h.shown }
 step setup log past event (replies.Finished gno) s h =
-    let done = AllUpTo-push (dispatched past) (finished past) gno h.jobs.done_within s in
-    let jobs : JobsInOrder (accepted past) (dispatched past) (finished past ++ gno ∷ []) (replica_committed past) = record { dispatched_within = h.jobs.dispatched_within; done_within = done; committed_within = h.jobs.committed_within } in
+    let place = gno - replica_committed past - 1 in
+    let jobs : JobsInOrder (accepted past) (dispatched past) (slice_set (under_way past) place true) (replica_committed past) =
+    record { dispatched_within = h.jobs.dispatched_within; counted = omega (arith, h.jobs.counted, length-set (under_way past) place true) } in
     record { source = h.source; delivered = h.delivered; jobs = jobs; shown = h.shown }
 step setup log past event (replies.Commit gno) s h =
-    let done = AllUpTo-filter (dispatched past) (λ n. not (n == gno)) (finished past) h.jobs.done_within in
-    let within = AllUpTo-any (dispatched past) (replica_committed past + 1) (finished past) h.jobs.done_within s.1 in
-    let jobs : JobsInOrder (accepted past) (dispatched past) (filter (λ n. not (n == gno)) (finished past)) (replica_committed past + 1) = record { dispatched_within = h.jobs.dispatched_within; done_within = done; committed_within = within } in
+    let jobs : JobsInOrder (accepted past) (dispatched past) (drop 1 (under_way past)) (replica_committed past + 1) =
+    record { dispatched_within = h.jobs.dispatched_within; counted = omega (arith, h.jobs.counted, s.1, length-drop 1 (under_way past)) } in
     record { source = h.source; delivered = h.delivered; jobs = jobs; shown = omega (arith, h.shown) }
 step setup log past event (replies.Published upto) s h = record { source = h.source; delivered = h.delivered; jobs = h.jobs; shown = omega (arith, s) }
 step setup log past event reply s h = h
@@ -137,7 +105,7 @@ step setup log past event reply s h = h
 pub in_order : (log : List Record) (past : Past) → Holds log past → AreInOrder log past
 in_order log past h = record {
   published_within = h.shown;
-  replica_committed_within = h.jobs.committed_within;
+  replica_committed_within = omega (arith, h.jobs.counted);
   dispatched_within = h.jobs.dispatched_within;
   accepted_within = h.delivered;
   source_committed_within = h.source.committed_within;

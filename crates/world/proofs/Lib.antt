@@ -2,8 +2,10 @@ pub mod Parts
 pub mod Groups
 pub mod Sessions
 pub mod Received
+pub mod Jobs
 pub mod SourceEvents
 pub mod ReplicaEvents
+pub mod Finish
 pub mod LogEvents
 pub mod Put
 pub mod SyncEvents
@@ -14,3 +16,4 @@ pub mod LawsSteps
 pub mod LawsRuns
 pub mod LawsHalts
 pub mod Run
+pub mod Alike

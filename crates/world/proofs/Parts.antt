@@ -15,7 +15,7 @@ use Rattle.world.specs.declared.events.Reply.{Reply}
 use Rattle.log_file.specs.Log.{Log}
 use Rattle.std.specs.Result.{result_err, IsErrOf}
 use Rattle.std.proofs.lemmas.Bool.{false≢true}
-use Rattle.world.specs.Past.{Past, flushed, unsynced, synced_groups, halted, is_failure, accepted, transaction_of, transaction_after, transactions}
+use Rattle.world.specs.Past.{Past, flushed, unsynced, synced_groups, halted, is_failure, accepted, dispatched, transaction_of, transaction_after, transactions}
 use Rattle.world.specs.Legal.{Setup, source_at, replica_at, Allowed}
 use Rattle.world.specs.State.{World, SourceIs, SidesAre, IsWorld, Stands, TellsFailure, Goes}
 use Rattle.world.proofs.Sessions.{none_told}
@@ -87,7 +87,7 @@ source_untold setup past log s event reply says is = record {
 
 -- a pair of which no side has anything
 pub untold : {R : Type 0} (setup : Setup) (past : Past) (w : World R) (event : Event) (reply : Reply) → ((k : ℕ) → transaction_after past k event reply (transaction_of past k) ≡ transaction_of past k) → Stands setup past w →
-    SidesAre (with_transactions setup w.source.log past (transactions ((event, reply) ∷ past))) (flushed past) setup.identifier (unsynced past) (synced_groups past) (replica_at setup w.source.log past) (accepted past) w.source w.wire w.replica
+    SidesAre (with_transactions setup w.source.log past (transactions ((event, reply) ∷ past))) (flushed past) setup.identifier (unsynced past) (synced_groups past) (replica_at setup w.source.log past) (accepted past) (dispatched past) w.source w.wire w.replica
 untold setup past w event reply says st = record {
   source = source_untold setup past w.source.log w.source event reply says st.source;
   wire = st.wire;

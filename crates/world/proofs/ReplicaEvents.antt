@@ -1,69 +1,162 @@
 -- The events of the replica.
 use mathlib.Core.List.{IsPrefix}
 use base.Growing.{prefix_refl}
-use Rattle.std.proofs.Common.{◌≡◌, ◌∙◌, sym, ap, subst, refl, ℕ, ◌+◌, ◌-◌, ◌<◌, ◌≤◌, Bool, true, false, not, ◌&&◌, ◌==◌, if◌then◌else◌, nat_le, List, ◌∷◌, length, filter, take, drop, Option, Some, None, Result, Ok, Err, is_some, arith, inl, inr, ◌⊎◌}
-use Rattle.std.specs.Prelude.{ℤ, option_and_then, slice_get, ◌||◌}
-use Rattle.std.specs.List.{list_any}
-use Rattle.std.specs.Option.{option_map_or, option_or}
-use Rattle.std.specs.Result.{OnOk, OnErr, IfOk, IfErr, IsErrOf}
+use Rattle.std.proofs.Common.{◌≡◌, ◌∙◌, sym, ap, subst, refl, ℕ, zero, suc, ◌+◌, ◌-◌, ◌≤◌, Bool, true, false, ◌&&◌, if◌then◌else◌, nat_le, nat_lt, get_or, List, [], ◌∷◌, ◌++◌, length, length-append, take, drop, Option, Some, None, Result, Ok, Err, arith, inl, inr, ◌⊎◌}
+use Rattle.std.specs.Prelude.{ℤ, option_and_then, slice_get}
+use Rattle.std.specs.Option.{option_map_or}
+use Rattle.std.specs.Result.{IsErrOf}
 use Rattle.std.specs.FinMap.{get}
-use Rattle.std.proofs.lemmas.List.{take-append-drop, take-take}
-use Rattle.std.proofs.lemmas.Bool.{and_parts, leb-true}
+use Rattle.std.proofs.lemmas.List.{take-append-drop, take-take, length-drop}
+use Rattle.std.proofs.lemmas.Bool.{and_parts}
 use Rattle.std.proofs.lemmas.Bool.Decides.{nat_tests}
-use Rattle.std.proofs.lemmas.Option.{slice_get_cases}
-use Rattle.rows.specs.Database.{Database, effect}
+use Rattle.std.proofs.lemmas.Option.{none-some, same_Some}
+use Rattle.rows.specs.Database.{Database}
 use Rattle.schema.specs.declared.RowId.{RowId}
 use Rattle.record_codec.specs.declared.records.Record.{Record}
 use Rattle.record_codec.specs.Log.{after, IsLegalLog}
 use Rattle.record_codec.proofs.Logs.{beginning_leaves}
 use Rattle.source_core.specs.Source.{Source}
-use Rattle.replica_core.specs.declared.ReplicaFault.{ReplicaFault}
-use Rattle.replica_core.specs.declared.ReplicaFault.TheVariants as faults
-use Rattle.replica_core.specs.Replica.{Replica, working_rows, operations}
-use Rattle.replica_core.specs.Order.{IsInOrder}
-use Rattle.replica_core.proofs.Commits.{after-next, left_by-operations}
-use Rattle.replica_core.specs.Calls.{unless_stopped, next_job, dispatched_next, next_commit, committed_next, finish_fault, finish_answer, with_finished, left_by_fault, applies, job_fault}
+use Rattle.executor.specs.declared.Job.{Job}
+use Rattle.relay.specs.declared.ReplicaFault.{ReplicaFault}
+use Rattle.relay.specs.declared.ReplicaFault.TheVariants as faults
+use Rattle.replica_core.specs.Replica.{Replica, dispatched as dispatched_at, job_of, operations}
+use Rattle.replica_core.specs.Sound.{IsSound}
+use Rattle.replica_core.proofs.Commits.{left_by-operations}
+use Rattle.replica_core.specs.Calls.{unless_stopped, is_eligible, next_job, dispatched_next, next_commit, committed_next}
 use Rattle.world.specs.declared.events.Event.{Event}
 use Rattle.world.specs.declared.events.Event.TheVariants as events
 use Rattle.world.specs.declared.events.Reply.TheVariants as replies
-use Rattle.world.specs.Past.{Past, halted, published, replica_committed, finished}
-use Rattle.world.specs.Legal.{Setup, replica_at, rows_after, taken_reply, lacks_memory, Allowed}
-use Rattle.world.specs.Replies.{dispatch_reply, finish_reply, finish_refused, next_commit_reply}
+use Rattle.world.specs.Past.{Past, halted, published, accepted, dispatched, replica_committed, under_way}
+use Rattle.world.specs.Legal.{Setup, replica_at, rows_after, may_dispatch, dispatch_reply, next_reply, lacks_memory}
 use Rattle.world.specs.State.{World, IsWorld, Stands, Goes}
 use Rattle.world.specs.Run.{ShowsOperations}
 use Rattle.world.proofs.Parts.{replica_is, take_longer, stays, with_replica, untold, source_untold, unfailed}
+use Rattle.world.proofs.Jobs.{gno_of_job, job_of_parts, jobs_dispatched, jobs_committed}
 use Rattle.store_trait.specs.Operation.{loaded, left_by}
 
 -- a replica that runs answers what it is asked
 running_answer : {T : Type 0} (r : Replica) (answer : T) → r.stopped ≡ None → unless_stopped r answer ≡ Ok answer
 running_answer r answer e = ap (λ (o : Option ℕ). option_map_or (λ gno. Err (faults.Stopped gno)) o (Ok answer)) e
 
--- what is dispatched and what is finished is nothing that other sides speak of
-stepped : {R : Type 0} (contents : R → Database) (w : World R) (dispatched : ℕ) (finished_ : List ℕ) → IsWorld contents w → IsWorld contents (with_replica w (record w.replica { dispatched = dispatched; finished = finished_ }))
-stepped contents w dispatched finished_ h = record { source = h.source; wire = h.wire; replica = h.replica; readers = h.readers }
+-- so what a call answers that does not lack memory is this
+pub answered : {T : Type 0} (r : Replica) (asked given : T) → r.stopped ≡ None → (answer : Result T ReplicaFault) → IsErrOf answer faults.Memory ⊎ (answer ≡ unless_stopped r asked) → answer ≡ Ok given → asked ≡ given
+answered {T} r asked given going answer (inl memory) is = absurd (other (sym memory ∙ is)) where
+  other : ◌≡◌ {A = Result T ReplicaFault} (Err faults.Memory) (Ok given) → ⊥
+  other e = cc e
+answered {T} r asked given going answer (inr told) is = same (sym (running_answer r asked going) ∙ sym told ∙ is) where
+  same : ◌≡◌ {A = Result T ReplicaFault} (Ok asked) (Ok given) → asked ≡ given
+  same e = ok_same e where
+    ok_same : ◌≡◌ {A = Result T ReplicaFault} (Ok asked) (Ok given) → asked ≡ given
+    ok_same k = cc k
 
-dispatch_answered : {R : Type 0} (contents : R → Database) (w : World R) (job : Option ℕ) → IsWorld contents w → next_job w.replica ≡ job →
-    Goes contents w events.Dispatch (dispatch_reply (Ok job)) (with_replica w (if is_some job then dispatched_next w.replica else w.replica))
-dispatch_answered contents w job h e =
-    by_cases job (λ setup past log st longer. inr (ap (λ (o : Option ℕ). dispatch_reply (Ok o)) (sym (ap next_job (replica_is contents setup past w log h st longer) ∙ e)))) where
-      by_cases : (o : Option ℕ) → ((setup : Setup) (past : Past) (log : List Record) → Stands setup past w → IsPrefix w.source.log log → Allowed setup log past events.Dispatch (dispatch_reply (Ok o))) →
-          Goes contents w events.Dispatch (dispatch_reply (Ok o)) (with_replica w (if is_some o then dispatched_next w.replica else w.replica))
-      by_cases None allowed = stays contents w events.Dispatch replies.Nothing h refl (λ setup past st. untold setup past w events.Dispatch replies.Nothing (λ k. refl) st) allowed
-      by_cases (Some gno) allowed = record {
-        world = stepped contents w _ _ h;
-        grows = prefix_refl w.source.log;
-        device = unfailed _ w.wire.log refl;
-        stands = λ setup past st. record { source = source_untold setup past w.source.log w.source events.Dispatch (replies.Job gno) (λ k. refl) st.source; wire = st.wire; replica = record { accepted = st.replica.accepted; is = ap dispatched_next st.replica.is } };
-        allowed = allowed;
-      }
+-- and what refuses it is want of memory
+pub only_memory : {T : Type 0} (r : Replica) (asked : T) (fault : ReplicaFault) → r.stopped ≡ None → (answer : Result T ReplicaFault) → IsErrOf answer faults.Memory ⊎ (answer ≡ unless_stopped r asked) → answer ≡ Err fault → fault ≡ faults.Memory
+only_memory {T} r asked fault going answer (inl memory) is = same (sym is ∙ memory) where
+  same : ◌≡◌ {A = Result T ReplicaFault} (Err fault) (Err faults.Memory) → fault ≡ faults.Memory
+  same e = cc e
+only_memory {T} r asked fault going answer (inr told) is = absurd (other (sym (running_answer r asked going) ∙ sym told ∙ is)) where
+  other : ◌≡◌ {A = Result T ReplicaFault} (Ok asked) (Err fault) → ⊥
+  other e = cc e
 
-pub dispatch_goes : {R : Type 0} (contents : R → Database) (w : World R) (answer : Result (Option ℕ) ReplicaFault) (next : Replica) →
-    IsWorld contents w → answer ≡ unless_stopped w.replica (next_job w.replica) → IfOk answer (λ job. next ≡ (if is_some job then dispatched_next w.replica else w.replica)) →
-    Goes contents w events.Dispatch (dispatch_reply answer) (with_replica w next)
-dispatch_goes {R} contents w answer next h is ok =
-    let gives : answer ≡ Ok (next_job w.replica) = is ∙ running_answer w.replica (next_job w.replica) h.replica.going in
-    subst (λ (a : Result (Option ℕ) ReplicaFault). IfOk a (λ job. next ≡ (if is_some job then dispatched_next w.replica else w.replica)) → Goes {R = R} contents w events.Dispatch (dispatch_reply a) (with_replica w next)) (sym gives)
-    (λ left. subst (λ (r : Replica). Goes {R = R} contents w events.Dispatch (dispatch_reply (Ok (next_job w.replica))) (with_replica w r)) (sym left) (dispatch_answered contents w (next_job w.replica) h refl)) ok
+-- the same world, with another replica and other jobs
+abbrev pub with_jobs : {R : Type 0} → World R → Replica → List (Option Job) → World R
+with_jobs w r jobs = record w { replica = r; jobs = jobs }
+
+-- a call that was refused for want of memory leaves the world as it was
+pub lacks : {R : Type 0} (contents : R → Database) (w : World R) (event : Event) (next : Replica) (jobs : List (Option Job)) → IsWorld contents w → ((halts : Bool) → lacks_memory halts event (replies.Replica faults.Memory) ≡ true) →
+    ((setup : Setup) (past : Past) → Stands setup past w → Stands setup ((event, replies.Replica faults.Memory) ∷ past) w) → next ≡ w.replica → jobs ≡ w.jobs → Goes contents w event (replies.Replica faults.Memory) (with_jobs w next jobs)
+lacks {R} contents w event next jobs h may stands same kept =
+    subst (λ (r : Replica). Goes {R = R} contents w event (replies.Replica faults.Memory) (with_jobs w r jobs)) (sym same)
+    (subst (λ (l : List (Option Job)). Goes {R = R} contents w event (replies.Replica faults.Memory) (with_jobs w w.replica l)) (sym kept)
+    (stays contents w event (replies.Replica faults.Memory) h refl stands (λ setup past log st longer. inl (may (halted past)))))
+
+-- ---- dispatch
+
+-- of a list, what stands at a place of its beginning
+front_has : (a d : ℕ) (log : List Record) (test : Record → Bool) → (nat_lt d a && option_map_or test (slice_get log d) false) ≡ option_map_or test (slice_get (take a log) d) false
+front_has zero d log test = ap (λ (b : Bool). b && option_map_or test (slice_get log d) false) (below d) where
+  below : (n : ℕ) → nat_lt n 0 ≡ false
+  below n = grind (arith, nat_tests)
+front_has (suc a) d [] test = neither (nat_lt d (suc a)) where
+  neither : (b : Bool) → (b && false) ≡ false
+  neither true = refl
+  neither false = refl
+front_has (suc a) zero (r ∷ log) test = ap (λ (b : Bool). b && test r) (above a) where
+  above : (n : ℕ) → nat_lt 0 (suc n) ≡ true
+  above n = grind (arith, nat_tests)
+front_has (suc a) (suc d) (r ∷ log) test = ap (λ (b : Bool). b && option_map_or test (slice_get log d) false) (both d a) ∙ front_has a d log test where
+  both : (m n : ℕ) → nat_lt (suc m) (suc n) ≡ nat_lt m n
+  both m n = grind (arith, nat_tests)
+
+-- the pairs say that the next record may be dispatched where the replica finds it so
+eligible_as : {R : Type 0} (contents : R → Database) (setup : Setup) (past : Past) (w : World R) (log : List Record) → IsWorld contents w → Stands setup past w → IsPrefix w.source.log log → may_dispatch setup log past ≡ is_eligible w.replica
+eligible_as contents setup past w log h st longer =
+    let r = replica_at setup log past in
+    let same : r ≡ w.replica = replica_is contents setup past w log h st longer in
+    let count : dispatched past ≡ dispatched_at r = st.replica.dispatched ∙ ap dispatched_at (sym same) in
+    let busy : dispatched past - replica_committed past ≡ length (under_way past) = omega (arith, count) in
+    let test = λ (next : Record). nat_le next.parent (replica_committed past) in
+    (λ i. front_has (accepted past) (dispatched past) log test i && nat_lt (busy i) setup.workers)
+    ∙ ap (λ (n : ℕ). option_map_or test (slice_get (take (accepted past) log) n) false && nat_lt (length (under_way past)) setup.workers) count
+    ∙ ap is_eligible same
+
+reply_as : {R : Type 0} (contents : R → Database) (setup : Setup) (past : Past) (w : World R) (log : List Record) (b : Bool) → IsWorld contents w → Stands setup past w → IsPrefix w.source.log log → is_eligible w.replica ≡ b →
+    dispatch_reply setup log past ≡ (if b then replies.Job (dispatched_at w.replica + 1) else replies.Nothing)
+reply_as contents setup past w log b h st longer e =
+    (λ i. if (eligible_as contents setup past w log h st longer ∙ e) i then replies.Job (st.replica.dispatched i + 1) else replies.Nothing)
+
+-- a job is handed out where the next record is eligible
+handed_out : (r : Replica) (job : Job) → next_job r ≡ Some job → (is_eligible r ≡ true) × (job_of r (dispatched_at r + 1) ≡ Some job)
+handed_out r job is = by (is_eligible r) refl is where
+  by : (b : Bool) → is_eligible r ≡ b → (if b then job_of r (dispatched_at r + 1) else None) ≡ Some job → (is_eligible r ≡ true) × (job_of r (dispatched_at r + 1) ≡ Some job)
+  by true e k = (e, k)
+  by false e k = absurd (none-some job k)
+
+-- and none where it is not
+not_handed_out : (r : Replica) → IsSound r → next_job r ≡ None → is_eligible r ≡ false
+not_handed_out r sound is = by (is_eligible r) refl is where
+  some_at : (o : Option Record) (test : Record → Bool) → option_map_or test o false ≡ true → (x : Record) × (o ≡ Some x)
+  some_at None test e = absurd (cc e)
+  some_at (Some x) test e = (x, refl)
+
+  less : (n : ℕ) → n ≡ n + 1 - 1
+  less n = omega arith
+
+  by : (b : Bool) → is_eligible r ≡ b → (if b then job_of r (dispatched_at r + 1) else None) ≡ None → is_eligible r ≡ false
+  by false e k = e
+  by true e k =
+      let got = some_at (slice_get r.accepted (dispatched_at r)) (λ next. nat_le next.parent r.committed) (and_parts _ _ e).0 in
+      let job = job_of_parts r (dispatched_at r + 1) got.0 sound.rows (ap (slice_get r.accepted) (sym (less (dispatched_at r))) ∙ got.1) sound.rows_are in
+      absurd (none-some _ (sym k ∙ job))
+
+pub dispatch_goes : {R : Type 0} (contents : R → Database) (w : World R) (job : Job) (next : Replica) (jobs : List (Option Job)) (gno : ℕ) → IsWorld contents w → next_job w.replica ≡ Some job → next ≡ dispatched_next w.replica → jobs ≡ w.jobs ++ Some job ∷ [] → gno ≡ job.gno →
+    Goes contents w events.Dispatch (replies.Job gno) (with_jobs w next jobs)
+dispatch_goes {R} contents w job next jobs gno h is leaves kept number =
+    let out = handed_out w.replica job is in
+    let its : gno ≡ dispatched_at w.replica + 1 = number ∙ gno_of_job w.replica (dispatched_at w.replica + 1) job out.1 in
+    subst (λ (r : Replica). Goes {R = R} contents w events.Dispatch (replies.Job gno) (with_jobs w r jobs)) (sym leaves)
+    (subst (λ (l : List (Option Job)). Goes {R = R} contents w events.Dispatch (replies.Job gno) (with_jobs w (dispatched_next w.replica) l)) (sym kept)
+    (record {
+      world = record { source = h.source; wire = h.wire; replica = h.replica; jobs = jobs_dispatched w.replica w.jobs job h.jobs out.1; readers = h.readers };
+      grows = prefix_refl w.source.log;
+      device = unfailed _ w.wire.log refl;
+      stands = λ setup past st. record {
+        source = source_untold setup past w.source.log w.source events.Dispatch (replies.Job gno) (λ k. refl) st.source;
+        wire = st.wire;
+        replica = record { accepted = st.replica.accepted; dispatched = omega (arith, st.replica.dispatched, length-append w.replica.under_way (false ∷ [])); is = ap dispatched_next st.replica.is };
+      };
+      allowed = λ setup past log st longer. inr (ap replies.Job its ∙ sym (reply_as contents setup past w log true h st longer out.0));
+    }))
+
+pub dispatch_lacks : {R : Type 0} (contents : R → Database) (w : World R) (next : Replica) (jobs : List (Option Job)) → IsWorld contents w → next ≡ w.replica → jobs ≡ w.jobs → Goes contents w events.Dispatch (replies.Replica faults.Memory) (with_jobs w next jobs)
+dispatch_lacks contents w next jobs h same kept = lacks contents w events.Dispatch next jobs h (λ halts. refl) (λ setup past st. untold setup past w events.Dispatch (replies.Replica faults.Memory) (λ k. refl) st) same kept
+
+pub dispatch_nothing : {R : Type 0} (contents : R → Database) (w : World R) (next : Replica) (jobs : List (Option Job)) → IsWorld contents w → IsSound w.replica → next_job w.replica ≡ None → next ≡ w.replica → jobs ≡ w.jobs → Goes contents w events.Dispatch replies.Nothing (with_jobs w next jobs)
+dispatch_nothing {R} contents w next jobs h sound is same kept =
+    subst (λ (r : Replica). Goes {R = R} contents w events.Dispatch replies.Nothing (with_jobs w r jobs)) (sym same)
+    (subst (λ (l : List (Option Job)). Goes {R = R} contents w events.Dispatch replies.Nothing (with_jobs w w.replica l)) (sym kept)
+    (stays contents w events.Dispatch replies.Nothing h refl (λ setup past st. untold setup past w events.Dispatch replies.Nothing (λ k. refl) st)
+    (λ setup past log st longer. inr (sym (reply_as contents setup past w log false h st longer (not_handed_out w.replica sound is))))))
 
 -- of what is accepted, the first n records are those of the log
 pub accepted_front : {R : Type 0} (contents : R → Database) (w : World R) (n : ℕ) → IsWorld contents w → n ≤ length w.replica.accepted → take n w.replica.accepted ≡ take n w.source.log
@@ -96,52 +189,11 @@ read_goes {R} contents w id row upto h row_is upto_is = stays contents w _ _ h r
     let found : row ≡ option_and_then (λ db. get db id) (rows_after setup log (published past)) = row_is ∙ sym (ap (option_and_then (λ db. get db id)) (shown_rows contents setup past w log h st longer)) in
     inr (λ i. replies.Read (number i) (found i)))
 
-commit_answered : {R : Type 0} (contents : R → Database) (w : World R) (commit : Option ℕ) → IsWorld contents w → next_commit w.replica ≡ commit →
-    Goes contents w events.Next (next_commit_reply (Ok commit)) (with_replica w (if is_some commit then committed_next w.replica else w.replica))
-commit_answered contents w commit h e =
-    by_cases commit e (λ setup past log st longer. inr (ap (λ (o : Option ℕ). next_commit_reply (Ok o)) (sym (ap next_commit (replica_is contents setup past w log h st longer) ∙ e)))) where
-      next_is : (r : Replica) (n : ℕ) → next_commit r ≡ Some n → n ≡ r.committed + 1
-      next_is r n k = sym (chosen (list_any (λ m. m == r.committed + 1) r.finished) k) where
-        chosen : (b : Bool) → (if b then Some (r.committed + 1) else None) ≡ Some n → r.committed + 1 ≡ n
-        chosen true q = cc q
-        chosen false q = absurd (cc q)
-
-      by_cases : (o : Option ℕ) → next_commit w.replica ≡ o → ((setup : Setup) (past : Past) (log : List Record) → Stands setup past w → IsPrefix w.source.log log → Allowed setup log past events.Next (next_commit_reply (Ok o))) →
-          Goes contents w events.Next (next_commit_reply (Ok o)) (with_replica w (if is_some o then committed_next w.replica else w.replica))
-      by_cases None k allowed = stays contents w events.Next replies.Nothing h refl (λ setup past st. untold setup past w events.Next replies.Nothing (λ k. refl) st) allowed
-      by_cases (Some gno) k allowed = record {
-        world = record {
-          source = h.source;
-          wire = h.wire;
-          replica = h.replica;
-          readers = record { shows = h.readers.shows; rows = h.readers.rows; upto = h.readers.upto; later = h.readers.later; done = omega (arith, h.readers.done); there = h.readers.there; are = h.readers.are };
-        };
-        grows = prefix_refl w.source.log;
-        device = unfailed _ w.wire.log refl;
-        stands = λ setup past st.
-            let number : replica_committed past + 1 ≡ gno = ap (λ (r : Replica). r.committed + 1) (sym st.replica.is) ∙ sym (next_is w.replica gno k) in
-            let without = λ (n : ℕ). record (replica_at setup w.source.log past) { committed = replica_committed past + 1; finished = filter (λ m. not (m == n)) (finished past) } in
-            record { source = source_untold setup past w.source.log w.source events.Next (replies.Commit gno) (λ k. refl) st.source; wire = st.wire; replica = record { accepted = st.replica.accepted; is = ap committed_next st.replica.is ∙ ap without number } };
-        allowed = allowed;
-      }
-
 -- want of memory leaves the replica as it was
 pub no_memory : {R : Type 0} (contents : R → Database) (w : World R) (event : Event) (next : Replica) → IsWorld contents w → ((halts : Bool) → lacks_memory halts event (replies.Replica faults.Memory) ≡ true) →
     ((setup : Setup) (past : Past) → Stands setup past w → Stands setup ((event, replies.Replica faults.Memory) ∷ past) w) → next ≡ w.replica → Goes contents w event (replies.Replica faults.Memory) (with_replica w next)
 no_memory {R} contents w event next h lacks stands same =
     subst (λ (r : Replica). Goes {R = R} contents w event (replies.Replica faults.Memory) (with_replica w r)) (sym same) (stays contents w event (replies.Replica faults.Memory) h refl stands (λ setup past log st longer. inl (lacks (halted past))))
-
-pub next_goes : {R : Type 0} (contents : R → Database) (w : World R) (answer : Result (Option ℕ) ReplicaFault) (next : Replica) →
-    IsWorld contents w → IsErrOf answer faults.Memory ⊎ (answer ≡ unless_stopped w.replica (next_commit w.replica)) →
-    IfOk answer (λ commit. next ≡ (if is_some commit then committed_next w.replica else w.replica)) → OnErr answer (next ≡ w.replica) →
-    Goes contents w events.Next (next_commit_reply answer) (with_replica w next)
-next_goes {R} contents w answer next h (inl memory) ok err =
-    subst (λ (a : Result (Option ℕ) ReplicaFault). OnErr a (next ≡ w.replica) → Goes {R = R} contents w events.Next (next_commit_reply a) (with_replica w next)) (sym memory)
-    (no_memory contents w events.Next next h (λ halts. refl) (λ setup past st. untold setup past w events.Next (replies.Replica faults.Memory) (λ k. refl) st)) err
-next_goes {R} contents w answer next h (inr is) ok err =
-    let gives : answer ≡ Ok (next_commit w.replica) = is ∙ running_answer w.replica (next_commit w.replica) h.replica.going in
-    subst (λ (a : Result (Option ℕ) ReplicaFault). IfOk a (λ commit. next ≡ (if is_some commit then committed_next w.replica else w.replica)) → Goes {R = R} contents w events.Next (next_commit_reply a) (with_replica w next)) (sym gives)
-    (λ left. subst (λ (r : Replica). Goes {R = R} contents w events.Next (next_commit_reply (Ok (next_commit w.replica))) (with_replica w r)) (sym left) (commit_answered contents w (next_commit w.replica) h refl)) ok
 
 -- the rows after each beginning of a source's log are there
 beginning_leaves_rows : (s : Source) → IsLegalLog s.tables (loaded s.base) s.log → (n : ℕ) → (db : Database) × (after s.tables (loaded s.base) (take n s.log) ≡ Some db)
@@ -154,80 +206,63 @@ accepted_leaves contents w n h within =
     let leaves = beginning_leaves_rows w.source h.source.sound.legal n in
     (leaves.0, (λ i. after (h.replica.tables i) (loaded (h.replica.base i)) (front i)) ∙ leaves.1)
 
--- the record whose result is taken is the next to be committed
-pub record IsDue (r : Replica) (gno : ℕ) : Type 0 where
-  pub some : 1 ≤ gno
-  pub dispatched : gno ≤ r.dispatched
-  pub waits : r.committed < gno
+-- ---- the next commit
 
--- its changes apply to the working rows
-due_applies : {R : Type 0} (contents : R → Database) (w : World R) (gno : ℕ) → IsWorld contents w → IsInOrder w.replica → IsDue w.replica gno → applies w.replica gno ≡ true
-due_applies contents w gno h order due =
-    let n = w.replica.committed in
-    let place : gno - 1 ≡ n = omega (arith, due.some, due.dispatched, due.waits, order.busy, h.replica.workers) in
-    let within : n + 1 ≤ length w.replica.accepted = omega (arith, due.dispatched, due.waits, order.dispatched) in
-    let next = found w.replica.accepted n (omega arith) in
-    let left = accepted_leaves contents w (n + 1) h within in
-    ap (λ k. is_some (option_and_then (λ (x : Record). option_and_then (effect w.replica.tables x.changes) (working_rows w.replica)) (slice_get w.replica.accepted k))) place
-    ∙ ap (λ (o : Option Record). is_some (option_and_then (λ (x : Record). option_and_then (effect w.replica.tables x.changes) (working_rows w.replica)) o)) next.1
-    ∙ ap is_some (sym (after-next w.replica.tables (loaded w.replica.base) w.replica.accepted n next.0 next.1) ∙ left.1) where
-      found : (xs : List Record) (k : ℕ) → k < length xs → (x : Record) × (slice_get xs k ≡ Some x)
-      found xs k k_in = elim (slice_get_cases xs k).1 [ inl v ↦ (v.0, v.2) | inr v ↦ absurd (omega (arith, v.0)) ]
+committed_is : (r : Replica) (gno : ℕ) → next_commit r ≡ Some gno → (get_or r.under_way 0 false ≡ true) × (gno ≡ r.committed + 1)
+committed_is r gno is = by (get_or r.under_way 0 false) refl is where
+  by : (b : Bool) → get_or r.under_way 0 false ≡ b → (if b then Some (r.committed + 1) else None) ≡ Some gno → (get_or r.under_way 0 false ≡ true) × (gno ≡ r.committed + 1)
+  by true e k = (e, sym (same_Some (r.committed + 1) gno k))
+  by false e k = absurd (none-some gno k)
 
--- why a replica that runs does not take a result
-pub refused_finish : (r : Replica) (gno : ℕ) → r.stopped ≡ None → ((finish_fault r gno ≡ None) × IsDue r gno) ⊎ ((finish_fault r gno ≡ Some faults.Stranger) ⊎ (finish_fault r gno ≡ Some faults.Double))
-refused_finish r gno going =
-    let is : finish_fault r gno ≡ job_fault r.dispatched r.committed r.finished gno =
-    ap (λ (o : Option ℕ). option_or (option_map_or (λ n. Some (faults.Stopped n)) o None) (job_fault r.dispatched r.committed r.finished gno)) going in
-    cases (nat_le 1 gno && nat_le gno r.dispatched) refl (nat_le gno r.committed) refl (list_any (λ n. n == gno) r.finished) is where
-      behind : (a b : ℕ) → nat_le a b ≡ false → b < a
-      behind a b e = grind (arith, nat_tests)
+not_committed : (r : Replica) → next_commit r ≡ None → get_or r.under_way 0 false ≡ false
+not_committed r is = by (get_or r.under_way 0 false) refl is where
+  by : (b : Bool) → get_or r.under_way 0 false ≡ b → (if b then Some (r.committed + 1) else None) ≡ None → get_or r.under_way 0 false ≡ false
+  by true e k = absurd (none-some _ (sym k))
+  by false e k = e
 
-      cases : (known : Bool) → (nat_le 1 gno && nat_le gno r.dispatched) ≡ known → (old : Bool) → nat_le gno r.committed ≡ old → (done : Bool) → finish_fault r gno ≡ (if not known then Some faults.Stranger else if old || done then Some faults.Double else None) →
-          ((finish_fault r gno ≡ None) × IsDue r gno) ⊎ ((finish_fault r gno ≡ Some faults.Stranger) ⊎ (finish_fault r gno ≡ Some faults.Double))
-      cases false k old o done e = inr (inl e)
-      cases true k true o done e = inr (inr e)
-      cases true k false o true e = inr (inr e)
-      cases true k false o false e = inl (e, record { some = leb-true 1 gno (and_parts _ _ k).0; dispatched = leb-true gno r.dispatched (and_parts _ _ k).1; waits = behind gno r.committed o })
+-- one is under way
+pub some_under : (under : List Bool) → get_or under 0 false ≡ true → 1 ≤ length under
+some_under [] e = absurd (cc e)
+some_under (u ∷ under) e = omega arith
 
-finish_nothing : {R : Type 0} (contents : R → Database) (w : World R) (gno : ℕ) (fault : ReplicaFault) → IsWorld contents w → finish_fault w.replica gno ≡ Some fault → finish_refused fault ≡ replies.Nothing → Goes contents w (events.Finish gno) replies.Nothing w
-finish_nothing contents w gno fault h e nothing =
-    stays contents w (events.Finish gno) replies.Nothing h refl (λ setup past st. untold setup past w (events.Finish gno) replies.Nothing (λ k. refl) st)
-    (λ setup past log st longer. inr (sym (ap (λ (r : Replica). taken_reply r gno) (replica_is contents setup past w log h st longer) ∙ ap (λ (o : Option ReplicaFault). finish_reply gno (option_map_or (λ f. Err f) o (Ok tt))) e ∙ nothing)))
+next_as : {R : Type 0} (contents : R → Database) (setup : Setup) (past : Past) (w : World R) (log : List Record) (b : Bool) → IsWorld contents w → Stands setup past w → IsPrefix w.source.log log → get_or w.replica.under_way 0 false ≡ b →
+    next_reply past ≡ (if b then replies.Commit (w.replica.committed + 1) else replies.Nothing)
+next_as contents setup past w log b h st longer e =
+    let same = replica_is contents setup past w log h st longer in
+    (λ i. if (ap (λ (r : Replica). get_or r.under_way 0 false) same ∙ e) i then replies.Commit ((same i).committed + 1) else replies.Nothing)
 
-finish_taken : {R : Type 0} (contents : R → Database) (w : World R) (gno : ℕ) → IsWorld contents w → finish_fault w.replica gno ≡ None → Goes contents w (events.Finish gno) (replies.Finished gno) (with_replica w (with_finished w.replica gno))
-finish_taken contents w gno h e = record {
-  world = stepped contents w _ _ h;
-  grows = prefix_refl w.source.log;
-  device = unfailed _ w.wire.log refl;
-  stands = λ setup past st. record { source = source_untold setup past w.source.log w.source (events.Finish gno) (replies.Finished gno) (λ k. refl) st.source; wire = st.wire; replica = record { accepted = st.replica.accepted; is = ap (λ (r : Replica). with_finished r gno) st.replica.is } };
-  allowed = λ setup past log st longer.
-      inr (sym (ap (λ (r : Replica). taken_reply r gno) (replica_is contents setup past w log h st longer) ∙ ap (λ (o : Option ReplicaFault). finish_reply gno (option_map_or (λ f. Err f) o (Ok tt))) e));
-}
+pub next_goes : {R : Type 0} (contents : R → Database) (w : World R) (gno : ℕ) (next : Replica) (jobs : List (Option Job)) → IsWorld contents w → IsSound w.replica → next_commit w.replica ≡ Some gno → next ≡ committed_next w.replica → jobs ≡ drop 1 w.jobs →
+    Goes contents w events.Next (replies.Commit gno) (with_jobs w next jobs)
+next_goes {R} contents w gno next jobs h sound is leaves kept =
+    let done = committed_is w.replica gno is in
+    let some = some_under w.replica.under_way done.0 in
+    let left = accepted_leaves contents w (w.replica.committed + 1) h (omega (arith, some, sound.dispatched)) in
+    let rest : length (drop 1 w.replica.under_way) ≡ length w.replica.under_way - 1 = length-drop 1 w.replica.under_way in
+    subst (λ (r : Replica). Goes {R = R} contents w events.Next (replies.Commit gno) (with_jobs w r jobs)) (sym leaves)
+    (subst (λ (l : List (Option Job)). Goes {R = R} contents w events.Next (replies.Commit gno) (with_jobs w (committed_next w.replica) l)) (sym kept)
+    (record {
+      world = record {
+        source = h.source;
+        wire = h.wire;
+        replica = h.replica;
+        jobs = jobs_committed w.replica w.jobs left.0 sound left.1 h.jobs;
+        readers = record { shows = h.readers.shows; rows = h.readers.rows; upto = h.readers.upto; later = h.readers.later; done = omega (arith, h.readers.done); there = h.readers.there; are = h.readers.are };
+      };
+      grows = prefix_refl w.source.log;
+      device = unfailed _ w.wire.log refl;
+      stands = λ setup past st. record {
+        source = source_untold setup past w.source.log w.source events.Next (replies.Commit gno) (λ k. refl) st.source;
+        wire = st.wire;
+        replica = record { accepted = st.replica.accepted; dispatched = omega (arith, st.replica.dispatched, rest, some); is = ap committed_next st.replica.is };
+      };
+      allowed = λ setup past log st longer. inr (ap replies.Commit done.1 ∙ sym (next_as contents setup past w log true h st longer done.0));
+    }))
 
--- a finish that is refused tells that there is nothing to do
-finish_refuses : {R : Type 0} (contents : R → Database) (w : World R) (gno : ℕ) (fault : ReplicaFault) (answer : Result (Unit {0}) ReplicaFault) (next : Replica) → IsWorld contents w → finish_fault w.replica gno ≡ Some fault →
-    finish_refused fault ≡ replies.Nothing → left_by_fault w.replica fault ≡ w.replica → answer ≡ finish_answer w.replica gno → IfErr answer (λ f. next ≡ left_by_fault w.replica f) →
-    Goes contents w (events.Finish gno) (finish_reply gno answer) (with_replica w next)
-finish_refuses {R} contents w gno fault answer next h e nothing same is err =
-    let told : answer ≡ Err fault = is ∙ ap (λ (o : Option ReplicaFault). option_map_or (λ f. Err f) o (if applies w.replica gno then Ok tt else Err (faults.Stopped gno))) e in
-    subst (λ (a : Result (Unit {0}) ReplicaFault). IfErr a (λ f. next ≡ left_by_fault w.replica f) → Goes {R = R} contents w (events.Finish gno) (finish_reply gno a) (with_replica w next)) (sym told)
-    (λ left. subst (λ (r : Replica). Goes {R = R} contents w (events.Finish gno) (finish_refused fault) (with_replica w r)) (sym (left ∙ same))
-    (subst (λ r. Goes {R = R} contents w (events.Finish gno) r w) (sym nothing) (finish_nothing contents w gno fault h e nothing))) err
+pub next_nothing : {R : Type 0} (contents : R → Database) (w : World R) (next : Replica) → IsWorld contents w → next_commit w.replica ≡ None → next ≡ w.replica → Goes contents w events.Next replies.Nothing (with_replica w next)
+next_nothing {R} contents w next h is same =
+    subst (λ (r : Replica). Goes {R = R} contents w events.Next replies.Nothing (with_replica w r)) (sym same)
+    (stays contents w events.Next replies.Nothing h refl (λ setup past st. untold setup past w events.Next replies.Nothing (λ k. refl) st)
+    (λ setup past log st longer. inr (sym (next_as contents setup past w log false h st longer (not_committed w.replica is)))))
 
-pub finish_goes : {R : Type 0} (contents : R → Database) (w : World R) (gno : ℕ) (answer : Result (Unit {0}) ReplicaFault) (next : Replica) →
-    IsWorld contents w → IsInOrder w.replica → IsErrOf answer faults.Memory ⊎ (answer ≡ finish_answer w.replica gno) → OnOk answer (next ≡ with_finished w.replica gno) → IfErr answer (λ fault. next ≡ left_by_fault w.replica fault) →
-    Goes contents w (events.Finish gno) (finish_reply gno answer) (with_replica w next)
-finish_goes {R} contents w gno answer next h order (inl memory) ok err =
-    subst (λ (a : Result (Unit {0}) ReplicaFault). IfErr a (λ f. next ≡ left_by_fault w.replica f) → Goes {R = R} contents w (events.Finish gno) (finish_reply gno a) (with_replica w next)) (sym memory)
-    (no_memory contents w (events.Finish gno) next h (λ halts. refl) (λ setup past st. untold setup past w (events.Finish gno) (replies.Replica faults.Memory) (λ k. refl) st)) err
-finish_goes {R} contents w gno answer next h order (inr is) ok err =
-    elim (refused_finish w.replica gno h.replica.going) [
-      | inl due ↦
-          let taken : answer ≡ Ok tt =
-          is ∙ (λ i. option_map_or (λ f. Err f) (due.0 i) (if due_applies contents w gno h order due.1 i then Ok tt else Err (faults.Stopped gno))) in
-          subst (λ (a : Result (Unit {0}) ReplicaFault). OnOk a (next ≡ with_finished w.replica gno) → Goes {R = R} contents w (events.Finish gno) (finish_reply gno a) (with_replica w next)) (sym taken)
-          (λ left. subst (λ (r : Replica). Goes {R = R} contents w (events.Finish gno) (replies.Finished gno) (with_replica w r)) (sym left) (finish_taken contents w gno h due.0)) ok
-      | inr (inl stranger) ↦ finish_refuses contents w gno faults.Stranger answer next h stranger refl refl is err
-      | inr (inr double) ↦ finish_refuses contents w gno faults.Double answer next h double refl refl is err
-    ]
+pub next_lacks : {R : Type 0} (contents : R → Database) (w : World R) (next : Replica) → IsWorld contents w → next ≡ w.replica → Goes contents w events.Next (replies.Replica faults.Memory) (with_replica w next)
+next_lacks contents w next h same = no_memory contents w events.Next next h (λ halts. refl) (λ setup past st. untold setup past w events.Next (replies.Replica faults.Memory) (λ k. refl) st) same

@@ -10,7 +10,7 @@ use Rattle.store_trait.specs.Operation.{loaded}
 
 -- what the world began with
 abbrev pub setup_of : {R : Type 0} → World R → Setup
-setup_of w = record { identifier = w.wire.log.source; tables = w.source.tables; base = w.source.base; limit = w.source.limit; kind = w.source.kind; workers = 1 }
+setup_of w = record { identifier = w.wire.log.source; tables = w.source.tables; base = w.source.base; limit = w.source.limit; kind = w.source.kind; workers = w.replica.workers }
 
 -- a log file without records, of which nothing waits and that did not fail
 pub record IsNew (log : Log) : Type 0 where
@@ -22,7 +22,8 @@ pub record IsNew (log : Log) : Type 0 where
 -- a new log file, and a new source and a new replica over one schema and equal rows, which readers see
 pub record IsFresh {R : Type 0} (contents : R → Database) (w : World R) : Type 0 where
   pub source : w.source ≡ new_source w.source.tables w.source.base w.source.limit w.source.kind
-  pub replica : w.replica ≡ new_over w.source.tables w.source.base
+  pub replica : w.replica ≡ new_over w.source.tables w.wire.log.source w.source.base w.replica.workers
+  pub jobs : w.jobs ≡ []
   pub log : IsNew w.wire.log
   pub waits : w.wire.waiting ≡ []
   pub upto : w.shown.upto ≡ 0

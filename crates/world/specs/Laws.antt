@@ -1,15 +1,18 @@
 -- What an operator may rely on in each run with legal replies. A place is the index of an event and of its reply, from
 -- 0 on; a moment n is when the first n events are answered.
+use mathlib.Core.List.{IsPrefix}
 use Rattle.std.specs.Prelude.{◌≡◌, ℕ, ℤ, ◌+◌, ◌<◌, ◌≤◌, Bool, true, false, List, [], ◌∷◌, length, take, slice_get, count_by, Option, Some, option_and_then, ◌⊎◌}
 use Rattle.std.specs.FinMap.{get}
 use Rattle.schema.specs.declared.RowId.{RowId}
-use Rattle.store_trait.specs.Operation.{left_by}
+use Rattle.store_trait.specs.Operation.{left_by, loaded}
 use Rattle.record_codec.specs.declared.records.Record.{Record}
+use Rattle.record_codec.specs.Log.{after}
 use Rattle.log_file.specs.declared.fault.LogFault.TheVariants as log_file
 use Rattle.source_core.specs.declared.fault.SourceFault.TheVariants as source
-use Rattle.replica_core.specs.declared.ReplicaFault.{ReplicaFault}
-use Rattle.replica_core.specs.declared.ReplicaFault.TheVariants as replica
-use Rattle.replica_core.specs.Replica.{operations}
+use Rattle.source_core.specs.Source.{Source}
+use Rattle.relay.specs.declared.ReplicaFault.{ReplicaFault}
+use Rattle.relay.specs.declared.ReplicaFault.TheVariants as replica
+use Rattle.replica_core.specs.Replica.{Replica, rows_at, operations}
 use Rattle.world.specs.declared.events.Event.{Event}
 use Rattle.world.specs.declared.events.Event.TheVariants as events
 use Rattle.world.specs.declared.events.Reply.{Reply}
@@ -133,3 +136,9 @@ NothingUnsyncedIsAccepted = (setup : Setup) (log : List Record) (events_ : List 
     (place : ℕ) → slice_get replies_ place ≡ Some replies.Accepted →
     (gno : ℕ) × (slice_get events_ place ≡ Some (events.Deliver gno)) × (gno ≤ synced (past_at events_ replies_ place))
     × (gno ≡ accepted (past_at events_ replies_ place) + 1)
+
+-- Where both sides are over one schema and began with the same rows, and the records that the replica accepted are a
+-- beginning of the source's log, the replica's database after the first so many is the source's after as many.
+abbrev pub BeginningHasRows : Type 0
+BeginningHasRows = (s : Source) (r : Replica) → r.tables ≡ s.tables → loaded s.base ≡ loaded r.base → IsPrefix r.accepted s.log →
+    (n : ℕ) → n ≤ length r.accepted → rows_at r n ≡ after s.tables (loaded s.base) (take n s.log)

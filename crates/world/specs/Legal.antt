@@ -1,5 +1,5 @@
 -- Legal replies: each reply is the one that the pairs before it and one legal log allow.
-use Rattle.std.specs.Prelude.{◌≡◌, ℕ, ◌+◌, ◌-◌, Bool, true, false, not, ◌&&◌, ◌||◌, ◌==◌, nat_le, if◌then◌else◌, List, [], ◌∷◌, length, map, take, drop, slice_get, Option, Some, None, Ok, Err, option_and_then, ◌⊎◌}
+use Rattle.std.specs.Prelude.{◌≡◌, ℕ, ◌+◌, ◌-◌, Bool, true, false, not, ◌&&◌, ◌||◌, ◌==◌, nat_le, nat_lt, if◌then◌else◌, List, [], ◌∷◌, length, map, take, drop, slice_get, slice_index_or, Option, Some, None, Ok, option_and_then, ◌⊎◌}
 use Rattle.std.specs.List.{flat_map}
 use Rattle.std.specs.Option.{option_map_or}
 use Rattle.std.specs.FinMap.{get}
@@ -18,15 +18,14 @@ use Rattle.log_file.specs.Text.{text}
 use Rattle.source_core.specs.Source.{Source, seen_row}
 use Rattle.source_core.specs.Calls.{begin_fault, write_fault, read_fault, prepare_fault, prepare_answer, queue_fault, abort_fault, halted_fault, AreRecordsOf, seen_log}
 use Rattle.tracker_trait.specs.Kind.{Kind}
-use Rattle.replica_core.specs.declared.ReplicaFault.TheVariants as replica
+use Rattle.relay.specs.declared.ReplicaFault.TheVariants as replica
 use Rattle.replica_core.specs.Replica.{Replica}
-use Rattle.replica_core.specs.Calls.{received, unless_stopped, next_job, next_commit, finish_fault}
 use Rattle.world.specs.declared.events.Event.{Event}
 use Rattle.world.specs.declared.events.Event.TheVariants as events
 use Rattle.world.specs.declared.events.Reply.{Reply}
 use Rattle.world.specs.declared.events.Reply.TheVariants as replies
-use Rattle.world.specs.Replies.{received_reply, prepared_reply, dispatch_reply, finish_reply, next_commit_reply}
-use Rattle.world.specs.Past.{Past, flushed, unsynced, synced_groups, synced, halted, source_committed, queue, owners, transactions, accepted, dispatched, finished, replica_committed, published}
+use Rattle.world.specs.Replies.{prepared_reply}
+use Rattle.world.specs.Past.{Past, flushed, unsynced, synced_groups, synced, halted, source_committed, queue, owners, transactions, accepted, dispatched, under_way, replica_committed, published}
 use Rattle.store_trait.specs.Operation.{loaded}
 
 -- what a run begins with: the source's identifier, the schema, the rows that both sides hold, the greatest number of
@@ -63,12 +62,12 @@ source_at setup log past = record {
 abbrev pub replica_at : Setup → List Record → Past → Replica
 replica_at setup log past = record {
   tables = setup.tables;
+  source = setup.identifier;
   base = setup.base;
   accepted = take (accepted past) log;
-  dispatched = dispatched past;
-  finished = finished past;
   committed = replica_committed past;
   published = published past;
+  under_way = under_way past;
   workers = setup.workers;
   stopped = None;
 }
@@ -106,10 +105,6 @@ SyncAnswers false (group ∷ groups) reply = (reply ≡ replies.Synced group.0 g
 abbrev pub commit_reply : Past → Reply
 commit_reply past = if source_committed past == synced past then replies.Nothing else replies.Committed (source_committed past + 1) (synced past)
 
--- the record of this number, counted from 1, where it is synced
-abbrev pub synced_record : List Record → Past → ℕ → Option Record
-synced_record log past gno = if nat_le 1 gno && nat_le gno (synced past) then slice_get log (gno - 1) else None
-
 -- the group of the records from one number to another, by their spellings
 abbrev pub group_between : List Record → ℕ × ℕ → GroupValue
 group_between log ends = record {
@@ -122,14 +117,37 @@ group_between log ends = record {
 abbrev pub log_text : Setup → List Record → Past → List ℕ
 log_text setup log past = text setup.identifier (map (group_between log) (synced_groups past))
 
--- only synced records are delivered, to the replica's `received`
-abbrev pub deliver_reply : Setup → List Record → Past → ℕ → Reply
-deliver_reply setup log past gno =
-    option_map_or (λ new. received_reply (received (replica_at setup log past) new)) (synced_record log past gno) replies.Unsynced
+-- Only synced records are delivered. The next one is accepted, one that was accepted before is skipped, and each other
+-- refused as a gap.
+abbrev pub deliver_reply : Past → ℕ → Reply
+deliver_reply past gno =
+    if not (nat_le 1 gno && nat_le gno (synced past)) then replies.Unsynced
+    else if nat_le gno (accepted past) then replies.Skipped
+    else if gno == accepted past + 1 then replies.Accepted
+    else replies.Replica replica.Gap
 
--- each job that was dispatched and is not finished is taken, since the changes of a legal log apply
-abbrev pub taken_reply : Replica → ℕ → Reply
-taken_reply r gno = finish_reply gno (option_map_or (λ fault. Err fault) (finish_fault r gno) (Ok tt))
+-- The next record may be dispatched where it is accepted, its parent is committed at the replica, and a worker is free:
+-- fewer records are dispatched and not committed than there are workers.
+abbrev pub may_dispatch : Setup → List Record → Past → Bool
+may_dispatch setup log past =
+    nat_lt (dispatched past) (accepted past)
+    && option_map_or (λ next. nat_le next.parent (replica_committed past)) (slice_get log (dispatched past)) false
+    && nat_lt (dispatched past - replica_committed past) setup.workers
+
+abbrev pub dispatch_reply : Setup → List Record → Past → Reply
+dispatch_reply setup log past = if may_dispatch setup log past then replies.Job (dispatched past + 1) else replies.Nothing
+
+-- whether the job of this number was handed out and is not finished
+abbrev pub is_out : Past → ℕ → Bool
+is_out past gno = nat_lt (replica_committed past) gno && not (slice_index_or (under_way past) (gno - replica_committed past - 1) true)
+
+-- each such job is finished, since the changes of a legal log apply
+abbrev pub finish_reply : Past → ℕ → Reply
+finish_reply past gno = if is_out past gno then replies.Finished gno else replies.Nothing
+
+-- the next record is committed once its job is finished
+abbrev pub next_reply : Past → Reply
+next_reply past = if slice_index_or (under_way past) 0 false then replies.Commit (replica_committed past + 1) else replies.Nothing
 
 -- The reply that an event has after these pairs; no other is legal. Only a sync that has a group to write may have one of
 -- two.
@@ -149,10 +167,10 @@ Answers setup log past (events.Abort session) reply =
 Answers setup log past events.Flush reply = FlushAnswers setup log past (halted past) (queue past) reply
 Answers setup log past events.Sync reply = SyncAnswers (halted past) (unsynced past) reply
 Answers setup log past events.Commit reply = reply ≡ refused_or (halted_fault (source_at setup log past)) (commit_reply past)
-Answers setup log past (events.Deliver gno) reply = reply ≡ deliver_reply setup log past gno
-Answers setup log past events.Dispatch reply = let r = replica_at setup log past in reply ≡ dispatch_reply (unless_stopped r (next_job r))
-Answers setup log past (events.Finish gno) reply = reply ≡ taken_reply (replica_at setup log past) gno
-Answers setup log past events.Next reply = let r = replica_at setup log past in reply ≡ next_commit_reply (unless_stopped r (next_commit r))
+Answers setup log past (events.Deliver gno) reply = reply ≡ deliver_reply past gno
+Answers setup log past events.Dispatch reply = reply ≡ dispatch_reply setup log past
+Answers setup log past (events.Finish gno) reply = reply ≡ finish_reply past gno
+Answers setup log past events.Next reply = reply ≡ next_reply past
 Answers setup log past events.Publish reply = reply ≡ replies.Published (replica_committed past)
 Answers setup log past (events.Read id) reply =
     reply ≡ replies.Read (published past) (option_and_then (λ db. get db id) (rows_after setup log (published past)))

@@ -1,5 +1,5 @@
 -- What the pairs of event and reply so far say. They are listed with the newest first.
-use Rattle.std.specs.Prelude.{ℕ, ◌+◌, Bool, true, false, not, ◌&&◌, ◌||◌, ◌==◌, if◌then◌else◌, List, [], ◌∷◌, ◌++◌, length, map, drop, filter, Option, Some, None}
+use Rattle.std.specs.Prelude.{ℕ, ◌+◌, ◌-◌, Bool, true, false, ◌&&◌, ◌||◌, ◌==◌, if◌then◌else◌, List, [], ◌∷◌, ◌++◌, length, map, drop, slice_set, Option, Some, None}
 use Rattle.std.specs.List.{range_with_len}
 use Rattle.std.specs.Option.{option_map}
 use Rattle.source_core.specs.declared.transaction.Phase.TheVariants.{Active, Prepared}
@@ -102,24 +102,25 @@ abbrev pub accepted : Past → ℕ
 accepted [] = 0
 accepted (pair ∷ past) = elim pair.1 [ replies.Accepted ↦ accepted past + 1 | _ ↦ accepted past ]
 
+-- the number of records committed at the replica
+abbrev pub replica_committed : Past → ℕ
+replica_committed [] = 0
+replica_committed (pair ∷ past) = elim pair.1 [ replies.Commit gno ↦ replica_committed past + 1 | _ ↦ replica_committed past ]
+
 -- the number of records dispatched to workers
 abbrev pub dispatched : Past → ℕ
 dispatched [] = 0
 dispatched (pair ∷ past) = elim pair.1 [ replies.Job gno ↦ dispatched past + 1 | _ ↦ dispatched past ]
 
--- the numbers of the records whose results were taken and that are not committed at the replica
-abbrev pub finished : Past → List ℕ
-finished [] = []
-finished (pair ∷ past) = elim pair.1 [
-  | replies.Finished gno ↦ finished past ++ gno ∷ []
-  | replies.Commit gno ↦ filter (λ n. not (n == gno)) (finished past)
-  | _ ↦ finished past
+-- for each record dispatched and not committed at the replica, in order, whether its result was taken
+abbrev pub under_way : Past → List Bool
+under_way [] = []
+under_way (pair ∷ past) = elim pair.1 [
+  | replies.Job gno ↦ under_way past ++ false ∷ []
+  | replies.Finished gno ↦ slice_set (under_way past) (gno - replica_committed past - 1) true
+  | replies.Commit gno ↦ drop 1 (under_way past)
+  | _ ↦ under_way past
 ]
-
--- the number of records committed at the replica
-abbrev pub replica_committed : Past → ℕ
-replica_committed [] = 0
-replica_committed (pair ∷ past) = elim pair.1 [ replies.Commit gno ↦ replica_committed past + 1 | _ ↦ replica_committed past ]
 
 -- the number of commits published at the replica
 abbrev pub published : Past → ℕ

@@ -1,6 +1,6 @@
 -- How the parts of a world stand together, and to the pairs of event and reply so far.
 use mathlib.Core.List.{IsPrefix}
-use Rattle.std.specs.Prelude.{◌≡◌, ℕ, ◌≤◌, Bool, true, false, List, [], ◌∷◌, ◌++◌, length, map, take, drop, Option, Some, None}
+use Rattle.std.specs.Prelude.{◌≡◌, ℕ, ◌+◌, ◌≤◌, Bool, true, false, if◌then◌else◌, List, [], ◌∷◌, ◌++◌, length, map, take, drop, slice_index_or, Option, Some, None}
 use Rattle.rows.specs.Database.{Database}
 use Rattle.store_trait.specs.Operation.{batch_of, loaded}
 use Rattle.record_codec.specs.declared.records.Record.{Record}
@@ -9,13 +9,14 @@ use Rattle.record_codec.specs.Log.{after}
 use Rattle.source_core.specs.Source.{Source, IsSound}
 use Rattle.schema.specs.declared.Table.{Table}
 use Rattle.store_trait.specs.Batch.{Entry}
-use Rattle.replica_core.specs.Replica.{Replica, commits}
+use Rattle.executor.specs.declared.Job.{Job}
+use Rattle.replica_core.specs.Replica.{Replica, dispatched as dispatched_at, job_of, commits}
 use Rattle.published.specs.Plain.{Shown}
 use Rattle.log_file.specs.Log.{Log}
 use Rattle.world.specs.Put.{DeviceFailed}
 use Rattle.world.specs.declared.events.Event.{Event}
 use Rattle.world.specs.declared.events.Reply.{Reply}
-use Rattle.world.specs.Past.{Past, flushed, accepted, unsynced, synced_groups, is_failure}
+use Rattle.world.specs.Past.{Past, flushed, accepted, dispatched, unsynced, synced_groups, is_failure}
 use Rattle.world.specs.Legal.{Setup, source_at, replica_at, Allowed}
 
 -- what lies between the two sides
@@ -30,6 +31,8 @@ pub record World (R : Type 0) : Type 0 where
   pub source : Source
   pub wire : Wire
   pub replica : Replica
+  -- for each record dispatched and not committed, in order, its job, where it waits to be executed
+  pub jobs : List (Option Job)
   -- the rows that readers see
   pub shown : Shown R
 
@@ -54,12 +57,21 @@ pub record IsWire (log : List Record) (synced_ : ℕ) (halted_ : Bool) (accepted
   pub front : accepted_ ≡ take (length accepted_) log
   pub within : length accepted_ ≤ synced_
 
--- The replica is over the source's schema and base, has one worker, and did not stop.
-pub record IsReplica (ts : List Table) (start : List Entry) (its_tables : List Table) (its_base : List Entry) (workers_ : ℕ) (stopped_ : Option ℕ) : Type 0 where
+-- The replica is over the source's schema and base, takes the records of the log's source, and did not stop.
+pub record IsReplica (ts : List Table) (start : List Entry) (identifier_ : List ℕ) (its_tables : List Table) (its_base : List Entry) (its_source : List ℕ) (stopped_ : Option ℕ) : Type 0 where
   pub tables : its_tables ≡ ts
   pub base : its_base ≡ start
-  pub workers : workers_ ≡ 1
+  pub source : its_source ≡ identifier_
   pub going : stopped_ ≡ None
+
+-- Of the n-th record under way, counted from 0, the job that the replica handed out, where its result was not taken.
+abbrev pub job_left : Replica → ℕ → Option Job
+job_left r n = if slice_index_or r.under_way n true then None else job_of r (r.committed + n + 1)
+
+-- The jobs that wait are those that the replica handed out and of which it took no result.
+pub record HasJobs (r : Replica) (jobs : List (Option Job)) : Type 0 where
+  pub each : length jobs ≡ length r.under_way
+  pub are : (n : ℕ) → slice_index_or jobs n None ≡ job_left r n
 
 -- Readers see the rows after the replica's published commits. Of the commits behind these, all up to some committed one
 -- were appended to those rows.
@@ -76,7 +88,8 @@ pub record IsShown {R : Type 0} (contents : R → Database) (ts : List Table) (b
 pub record IsWorld {R : Type 0} (contents : R → Database) (w : World R) : Type 0 where
   pub source : IsSource w.source
   pub wire : IsWire w.source.log w.source.synced w.source.halted w.replica.accepted w.wire
-  pub replica : IsReplica w.source.tables w.source.base w.replica.tables w.replica.base w.replica.workers w.replica.stopped
+  pub replica : IsReplica w.source.tables w.source.base w.wire.log.source w.replica.tables w.replica.base w.replica.source w.replica.stopped
+  pub jobs : HasJobs w.replica w.jobs
   pub readers : IsShown contents w.replica.tables w.replica.base w.replica.accepted w.replica.committed w.replica.published w.shown
 
 abbrev pub ends_of : GroupValue → ℕ × ℕ
@@ -93,21 +106,22 @@ pub record WireIs (identifier_ : List ℕ) (unsynced_ synced_ : List (ℕ × ℕ
   pub unsynced : map ends_of wire.waiting ≡ unsynced_
   pub synced : map ends_of wire.log.groups ≡ synced_
 
--- The replica is as it is said to be, with so many records accepted.
-pub record ReplicaIs (said : Replica) (accepted_ : ℕ) (r : Replica) : Type 0 where
+-- The replica is as it is said to be, with so many records accepted and so many dispatched.
+pub record ReplicaIs (said : Replica) (accepted_ dispatched_ : ℕ) (r : Replica) : Type 0 where
   pub accepted : accepted_ ≡ length r.accepted
+  pub dispatched : dispatched_ ≡ dispatched_at r
   pub is : r ≡ said
 
 -- Each side is as it is said to be. What readers see follows from the replica's side.
-pub record SidesAre (source_ : Source) (flushed_ : ℕ) (identifier_ : List ℕ) (unsynced_ synced_ : List (ℕ × ℕ)) (replica_ : Replica) (accepted_ : ℕ) (s : Source) (wire_ : Wire) (r : Replica) : Type 0 where
+pub record SidesAre (source_ : Source) (flushed_ : ℕ) (identifier_ : List ℕ) (unsynced_ synced_ : List (ℕ × ℕ)) (replica_ : Replica) (accepted_ dispatched_ : ℕ) (s : Source) (wire_ : Wire) (r : Replica) : Type 0 where
   pub source : SourceIs source_ flushed_ s
   pub wire : WireIs identifier_ unsynced_ synced_ wire_
-  pub replica : ReplicaIs replica_ accepted_ r
+  pub replica : ReplicaIs replica_ accepted_ dispatched_ r
 
 -- the world is the one that the pairs so far leave
 abbrev pub Stands : {R : Type 0} → Setup → Past → World R → Type 0
 Stands setup past w =
-    SidesAre (source_at setup w.source.log past) (flushed past) setup.identifier (unsynced past) (synced_groups past) (replica_at setup w.source.log past) (accepted past) w.source w.wire w.replica
+    SidesAre (source_at setup w.source.log past) (flushed past) setup.identifier (unsynced past) (synced_groups past) (replica_at setup w.source.log past) (accepted past) (dispatched past) w.source w.wire w.replica
 
 -- What a reply tells of the log's device: the count of its failures never falls, and stays where the reply says nothing of
 -- a failure. Where the reply says so, and where the log file failed meanwhile, the device failed by its count.

@@ -4,7 +4,7 @@ ghost use Rattle.std.specs.Prelude.{◌≡◌};
 
 use log_file::LogFault;
 use record_codec::CodecFault;
-use replica_core::ReplicaFault;
+use relay::ReplicaFault;
 use rows::{Change, Row};
 use schema::RowId;
 use source_core::SourceFault;
@@ -33,9 +33,9 @@ pub enum Event {
     Commit,
     /// The record of this number comes to the replica.
     Deliver { gno: u64 },
-    /// The replica's next record is dispatched to a worker.
+    /// The replica hands out the job of its next record, which then waits to be executed.
     Dispatch,
-    /// The worker that has this record has done it.
+    /// The job of this record is executed, where it waits, and its result handed in.
     Finish { gno: u64 },
     /// The replica commits the next record.
     Next,
@@ -132,9 +132,9 @@ pub enum Reply {
     Skipped,
     /// The record is not on the log.
     Unsynced,
-    /// The record of this number was dispatched to a worker.
+    /// The job of this record was handed out.
     Job { gno: u64 },
-    /// The worker's result of this number was taken.
+    /// The result of this record's job was taken.
     Finished { gno: u64 },
     /// The record of this number is committed at the replica.
     Commit { gno: u64 },

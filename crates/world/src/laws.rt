@@ -13,6 +13,7 @@ ghost use Rattle.world.specs.Laws.{
   RefusesOnlyGaps,
   OperationsLeaveRows,
   HaltsForGood,
+  BeginningHasRows,
 };
 
 /// Each read at the replica is answered, with the row as the source had it after a beginning of its log that is synced.
@@ -58,4 +59,9 @@ pub fn halts_for_good()
 /// The rows that readers have are what the load of the base and the published commits leave of an empty store.
 pub fn operations_leave_rows()
     ensures { OperationsLeaveRows }
+{}
+
+/// Where `begins` says yes of two sides over one schema, the replica's rows after each number of records are the source's.
+pub fn begins()
+    ensures { BeginningHasRows }
 {}

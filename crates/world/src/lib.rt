@@ -1,17 +1,20 @@
 //! One source and one replica, run event by event on one thread.
 //!
-//! A `World` holds a source, its log file, the groups that wait for it, a replica, and the rows that the replica
-//! published. `run` answers each event with one reply. Whatever the events are, the replies are legal: there is one
+//! A `World` holds a source, its log file, the groups that wait for it, a replica, the jobs that it handed out, and the rows
+//! that the replica published. `run` answers each event with one reply. Whatever the events are, the replies are legal: there is one
 //! legal log over the rows at the start, and each reply is one that the pairs of event and reply before it and
 //! that log allow (`specs/Legal.antt`). So each read at the replica answers as the source's database after one
 //! beginning of its log. Where the log's device fails, a sync says so, and the source is halted from then on.
-//! `laws` states what follows for an operator. The world stands on the public contracts of `source_core`,
-//! `record_codec`, `log_file`, `replica_core` and `published` alone.
+//! `laws` states what follows for an operator. `begins` compares the two sides as they stand. The world stands on the
+//! public contracts of `source_core`, `record_codec`, `log_file`, `relay`, `executor`, `replica_core` and `published`
+//! alone.
 #![tactic(auto)]
 
 mod events;
 pub mod laws;
 mod machine;
+mod sides;
 
 pub use events::{Event, LogText, Reply, Stamps};
 pub use machine::World;
+pub use sides::begins;

@@ -2,6 +2,8 @@
 
 mod decode;
 mod log;
+mod threads;
+mod workers;
 
 use super::*;
 use std::process::Abort;
@@ -511,10 +513,10 @@ accepted
 accepted
 accepted
 job 1
-nothing
+job 2
 finished 1
 commit 1
-job 2
+nothing
 finished 2
 commit 2
 published 2
@@ -545,17 +547,29 @@ fn args(alloc: Global, words: &[&str]) -> io::Result<Args> {
 }
 
 /// The program over memory: words, and a reader.
-fn ran<R: Read>(alloc: Global, words: io::Result<Args>, input: &mut R) -> Ran {
+fn ran<H: Threads + Wait + Sync, R: Read>(
+    rt: &H,
+    alloc: Global,
+    words: io::Result<Args>,
+    input: &mut R,
+) -> Ran {
     let mut printed = Vec::new(alloc);
     let mut told = Vec::new(alloc);
-    let status = run_program(alloc, words, input, &mut printed, &mut told);
+    let status = run_program(rt, alloc, words, input, &mut printed, &mut told);
     (status, printed, told)
 }
 
 /// `mtr run` over a script.
-fn served(alloc: Global, script: &[u8]) -> Ran {
+fn served<H: Threads + Wait + Sync>(rt: &H, alloc: Global, script: &[u8]) -> Ran {
     let mut input = script;
-    ran(alloc, args(alloc, &["mtr", "run"]), &mut input)
+    ran(rt, alloc, args(alloc, &["mtr", "run"]), &mut input)
+}
+
+/// The same with so many workers.
+fn served_by<H: Threads + Wait + Sync>(rt: &H, alloc: Global, workers: &str, script: &[u8]) -> Ran {
+    let mut input = script;
+    let words = args(alloc, &["mtr", "run", "--workers", workers]);
+    ran(rt, alloc, words, &mut input)
 }
 
 /// It ended so.
@@ -566,13 +580,13 @@ fn ends(rt: &impl Abort, ran: Ran, status: u8, printed: &str, told: &str) {
 }
 
 /// A script that is run prints this, and tells nothing.
-fn prints(rt: &impl Abort, alloc: Global, script: &[u8], want: &str) {
-    ends(rt, served(alloc, script), 0, want, "");
+fn prints<H: Threads + Wait + Abort + Sync>(rt: &H, alloc: Global, script: &[u8], want: &str) {
+    ends(rt, served(rt, alloc, script), 0, want, "");
 }
 
 /// A bad script tells this, prints nothing, and has the status of one.
-fn tells(rt: &impl Abort, alloc: Global, script: &[u8], want: &str) {
-    ends(rt, served(alloc, script), 3, "", want);
+fn tells<H: Threads + Wait + Abort + Sync>(rt: &H, alloc: Global, script: &[u8], want: &str) {
+    ends(rt, served(rt, alloc, script), 3, "", want);
 }
 
 #[test]
@@ -682,8 +696,13 @@ fn full_group_prints(alloc: Global) -> io::Result<Vec<u8>> {
 }
 
 /// A script that is run prints these bytes, and tells nothing.
-fn prints_bytes(rt: &impl Abort, alloc: Global, script: &[u8], want: &[u8]) {
-    let (status, printed, told) = served(alloc, script);
+fn prints_bytes<H: Threads + Wait + Abort + Sync>(
+    rt: &H,
+    alloc: Global,
+    script: &[u8],
+    want: &[u8],
+) {
+    let (status, printed, told) = served(rt, alloc, script);
     assert_eq!(rt; (status, told.len()), (0, 0));
     assert_eq!(rt; printed.as_slice(), want);
 }
@@ -861,7 +880,7 @@ fn a_long_script_is_run_to_its_end(rt: HostRuntime) -> Result<(), Fail> {
     let alloc = rt.alloc();
     let script = many_reads(alloc, 25000)?;
     assert!(rt; script.len() > 200000);
-    let (status, printed, told) = served(alloc, &script);
+    let (status, printed, told) = served(&rt, alloc, &script);
     let lines = printed.iter().filter(|c| **c == b'\n').count();
     assert_eq!(rt;
         (status, lines, printed.len(), told.len()),
@@ -915,30 +934,41 @@ fn failing(left: &[u8], calls: usize, kind: ErrorKind) -> BadStream<'_> {
 }
 
 /// `mtr run` over a stream that gives these bytes, and then fails.
-fn read_from(alloc: Global, script: &[u8], kind: ErrorKind) -> Ran {
+fn read_from<H: Threads + Wait + Sync>(
+    rt: &H,
+    alloc: Global,
+    script: &[u8],
+    kind: ErrorKind,
+) -> Ran {
     let mut input = failing(script, 0, kind);
-    ran(alloc, args(alloc, &["mtr", "run"]), &mut input)
+    ran(rt, alloc, args(alloc, &["mtr", "run"]), &mut input)
 }
 
 #[test]
 fn a_read_that_fails_runs_nothing(rt: HostRuntime) {
     let script = ONE_INSERT.as_bytes();
-    let broken = read_from(rt.alloc(), script, ErrorKind::BrokenPipe);
+    let broken = read_from(&rt, rt.alloc(), script, ErrorKind::BrokenPipe);
     ends(&rt, broken, 7, "", "");
-    let full = read_from(rt.alloc(), script, ErrorKind::OutOfMemory);
+    let full = read_from(&rt, rt.alloc(), script, ErrorKind::OutOfMemory);
     ends(&rt, full, 5, "", "no memory\n");
     // What stands behind a first bad line is not read.
-    let bad = read_from(rt.alloc(), b"x\n", ErrorKind::BrokenPipe);
+    let bad = read_from(&rt, rt.alloc(), b"x\n", ErrorKind::BrokenPipe);
     ends(&rt, bad, 3, "", "line 1: bad command\n");
 }
 
 /// `mtr run` over a script, to a stream that takes so many calls, and then fails: the status, and what is told.
-fn print_to(alloc: Global, script: &[u8], calls: usize, kind: ErrorKind) -> (u8, Vec<u8>) {
+fn print_to<H: Threads + Wait + Sync>(
+    rt: &H,
+    alloc: Global,
+    script: &[u8],
+    calls: usize,
+    kind: ErrorKind,
+) -> (u8, Vec<u8>) {
     let mut input = script;
     let mut output = failing(b"", calls, kind);
     let mut told: Vec<u8> = Vec::new(alloc);
     let words = args(alloc, &["mtr", "run"]);
-    let status = run_program(alloc, words, &mut input, &mut output, &mut told);
+    let status = run_program(rt, alloc, words, &mut input, &mut output, &mut told);
     (status, told)
 }
 
@@ -953,13 +983,13 @@ fn a_write_that_fails_is_told_by_the_status(rt: HostRuntime) -> Result<(), Fail>
     // Three pieces are printed in a write and a flush each.
     let script = many_reads(rt.alloc(), 2500)?;
     for calls in 0..6 {
-        let ended = print_to(rt.alloc(), &script, calls, ErrorKind::BrokenPipe);
+        let ended = print_to(&rt, rt.alloc(), &script, calls, ErrorKind::BrokenPipe);
         ends_telling(&rt, ended, 7, "");
     }
-    let ended = print_to(rt.alloc(), &script, 6, ErrorKind::BrokenPipe);
+    let ended = print_to(&rt, rt.alloc(), &script, 6, ErrorKind::BrokenPipe);
     ends_telling(&rt, ended, 0, "");
     // Memory that runs out while printing is no stream that fails.
-    let ended = print_to(rt.alloc(), &script, 2, ErrorKind::OutOfMemory);
+    let ended = print_to(&rt, rt.alloc(), &script, 2, ErrorKind::OutOfMemory);
     ends_telling(&rt, ended, 5, "no memory\n");
     Ok(())
 }
@@ -971,7 +1001,7 @@ fn errors_that_are_not_taken_are_told_by_the_status(rt: HostRuntime) {
     let mut output: Vec<u8> = Vec::new(alloc);
     let mut errors = failing(b"", 0, ErrorKind::OutOfMemory);
     let words = args(alloc, &["mtr", "run"]);
-    let status = run_program(alloc, words, &mut script, &mut output, &mut errors);
+    let status = run_program(&rt, alloc, words, &mut script, &mut output, &mut errors);
     assert_eq!(rt; (status, output.len()), (7, 0));
 }
 
@@ -981,9 +1011,10 @@ A source with group commit, and a replica that applies its log in parallel
 Usage: mtr <COMMAND>
 
 Commands:
-  run     Runs the script on standard input
-  decode  Prints the records of the log file on standard input, which is given as hexadecimal digits. Whitespace is ignored
-  help    Print this message or the help of the given subcommand(s)
+  run      Runs the script on standard input
+  threads  Commits in many threads at the source, applies in many at the replica, and compares both
+  decode   Prints the records of the log file on standard input, which is given as hexadecimal digits. Whitespace is ignored
+  help     Print this message or the help of the given subcommand(s)
 
 Options:
   -h, --help     Print help
@@ -993,37 +1024,38 @@ Options:
 const RUN_HELP: &str = "\
 Runs the script on standard input
 
-Usage: mtr run
+Usage: mtr run [OPTIONS]
 
 Options:
-  -h, --help     Print help
-  -V, --version  Print version
+      --workers <N>  The workers at the replica, 1 to 64 [default: 4]
+  -h, --help         Print help
+  -V, --version      Print version
 ";
 
 /// The program with these words, and nothing to read.
-fn asked_of(alloc: Global, words: &[&str]) -> Ran {
+fn asked_of<H: Threads + Wait + Sync>(rt: &H, alloc: Global, words: &[&str]) -> Ran {
     let mut input: &[u8] = b"";
-    ran(alloc, args(alloc, words), &mut input)
+    ran(rt, alloc, args(alloc, words), &mut input)
 }
 
 #[test]
 fn help_and_version_go_to_the_output(rt: HostRuntime) {
     let alloc = rt.alloc();
     for words in [["mtr", "--help"], ["mtr", "-h"], ["mtr", "help"]] {
-        ends(&rt, asked_of(alloc, &words), 0, HELP, "");
+        ends(&rt, asked_of(&rt, alloc, &words), 0, HELP, "");
     }
     for words in [
         ["mtr", "run", "--help"],
         ["mtr", "run", "-h"],
         ["mtr", "help", "run"],
     ] {
-        ends(&rt, asked_of(alloc, &words), 0, RUN_HELP, "");
+        ends(&rt, asked_of(&rt, alloc, &words), 0, RUN_HELP, "");
     }
     for words in [["mtr", "--version"], ["mtr", "-V"]] {
-        ends(&rt, asked_of(alloc, &words), 0, "mtr 1.0.0\n", "");
+        ends(&rt, asked_of(&rt, alloc, &words), 0, "mtr 1.0.0\n", "");
     }
     for words in [["mtr", "run", "--version"], ["mtr", "run", "-V"]] {
-        ends(&rt, asked_of(alloc, &words), 0, "mtr-run 1.0.0\n", "");
+        ends(&rt, asked_of(&rt, alloc, &words), 0, "mtr-run 1.0.0\n", "");
     }
 }
 
@@ -1032,28 +1064,34 @@ fn faults_of_the_command_line_are_told(rt: HostRuntime) {
     let alloc = rt.alloc();
     ends(
         &rt,
-        asked_of(alloc, &["mtr", "run", "--fail", "5"]),
+        asked_of(&rt, alloc, &["mtr", "run", "--fail", "5"]),
         2,
         "",
-        "error: unexpected argument '--fail' found\n\nUsage: mtr run\n\nFor more information, try '--help'.\n",
+        "error: unexpected argument '--fail' found\n\nUsage: mtr run [OPTIONS]\n\nFor more information, try '--help'.\n",
     );
     ends(
         &rt,
-        asked_of(alloc, &["mtr", "Run"]),
+        asked_of(&rt, alloc, &["mtr", "Run"]),
         2,
         "",
         "error: unrecognized subcommand 'Run'\n\n  tip: a similar subcommand exists: 'run'\n\nUsage: mtr <COMMAND>\n\nFor more information, try '--help'.\n",
     );
     ends(
         &rt,
-        asked_of(alloc, &["mtr"]),
+        asked_of(&rt, alloc, &["mtr"]),
         2,
         "",
-        "error: 'mtr' requires a subcommand but one was not provided\n  [subcommands: run, decode, help]\n\nUsage: mtr <COMMAND>\n\nFor more information, try '--help'.\n",
+        "error: 'mtr' requires a subcommand but one was not provided\n  [subcommands: run, threads, decode, help]\n\nUsage: mtr <COMMAND>\n\nFor more information, try '--help'.\n",
     );
     let mut input: &[u8] = b"";
     let words = Err(io::Error::from(ErrorKind::InvalidData));
-    ends(&rt, ran(alloc, words, &mut input), 2, "", NOT_UTF8);
+    ends(&rt, ran(&rt, alloc, words, &mut input), 2, "", NOT_UTF8);
     let words = Err(io::Error::from(ErrorKind::OutOfMemory));
-    ends(&rt, ran(alloc, words, &mut input), 5, "", "no memory\n");
+    ends(
+        &rt,
+        ran(&rt, alloc, words, &mut input),
+        5,
+        "",
+        "no memory\n",
+    );
 }

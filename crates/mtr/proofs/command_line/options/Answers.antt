@@ -1,32 +1,58 @@
-use Rattle.std.proofs.Common.{◌≡◌, ◌∙◌, ◌⊎◌, inl, inr, sym, subst, map, ap, ap₂, refl, Bool, true, false, not, ◌||◌, List, [], ◌∷◌, Option, Some, None, option_map, Result, Ok, Err, IfErr}
+use Rattle.std.proofs.Common.{◌≡◌, ◌∙◌, ◌⊎◌, inl, inr, sym, subst, map, ap, ap₂, refl, codes, Bool, true, false, not, ◌||◌, List, [], ◌∷◌, Option, Some, None, Result, Ok, Err, IfErr}
+use Rattle.std.specs.Prelude.{option_and_then}
 use Rattle.std.specs.List.{list_any}
 use Rattle.clap.specs.declared.error.kind.ErrorKind.{ErrorKind}
 use Rattle.clap.specs.declared.error.kind.ErrorKind.TheVariants as kinds
 use Rattle.mtr.specs.declared.options.LineFault.{LineFault}
 use Rattle.mtr.specs.declared.options.LineFault.TheVariants as faults
-use Rattle.clap.specs.Words.{Text, takes, subcommand_of, is_simple, is_simple_and_free, fault_of, app_of, kind_of, IsAmong}
+use Rattle.clap.specs.Words.{App, Row, Text, takes, subcommand_of, subcommand_rows_of, is_simple, is_simple_and_free, fault_of, app_of, kind_of, IsAmong}
 use Rattle.clap.proofs.OnLiterals.{clap_on_literals}
 use Rattle.mtr.specs.declared.options.Options.{Options}
-use Rattle.mtr.specs.declared.options.Options.TheVariants.{Run, Decode}
-use Rattle.mtr.specs.Options.{program, subcommand, subcommand_for, is_asked, is_mistake, IsOfKind, IsOfWords}
+use Rattle.mtr.specs.declared.options.Options.TheVariants.{Run, Threads, Decode}
+use Rattle.mtr.specs.Options.{program, options_for, options_of, is_asked, is_mistake, IsByDefault, IsOfKind, IsOfWords}
 use Rattle.mtr.proofs.command_line.options.Goals as goal
 
-is_taken : (asked : Options) → takes program (subcommand_for asked ∷ []) ≡ true
+run_taken : takes program (codes "run" ∷ []) ≡ true
 unfolding clap_on_literals
-is_taken Run = refl
-is_taken Decode = refl
+run_taken = refl
 
-is_named : (asked : Options) → subcommand (subcommand_for asked ∷ []) ≡ Some (subcommand_for asked)
+threads_taken : takes program (codes "threads" ∷ []) ≡ true
 unfolding clap_on_literals
-is_named Run = refl
-is_named Decode = refl
+threads_taken = refl
 
-pub returns-in-Err-clause-alone : goal.returns-in-Err-clause-alone
-returns-in-Err-clause-alone c = λ asked alone. c.fault_of.ensures.memory (c.in-Err.ensures.passes (ap₂ takes c.in_ok-command.ensures alone ∙ is_taken asked))
+decode_taken : takes program (codes "decode" ∷ []) ≡ true
+unfolding clap_on_literals
+decode_taken = refl
+
+is_taken : (name : Text) (asked : Options) → IsByDefault name asked → takes program (name ∷ []) ≡ true
+is_taken name (Run workers) h = ap (λ n. takes program (n ∷ [])) h.0 ∙ run_taken
+is_taken name (Threads plan) h = ap (λ n. takes program (n ∷ [])) h.0 ∙ threads_taken
+is_taken name Decode h = ap (λ n. takes program (n ∷ [])) h ∙ decode_taken
+
+run_alone : options_of (codes "run" ∷ []) ≡ Some (Run 4)
+unfolding clap_on_literals
+run_alone = refl
+
+threads_alone : options_of (codes "threads" ∷ []) ≡ Some (Threads (record { workers = 4; sessions = 4; transactions = 10; seats = 2 }))
+unfolding clap_on_literals
+threads_alone = refl
+
+decode_alone : options_of (codes "decode" ∷ []) ≡ Some Decode
+unfolding clap_on_literals
+decode_alone = refl
+
+by_default : (name : Text) (asked : Options) → IsByDefault name asked → options_of (name ∷ []) ≡ Some asked
+by_default name (Run workers) h = ap (λ n. options_of (n ∷ [])) h.0 ∙ run_alone ∙ ap (λ n. Some (Run n)) (sym h.1)
+by_default name (Threads plan) h = ap (λ n. options_of (n ∷ [])) h.0 ∙ threads_alone ∙ ap (λ p. Some (Threads p)) (sym h.1)
+by_default name Decode h = ap (λ n. options_of (n ∷ [])) h ∙ decode_alone
 
 is_free_program : is_simple_and_free program ≡ true
 unfolding clap_on_literals
 is_free_program = refl
+
+is_simple_program : is_simple program ≡ true
+unfolding clap_on_literals
+is_simple_program = refl
 
 or_true : (b : Bool) → (b || true) ≡ true
 or_true true = refl
@@ -47,6 +73,24 @@ fault_told words kind faults.Memory of memory h = tt
 among_along : (kind : ErrorKind) (ks ls : List ErrorKind) → ks ≡ ls → (kind ≡ kinds.OutOfMemory) ⊎ IsAmong kind ks → (kind ≡ kinds.OutOfMemory) ⊎ IsAmong kind ls
 among_along kind ks ls e h = let P : List ErrorKind → Type 0 = λ l. (kind ≡ kinds.OutOfMemory) ⊎ IsAmong kind l in subst P e h
 
+-- what was found is what the words name
+asks : (app : App) (words : List Text) (found : Option (Text × List Row)) → app ≡ program → found ≡ subcommand_of app words → option_and_then options_for found ≡ options_of words
+asks app words found is h = ap (option_and_then options_for) (h ∙ ap (λ a. subcommand_of a words) is)
+
+-- the options found are those by default
+same_default : (asked given : Options) (words : List Text) (name : Text) → Some given ≡ options_of words → words ≡ name ∷ [] → IsByDefault name asked → given ≡ asked
+same_default asked given words name is alone default =
+    let same : Some given ≡ Some asked = is ∙ ap options_of alone ∙ by_default name asked default in
+    cc
+
+none_by_default : (asked : Options) (words : List Text) (name : Text) → None ≡ options_of words → words ≡ name ∷ [] → IsByDefault name asked → ⊥
+none_by_default asked words name is alone default =
+    let same : None ≡ Some asked = is ∙ ap options_of alone ∙ by_default name asked default in
+    cc
+
+pub returns-in-Err-clause-alone : goal.returns-in-Err-clause-alone
+returns-in-Err-clause-alone c = λ name asked default alone. c.fault_of.ensures.memory (c.in-Err.ensures.passes (ap₂ takes c.in_ok-command.ensures alone ∙ is_taken name asked default))
+
 pub returns-in-Err-clause-told : goal.returns-in-Err-clause-told
 returns-in-Err-clause-told c =
     let words = map (λ w. w.now) c.args.words.now in
@@ -59,32 +103,23 @@ returns-in-Some-clause-told c =
     let words = map (λ w. w.now) c.args.words.now in
     ap (λ app. fault_of app words) (sym c.in_ok-command.ensures) ∙ c.in-Ok.ensures.kinds (ap is_simple_and_free c.in_ok-command.ensures ∙ is_free_program)
 
+pub returns-in-Some-clause-alone : goal.returns-in-Some-clause-alone
+returns-in-Some-clause-alone c = λ name asked default alone.
+    let words = map (λ w. w.now) c.args.words.now in
+    let found = c.in-Ok.ensures.matches (ap is_simple c.in_ok-command.ensures ∙ is_simple_program) in
+    same_default asked c.in-Some.asked words name (sym c.in-Some.is ∙ c.options_in.ensures.named ∙ asks (app_of c.in_ok-command.field-0) words (subcommand_rows_of c.in-Ok.matches) c.in_ok-command.ensures found.1) alone default
+
 pub returns-clause-told : goal.returns-clause-told
 returns-clause-told c =
     let words = map (λ w. w.now) c.args.words.now in
-    inl (ap (λ app. fault_of app words) (sym c.in_ok-command.ensures) ∙ c.in-Ok.ensures.kinds (ap is_simple_and_free c.in_ok-command.ensures ∙ is_free_program))
-
-is_simple_program : is_simple program ≡ true
-unfolding clap_on_literals
-is_simple_program = refl
-
-option_map-option_map : {A B C : Type 0} (f : B → C) (g : A → B) (o : Option A) → option_map (λ x. f (g x)) o ≡ option_map f (option_map g o)
-option_map-option_map f g None = refl
-option_map-option_map f g (Some x) = refl
-
-if_err_always : {T E : Type 0} (r : Result T E) (P : E → Type 0) → ((e : E) → P e) → IfErr r P
-if_err_always (Ok v) P h = tt
-if_err_always (Err e) P h = h e
-
-pub returns-in_err-from_str-in-None-clause-alone : goal.returns-in_err-from_str-in-None-clause-alone
-returns-in_err-from_str-in-None-clause-alone c =
-    if_err_always c.from_residual-in_err-from_str-in-None.result _ (λ fault asked alone.
     let found = c.in-Ok.ensures.matches (ap is_simple c.in_ok-command.ensures ∙ is_simple_program) in
-    let name = c.subcommand_name.ensures ∙ option_map-option_map (λ p. p.0) _ _ in
-    absurd (c.in-None.ensures.none asked (name ∙ ap (option_map (λ p. p.0)) (found.1 ∙ ap₂ subcommand_of c.in_ok-command.ensures alone) ∙ is_named asked)))
+    inl (
+      ap (λ app. fault_of app words) (sym c.in_ok-command.ensures) ∙ c.in-Ok.ensures.kinds (ap is_simple_and_free c.in_ok-command.ensures ∙ is_free_program),
+      sym (sym c.in-None.is ∙ c.options_in.ensures.named ∙ asks (app_of c.in_ok-command.field-0) words (subcommand_rows_of c.in-Ok.matches) c.in_ok-command.ensures found.1),
+    )
 
 pub returns-clause-alone : goal.returns-clause-alone
-returns-clause-alone c = λ asked alone.
+returns-clause-alone c = λ name asked default alone.
+    let words = map (λ w. w.now) c.args.words.now in
     let found = c.in-Ok.ensures.matches (ap is_simple c.in_ok-command.ensures ∙ is_simple_program) in
-    let name = c.subcommand_name.ensures ∙ option_map-option_map (λ p. p.0) _ _ in
-    absurd (c.in-None.ensures.none asked (name ∙ ap (option_map (λ p. p.0)) (found.1 ∙ ap₂ subcommand_of c.in_ok-command.ensures alone) ∙ is_named asked))
+    absurd (none_by_default asked words name (sym c.in-None.is ∙ c.options_in.ensures.named ∙ asks (app_of c.in_ok-command.field-0) words (subcommand_rows_of c.in-Ok.matches) c.in_ok-command.ensures found.1) alone default)

@@ -54,19 +54,25 @@ closed
 ";
 
 /// The program with the word `decode`, and this text to read.
-fn decoded(alloc: Global, text: &[u8]) -> Ran {
+fn decoded<H: Threads + Wait + Sync>(rt: &H, alloc: Global, text: &[u8]) -> Ran {
     let mut input = text;
-    ran(alloc, args(alloc, &["mtr", "decode"]), &mut input)
+    ran(rt, alloc, args(alloc, &["mtr", "decode"]), &mut input)
 }
 
 /// A text that is a log prints this, and tells nothing.
-fn shows(rt: &impl Abort, alloc: Global, text: &[u8], want: &str) {
-    ends(rt, decoded(alloc, text), 0, want, "");
+fn shows<H: Threads + Wait + Abort + Sync>(rt: &H, alloc: Global, text: &[u8], want: &str) {
+    ends(rt, decoded(rt, alloc, text), 0, want, "");
 }
 
 /// A text that is no log tells this, prints nothing, and has this status.
-fn refuses(rt: &impl Abort, alloc: Global, text: &[u8], status: u8, want: &str) {
-    ends(rt, decoded(alloc, text), status, "", want);
+fn refuses<H: Threads + Wait + Abort + Sync>(
+    rt: &H,
+    alloc: Global,
+    text: &[u8],
+    status: u8,
+    want: &str,
+) {
+    ends(rt, decoded(rt, alloc, text), status, "", want);
 }
 
 #[test]
@@ -238,7 +244,7 @@ fn a_long_log_is_printed_to_its_end(rt: HostRuntime) -> Result<(), Fail> {
     let alloc = rt.alloc();
     let text = many_records(alloc, 4000)?;
     assert!(rt; text.len() > 300000);
-    let (status, printed, told) = decoded(alloc, &text);
+    let (status, printed, told) = decoded(&rt, alloc, &text);
     assert_eq!(rt; (status, told.len()), (0, 0));
     assert_eq!(rt;
         printed.as_slice(),
@@ -279,7 +285,13 @@ fn a_read_that_is_interrupted_goes_on(rt: HostRuntime) {
         is_ready: true,
     };
     let words = args(alloc, &["mtr", "decode"]);
-    ends(&rt, ran(alloc, words, &mut input), 0, ONE_RECORD_PRINTS, "");
+    ends(
+        &rt,
+        ran(&rt, alloc, words, &mut input),
+        0,
+        ONE_RECORD_PRINTS,
+        "",
+    );
 }
 
 #[test]
@@ -287,14 +299,20 @@ fn a_read_that_fails_prints_nothing(rt: HostRuntime) {
     let alloc = rt.alloc();
     let decode = || args(alloc, &["mtr", "decode"]);
     let mut input = failing(ONE_RECORD.as_bytes(), 0, ErrorKind::BrokenPipe);
-    ends(&rt, ran(alloc, decode(), &mut input), 7, "", "");
+    ends(&rt, ran(&rt, alloc, decode(), &mut input), 7, "", "");
     let mut input = failing(ONE_RECORD.as_bytes(), 0, ErrorKind::OutOfMemory);
-    ends(&rt, ran(alloc, decode(), &mut input), 5, "", "no memory\n");
+    ends(
+        &rt,
+        ran(&rt, alloc, decode(), &mut input),
+        5,
+        "",
+        "no memory\n",
+    );
     // What stands behind a first bad character is not read.
     let mut input = failing(b"4g", 0, ErrorKind::BrokenPipe);
     ends(
         &rt,
-        ran(alloc, decode(), &mut input),
+        ran(&rt, alloc, decode(), &mut input),
         3,
         "",
         "bad hexadecimal\n",
@@ -311,7 +329,7 @@ fn a_write_that_fails_is_told_by_the_status(rt: HostRuntime) -> Result<(), Fail>
         let mut output = failing(b"", calls, ErrorKind::BrokenPipe);
         let mut told: Vec<u8> = Vec::new(alloc);
         let words = args(alloc, &["mtr", "decode"]);
-        let status = run_program(alloc, words, &mut input, &mut output, &mut told);
+        let status = run_program(&rt, alloc, words, &mut input, &mut output, &mut told);
         assert_eq!(rt; (status, told.len()), (want, 0), "{calls}");
     }
     Ok(())
@@ -335,11 +353,11 @@ fn help_says_what_is_read(rt: HostRuntime) {
         ["mtr", "decode", "-h"],
         ["mtr", "help", "decode"],
     ] {
-        ends(&rt, asked_of(alloc, &words), 0, DECODE_HELP, "");
+        ends(&rt, asked_of(&rt, alloc, &words), 0, DECODE_HELP, "");
     }
     ends(
         &rt,
-        asked_of(alloc, &["mtr", "decode", "x"]),
+        asked_of(&rt, alloc, &["mtr", "decode", "x"]),
         2,
         "",
         "error: unexpected argument 'x' found\n\nUsage: mtr decode\n\nFor more information, try '--help'.\n",

@@ -66,7 +66,7 @@ fn the_log_has_what_is_synced(rt: HostRuntime) {
 fn the_text_of_a_log_is_read_by_decode(rt: HostRuntime) {
     let alloc = rt.alloc();
     let mut input = LOG_TEXT.as_bytes();
-    let decoded = ran(alloc, args(alloc, &["mtr", "decode"]), &mut input);
+    let decoded = ran(&rt, alloc, args(alloc, &["mtr", "decode"]), &mut input);
     ends(&rt, decoded, 0, LOG_TEXT_PRINTS, "");
     assert!(rt; LOG_FILE_PRINTS.ends_with(LOG_TEXT));
 }

@@ -1,7 +1,26 @@
-use Rattle.replica_core.proofs.Kept.{kept-commits}
+use Rattle.std.proofs.Common.{◌≡◌, ◌∙◌, ◌+◌, sym, ap, inr, Ok, Err, Option, ℕ, arith}
+use Rattle.std.specs.Option.{option_map_or}
+use Rattle.relay.specs.declared.ReplicaFault.TheVariants.{Stopped}
+use Rattle.replica_core.specs.Replica.{Replica}
+use Rattle.replica_core.specs.Calls.{next_commit, unless_stopped}
+use Rattle.replica_core.proofs.Steps.{few_dispatched, not_stopped, committed_kept, committed_seen, copy_there, none_committed}
 use Rattle.replica_core.proofs.ReplicaCore.commit_next.Goals as goal
+
+pub overflow_add-gno : goal.overflow_add-gno
+overflow_add-gno g c =
+    let few = few_dispatched _ _ _ _ _ _ c.self.invariant in
+    record { fits = omega arith }
+
+pub returns-then-not-branch-clause-answer : goal.returns-then-not-branch-clause-answer
+returns-then-not-branch-clause-answer g c =
+    let was = c.self.inside in
+    let none = none_committed was.relay was.base was.scheduler was.published was.turns was.workers was.stopped was.jobs.items _ was.waiting.items _ c.in_ok-commit_turn.field-0 _ _ _ c.self.invariant c.if-not-branch.true c.in_ok-commit_turn.ensures in
+    inr (sym (ap (λ (r : Replica). unless_stopped r (next_commit r)) (sym c.self.view_is)
+    ∙ (λ i. option_map_or (λ gno. Err (Stopped gno)) (not_stopped was.stopped _ c.in_ok-refuse_stopped.ensures i) (Ok (none i)))))
 
 pub invariant_of-self-2 : goal.invariant_of-self-2
 invariant_of-self-2 g c =
     let was = c.self.inside in
-    kept-commits was.schema _ was.accepted.items was.committed was.published _ was.waiting.items was.job _ _ _ _ c.self.invariant c.if-not-branch.false c.in_ok-commit_job.ensures
+    let number = ap (λ n. n + 1) c.low_water-gno.ensures.value in
+    committed_kept was.relay was.base was.scheduler was.published was.turns was.workers was.stopped was.jobs.items _ was.waiting.items _ c.in_ok-commit_turn.field-0 c.committed.new.self c.commit_turn.new.turns c.drop_first.new.list.items _ c.commit_turn.new.waiting.items
+    c.self.invariant number c.if-not-branch.false c.in_ok-commit_turn.ensures (c.committed.ensures.in_turn c.self.invariant.marks_are number) c.drop_first.ensures

@@ -1,31 +1,29 @@
-use Rattle.std.proofs.Common.{◌∙◌, sym, ap, inr}
+use Rattle.std.proofs.Common.{◌≡◌, ◌∙◌, sym, ap, subst, None}
 use Rattle.replica_core.specs.Replica.{Replica}
-use Rattle.replica_core.specs.Calls.{finish_answer}
-use Rattle.replica_core.proofs.Kept.{kept-done}
-use Rattle.replica_core.proofs.Finished.{finished, not_refused, not_stopped}
+use Rattle.replica_core.specs.Calls.{finish_fault, IsHandedOut, with_finished}
+use Rattle.replica_core.proofs.Steps.{under_way_from, finished_kept, finished_seen, stopped_kept}
 use Rattle.replica_core.proofs.ReplicaCore.finish.Goals as goal
+
+pub finish-requires-clause-free : goal.finish-requires-clause-free
+finish-requires-clause-free g c =
+    let was = c.self.inside in
+    let judged = subst (λ (r : Replica). (finish_fault r c.args.done.job.gno ≡ None) × IsHandedOut r c.args.done) (sym c.self.view_is) c.in_default.ensures in
+    (under_way_from was.relay was.base was.scheduler was.published was.turns was.workers was.stopped was.jobs.items _ was.waiting.items c.args.done.job.gno c.self.invariant judged.0).1
 
 pub invariant_of-self : goal.invariant_of-self
 invariant_of-self g c =
     let was = c.self.inside in
-    kept-done was.schema _ was.accepted.items was.committed was.published _ was.waiting.items was.job _ c.list.result.now _ c.in-Some.batch
-    c.self.invariant c.in_ok-refuse_finish.ensures.dispatched c.index-next.ensures c.list.ensures.value
-    c.in_ok-batch.ensures c.in-Some.is
+    let judged = subst (λ (r : Replica). (finish_fault r c.args.done.job.gno ≡ None) × IsHandedOut r c.args.done) (sym c.self.view_is) c.in_default.ensures in
+    finished_kept was.relay was.base was.scheduler was.published was.turns was.workers was.stopped was.jobs.items _ was.waiting.items c.args.done c.in-Output.field-0 c.finish.new.self c.self.invariant judged.0 judged.1
+    c.outcome.ensures.valid (sym c.outcome.ensures.value ∙ c.in-Output.is) c.finish.ensures
 
-pub returns-in-Some-clause-answer : goal.returns-in-Some-clause-answer
-returns-in-Some-clause-answer g c =
+pub invariant_of-self-in-Undefined : goal.invariant_of-self-in-Undefined
+invariant_of-self-in-Undefined g c =
     let was = c.self.inside in
-    inr (sym (ap (λ (r : Replica). finish_answer r c.args.gno) (sym c.self.view_is)
-    ∙ finished was.schema was.base was.accepted.items was.committed was.published c.args.gno was.job was.stopped _ was.waiting.items _ c.list.result.now _
-    c.self.invariant c.in_ok-refuse_finish.ensures.dispatched c.index-next.ensures
-    (not_stopped was.stopped _ c.in_ok-refuse_stopped.ensures) (not_refused _ _ c.in_ok-refuse_finish.ensures.answer)
-    c.in_ok-refuse_finish.ensures.next c.list.ensures.value c.in_ok-batch.ensures _ c.in-Some.is))
+    stopped_kept was.relay was.base was.scheduler was.published was.turns was.workers was.stopped was.jobs.items _ was.waiting.items c.gno.result c.self.invariant
 
-pub returns-in-None-clause-answer : goal.returns-in-None-clause-answer
-returns-in-None-clause-answer g c =
+pub returns-in-Output-clause-ok : goal.returns-in-Output-clause-ok
+returns-in-Output-clause-ok g c =
     let was = c.self.inside in
-    inr (sym (ap (λ (r : Replica). finish_answer r c.args.gno) (sym c.self.view_is)
-    ∙ finished was.schema was.base was.accepted.items was.committed was.published c.args.gno was.job was.stopped _ was.waiting.items _ c.list.result.now _
-    c.self.invariant c.in_ok-refuse_finish.ensures.dispatched c.index-next.ensures
-    (not_stopped was.stopped _ c.in_ok-refuse_stopped.ensures) (not_refused _ _ c.in_ok-refuse_finish.ensures.answer)
-    c.in_ok-refuse_finish.ensures.next c.list.ensures.value c.in_ok-batch.ensures _ c.in-None.is))
+    finished_seen was.relay was.base was.scheduler was.published was.turns was.workers was.stopped was.jobs.items _ was.waiting.items c.args.done c.finish.new.self c.self.invariant c.finish.ensures
+    ∙ ap (λ (r : Replica). with_finished r c.args.done.job.gno) c.self.view_is

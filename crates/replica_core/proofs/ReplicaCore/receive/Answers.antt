@@ -1,9 +1,8 @@
-use Rattle.std.proofs.Common.{◌≡◌, ◌+◌, length, ap, ◌∙◌, arith}
-use Rattle.replica_core.proofs.Kept.{kept-push}
+use Rattle.replica_core.proofs.Steps.{received_kept}
 use Rattle.replica_core.proofs.ReplicaCore.receive.Goals as goal
 
-pub invariant_of-self-2 : goal.invariant_of-self-2
-invariant_of-self-2 g c =
+pub invariant_of-self : goal.invariant_of-self
+invariant_of-self g c =
     let was = c.self.inside in
-    let number : c.in_ok-copy.field-0.gno ≡ length was.accepted.items + 1 = ap (λ r. r.gno) c.in_ok-copy.ensures ∙ omega arith in
-    rw c.in_ok-push.ensures.items (kept-push was.schema _ was.accepted.items was.committed was.published _ was.waiting.items was.job _ c.self.invariant number)
+    received_kept was.relay was.base was.scheduler was.published was.turns was.workers was.stopped was.jobs.items _ was.waiting.items _ _ c.receive.result c.receive.new.self
+    c.self.invariant c.receive.ensures.answer c.receive.ensures.ok c.receive.ensures.err

@@ -1,0 +1,66 @@
+//! Why the work of the threads stops.
+
+use relay::ReplicaFault;
+use schema::Memory;
+use source_core::SourceFault;
+use std::alloc::{AllocError, AllocFailed};
+
+/// Why a thread's work, or that over all threads, was not done.
+#[derive(Clone, Copy, Debug, PartialEq, Eq)]
+pub enum Trouble {
+    /// Memory ran out.
+    Memory,
+    /// A call answered what it never does where both sides are as they should be.
+    Different,
+}
+
+impl From<Memory> for Trouble {
+    ghost use Rattle.std.specs.Prelude.{◌≡◌};
+    ghost use Rattle.mtr.specs.declared.threads.trouble.Trouble.TheVariants as troubles;
+
+    ghost from_gives = { λ _ trouble. trouble ≡ troubles.Memory };
+
+    fn from(_memory: Memory) -> Trouble {
+        Trouble::Memory
+    }
+}
+
+impl From<AllocError> for Trouble {
+    ghost use Rattle.std.specs.Prelude.{◌≡◌};
+    ghost use Rattle.mtr.specs.declared.threads.trouble.Trouble.TheVariants as troubles;
+
+    ghost from_gives = { λ _ trouble. trouble ≡ troubles.Memory };
+
+    fn from(_error: AllocError) -> Trouble {
+        Trouble::Memory
+    }
+}
+
+impl<T: Drop> From<AllocFailed<T>> for Trouble {
+    ghost use Rattle.std.specs.Prelude.{◌≡◌};
+    ghost use Rattle.mtr.specs.declared.threads.trouble.Trouble.TheVariants as troubles;
+
+    ghost from_gives = { λ _ trouble. trouble ≡ troubles.Memory };
+
+    fn from(_error: AllocFailed<T>) -> Trouble {
+        Trouble::Memory
+    }
+}
+
+impl From<SourceFault> for Trouble {
+    fn from(fault: SourceFault) -> Trouble {
+        match fault {
+            SourceFault::Memory => Trouble::Memory,
+            _ => Trouble::Different,
+        }
+    }
+}
+
+impl From<ReplicaFault> for Trouble {
+    fn from(fault: ReplicaFault) -> Trouble {
+        match fault {
+            ReplicaFault::Memory => Trouble::Memory,
+            _ => Trouble::Different,
+        }
+    }
+}

@@ -1,0 +1,94 @@
+-- A record whose parent is committed looks at no row that the records between write: they conflict with it nowhere.
+use Rattle.std.proofs.Common.{◌≡◌, ◌∙◌, sym, ap, refl, ℕ, zero, suc, ◌+◌, ◌<◌, ◌≤◌, Bool, true, false, ◌||◌, inl, inr, List, [], ◌∷◌, ◌++◌, map, length, take, drop, Option, Some, option_and_then, arith, add-one, add-zero, slice_get, get_or}
+use Rattle.std.specs.Option.{option_map}
+use Rattle.std.specs.FinMap.{get}
+use Rattle.std.proofs.lemmas.Bool.{cases_Bool, or_parts}
+use Rattle.std.proofs.lemmas.Option.{none-some, same_Some, slice_get_within, slice_get-map, slice_get-get_or, option_and_then_some}
+use Rattle.std.proofs.lemmas.List.{length-take-le}
+use Rattle.std.proofs.lemmas.List.Folds.{list_any-append}
+use Rattle.schema.specs.declared.Table.{Table}
+use Rattle.schema.specs.declared.RowId.{RowId}
+use Rattle.schema.specs.RowId.{same_row}
+use Rattle.schema.specs.Rows.{Touched, has_row, meets, conflicts}
+use Rattle.schema.specs.Covering.{Covers}
+use Rattle.rows.specs.Database.{Database, effect, writes}
+use Rattle.rows.specs.Frame.{AgreeOn}
+use Rattle.rows.proofs.Effect.{changes_only_writes}
+use Rattle.rows.proofs.Frame.{not_in_first}
+use Rattle.record_codec.specs.declared.records.Record.{Record}
+use Rattle.record_codec.specs.Log.{after, touched, place_of}
+use Rattle.executor.specs.Job.{rows_of}
+use Rattle.relay.specs.Relay.{IsAcceptable, AreAcceptable}
+use Rattle.replica_core.proofs.Commits.{after-next}
+
+-- ---- the records of an accepted list
+
+split : {X : Type 0} (xs : List X) (n : ℕ) (x : X) → slice_get xs n ≡ Some x → xs ≡ take n xs ++ x ∷ drop (suc n) xs
+split [] n x is = absurd (none-some x is)
+split (y ∷ xs) zero x is = ap (λ z. z ∷ xs) (same_Some y x is)
+split (y ∷ xs) (suc n) x is = ap (λ l. y ∷ l) (split xs n x is)
+
+slice_get-take : {X : Type 0} (xs : List X) (n i : ℕ) → i < n → slice_get (take n xs) i ≡ slice_get xs i
+slice_get-take xs zero i lt = absurd (omega arith)
+slice_get-take [] (suc n) i lt = refl
+slice_get-take (x ∷ xs) (suc n) zero lt = refl
+slice_get-take (x ∷ xs) (suc n) (suc i) lt = slice_get-take xs n i (omega arith)
+
+-- each of them may stand behind those before it
+pub place_acceptable : (ts : List Table) (log : List Record) (n : ℕ) (rec : Record) → AreAcceptable ts log → slice_get log n ≡ Some rec → IsAcceptable ts (take n log) rec
+place_acceptable ts log n rec h got = h (take n log) rec (drop (suc n) log) (split log n rec got)
+
+covers_at : (past : List (ℕ × Touched)) (rows : Touched) (parent i number : ℕ) (before : Touched) → Covers past rows parent → slice_get past i ≡ Some (number, before) → conflicts before rows ≡ true → number ≤ parent
+covers_at [] rows parent i number before h got is = absurd (none-some (number, before) got)
+covers_at (p ∷ past) rows parent zero number before h got is =
+    let same : p ≡ (number, before) = same_Some p (number, before) got in
+    let bound : p.0 ≤ parent = h.0 (ap (λ (q : ℕ × Touched). conflicts q.1 rows) same ∙ is) in
+    let first : p.0 ≡ number = ap (λ (q : ℕ × Touched). q.0) same in
+    omega arith
+covers_at (p ∷ past) rows parent (suc i) number before h got is = covers_at past rows parent i number before h.1 got is
+
+not_true : (b : Bool) → (b ≡ true → ⊥) → b ≡ false
+not_true true h = absurd (h refl)
+not_true false h = refl
+
+-- a record conflicts with none that stands between its parent and itself
+pub no_conflict : (ts : List Table) (log : List Record) (i j : ℕ) (a b : Record) → AreAcceptable ts log → slice_get log i ≡ Some a → slice_get log j ≡ Some b → i < j → b.parent ≤ i → conflicts (touched a) (touched b) ≡ false
+no_conflict ts log i j a b h at_i at_j lt parent =
+    let within : i < length log = slice_get_within log i a at_i in
+    let number : a.sequence ≡ i + 1 = (place_acceptable ts log i a h at_i).sequence ∙ ap (λ n. n + 1) (length-take-le i log (omega arith)) in
+    let got : slice_get (map place_of (take j log)) i ≡ Some (a.sequence, touched a) =
+    slice_get-map place_of (take j log) i ∙ ap (option_map place_of) (slice_get-take log j i lt ∙ at_i) in
+    not_true (conflicts (touched a) (touched b)) (λ is.
+    let bound : a.sequence ≤ b.parent = covers_at (map place_of (take j log)) (touched b) b.parent i a.sequence (touched a) (place_acceptable ts log j b h at_j).covers got is in
+    absurd (omega arith))
+
+-- the rows that a record looks at are written by none that it does not conflict with
+pub not_written : (a b : Record) (q : RowId) → conflicts (touched a) (touched b) ≡ false → has_row (rows_of b) q ≡ true → has_row (writes a.changes) q ≡ false
+not_written a b q apart is =
+    let firsts = or_parts (meets (writes a.changes) (writes b.changes) || meets (writes a.changes) b.refs) (meets (writes b.changes) a.refs) apart in
+    let parts = or_parts (meets (writes a.changes) (writes b.changes)) (meets (writes a.changes) b.refs) firsts.0 in
+    let among : (has_row (writes b.changes) q || has_row b.refs q) ≡ true = sym (list_any-append (same_row q) (writes b.changes) b.refs) ∙ is in
+    elim (cases_Bool (has_row (writes b.changes) q)) [
+      | inl written ↦ not_in_first (writes a.changes) (writes b.changes) q parts.0 written
+      | inr other ↦ not_in_first (writes a.changes) b.refs q parts.1 (ap (λ w. w || has_row b.refs q) (sym other) ∙ among)
+    ]
+
+-- ---- what the accepted records leave
+
+-- so the rows that it looks at are the same in each database from its parent up to its own place
+pub rows_stay : (ts : List Table) (base : Database) (log : List Record) (k j d : ℕ) (rec : Record) (a b : Database) → AreAcceptable ts log → slice_get log j ≡ Some rec → rec.parent ≤ k → k + d ≤ j → after ts base (take k log) ≡ Some a → after ts base (take (k + d) log) ≡ Some b → AgreeOn (rows_of rec) a b
+rows_stay ts base log k j zero rec a b h got parent within is_a is_b q looks =
+    let same : Some a ≡ Some b = sym is_a ∙ ap (λ n. after ts base (take n log)) (sym (add-zero k)) ∙ is_b in
+    ap (λ (db : Database). get db q) (same_Some a b same)
+rows_stay ts base log k j (suc d) rec a b h got parent within is_a is_b q looks =
+    let lt : j < length log = slice_get_within log j rec got in
+    let place : k + suc d ≡ k + d + 1 = omega arith in
+    let before = get_or log (k + d) rec in
+    let at : slice_get log (k + d) ≡ Some before = slice_get-get_or log (k + d) rec (omega arith) in
+    let apart : conflicts (touched before) (touched rec) ≡ false = no_conflict ts log (k + d) j before rec h at got (omega arith) (omega arith) in
+    let leaves : option_and_then (effect ts before.changes) (after ts base (take (k + d) log)) ≡ Some b =
+    sym (after-next ts base log (k + d) before at) ∙ ap (λ n. after ts base (take n log)) (sym place) ∙ is_b in
+    option_and_then_some (effect ts before.changes) (after ts base (take (k + d) log)) b leaves
+    (λ mid one last.
+    rows_stay ts base log k j d rec a mid h got parent (omega arith) is_a one q looks
+    ∙ sym (changes_only_writes ts before.changes mid b q last (not_written before rec q apart looks)))

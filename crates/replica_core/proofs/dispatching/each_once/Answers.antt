@@ -1,0 +1,12 @@
+use Rattle.std.proofs.Common.{◌≡◌, ◌∙◌, ap, map, List}
+use Rattle.std.specs.FinMap.{get}
+use Rattle.std.specs.List.{dedup}
+use Rattle.std.proofs.lemmas.List.Filters.{dedup_is}
+use Rattle.schema.specs.declared.RowId.{RowId}
+use Rattle.replica_core.proofs.Copies.{row_eq, copied_once}
+use Rattle.replica_core.proofs.dispatching.each_once.Goals as goal
+
+pub returns : goal.returns
+returns c = λ db.
+    ap (map (λ id. (id, get db id))) (dedup_is row_eq c.sort_unstable.new.self.items c.dedup.new.self.items c.dedup.ensures.filtered)
+    ∙ copied_once c.args.ids.items c.sort_unstable.new.self.items db c.sort_unstable.ensures.permutation c.sort_unstable.ensures.sorted

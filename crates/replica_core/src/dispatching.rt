@@ -1,0 +1,113 @@
+//! What is handed out, and what is refused.
+
+ghost use Rattle.std.specs.Prelude.{◌≡◌, ◌+◌, ◌&&◌, ◌||◌, nat_le, not, is_some, map, Ok, Err, IfOk, if◌then◌else◌};
+ghost use Rattle.commit_order.specs.Turns.{place_of};
+ghost use Rattle.std.specs.Option.{option_map_or};
+ghost use Rattle.std.specs.FinMap.{get as row_of};
+ghost use Rattle.rows.specs.Database.{Database, writes};
+ghost use Rattle.store_trait.specs.Batch.{rows_in};
+ghost use Rattle.executor.specs.Job.{rows_of};
+ghost use Rattle.replica_core.specs.Replica.{job_over};
+
+use commit_order::Turns;
+use executor::Job;
+use record_codec::Record;
+use relay::ReplicaFault;
+use rows::{Change, Row};
+use schema::{Memory, RowId, Schema};
+use std::alloc::Global;
+use store_trait::{Batch, RowStore};
+
+/// Refuses where the replica is stopped.
+pub fn refuse_stopped(stopped: Option<u64>) -> Result<(), ReplicaFault>
+    ensures { result ≡ option_map_or (λ gno. Err (ReplicaFault.Stopped gno)) stopped (Ok tt) }
+{
+    match stopped {
+        Some(gno) => Err(ReplicaFault::Stopped(gno)),
+        None => Ok(()),
+    }
+}
+
+/// Refuses a record that was not dispatched, or of which a result was taken, where so many records are committed and
+/// so many dispatched.
+pub fn refuse_finish(
+    turns: &Turns,
+    committed: u64,
+    dispatched: u64,
+    gno: u64,
+) -> Result<(), ReplicaFault>
+    requires { turns.now.first ≡ committed + 1 }
+    ensures { result ≡ (if not (nat_le 1 gno && nat_le gno dispatched) then Err ReplicaFault.Stranger
+        else if nat_le gno committed || is_some (place_of turns.now gno) then Err ReplicaFault.Double
+        else Ok tt) }
+{
+    if gno == 0 || gno > dispatched {
+        return Err(ReplicaFault::Stranger);
+    }
+    if gno <= committed || turns.is_finished(gno) {
+        return Err(ReplicaFault::Double);
+    }
+    Ok(())
+}
+
+/// The job of this record over the rows of the store.
+pub fn job_over<S: RowStore>(
+    alloc: Global,
+    gno: u64,
+    rec: &Record,
+    store: &S,
+    schema: &Schema,
+) -> Result<Job, Memory>
+    ensures { IfOk result (λ job. job ≡ job_over schema.now gno rec.now (S.contents store.now)) }
+{
+    let rec = rec.copy()?;
+    let input = copied_rows(alloc, row_ids(alloc, &rec)?, store)?;
+    Ok(Job::new(gno, rec, input, schema.copy()?))
+}
+
+/// The rows that the execution of the record looks at.
+fn row_ids(alloc: Global, rec: &Record) -> Result<Vec<RowId>, Memory>
+    ensures { IfOk result (λ ids. ids.items ≡ rows_of rec.now) }
+{
+    let mut ids = written(alloc, rec.changes.list())?;
+    ids.extend_from_slice(rec.refs.rows())?;
+    Ok(ids)
+}
+
+/// The rows that the changes write.
+fn written(alloc: Global, changes: &[Change]) -> Result<Vec<RowId>, Memory>
+    ensures { IfOk result (λ ids. ids.items ≡ writes changes.now) }
+{
+    let ids = changes.iter().map(|change| change.target()).collect(alloc)?;
+    Ok(ids)
+}
+
+/// These rows as they are in the store.
+fn copied_rows<S: RowStore>(alloc: Global, ids: Vec<RowId>, store: &S) -> Result<Batch, Memory>
+    ensures { IfOk result (λ batch. batch ≡ rows_in ids.items (S.contents store.now)) }
+{
+    let ids = each_once(ids);
+    let entries = entries_of(alloc, &ids, store)?;
+    Ok(Batch::from_rising(entries))
+}
+
+/// The same rows in the order of their ids, each once: copied in turn they make a batch.
+fn each_once(mut ids: Vec<RowId>) -> Vec<RowId>
+    ensures { (db : Database) → map (λ id. (id, row_of db id)) result.items ≡ rows_in ids.items db }
+{
+    ids.sort_unstable();
+    ids.dedup();
+    ids
+}
+
+/// Each of these rows as it is in the store.
+fn entries_of<S: RowStore>(
+    alloc: Global,
+    ids: &[RowId],
+    store: &S,
+) -> Result<Vec<(RowId, Option<Row>)>, Memory>
+    ensures { IfOk result (λ entries. entries.items ≡ map (λ id. (id, row_of (S.contents store.now) id)) ids.now) }
+{
+    let entries = ids.iter().map(|id| (*id, store.get(*id))).collect(alloc)?;
+    Ok(entries)
+}

@@ -1,0 +1,25 @@
+use Rattle.std.proofs.Common.{subst}
+use Rattle.replica_shared.specs.Together.{IsAppended}
+use Rattle.replica_shared.proofs.Standing.{all_appended, next_operation, next_commit_of, stand_appended}
+use Rattle.replica_shared.proofs.coordinator.Coordinator.append_next.Goals as goal
+
+pub returns-then-self-committed-clause-all : goal.returns-then-self-committed-clause-all
+returns-then-self-committed-clause-all g c _ =
+    subst IsAppended c.self.view_is
+    (all_appended _ _ _ c.self.inside.closed _ _ c.committed-committed.ensures.sound (rw (← c.committed-committed.ensures.value) c.if-self-committed.true) c.self.invariant.0)
+
+pub append-requires : goal.append-requires
+append-requires g c =
+    let more = rw c.committed-committed.ensures.value at c.if-self-committed.false in
+    let is = rw c.published-published.ensures.value at c.index-pending-self.is in
+    next_commit_of _ _ _ _ _ _ c.self.invariant.0
+    (next_operation c.commits.ensures.one_each _ _ _ _ _ _ c.index-pending-self.result c.committed-committed.ensures.sound more c.self.invariant.0 c.pending.ensures is)
+
+pub invariant_of-self-2 : goal.invariant_of-self-2
+invariant_of-self-2 g c =
+    let more = rw c.committed-committed.ensures.value at c.if-self-committed.false in
+    let is = rw c.published-published.ensures.value at c.index-pending-self.is in
+    let at = next_operation c.commits.ensures.one_each _ _ _ _ _ _ c.index-pending-self.result c.committed-committed.ensures.sound more c.self.invariant.0 c.pending.ensures is in (
+      rw c.in_ok-append.ensures.ok (stand_appended _ _ _ _ _ _ c.self.invariant.0 at),
+      c.self.invariant.1,
+    )

@@ -1,0 +1,22 @@
+//! Which replica.
+
+use published::Naming;
+use std::marker::Brand;
+
+/// Which publication the publisher of a shared replica is of, and over which rows: a type stands for it, so that those of two
+/// replicas can't be mixed. Write a function over `J: ReplicaNaming` that takes a publication's `Beginning` and the
+/// core, and requires `beginning.book ≡ J.book` and `core.base ≡ J.base`. Its caller passes the marker `Brand` for
+/// `J`, and says in its `Invariants.antt` that these are those of the arguments.
+pub trait ReplicaNaming: Naming {
+    ghost use Rattle.std.specs.Prelude.{List};
+    ghost use Rattle.store_trait.specs.Batch.{Entry};
+
+    /// The rows before the first commit.
+    ghost base: { List Entry };
+}
+
+impl ReplicaNaming for Brand {
+    ghost use Rattle.std.specs.Prelude.{[]};
+
+    ghost base = { [] };
+}

@@ -1,0 +1,198 @@
+//! Workers in threads.
+ghost use Rattle.std.specs.Prelude.{◌≡◌};
+ghost use Rattle.replica_core.specs.Calls.{new_over};
+
+use super::{
+    Core, SOURCE, Shared, all, beginning, core, ended, insert, reads, receive, record, set, shared,
+};
+use crate::{NoGate, ReplicaNaming, WorkerGate};
+use published::Beginning;
+use record_codec::Record;
+use relay::ReplicaFault;
+use std::alloc::Global;
+use std::marker::Brand;
+use std::process::Abort;
+use std::sync::Wait;
+use std::sync::atomic::{AtomicBool, Ordering};
+use std::test::Fail;
+use std::thread;
+use std::thread::{Threads, join};
+
+/// How often the first job looks whether the second was handed in.
+const TURNS: u32 = 1_000_000;
+
+/// It holds job 1 until what came of job 2 was handed in, or so many turns are over.
+#[derive(Drop)]
+struct HeldGate {
+    /// Job 2 was handed in.
+    second: AtomicBool,
+    /// And job 1 was still held then.
+    came: AtomicBool,
+}
+
+impl WorkerGate for HeldGate {
+    fn entered(&self, gno: u64) {
+        if gno != 1 {
+            return;
+        }
+        for _ in 0..TURNS {
+            if self.second.load(Ordering::SeqCst) {
+                self.came.store(true, Ordering::SeqCst);
+                return;
+            }
+            thread::yield_now();
+        }
+    }
+
+    fn left(&self, gno: u64) {
+        if gno == 2 {
+            self.second.store(true, Ordering::SeqCst);
+        }
+    }
+}
+
+#[test]
+fn the_second_job_overtakes_the_first(rt: HostRuntime) -> Result<(), Fail> {
+    let alloc = rt.alloc();
+    let core = core(alloc, 2)?;
+    let beginning = beginning(&core)?;
+    let records = vec![in alloc;
+        record(alloc, 1, 0, insert(10, [5, 6])?)?,
+        record(alloc, 2, 0, insert(11, [1, 1])?)?,
+    ]?;
+    overtaken::<Brand, _>(&rt, alloc, core, beginning, &records)
+}
+
+fn overtaken<J: ReplicaNaming + Send + Sync, R: Threads + Wait + Abort + Sync>(
+    rt: &R,
+    alloc: Global,
+    core: Core,
+    beginning: Beginning,
+    records: &[Record],
+) -> Result<(), Fail>
+    requires core { core ≡ new_over core.tables core.source core.base core.workers }
+    requires rows { beginning.base ≡ core.base }
+    requires base { core.base ≡ J.base }
+    requires book { beginning.book ≡ J.book }
+{
+    let shared: Shared<J> = shared(rt, alloc, core, beginning, 1)?;
+    let sent = send(rt, &shared, records);
+    let (one, two, came) = side_by_side(rt, alloc, &shared);
+    let told = learns(rt, &shared, 2, 11, [1, 1]);
+    let ended = ended(rt, shared);
+    told?;
+    sent?;
+    one?;
+    two?;
+    // (Where there is no memory for a thread, the workers run one after another.)
+    if !came {
+        return Err(ReplicaFault::Memory)?;
+    }
+    assert_eq!(rt; ended, (2, 2, 2));
+    Ok(())
+}
+
+/// Two workers, of which one is held. Whether the other's job was handed in meanwhile.
+fn side_by_side<J: ReplicaNaming + Send + Sync, R: Threads + Wait + Sync>(
+    rt: &R,
+    alloc: Global,
+    shared: &Shared<J>,
+) -> (Result<(), ReplicaFault>, Result<(), ReplicaFault>, bool) {
+    let gate = HeldGate {
+        second: AtomicBool::new(false),
+        came: AtomicBool::new(false),
+    };
+    let (one, two) = join(
+        rt,
+        || shared.worker(rt, alloc, &gate),
+        || shared.worker(rt, alloc, &gate),
+    );
+    (one, two, gate.came.load(Ordering::SeqCst))
+}
+
+/// Hands over the records, and closes.
+fn send<J: ReplicaNaming>(
+    rt: &impl Wait,
+    shared: &Shared<J>,
+    records: &[Record],
+) -> Result<(), ReplicaFault> {
+    for record in records {
+        receive(rt, shared, SOURCE, record)?;
+    }
+    shared.close(rt);
+    Ok(())
+}
+
+/// A seat reads the row once the commit of this gno is published.
+fn learns<J: ReplicaNaming>(
+    rt: &(impl Wait + Abort),
+    shared: &Shared<J>,
+    gno: u64,
+    key: i64,
+    columns: [i64; 2],
+) -> Result<(), Fail> {
+    let mut seat = shared.seat(rt).ok_or("a seat")?;
+    reads(rt, shared, &mut seat, gno, key, columns)?;
+    assert_eq!(rt; shared.status(rt), all(gno));
+    Ok(())
+}
+
+#[test]
+fn three_workers_commit_in_log_order(rt: HostRuntime) -> Result<(), Fail> {
+    let alloc = rt.alloc();
+    let core = core(alloc, 3)?;
+    let beginning = beginning(&core)?;
+    let records = vec![in alloc;
+        record(alloc, 1, 0, insert(10, [5, 6])?)?,
+        record(alloc, 2, 1, set(10, 0, 7)?)?,
+        record(alloc, 3, 2, set(10, 1, 8)?)?,
+    ]?;
+    in_order::<Brand, _>(&rt, alloc, core, beginning, &records)
+}
+
+fn in_order<J: ReplicaNaming + Send + Sync, R: Threads + Wait + Abort + Sync>(
+    rt: &R,
+    alloc: Global,
+    core: Core,
+    beginning: Beginning,
+    records: &[Record],
+) -> Result<(), Fail>
+    requires core { core ≡ new_over core.tables core.source core.base core.workers }
+    requires rows { beginning.base ≡ core.base }
+    requires base { core.base ≡ J.base }
+    requires book { beginning.book ≡ J.book }
+{
+    let shared: Shared<J> = shared(rt, alloc, core, beginning, 1)?;
+    let ((one, two), (three, (waited, sent))) = join(
+        rt,
+        || join(rt, || work(rt, alloc, &shared), || work(rt, alloc, &shared)),
+        || join(
+            rt,
+            || work(rt, alloc, &shared),
+            || join(
+                rt,
+                || shared.wait_for(rt, 3).map(|notice| notice.upto()),
+                || send(rt, &shared, records),
+            ),
+        ),
+    );
+    let told = learns(rt, &shared, 3, 10, [7, 8]);
+    let ended = ended(rt, shared);
+    told?;
+    sent?;
+    one?;
+    two?;
+    three?;
+    assert_eq!(rt; waited?, 3);
+    assert_eq!(rt; ended, (3, 3, 3));
+    Ok(())
+}
+
+/// A worker that nobody watches.
+fn work<J: ReplicaNaming>(
+    rt: &impl Wait,
+    alloc: Global,
+    shared: &Shared<J>,
+) -> Result<(), ReplicaFault> {
+    shared.worker(rt, alloc, &NoGate)
+}

@@ -1,0 +1,204 @@
+-- The jobs that wait in the world, as the replica goes on.
+use Rattle.std.proofs.Common.{◌≡◌, ◌∙◌, sym, ap, subst, refl, ℕ, zero, suc, ◌+◌, ◌-◌, ◌<◌, ◌≤◌, Bool, true, false, if◌then◌else◌, get_or, set, List, [], ◌∷◌, ◌++◌, length, length-append, drop, Option, Some, None, arith, inl, inr, ◌⊎◌}
+use Rattle.std.specs.Prelude.{slice_get, option_and_then}
+use Rattle.std.specs.Option.{option_map}
+use Rattle.std.proofs.lemmas.List.{get_or_append_left, get_or-set_same, get_or-set_other, length-set, take-append-le}
+use Rattle.std.proofs.Math.Seq.{get_or-append_seam}
+use Rattle.std.proofs.lemmas.Option.{slice_get_cases, same_Some}
+use Rattle.rows.specs.Database.{Database}
+use Rattle.store_trait.specs.Operation.{loaded}
+use Rattle.record_codec.specs.declared.records.Record.{Record}
+use Rattle.record_codec.specs.Log.{after}
+use Rattle.executor.specs.declared.Job.{Job}
+use Rattle.replica_core.specs.Replica.{Replica, dispatched, rows_at, working_rows, job_over, job_of}
+use Rattle.replica_core.specs.Calls.{with_accepted, dispatched_next, with_finished, committed_next, with_published}
+use Rattle.replica_core.specs.Sound.{IsSound, IsUnderWay}
+use Rattle.world.specs.State.{HasJobs}
+use Rattle.world.proofs.Received.{still_at}
+
+-- ---- places
+
+-- behind a list there is what is said to be there
+pub beyond : {A : Type 0} (xs : List A) (n : ℕ) (d : A) → length xs ≤ n → get_or xs n d ≡ d
+beyond [] n d h = refl
+beyond (x ∷ xs) zero d h = absurd (omega (arith, h))
+beyond (x ∷ xs) (suc n) d h = beyond xs n d (omega (arith, h))
+
+-- and behind the first of a list what is behind it
+after_first : {A : Type 0} (xs : List A) (n : ℕ) (d : A) → get_or (drop 1 xs) n d ≡ get_or xs (suc n) d
+after_first [] n d = refl
+after_first (x ∷ xs) n d = refl
+
+-- a place before another, that place, or one behind it
+pub order_of : (n m : ℕ) → (n < m) ⊎ ((n ≡ m) ⊎ (m < n))
+order_of zero zero = inr (inl refl)
+order_of zero (suc m) = inl (omega arith)
+order_of (suc n) zero = inr (inr (omega arith))
+order_of (suc n) (suc m) = elim (order_of n m) [ inl l ↦ inl (omega (arith, l)) | inr (inl e) ↦ inr (inl (ap suc e)) | inr (inr g) ↦ inr (inr (omega (arith, g))) ]
+
+-- these stand for some things under way, in order: where one is not finished, what is said of it
+pub record AreLeft {J : Type 0} (under : List Bool) (jobs : List (Option J)) (job : ℕ → Option J) : Type 0 where
+  pub each : length jobs ≡ length under
+  pub are : (n : ℕ) → get_or jobs n None ≡ (if get_or under n true then None else job n)
+
+pub none_left : {J : Type 0} (job : ℕ → Option J) → AreLeft [] [] job
+none_left job = record { each = refl; are = λ n. refl }
+
+-- one more
+pub left_pushed : {J : Type 0} (under : List Bool) (jobs : List (Option J)) (job : ℕ → Option J) (x : J) → AreLeft under jobs job → job (length under) ≡ Some x → AreLeft (under ++ false ∷ []) (jobs ++ Some x ∷ []) job
+left_pushed {J} under jobs job x h is = record {
+  each = length-append jobs (Some x ∷ []) ∙ ap (λ n. n + 1) h.each ∙ sym (length-append under (false ∷ []));
+  are = λ n. at n (order_of n (length under));
+} where
+  at : (n : ℕ) → (n < length under) ⊎ ((n ≡ length under) ⊎ (length under < n)) → get_or (jobs ++ Some x ∷ []) n None ≡ (if get_or (under ++ false ∷ []) n true then None else job n)
+  at n (inl l) =
+      get_or_append_left jobs (Some x ∷ []) None n (omega (arith, l, h.each)) ∙ h.are n
+      ∙ ap (λ (b : Bool). if b then None else job n) (sym (get_or_append_left under (false ∷ []) true n l))
+  at n (inr (inl e)) =
+      ap (λ k. get_or (jobs ++ Some x ∷ []) k None) (e ∙ sym h.each) ∙ get_or-append_seam jobs (Some x) [] None ∙ sym is ∙ ap job (sym e)
+      ∙ ap (λ (b : Bool). if b then None else job n) (sym (ap (λ k. get_or (under ++ false ∷ []) k true) e ∙ get_or-append_seam under false [] true))
+  at n (inr (inr g)) =
+      beyond (jobs ++ Some x ∷ []) n None (omega (arith, g, h.each, length-append jobs (Some x ∷ [])))
+      ∙ ap (λ (b : Bool). if b then None else job n) (sym (beyond (under ++ false ∷ []) n true (omega (arith, g, length-append under (false ∷ [])))))
+
+-- one is finished
+pub left_taken : {J : Type 0} (under : List Bool) (jobs : List (Option J)) (job : ℕ → Option J) (place : ℕ) → AreLeft under jobs job → AreLeft (set under place true) (set jobs place None) job
+left_taken under jobs job place h = record {
+  each = length-set jobs place None ∙ h.each ∙ sym (length-set under place true);
+  are = λ n. at n (order_of n place);
+} where
+  other : (n : ℕ) → (n ≡ place → ⊥) → get_or (set jobs place None) n None ≡ (if get_or (set under place true) n true then None else job n)
+  other n apart =
+      get_or-set_other jobs place n None None apart ∙ h.are n
+      ∙ ap (λ (b : Bool). if b then None else job n) (sym (get_or-set_other under place n true true apart))
+
+  here : (n : ℕ) → (n < length under) ⊎ ((n ≡ length under) ⊎ (length under < n)) → get_or (set jobs n None) n None ≡ (if get_or (set under n true) n true then None else job n)
+  here n (inl l) =
+      get_or-set_same jobs n None None (omega (arith, l, h.each)) ∙ ap (λ (b : Bool). if b then None else job n) (sym (get_or-set_same under n true true l))
+  here n (inr o) =
+      let out : length under ≤ n = elim o [ inl e ↦ omega (arith, e) | inr g ↦ omega (arith, g) ] in
+      beyond (set jobs n None) n None (omega (arith, out, h.each, length-set jobs n None))
+      ∙ ap (λ (b : Bool). if b then None else job n) (sym (beyond (set under n true) n true (omega (arith, out, length-set under n true))))
+
+  at : (n : ℕ) → (n < place) ⊎ ((n ≡ place) ⊎ (place < n)) → get_or (set jobs place None) n None ≡ (if get_or (set under place true) n true then None else job n)
+  at n (inl l) = other n (λ e. omega (arith, l, e))
+  at n (inr (inl e)) = subst (λ (p : ℕ). get_or (set jobs p None) n None ≡ (if get_or (set under p true) n true then None else job n)) e (here n (order_of n (length under)))
+  at n (inr (inr g)) = other n (λ e. omega (arith, g, e))
+
+-- the first is passed
+pub left_passed : {J : Type 0} (under : List Bool) (jobs : List (Option J)) (job : ℕ → Option J) → AreLeft under jobs job → AreLeft (drop 1 under) (drop 1 jobs) (λ n. job (suc n))
+left_passed [] [] job h = record { each = refl; are = λ n. refl }
+left_passed [] (j ∷ jobs) job h = absurd (omega (arith, h.each))
+left_passed (u ∷ under) [] job h = absurd (omega (arith, h.each))
+left_passed (u ∷ under) (j ∷ jobs) job h = record { each = omega (arith, h.each); are = λ n. h.are (suc n) }
+
+-- what is said of those that are not finished may be said otherwise
+pub left_same : {J : Type 0} (under : List Bool) (jobs : List (Option J)) (job other : ℕ → Option J) → AreLeft under jobs job → ((n : ℕ) → get_or under n true ≡ false → job n ≡ other n) → AreLeft under jobs other
+left_same under jobs job other h same = record { each = h.each; are = λ n. h.are n ∙ by (get_or under n true) n refl } where
+  by : (b : Bool) (n : ℕ) → get_or under n true ≡ b → (if b then None else job n) ≡ (if b then None else other n)
+  by true n e = refl
+  by false n e = same n e
+
+-- where one stands, it is not finished
+pub left_there : {J : Type 0} (under : List Bool) (jobs : List (Option J)) (job : ℕ → Option J) (place : ℕ) (x : J) → AreLeft under jobs job → get_or jobs place None ≡ Some x → (get_or under place true ≡ false) × (job place ≡ Some x)
+left_there under jobs job place x h is = by (get_or under place true) refl (sym (h.are place) ∙ is) where
+  by : (b : Bool) → get_or under place true ≡ b → (if b then None else job place) ≡ Some x → (get_or under place true ≡ false) × (job place ≡ Some x)
+  by true e k = absurd (cc k)
+  by false e k = (e, k)
+
+-- where none stands though each has one, it is finished, or none is under way there
+pub left_none : {J : Type 0} (under : List Bool) (jobs : List (Option J)) (job : ℕ → Option J) (place : ℕ) → AreLeft under jobs job → get_or jobs place None ≡ None → (get_or under place true ≡ false → (x : J) × (job place ≡ Some x)) → get_or under place true ≡ true
+left_none {J} under jobs job place h is some = by (get_or under place true) refl (sym (h.are place) ∙ is) where
+  by : (b : Bool) → get_or under place true ≡ b → (if b then None else job place) ≡ None → get_or under place true ≡ true
+  by true e k = e
+  by false e k = let there = some e in absurd (cc (sym there.1 ∙ k))
+
+-- a place that has something not finished is one under way
+pub within_under : (under : List Bool) (place : ℕ) → get_or under place true ≡ false → place < length under
+within_under [] place e = absurd (cc e)
+within_under (u ∷ under) zero e = omega arith
+within_under (u ∷ under) (suc place) e = omega (arith, within_under under place e)
+
+-- by either default
+pub not_done : (under : List Bool) (place : ℕ) → get_or under place true ≡ false → get_or under place false ≡ false
+not_done [] place e = refl
+not_done (u ∷ under) zero e = e
+not_done (u ∷ under) (suc place) e = not_done under place e
+
+-- ---- the replica
+
+-- the jobs under way, by place
+abbrev pub job_at : Replica → ℕ → Option Job
+job_at r n = job_of r (r.committed + n + 1)
+
+pub as_left : (r : Replica) (jobs : List (Option Job)) → HasJobs r jobs → AreLeft r.under_way jobs (job_at r)
+as_left r jobs h = record { each = h.each; are = h.are }
+
+pub as_jobs : (r : Replica) (jobs : List (Option Job)) → AreLeft r.under_way jobs (job_at r) → HasJobs r jobs
+as_jobs r jobs h = record { each = h.each; are = h.are }
+
+pub job_of_parts : (r : Replica) (gno : ℕ) (rec : Record) (rows : Database) → slice_get r.accepted (gno - 1) ≡ Some rec → working_rows r ≡ Some rows → job_of r gno ≡ Some (job_over r.tables gno rec rows)
+job_of_parts r gno rec rows at are =
+    ap (option_and_then (λ (x : Record). option_map (job_over r.tables gno x) (working_rows r))) at ∙ ap (option_map (job_over r.tables gno rec)) are
+
+-- it has its number
+pub gno_of_job : (r : Replica) (gno : ℕ) (job : Job) → job_of r gno ≡ Some job → job.gno ≡ gno
+gno_of_job r gno job is = by (slice_get r.accepted (gno - 1)) (working_rows r) is where
+  by : (o : Option Record) (rows : Option Database) → option_and_then (λ (x : Record). option_map (job_over r.tables gno x) rows) o ≡ Some job → job.gno ≡ gno
+  by None rows e = absurd (cc e)
+  by (Some rec) None e = absurd (cc e)
+  by (Some rec) (Some db) e = ap (λ (j : Job). j.gno) (sym (same_Some (job_over r.tables gno rec db) job e))
+
+-- the record and the rows of a job under way
+pub record IsThere (r : Replica) (gno : ℕ) : Type 0 where
+  pub rec : Record
+  pub at : slice_get r.accepted (gno - 1) ≡ Some rec
+  pub rows : Database
+  pub rows_are : working_rows r ≡ Some rows
+  pub job : job_of r gno ≡ Some (job_over r.tables gno rec rows)
+
+pub job_there : (r : Replica) (gno : ℕ) → IsSound r → IsUnderWay r gno → IsThere r gno
+job_there r gno sound under =
+    let got = found r.accepted (gno - 1) (omega (arith, under.0, under.1, sound.dispatched)) in
+    record { rec = got.0; at = got.1; rows = sound.rows; rows_are = sound.rows_are; job = job_of_parts r gno got.0 sound.rows got.1 sound.rows_are } where
+      found : (xs : List Record) (k : ℕ) → k < length xs → (x : Record) × (slice_get xs k ≡ Some x)
+      found xs k k_in = elim (slice_get_cases xs k).1 [ inl v ↦ (v.0, v.2) | inr v ↦ absurd (omega (arith, v.0)) ]
+
+under_at : (r : Replica) (place : ℕ) → get_or r.under_way place true ≡ false → IsUnderWay r (r.committed + place + 1)
+under_at r place going = let within = within_under r.under_way place going in (omega arith, omega (arith, within))
+
+-- ---- what each call of the replica leaves of the jobs
+
+-- what is accepted stands behind those under way
+pub jobs_accepted : (r : Replica) (jobs : List (Option Job)) (new : Record) → IsSound r → HasJobs r jobs → HasJobs (with_accepted r new) jobs
+jobs_accepted r jobs new sound h =
+    as_jobs (with_accepted r new) jobs (left_same r.under_way jobs (job_at r) (job_at (with_accepted r new)) (as_left r jobs h) (λ n going.
+    let under = under_at r n going in
+    let there = job_there r (r.committed + n + 1) sound under in
+    let at = still_at r.accepted (new ∷ []) (r.committed + n + 1 - 1) there.rec there.at in
+    let rows : working_rows (with_accepted r new) ≡ Some there.rows =
+    ap (after r.tables (loaded r.base)) (take-append-le r.committed r.accepted (new ∷ []) (omega (arith, under.0, under.1, sound.dispatched))) ∙ there.rows_are in
+    there.job ∙ sym (job_of_parts (with_accepted r new) (r.committed + n + 1) there.rec there.rows at rows)))
+
+-- the job that is handed out is the last
+pub jobs_dispatched : (r : Replica) (jobs : List (Option Job)) (job : Job) → HasJobs r jobs → job_of r (dispatched r + 1) ≡ Some job → HasJobs (dispatched_next r) (jobs ++ Some job ∷ [])
+jobs_dispatched r jobs job h is = as_jobs (dispatched_next r) (jobs ++ Some job ∷ []) (left_pushed r.under_way jobs (job_at r) job (as_left r jobs h) is)
+
+pub jobs_finished : (r : Replica) (jobs : List (Option Job)) (gno : ℕ) → HasJobs r jobs → HasJobs (with_finished r gno) (set jobs (gno - r.committed - 1) None)
+jobs_finished r jobs gno h = as_jobs (with_finished r gno) (set jobs (gno - r.committed - 1) None) (left_taken r.under_way jobs (job_at r) (gno - r.committed - 1) (as_left r jobs h))
+
+-- the jobs behind the first are those that they were, since they are over the rows that the first leaves too
+pub jobs_committed : (r : Replica) (jobs : List (Option Job)) (leaves : Database) → IsSound r → rows_at r (r.committed + 1) ≡ Some leaves → HasJobs r jobs → HasJobs (committed_next r) (drop 1 jobs)
+jobs_committed r jobs leaves sound left h =
+    as_jobs (committed_next r) (drop 1 jobs) (left_same (drop 1 r.under_way) (drop 1 jobs) (λ n. job_at r (suc n)) (job_at (committed_next r)) (left_passed r.under_way jobs (job_at r) (as_left r jobs h)) (λ n going.
+    let gno = r.committed + suc n + 1 in
+    let under = under_at r (suc n) (sym (after_first r.under_way n true) ∙ going) in
+    let there = job_there r gno sound under in
+    let input = sound.jobs gno (r.committed + 1) (job_over r.tables gno there.rec there.rows) leaves under (omega arith) (omega arith) there.job left in
+    let same : gno ≡ r.committed + 1 + n + 1 = omega arith in
+    let at : slice_get r.accepted (r.committed + 1 + n + 1 - 1) ≡ Some there.rec = ap (λ (g : ℕ). slice_get r.accepted (g - 1)) (sym same) ∙ there.at in
+    there.job ∙ (λ i. Some (record { gno = same i; rec = there.rec; input = input i; schema = r.tables }))
+    ∙ sym (job_of_parts (committed_next r) (r.committed + 1 + n + 1) there.rec leaves at left)))
+
+pub jobs_published : (r : Replica) (jobs : List (Option Job)) (upto : ℕ) → HasJobs r jobs → HasJobs (with_published r upto) jobs
+jobs_published r jobs upto h = record { each = h.each; are = h.are }

@@ -1,0 +1,9 @@
+use Rattle.std.proofs.Common.{refl, sym, subst, Bool, ◌≡◌}
+use Rattle.std.specs.Bool.{Decides}
+use Rattle.executor.proofs.Comparing.{along, option_Decides, columns_Decides}
+use Rattle.world.proofs.sides.is_loaded.Goals as goal
+
+pub returns : goal.returns
+returns c =
+    along c.eq.result c.loaded_row.ensures refl
+    (subst (λ (b : Bool). Decides b (c.loaded_row.result ≡ c.args.entry.now.1)) (sym c.eq.ensures) (option_Decides columns_Decides c.loaded_row.result c.args.entry.now.1))
