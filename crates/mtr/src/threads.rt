@@ -16,10 +16,10 @@ mod serving;
 mod sides;
 mod trouble;
 
-ghost use Rattle.std.specs.Prelude.{◌≡◌, ◌++◌, ◌∷◌, [], OnOk};
+ghost use Rattle.std.specs.Prelude.{◌≡◌, ◌++◌, ◌∷◌, [], IfOk, OnOk};
 ghost use Rattle.std.specs.Io.KnownBytes.{Appends};
 ghost use Rattle.mtr.specs.Options.{IsInRange};
-ghost use Rattle.mtr.specs.Threads.{verdict_text, ending_for};
+ghost use Rattle.mtr.specs.Threads.{PrintsVerdict, verdict_text, ending_for};
 
 use crate::ending::{Ending, Stop};
 use crate::options::{Options, Plan};
@@ -48,6 +48,7 @@ pub fn run_threads<H: Threads + Wait + Sync, W: Write>(
     output: &mut W,
 ) -> Result<Ending, Stop>
     requires { IsInRange (Options.Threads plan.now) }
+    ensures { IfOk result (λ ending. PrintsVerdict ending (W.contents output.old) (W.contents output.new)) }
 {
     let verdict = match open_and_run(rt, alloc, plan) {
         Ok(verdict) => verdict,

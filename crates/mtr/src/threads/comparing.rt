@@ -2,6 +2,7 @@
 
 ghost use Rattle.std.specs.Prelude.{◌≤◌};
 ghost use Rattle.mtr.specs.Options.{IsInRange};
+ghost use Rattle.mtr.specs.Threads.{IsLast};
 
 use super::changes::{row_left, row_of};
 use super::sides::{Reader, Replica, Source};
@@ -65,7 +66,9 @@ fn shown<K: ReplicaNaming>(reader: &mut Reader<K>, row: RowId) -> Result<Option<
 }
 
 /// The greatest gno of receipts; 0 where there are none.
-pub fn last_gno<J: Naming>(receipts: &[Receipt<J>]) -> u64 {
+pub fn last_gno<J: Naming>(receipts: &[Receipt<J>]) -> u64
+    ensures { IsLast receipts.now result }
+{
     let mut last = 0;
     for receipt in receipts {
         last = receipt.given().gno.max(last);

@@ -7,6 +7,7 @@ ghost use Rattle.source_core.specs.Source.{new_source};
 ghost use Rattle.replica_core.specs.Calls.{new_over};
 ghost use Rattle.world.specs.Fresh.{IsNew};
 ghost use Rattle.mtr.specs.Options.{IsInRange};
+ghost use Rattle.mtr.specs.Threads.{Holds};
 
 use super::Verdict;
 use super::changes::TABLE;
@@ -59,6 +60,7 @@ pub fn open_and_run<H: Threads + Wait + Sync>(
     plan: &Plan,
 ) -> Result<Verdict, Trouble>
     requires { IsInRange (Options.Threads plan.now) }
+    ensures { IfOk result Holds }
 {
     let cores = new_cores(alloc, plan.workers)?;
     let base = cores.replica.base().copy()?;
@@ -151,6 +153,7 @@ fn run_named<J: Naming + Send + Sync, K: ReplicaNaming + Send + Sync, H: Threads
     requires replica_base { cores.replica.base ≡ K.base }
     requires publication { publication.book ≡ K.book }
     requires published { publication.base ≡ cores.replica.base }
+    ensures { IfOk result Holds }
 {
     let Cores {
         source,
@@ -234,15 +237,19 @@ fn apply<J: Naming + Send + Sync, K: ReplicaNaming + Send + Sync, H: Threads + W
     )
 }
 
-/// Ends the source, and asks whether the replica has what its log says.
+/// Ends the source, and asks whether the replica has what its log says, and published as many commits as were told.
 fn judge<J: Naming>(
     source: Source<J>,
     replica: &ReplicaCore<BTreeStore>,
     receipts: &[Receipt<J>],
     published: u64,
-) -> Verdict {
+) -> Verdict
+    ensures { Holds result }
+{
     let log = last_gno(receipts);
-    if begins(&source.end(receipts), replica) {
+    let source = source.end(receipts);
+    let _legal = source.log();
+    if replica.published() == published && begins(&source, replica) {
         Verdict::Equal { log, published }
     } else {
         Verdict::Different
