@@ -1,7 +1,7 @@
 use Rattle.std.proofs.Common.{rules, ◌≡◌, ◌∙◌, ap, ap₂, codes, true}
 use Rattle.std.proofs.lemmas.Result.{IfOk-weaker}
 use Rattle.clap.specs.Words.{App, app_of, new_app, with_subcommand}
-use Rattle.mtr.specs.Options.{run_app, threads_app, decode_app}
+use Rattle.mtr.specs.Options.{run_app, threads_app}
 use Rattle.mtr.proofs.command_line.command.Goals as goal
 
 abbrev top_of : App → App

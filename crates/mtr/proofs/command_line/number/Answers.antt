@@ -1,4 +1,4 @@
-use Rattle.std.proofs.Common.{◌∙◌, sym, refl, ap, arith, ◌⊎◌, inl, inr}
+use Rattle.std.proofs.Common.{◌∙◌, sym, ap, arith, inl, inr}
 use Rattle.clap.specs.Words.{found_of}
 use Rattle.mtr.specs.Words.{◌>>=◌}
 use Rattle.mtr.proofs.OptionNumbers.{number_read, within, inside, outside}
