@@ -4,7 +4,7 @@
 ghost use Rattle.std.specs.Prelude.{◌≤◌};
 
 use crate::{Received, Relay, ReplicaFault};
-use record_codec::{Changes, Flags, Record, Refs, same_records};
+use record_codec::{Changes, Flags, Record, Refs, decode, same_records};
 use rows::{Change, Named, Row};
 use schema::{Memory, RowId, Schema, Table};
 use std::alloc::Global;
@@ -287,13 +287,54 @@ fn assert_last(rt: &impl Abort, relay: &Relay, want: &Record) {
     assert!(rt; matches!(relay.accepted().last(), Some(last) if same_records(last, want)));
 }
 
+/// The bytes of a record of 2048 refs and one delete.
+fn bytes_of_refs(alloc: Global) -> Result<Vec<u8>, Memory> {
+    let mut bytes = Vec::new(alloc);
+    bytes.extend_from_slice(&20_520u32.to_be_bytes())?;
+    bytes.extend_from_slice(&[0; 25])?;
+    bytes.extend_from_slice(&2048u16.to_be_bytes())?;
+    for key in 0i64..2048 {
+        bytes.extend_from_slice(&[0, 1])?;
+        bytes.extend_from_slice(&key.to_be_bytes())?;
+    }
+    bytes.extend_from_slice(&[0, 1, 3, 0, 1, 0, 0, 0, 0, 0, 0, 0, 0])?;
+    Ok(bytes)
+}
+
+/// As many refs as a record may have.
+fn all_refs(alloc: Global) -> Result<Refs, Memory> {
+    let (read, _) = decode(alloc, &bytes_of_refs(alloc)?).map_err(|_| Memory)?;
+    read.refs.copy()
+}
+
+/// The record 1 of 1024 changes of 16 columns and 2048 refs.
+fn greatest(alloc: Global) -> Result<Record, Memory> {
+    let refs = all_refs(alloc)?;
+    let wide = inserts(alloc, 1024)?;
+    Ok(Record { refs, ..wide })
+}
+
 #[test]
 fn a_record_of_1024_changes_of_16_columns_is_accepted(rt: HostRuntime) -> Result<(), Memory> {
     let alloc = rt.alloc();
     let mut relay = relay(alloc)?;
-    accepts(&rt, &mut relay, inserts(alloc, 1024))?;
+    let copy = greatest(alloc)?;
+    assert_eq!(rt; copy.refs.rows().len(), 2048);
+    accepts(&rt, &mut relay, greatest(alloc))?;
     assert_count(&rt, &relay, 1);
-    assert_last(&rt, &relay, &inserts(alloc, 1024)?);
+    assert_last(&rt, &relay, &copy);
+    Ok(())
+}
+
+/// There is room for more records than for the first few.
+#[test]
+fn many_records_are_accepted(rt: HostRuntime) -> Result<(), Memory> {
+    let alloc = rt.alloc();
+    let mut relay = relay(alloc)?;
+    for gno in 1..301 {
+        accepts(&rt, &mut relay, update_of(alloc, gno, gno - 1, 10, 0))?;
+    }
+    assert_count(&rt, &relay, 300);
     Ok(())
 }
 
