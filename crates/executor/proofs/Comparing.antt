@@ -1,4 +1,4 @@
--- What `==` answers of the parts of a job, and of lists of them.
+-- What `==` answers of a job's rows and tables, and of lists of them.
 use Rattle.std.proofs.Common.{◌≡◌, sym, ap, ◌∙◌, refl, ℤ, Bool, ◌==◌, ◌&&◌, int_eq, List, length, take, Option, Some, None}
 use Rattle.std.specs.Bool.{Decides}
 use Rattle.std.specs.Cmp.{booleans_Decides}
@@ -9,13 +9,7 @@ use Rattle.std.proofs.Math.Seq.{take-append_seam}
 use Rattle.std.proofs.lemmas.Bool.Decides.{Decides-eqb, Decides-int_eq, Decides-and, Decides-like}
 use Rattle.std.proofs.lemmas.Slice.Eq.{slice_eq-Decides}
 use Rattle.schema.specs.declared.Table.{Table}
-use Rattle.schema.specs.declared.RowId.{RowId}
 use Rattle.rows.specs.Row.{padded}
-
-pub row_id_Decides : (a b : RowId) → Decides (a.table == b.table && int_eq a.key b.key) (a ≡ b)
-row_id_Decides a b =
-    Decides-like _ (λ p. λ i. record { table = p.0 i; key = p.1 i }) (λ e. (ap (λ (r : RowId). r.table) e, ap (λ (r : RowId). r.key) e))
-    (Decides-and _ _ (Decides-eqb a.table b.table) (Decides-int_eq a.key b.key))
 
 pub pair_Decides : {A B : Type 0} {E : A → A → Bool} {F : B → B → Bool} → ((a b : A) → Decides (E a b) (a ≡ b)) → ((a b : B) → Decides (F a b) (a ≡ b)) → (p q : A × B) → Decides (E p.0 q.0 && F p.1 q.1) (p ≡ q)
 pair_Decides {A} {B} first second p q =
@@ -45,6 +39,3 @@ pub columns_Decides : (xs ys : List ℤ) → Decides (length xs == length ys && 
 columns_Decides xs ys =
     Decides-like _ (λ p. same_padded xs ys p.0 p.1) (λ e. (ap length e, ap padded e))
     (Decides-and _ _ (Decides-eqb (length xs) (length ys)) (slice_eq-Decides Decides-int_eq (padded xs) (padded ys) _ refl))
-
-pub along : {A : Type 0} {a b x y : A} (r : Bool) → x ≡ a → y ≡ b → Decides r (x ≡ y) → Decides r (a ≡ b)
-along r p q d = Decides-like r (λ e. sym p ∙ e ∙ q) (λ e. p ∙ e ∙ sym q) d

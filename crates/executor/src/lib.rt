@@ -15,8 +15,7 @@ mod same;
 
 use btree_store::BTreeStore;
 use overlay::run_changes;
-use record_codec::Record;
-pub use same::same_records;
+use record_codec::{Record, same_records};
 use same::{same_batches, same_schemas};
 use schema::{Memory, Schema};
 use std::alloc::Global;

@@ -7,8 +7,7 @@ ghost use Rattle.std.specs.FinMap.{get as row_of};
 ghost use Rattle.store_trait.specs.Batch.{Entry};
 ghost use Rattle.store_trait.specs.Operation.{loaded};
 
-use executor::same_records;
-use record_codec::Record;
+use record_codec::{Record, same_records};
 use replica_core::ReplicaCore;
 use rows::Row;
 use schema::RowId;

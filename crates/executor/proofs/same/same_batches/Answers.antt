@@ -1,5 +1,6 @@
 use Rattle.std.proofs.lemmas.Slice.Eq.{slice_eq-Decides}
-use Rattle.executor.proofs.Comparing.{along, row_id_Decides, pair_Decides, option_Decides, columns_Decides}
+use Rattle.record_codec.proofs.Comparing.{along, row_id_Decides}
+use Rattle.executor.proofs.Comparing.{pair_Decides, option_Decides, columns_Decides}
 use Rattle.executor.proofs.same.same_batches.Goals as goal
 
 pub returns : goal.returns

@@ -1,5 +1,6 @@
 use Rattle.std.proofs.lemmas.Slice.Eq.{slice_eq-Decides}
-use Rattle.executor.proofs.Comparing.{along, table_Decides}
+use Rattle.record_codec.proofs.Comparing.{along}
+use Rattle.executor.proofs.Comparing.{table_Decides}
 use Rattle.executor.proofs.same.same_schemas.Goals as goal
 
 pub returns : goal.returns
