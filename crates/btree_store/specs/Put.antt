@@ -1,20 +1,21 @@
 -- The steps in which a batch is put.
-use Rattle.std.specs.Prelude.{ℤ, List, [], ◌∷◌, if◌then◌else◌, IsSome}
+use Rattle.std.specs.Prelude.{◌≡◌, ℤ, List, [], ◌∷◌, if◌then◌else◌, Option, Some, None, IfSome}
 use Rattle.std.specs.List.{AllByRecursion}
 use Rattle.std.specs.FinMap.{get, insert, remove, contains_key}
 use Rattle.schema.specs.declared.RowId.{RowId}
 use Rattle.rows.specs.Database.{Database}
 use Rattle.store_trait.specs.Batch.{Entry}
 
--- with the row, where it was absent
-abbrev pub filled : Database → RowId → List ℤ → Database
-filled db id columns = if contains_key db id then db else insert db id columns
+-- with the row overwritten where it is there, or removed: what takes no memory
+abbrev pub reset : Database → RowId → Option (List ℤ) → Database
+reset db id None = remove db id
+reset db id (Some columns) = if contains_key db id then insert db id columns else db
 
--- without these rows, the last of them taken out first
-abbrev pub undo : List RowId → Database → Database
+-- with these rows as they were, the last of them put back first
+abbrev pub undo : List Entry → Database → Database
 undo [] db = db
-undo (id ∷ ids) db = remove (undo ids db) id
+undo (e ∷ es) db = reset (undo es db) e.0 e.1
 
--- each row that the batch sets is there already
-abbrev pub AreThere : Database → List Entry → Type 0
-AreThere db entries = AllByRecursion (λ e. IsSome e.1 → IsSome (get db e.0)) entries
+-- each row that the batch sets is there, as the batch has it
+abbrev pub AreSet : Database → List Entry → Type 0
+AreSet db entries = AllByRecursion (λ e. IfSome e.1 (λ columns. get db e.0 ≡ Some columns)) entries

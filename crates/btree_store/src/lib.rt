@@ -24,8 +24,8 @@ use store_trait::{Batch, RowStore};
 /// Rows by their ids, in order.
 type Rows = BTreeMap<RowId, Row>;
 
-/// Rows in an ordered map. No call copies the map. A batch takes the time of a few look-ups for each of its rows,
-/// and the memory of a list of their ids, which is given back, and of the rows that are new.
+/// Rows in an ordered map. No call copies the map. A batch takes the time of a look-up for each of its rows, and the memory
+/// of a list of what it replaces, which is given back, and of the rows that are new. A batch of one row takes no list.
 #[derive(Debug, Drop)]
 pub struct BTreeStore {
     alloc: Global,

@@ -1,28 +1,27 @@
 //! A batch is put whole or not at all, also where memory ends in the middle of it.
 //!
-//! Only the rows whose ids are new take memory. They are inserted first, and the list of their ids has its room
-//! before the first of them. Where one is refused, they are taken out again. Then rows are overwritten and removed,
-//! which takes none. A batch of one row needs no list: the map takes it or not.
+//! Rows that are set come first, since only they take memory: each is put by one look-up. What it replaces is kept, in a list
+//! that has its room before the first of them. Where one is refused, all that was kept is put back, which takes none. Then rows
+//! are removed. A batch of one row needs no list: the map takes it or not.
 
-ghost use Rattle.std.specs.Prelude.{◌≡◌, IsSome, OnOk, OnErr, FitsSigned};
+ghost use Rattle.std.specs.Prelude.{◌≡◌, Some, IfSome, OnOk, OnErr, FitsSigned};
 ghost use Rattle.std.specs.List.{AllByRecursion};
-ghost use Rattle.std.specs.FinMap.{get as row_of};
+ghost use Rattle.std.specs.FinMap.{insert, get as row_of};
 ghost use Rattle.std.proofs.Common.{w64};
 ghost use Rattle.store_trait.specs.Batch.{IsRising, put_row, put_batch};
 ghost use Rattle.btree_store.specs.Contents.{contents_of, KeysFit};
-ghost use Rattle.btree_store.specs.Put.{filled, undo, AreThere};
+ghost use Rattle.btree_store.specs.Put.{reset, undo, AreSet};
 
 use crate::Rows;
 use rows::Row;
 use schema::{Memory, RowId};
 use std::alloc::Global;
 
+/// A row by its id, or that there is none.
+type Entry = (RowId, Option<Row>);
+
 /// Puts all of these entries, or, where memory runs out, none.
-pub(crate) fn put_whole(
-    alloc: Global,
-    rows: &mut Rows,
-    entries: &[(RowId, Option<Row>)],
-) -> Result<(), Memory>
+pub(crate) fn put_whole(alloc: Global, rows: &mut Rows, entries: &[Entry]) -> Result<(), Memory>
     requires { IsRising entries.now }
     ensures ok { OnOk result (contents_of rows.new ≡ put_batch entries.now (contents_of rows.old)) }
     ensures err { OnErr result (contents_of rows.new ≡ contents_of rows.old) }
@@ -35,22 +34,18 @@ pub(crate) fn put_whole(
 }
 
 /// Puts these entries, or, where memory runs out, none.
-fn put_several(
-    alloc: Global,
-    rows: &mut Rows,
-    entries: &[(RowId, Option<Row>)],
-) -> Result<(), Memory>
+fn put_several(alloc: Global, rows: &mut Rows, entries: &[Entry]) -> Result<(), Memory>
     requires { IsRising entries.now }
     ensures ok { OnOk result (contents_of rows.new ≡ put_batch entries.now (contents_of rows.old)) }
     ensures err { OnErr result (contents_of rows.new ≡ contents_of rows.old) }
     ensures keys { KeysFit (contents_of rows.old) → KeysFit (contents_of rows.new) }
 {
-    let mut fresh = Vec::with_capacity(alloc, entries.len())?;
-    if let Err(refused) = insert_absent(rows, entries, &mut fresh) {
-        take_out(rows, fresh);
+    let mut before = Vec::with_capacity(alloc, entries.len())?;
+    if let Err(refused) = set_rows(rows, entries, &mut before) {
+        put_back(rows, before);
         return Err(refused);
     }
-    set_rows(rows, entries);
+    remove_rows(rows, entries);
     Ok(())
 }
 
@@ -61,7 +56,7 @@ fn put_one(rows: &mut Rows, id: RowId, row: Option<Row>) -> Result<(), Memory>
     ensures keys { KeysFit (contents_of rows.old) → KeysFit (contents_of rows.new) }
 {
     match row {
-        None => set_row(rows, id, None),
+        None => reset_row(rows, id, None),
         Some(row) => {
             rows.insert(id, row)?;
         }
@@ -69,69 +64,74 @@ fn put_one(rows: &mut Rows, id: RowId, row: Option<Row>) -> Result<(), Memory>
     Ok(())
 }
 
-/// Inserts the rows that are set and absent, in order, and adds their ids to the list. Where it is refused, the
-/// list has the ids of those that were inserted.
-fn insert_absent(
-    rows: &mut Rows,
-    entries: &[(RowId, Option<Row>)],
-    fresh: &mut Vec<RowId>,
-) -> Result<(), Memory>
+/// Sets the rows that the entries set, in order, and adds what stood there to the list. Where it is refused, the list has
+/// what those replaced that were set.
+fn set_rows(rows: &mut Rows, entries: &[Entry], before: &mut Vec<Entry>) -> Result<(), Memory>
     requires { IsRising entries.now }
-    ensures undone { undo fresh.new.items (contents_of rows.new) ≡ undo fresh.old.items (contents_of rows.old) }
+    ensures undone { undo before.new.items (contents_of rows.new) ≡ undo before.old.items (contents_of rows.old) }
     ensures same { OnOk result (put_batch entries.now (contents_of rows.new) ≡ put_batch entries.now (contents_of rows.old)) }
-    ensures there { OnOk result (AreThere (contents_of rows.new) entries.now) }
+    ensures set { OnOk result (AreSet (contents_of rows.new) entries.now) }
 {
     for (id, row) in entries {
         if let Some(row) = row {
-            insert_if_absent(rows, *id, *row, fresh)?;
+            replace_row(rows, *id, *row, before)?;
         }
     }
     Ok(())
 }
 
-/// Inserts the row where it is absent, and then adds its id to the list.
-fn insert_if_absent(
-    rows: &mut Rows,
-    id: RowId,
-    row: Row,
-    fresh: &mut Vec<RowId>,
-) -> Result<(), Memory>
-    ensures undone { undo fresh.new.items (contents_of rows.new) ≡ undo fresh.old.items (contents_of rows.old) }
-    ensures ok { OnOk result (contents_of rows.new ≡ filled (contents_of rows.old) id row) }
+/// Sets the row, and adds what stood there to the list. Where that is refused neither is changed.
+fn replace_row(rows: &mut Rows, id: RowId, row: Row, before: &mut Vec<Entry>) -> Result<(), Memory>
+    ensures undone { undo before.new.items (contents_of rows.new) ≡ undo before.old.items (contents_of rows.old) }
+    ensures ok { OnOk result (contents_of rows.new ≡ insert (contents_of rows.old) id row) }
 {
-    if rows.contains_key(&id) {
-        return Ok(());
-    }
-    fresh.push(id)?;
-    rows.insert(id, row)?;
-    Ok(())
-}
-
-/// Takes these rows out, the last of the list first.
-fn take_out(rows: &mut Rows, mut fresh: Vec<RowId>)
-    ensures { contents_of rows.new ≡ undo fresh.items (contents_of rows.old) }
-{
-    while let Some(added) = fresh.pop() {
-        rows.remove(&added);
+    let replaced = rows.insert(id, row)?;
+    match before.push((id, replaced)) {
+        Ok(()) => Ok(()),
+        Err(refused) => {
+            let (id, replaced) = refused.value;
+            reset_row(rows, id, replaced);
+            Err(Memory)
+        }
     }
 }
 
-/// Overwrites and removes rows, of which those that are set are there. It takes no memory.
-fn set_rows(rows: &mut Rows, entries: &[(RowId, Option<Row>)])
+/// Puts these rows back, the last of the list first. It takes no memory.
+fn put_back(rows: &mut Rows, mut before: Vec<Entry>)
+    ensures { contents_of rows.new ≡ undo before.items (contents_of rows.old) }
+{
+    while let Some((id, row)) = before.pop() {
+        reset_row(rows, id, row);
+    }
+}
+
+/// Removes the rows that the entries remove; those that they set are set. It takes no memory.
+fn remove_rows(rows: &mut Rows, entries: &[Entry])
     requires rising { IsRising entries.now }
-    requires there { AreThere (contents_of rows.old) entries.now }
+    requires set { AreSet (contents_of rows.old) entries.now }
     ensures put { contents_of rows.new ≡ put_batch entries.now (contents_of rows.old) }
     ensures keys { AllByRecursion (λ e. FitsSigned w64 e.0.key) entries.now }
 {
     for (id, row) in entries {
-        set_row(rows, *id, *row);
+        remove_row(rows, *id, *row);
     }
 }
 
-/// Overwrites a row that is there, or removes one.
-fn set_row(rows: &mut Rows, id: RowId, row: Option<Row>)
-    requires { IsSome row → IsSome (row_of (contents_of rows.old) id) }
+/// Removes the row where the entry does; else it is set.
+fn remove_row(rows: &mut Rows, id: RowId, row: Option<Row>)
+    requires { IfSome row (λ columns. row_of (contents_of rows.old) id ≡ Some columns) }
     ensures put { contents_of rows.new ≡ put_row (contents_of rows.old) id row }
+    ensures key { FitsSigned w64 id.key }
+{
+    match row {
+        None => reset_row(rows, id, None),
+        Some(_) => {}
+    }
+}
+
+/// Overwrites a row that is there, or removes one. It takes no memory.
+fn reset_row(rows: &mut Rows, id: RowId, row: Option<Row>)
+    ensures reset { contents_of rows.new ≡ reset (contents_of rows.old) id row }
     ensures key { FitsSigned w64 id.key }
 {
     match row {

@@ -1,4 +1,4 @@
-use Rattle.std.proofs.Common.{◌≡◌, ◌∙◌, sym, subst, [], ◌∷◌, Some, None, rules, w64}
+use Rattle.std.proofs.Common.{sym, subst, [], ◌∷◌, Some, None, rules, w64}
 use Rattle.std.specs.Prelude.{FitsSigned}
 use Rattle.btree_store.specs.Contents.{contents_of, KeysFit}
 use Rattle.btree_store.proofs.Maps.{contents-set}
@@ -18,4 +18,4 @@ returns-in_ok-insert-in-Some-clause-keys c = λ before.
 
 pub returns-in-None-clause-keys : goal.returns-in-None-clause-keys
 returns-in-None-clause-keys c = λ before.
-    subst KeysFit (sym c.set_row.ensures.put) (KeysFit-put_batch ((c.args.id, None) ∷ []) (contents_of c.args.rows.now) (c.set_row.ensures.key, tt) before)
+    subst KeysFit (sym c.reset_row.ensures.reset) (KeysFit-put_batch ((c.args.id, None) ∷ []) (contents_of c.args.rows.now) (c.reset_row.ensures.key, tt) before)

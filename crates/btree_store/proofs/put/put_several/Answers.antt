@@ -5,4 +5,4 @@ use Rattle.btree_store.proofs.put.put_several.Goals as goal
 
 pub returns-clause-keys : goal.returns-clause-keys
 returns-clause-keys c = λ before.
-    subst KeysFit (sym (c.set_rows.ensures.put ∙ c.in_default.ensures.same)) (KeysFit-put_batch c.args.entries.now (contents_of c.args.rows.now) c.set_rows.ensures.keys before)
+    subst KeysFit (sym (c.remove_rows.ensures.put ∙ c.in_default.ensures.same)) (KeysFit-put_batch c.args.entries.now (contents_of c.args.rows.now) c.remove_rows.ensures.keys before)
