@@ -149,3 +149,82 @@ fn one_worker_takes_one_record_at_a_time(rt: HostRuntime) {
     let ran = served_by(&rt, rt.alloc(), "1", ONE_WORKER.as_bytes());
     ends(&rt, ran, 0, ONE_WORKER_PRINTS, "");
 }
+
+/// A script of 65 records, none of which waits for another: all are dispatched as far as 64 workers go, finished from the
+/// last to the first, and committed.
+fn full_workers(alloc: Global) -> io::Result<Vec<u8>> {
+    let mut script = Vec::new(alloc);
+    write!(&mut script, "table 1 1 keyed\n")?;
+    for session in 1..66 {
+        write!(
+            &mut script,
+            "begin {session}\ninsert {session} 1 {session} 7\nprepare {session}\nqueue {session}\n"
+        )?;
+    }
+    write!(&mut script, "flush\nsync\ncommit\n")?;
+    for gno in 1..66 {
+        write!(&mut script, "deliver {gno}\n")?;
+    }
+    for _gno in 1..66 {
+        write!(&mut script, "dispatch\n")?;
+    }
+    finish_all(script)
+}
+
+fn finish_all(script: Vec<u8>) -> io::Result<Vec<u8>> {
+    let mut script = script;
+    for behind in 1..65 {
+        write!(&mut script, "finish {}\n", 65 - behind)?;
+    }
+    for _gno in 1..66 {
+        write!(&mut script, "next\n")?;
+    }
+    write!(&mut script, "dispatch\npublish\nread 1 64\nread 1 65\n")?;
+    Ok(script)
+}
+
+/// What it prints: no more than 64 jobs are out, and the last is handed out once another is committed.
+fn full_workers_prints(alloc: Global) -> io::Result<Vec<u8>> {
+    let mut want = Vec::new(alloc);
+    for _session in 1..66 {
+        write!(&mut want, "ok\nok\nprepared 0\nok\n")?;
+    }
+    write!(&mut want, "flushed 1-65")?;
+    for sequence in 1..66 {
+        write!(&mut want, " ({sequence},0)")?;
+    }
+    write!(&mut want, "\nsynced 1-65\ncommitted 1-65\n")?;
+    for _gno in 1..66 {
+        write!(&mut want, "accepted\n")?;
+    }
+    jobs_print(want)
+}
+
+fn jobs_print(want: Vec<u8>) -> io::Result<Vec<u8>> {
+    let mut want = want;
+    for gno in 1..65 {
+        write!(&mut want, "job {gno}\n")?;
+    }
+    write!(&mut want, "nothing\n")?;
+    for behind in 1..65 {
+        write!(&mut want, "finished {}\n", 65 - behind)?;
+    }
+    for gno in 1..65 {
+        write!(&mut want, "commit {gno}\n")?;
+    }
+    write!(
+        &mut want,
+        "nothing\njob 65\npublished 64\n64: 7\n64: none\n"
+    )?;
+    Ok(want)
+}
+
+#[test]
+fn up_to_64_jobs_are_out(rt: HostRuntime) -> Result<(), Fail> {
+    let alloc = rt.alloc();
+    let script = full_workers(alloc)?;
+    let (status, printed, told) = served_by(&rt, alloc, "64", &script);
+    assert_eq!(rt; (status, told.len()), (0, 0));
+    assert_eq!(rt; printed.as_slice(), full_workers_prints(alloc)?.as_slice());
+    Ok(())
+}
