@@ -47,7 +47,7 @@ few_accepted ts (x ∷ xs) h =
     omega arith
 
 pub few_dispatched : (r : Replica) (marks : Marks) (line : Line) (jobs : List Job) (rows : Database) (ops : List Op) → IsKept r marks line jobs rows ops → dispatched r < 2 ^ 63
-few_dispatched r marks line jobs rows ops h = let few = few_accepted r.tables r.accepted h.acceptable in let all = h.dispatched in omega arith
+few_dispatched r marks line jobs rows ops h = let few = few_accepted r.tables r.accepted h.log.acceptable in let all = h.dispatched in omega arith
 
 -- ---- answers
 
@@ -132,7 +132,7 @@ module _ (v : relay.Relay) (base : List Entry) (marks : Marks) (published : ℕ)
     received_kept from new (Ok Accepted) left h (inr is) ok err =
         let next : IsAcceptable v.tables v.accepted new = ((accepts_the_acceptable v from new).0 (sym is)).1 in
         subst (λ (x : relay.Relay). IsKept (seen_as x base marks published line workers stopped) marks line jobs rows ops) (sym ok)
-        (kept_accepted (seen_as v base marks published line workers stopped) marks line jobs rows ops new h (next_is_acceptable v.tables v.accepted new h.acceptable next))
+        (kept_accepted (seen_as v base marks published line workers stopped) marks line jobs rows ops new h (next_is_acceptable v.tables v.accepted new h.log.acceptable next))
 
     pub dispatched_kept : (job : Job) (line_then : Line) (jobs_then : List Job) → Keeps → is_eligible (seen_as v base marks published line workers stopped) ≡ true → job_of (seen_as v base marks published line workers stopped) (dispatched (seen_as v base marks published line workers stopped) + 1) ≡ Some job → line_then ≡ entered line → jobs_then ≡ jobs ++ job ∷ [] → IsKept (seen_as v base marks published line_then workers stopped) marks line_then jobs_then rows ops
     dispatched_kept job line_then jobs_then h may made is_line is_jobs =
@@ -163,7 +163,7 @@ module _ (v : relay.Relay) (base : List Entry) (marks : Marks) (published : ℕ)
         let count = h.count in
         sym (h.jobs gno under) ∙ slice_get_read jobs (length jobs) (gno - marks.low - 1) copy refl (omega arith) at
 
-    taken_from : (result : Finished) (left : List Entry) → IsHandedOut (seen_as v base marks published line workers stopped) result → IsResult result → result.outcome ≡ Output left → IsTaken (seen_as v base marks published line workers stopped) result.job.gno result
+    taken_from : (result : Finished) (left : List Entry) → IsHandedOut (seen_as v base marks published line workers stopped) result → IsResult result → result.outcome ≡ Output left → IsTaken (job_of (seen_as v base marks published line workers stopped) result.job.gno) result
     taken_from result left of made is = record { job = of; left = left; output = is; applies = came result.outcome (executed result.job) made is }
       where
         came : (o e : Outcome) → (o ≡ Lacks) ⊎ (o ≡ e) → o ≡ Output left → e ≡ Output left
