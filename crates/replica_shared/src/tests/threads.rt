@@ -1,5 +1,5 @@
 //! Workers in threads.
-ghost use Rattle.std.specs.Prelude.{◌≡◌};
+ghost use Rattle.std.specs.Prelude.{◌≡◌, ◌≤◌};
 ghost use Rattle.replica_core.specs.Calls.{new_over};
 
 use super::{
@@ -51,23 +51,36 @@ impl WorkerGate for HeldGate {
     }
 }
 
-#[test]
-fn the_second_job_overtakes_the_first(rt: HostRuntime) -> Result<(), Fail> {
-    let alloc = rt.alloc();
-    let core = core(alloc, 2)?;
-    let beginning = beginning(&core)?;
-    let records = vec![in alloc;
-        record(alloc, 1, 0, insert(10, [5, 6])?)?,
-        record(alloc, 2, 0, insert(11, [1, 1])?)?,
-    ]?;
-    overtaken::<Brand, _>(&rt, alloc, core, beginning, &records)
+/// What threads do with a shared replica.
+#[derive(Clone, Copy, Drop)]
+enum Course {
+    /// The second job is executed while the first is held.
+    Overtaking,
+    /// Workers and one who waits are there before the records come.
+    Waiting,
 }
 
-fn overtaken<J: ReplicaNaming + Send + Sync, R: Threads + Wait + Abort + Sync>(
+/// A replica of so many workers takes these records, and in the end all are committed and published.
+fn run_threads<R: Threads + Wait + Abort + Sync>(
+    rt: &R,
+    alloc: Global,
+    workers: usize,
+    course: Course,
+    records: &[Record],
+) -> Result<(), Fail>
+    requires { (1 ≤ workers) × (workers ≤ 64) }
+{
+    let core = core(alloc, workers)?;
+    let beginning = beginning(&core)?;
+    run_course::<Brand, R>(rt, alloc, core, beginning, course, records)
+}
+
+fn run_course<J: ReplicaNaming + Send + Sync, R: Threads + Wait + Abort + Sync>(
     rt: &R,
     alloc: Global,
     core: Core,
     beginning: Beginning,
+    course: Course,
     records: &[Record],
 ) -> Result<(), Fail>
     requires core { core ≡ new_over core.tables core.source core.base core.workers }
@@ -76,20 +89,42 @@ fn overtaken<J: ReplicaNaming + Send + Sync, R: Threads + Wait + Abort + Sync>(
     requires book { beginning.book ≡ J.book }
 {
     let shared: Shared<J> = shared(rt, alloc, core, beginning, 1)?;
-    let sent = send(rt, &shared, records);
-    let (one, two, came) = side_by_side(rt, alloc, &shared);
-    let told = learns(rt, &shared, 2, 11, [1, 1]);
-    let ended = ended(rt, shared);
+    let told = match course {
+        Course::Overtaking => overtakes(rt, alloc, &shared, records),
+        Course::Waiting => waits(rt, alloc, &shared, records),
+    };
+    let (committed, published, shown) = ended(rt, shared);
     told?;
-    sent?;
+    let all = records.len() as u64;
+    assert_eq!(rt; (committed, published, shown), (all, all, all));
+    Ok(())
+}
+
+#[test]
+fn the_second_job_overtakes_the_first(rt: HostRuntime) -> Result<(), Fail> {
+    let alloc = rt.alloc();
+    let records = vec![in alloc;
+        record(alloc, 1, 0, insert(10, [5, 6])?)?,
+        record(alloc, 2, 0, insert(11, [1, 1])?)?,
+    ]?;
+    run_threads(&rt, alloc, 2, Course::Overtaking, &records)
+}
+
+fn overtakes<J: ReplicaNaming + Send + Sync, R: Threads + Wait + Abort + Sync>(
+    rt: &R,
+    alloc: Global,
+    shared: &Shared<J>,
+    records: &[Record],
+) -> Result<(), Fail> {
+    send(rt, shared, records)?;
+    let (one, two, came) = side_by_side(rt, alloc, shared);
     one?;
     two?;
     // (Where there is no memory for a thread, the workers run one after another.)
     if !came {
         return Err(ReplicaFault::Memory)?;
     }
-    assert_eq!(rt; ended, (2, 2, 2));
-    Ok(())
+    learns(rt, shared, 2, 11, [1, 1])
 }
 
 /// Two workers, of which one is held. Whether the other's job was handed in meanwhile.
@@ -140,52 +175,39 @@ fn learns<J: ReplicaNaming>(
 #[test]
 fn three_workers_commit_in_log_order(rt: HostRuntime) -> Result<(), Fail> {
     let alloc = rt.alloc();
-    let core = core(alloc, 3)?;
-    let beginning = beginning(&core)?;
     let records = vec![in alloc;
         record(alloc, 1, 0, insert(10, [5, 6])?)?,
         record(alloc, 2, 1, set(10, 0, 7)?)?,
         record(alloc, 3, 2, set(10, 1, 8)?)?,
     ]?;
-    in_order::<Brand, _>(&rt, alloc, core, beginning, &records)
+    run_threads(&rt, alloc, 3, Course::Waiting, &records)
 }
 
-fn in_order<J: ReplicaNaming + Send + Sync, R: Threads + Wait + Abort + Sync>(
+fn waits<J: ReplicaNaming + Send + Sync, R: Threads + Wait + Abort + Sync>(
     rt: &R,
     alloc: Global,
-    core: Core,
-    beginning: Beginning,
+    shared: &Shared<J>,
     records: &[Record],
-) -> Result<(), Fail>
-    requires core { core ≡ new_over core.tables core.source core.base core.workers }
-    requires rows { beginning.base ≡ core.base }
-    requires base { core.base ≡ J.base }
-    requires book { beginning.book ≡ J.book }
-{
-    let shared: Shared<J> = shared(rt, alloc, core, beginning, 1)?;
+) -> Result<(), Fail> {
     let ((one, two), (three, (waited, sent))) = join(
         rt,
-        || join(rt, || work(rt, alloc, &shared), || work(rt, alloc, &shared)),
+        || join(rt, || work(rt, alloc, shared), || work(rt, alloc, shared)),
         || join(
             rt,
-            || work(rt, alloc, &shared),
+            || work(rt, alloc, shared),
             || join(
                 rt,
                 || shared.wait_for(rt, 3).map(|notice| notice.upto()),
-                || send(rt, &shared, records),
+                || send(rt, shared, records),
             ),
         ),
     );
-    let told = learns(rt, &shared, 3, 10, [7, 8]);
-    let ended = ended(rt, shared);
-    told?;
     sent?;
     one?;
     two?;
     three?;
     assert_eq!(rt; waited?, 3);
-    assert_eq!(rt; ended, (3, 3, 3));
-    Ok(())
+    learns(rt, shared, 3, 10, [7, 8])
 }
 
 /// A worker that nobody watches.
