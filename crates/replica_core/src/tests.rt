@@ -604,6 +604,21 @@ fn three_hundred_commits_are_published_in_parts(rt: HostRuntime) -> Result<(), F
     Ok(())
 }
 
+/// The insert of row 10, which refers to this row.
+fn referring(alloc: Global, key: i64) -> Result<Record, Memory> {
+    let mut rec = insert_of(alloc, 1, 10)?;
+    rec.refs = Refs::from_rising(vec![in alloc; id(key)]?);
+    Ok(rec)
+}
+
+#[test]
+fn a_record_may_refer_to_an_absent_row(rt: HostRuntime) -> Result<(), Fail> {
+    let mut replica = replica(rt.alloc(), 1)?;
+    passes(&rt, &mut replica, &referring(rt.alloc(), 99)?)?;
+    has_row(&rt, &replica, 10, row(5, 6), 1);
+    Ok(())
+}
+
 /// A store of the rows 0 to 1499.
 fn large_store(alloc: Global) -> Result<BTreeStore, Memory> {
     let mut entries = Vec::new(alloc);
@@ -615,12 +630,11 @@ fn large_store(alloc: Global) -> Result<BTreeStore, Memory> {
     Ok(store)
 }
 
-/// The record of 1024 changes: the rows -1 and down are inserted, and each is updated.
+/// The record of 1024 changes, each of a row of its own: the rows -1 and down are inserted.
 fn large_record(alloc: Global) -> Result<Record, Memory> {
     let mut list = Vec::new(alloc);
-    for key in -512..0 {
-        list.push(insert(key, 5, 6)?)?;
-        list.push(set(key, 1, key)?)?;
+    for key in -1024..0 {
+        list.push(insert(key, 5, key)?)?;
     }
     record_of(alloc, 1, 0, list)
 }
@@ -630,11 +644,11 @@ fn a_record_of_1024_changes_is_committed(rt: HostRuntime) -> Result<(), Fail> {
     let mut replica = replica_of(rt.alloc(), large_store(rt.alloc())?, 1)?;
     assert_eq!(rt; replica.base().entries().len(), 1500);
     passes(&rt, &mut replica, &large_record(rt.alloc())?)?;
-    has_row(&rt, &replica, -512, row(5, -512), 2012);
+    has_row(&rt, &replica, -1024, row(5, -1024), 2524);
     let [only] = pending(&replica) else {
         return Err(Fail::new("one commit waits"));
     };
-    assert_eq!(rt; only.batch().entries().len(), 512);
+    assert_eq!(rt; only.batch().entries().len(), 1024);
     Ok(())
 }
 

@@ -21,6 +21,9 @@ use std::thread::{Threads, join};
 /// How often the first job looks whether the second was handed in.
 const TURNS: u32 = 1_000_000;
 
+/// How often one yields to workers that have nothing left to do, so that they sleep.
+const PAUSE: u32 = 1_000;
+
 /// It holds job 1 until what came of job 2 was handed in, or so many turns are over.
 #[derive(Drop)]
 struct HeldGate {
@@ -56,7 +59,7 @@ impl WorkerGate for HeldGate {
 enum Course {
     /// The second job is executed while the first is held.
     Overtaking,
-    /// Workers and one who waits are there before the records come.
+    /// Workers and one who waits are there before the records come, which do so one by one.
     Waiting,
 }
 
@@ -158,6 +161,33 @@ fn send<J: ReplicaNaming>(
     Ok(())
 }
 
+/// Hands over each record once the one before it is published and the workers sleep, and closes once they sleep again.
+fn feed<J: ReplicaNaming>(
+    rt: &impl Wait,
+    shared: &Shared<J>,
+    records: &[Record],
+) -> Result<(), ReplicaFault> {
+    let mut fed = Ok(());
+    for record in records {
+        fed = fed.and_then(|_| fed_alone(rt, shared, record));
+    }
+    shared.close(rt);
+    fed
+}
+
+fn fed_alone<J: ReplicaNaming>(
+    rt: &impl Wait,
+    shared: &Shared<J>,
+    record: &Record,
+) -> Result<(), ReplicaFault> {
+    receive(rt, shared, SOURCE, record)?;
+    shared.wait_for(rt, record.gno)?;
+    for _ in 0..PAUSE {
+        thread::yield_now();
+    }
+    Ok(())
+}
+
 /// A seat reads the row once the commit of this gno is published.
 fn learns<J: ReplicaNaming>(
     rt: &(impl Wait + Abort),
@@ -198,7 +228,7 @@ fn waits<J: ReplicaNaming + Send + Sync, R: Threads + Wait + Abort + Sync>(
             || join(
                 rt,
                 || shared.wait_for(rt, 3).map(|notice| notice.upto()),
-                || send(rt, shared, records),
+                || feed(rt, shared, records),
             ),
         ),
     );
