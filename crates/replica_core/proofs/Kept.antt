@@ -1,7 +1,7 @@
 -- What a replica keeps, at each of its steps.
-use Rattle.std.proofs.Common.{◌≡◌, ◌∙◌, sym, ap, subst, refl, ℕ, zero, suc, ◌+◌, ◌-◌, ◌<◌, ◌≤◌, Bool, true, false, ◌&&◌, inl, inr, List, [], ◌∷◌, ◌++◌, map, length, take, drop, Option, Some, None, is_some, arith, slice_get, slice_set, get_or, length-drop, add-one}
-use Rattle.std.specs.Option.{option_and_then, option_map, option_map_or}
-use Rattle.std.proofs.lemmas.Bool.{and_parts, cases_lt, cases_eq, ltb-true, leb-true}
+use Rattle.std.proofs.Common.{◌≡◌, ◌∙◌, sym, ap, subst, refl, ℕ, zero, suc, ◌+◌, ◌-◌, ◌<◌, ◌≤◌, true, false, inl, inr, List, [], ◌∷◌, ◌++◌, length, take, drop, Option, Some, None, is_some, arith, slice_get, slice_set, get_or, length-drop, add-one}
+use Rattle.std.specs.Option.{option_and_then}
+use Rattle.std.proofs.lemmas.Bool.{cases_lt, cases_eq}
 use Rattle.std.proofs.lemmas.Option.{none-some, same_Some, slice_get_within}
 use Rattle.std.proofs.lemmas.List.{map-append, take-append-le, length_push, length-map, length-set, map-set, drop-drop, drop-map, get_or-drop, get_or_append_left, get_or-set_same, get_or-set_other}
 use Rattle.std.proofs.Math.Seq.{get_or-append_seam}
@@ -20,13 +20,13 @@ use Rattle.executor.specs.Laws.{LeavesThere}
 use Rattle.executor.proofs.Elsewhere.{output_is_there}
 use Rattle.relay.specs.Relay.{AreAcceptable}
 use Rattle.scheduler.specs.Marks.{Marks, all_up_to}
-use Rattle.commit_order.specs.Turns.{Line, place_of, entered, with_result, turn, passed}
-use Rattle.replica_core.specs.Replica.{Replica, dispatched, rows_at, working_rows, job_over, job_of, commits_from}
-use Rattle.replica_core.specs.Sound.{IsSound, IsUnderWay, AreEligible}
-use Rattle.replica_core.specs.Calls.{with_accepted, is_eligible, dispatched_next, with_finished, stopped_at, committed_next, with_published}
+use Rattle.commit_order.specs.Turns.{Line, entered, with_result, turn, passed}
+use Rattle.replica_core.specs.Replica.{Replica, dispatched, rows_at, job_of, commits_from}
+use Rattle.replica_core.specs.Sound.{IsSound, IsUnderWay}
+use Rattle.replica_core.specs.Calls.{with_accepted, dispatched_next, with_finished, stopped_at, committed_next, with_published}
 use Rattle.replica_core.specs.Core.{IsKept, IsTaken}
 use Rattle.replica_core.proofs.Commits.{after-next, length-committed, waiting-next}
-use Rattle.replica_core.proofs.Jobs.{slice_get-push, hold_along, job_at, job_parts, job_stays, job_stays_behind}
+use Rattle.replica_core.proofs.Jobs.{slice_get-push, hold_along, job_parts, job_stays, job_stays_behind}
 
 -- ---- lists
 

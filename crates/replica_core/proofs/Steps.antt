@@ -1,14 +1,13 @@
 -- What a replica of parts keeps, as each call leaves its parts.
-use Rattle.std.proofs.Common.{◌≡◌, ◌∙◌, sym, ap, subst, refl, ℕ, zero, suc, ◌+◌, ◌-◌, ◌<◌, ◌≤◌, ◌^◌, ◌⊎◌, inl, inr, Bool, true, false, not, true≢false, ◌&&◌, ◌||◌, List, [], ◌∷◌, ◌++◌, map, length, take, drop, Option, Some, None, is_some, IsSome, Result, Ok, Err, IfOk, OnErr, IsErrOf, IsErrAnd, arith, slice_get, slice_set, get_or, length-drop, if◌then◌else◌, nat_le, nat_lt, leb, ltb}
-use Rattle.std.specs.Option.{option_and_then, option_map, option_map_or, option_or}
+use Rattle.std.proofs.Common.{◌≡◌, ◌∙◌, sym, ap, subst, refl, ℕ, ◌+◌, ◌-◌, ◌<◌, ◌≤◌, ◌^◌, ◌⊎◌, inl, inr, Bool, true, false, not, true≢false, ◌&&◌, ◌||◌, List, [], ◌∷◌, ◌++◌, map, length, drop, Option, Some, None, is_some, Result, Ok, Err, IfOk, OnErr, IsErrOf, IsErrAnd, arith, slice_get, slice_set, get_or, if◌then◌else◌, nat_le, nat_lt}
+use Rattle.std.specs.Option.{option_and_then, option_map_or, option_or}
 use Rattle.std.proofs.lemmas.Bool.{and_parts, or_parts, ltb-true, leb-true, leb-false}
 use Rattle.std.proofs.lemmas.Option.{none-some, same_Some, slice_get_read, option_and_then_some}
-use Rattle.std.proofs.lemmas.List.{map-append, map-set, drop-map, length-map, length-take-le}
+use Rattle.std.proofs.lemmas.List.{map-append, map-set, drop-map, length-take-le}
 use Rattle.std.proofs.Math.ListN.{get_or-map}
 use Rattle.schema.specs.declared.Table.{Table}
-use Rattle.schema.specs.declared.Memory.{Memory}
 use Rattle.rows.specs.Database.{Database}
-use Rattle.store_trait.specs.Batch.{Entry, put_batch}
+use Rattle.store_trait.specs.Batch.{Entry}
 use Rattle.store_trait.specs.declared.Op.{Op}
 use Rattle.store_trait.specs.declared.Op.TheVariants.{Commit}
 use Rattle.record_codec.specs.declared.records.Record.{Record}
@@ -27,12 +26,12 @@ use Rattle.relay.proofs.Judged.{accepts_the_acceptable}
 use Rattle.scheduler.specs.Marks.{Marks, all_up_to}
 use Rattle.commit_order.specs.Turns.{Line, place_of, entered, with_result, turn, passed}
 use Rattle.replica_core.specs.Replica.{Replica, dispatched, job_of}
-use Rattle.replica_core.specs.Sound.{IsSound, IsUnderWay}
-use Rattle.replica_core.specs.Calls.{with_accepted, is_eligible, dispatched_next, finish_fault, IsHandedOut, was_finished, with_finished, stopped_at, next_commit, committed_next, with_published}
-use Rattle.replica_core.specs.Core.{seen_as, IsKept, IsTaken, turn_output, CommitsTurn, TakesTurn, IsJudged}
+use Rattle.replica_core.specs.Sound.{IsUnderWay}
+use Rattle.replica_core.specs.Calls.{is_eligible, dispatched_next, finish_fault, IsHandedOut, with_finished, next_commit, committed_next}
+use Rattle.replica_core.specs.Core.{seen_as, IsKept, IsTaken, turn_output, TakesTurn, IsJudged}
 use Rattle.replica_core.proofs.Apart.{place_acceptable}
 use Rattle.replica_core.proofs.Jobs.{slice_get_some}
-use Rattle.replica_core.proofs.Kept.{IsNext, taken_within, kept_sound, kept_accepted, kept_dispatched, kept_finished, kept_stopped, kept_committed, kept_published, length_ops, length_places}
+use Rattle.replica_core.proofs.Kept.{IsNext, taken_within, kept_accepted, kept_dispatched, kept_finished, kept_stopped, kept_committed, kept_published, length_places}
 
 -- ---- numbers fit
 

@@ -1,8 +1,7 @@
 -- The places of the jobs that are kept, at each step.
-use Rattle.std.proofs.Common.{◌≡◌, ◌∙◌, sym, ap, subst, refl, ℕ, zero, suc, ◌+◌, ◌-◌, ◌%◌, ◌<◌, ◌≤◌, inl, inr, Bool, true, false, true≢false, is_some, ◌⊎◌, ◌&&◌, ◌||◌, nat_le, Result, Err, IfSome, List, [], ◌∷◌, length, nat_lt, cond, drop, replicate, Option, Some, None, arith, slice_set, get_or, length-drop}
+use Rattle.std.proofs.Common.{◌≡◌, ◌∙◌, sym, ap, subst, refl, ℕ, zero, suc, ◌+◌, ◌-◌, ◌%◌, ◌<◌, ◌≤◌, inl, inr, Bool, true, false, true≢false, is_some, ◌⊎◌, ◌&&◌, nat_le, Result, Err, IfSome, List, [], ◌∷◌, length, nat_lt, cond, replicate, Option, Some, None, arith, slice_set, get_or, length-drop}
 use Rattle.std.specs.List.{position, position_or_len}
-use Rattle.std.proofs.lemmas.Bool.{cases_eq, cases_lt, and_parts, or_parts, leb-true, leb-false, lt-ltb}
-use Rattle.std.proofs.lemmas.List.Quantifiers.{position-Some}
+use Rattle.std.proofs.lemmas.Bool.{cases_eq, and_parts, or_parts, leb-true, leb-false, lt-ltb}
 use Rattle.std.proofs.lemmas.Option.{none-some, same_Some}
 use Rattle.std.proofs.lemmas.List.{length_push, length-set, get_or-set_same, get_or-set_other}
 use Rattle.record_codec.specs.declared.records.Record.{Record}
@@ -15,7 +14,7 @@ use Rattle.relay.specs.declared.Received.TheVariants.{Accepted, Skipped}
 use Rattle.replica_core.specs.Replica.{Replica, dispatched}
 use Rattle.replica_core.specs.Calls.{left_by_receive, left_by_fault, dispatched_next, with_finished, committed_next, finish_fault, was_finished}
 use Rattle.replica_core.specs.Sound.{IsSound, IsUnderWay}
-use Rattle.replica_shared.specs.Together.{AreKept, HasJob, NoneLost, laid, taken_back, TakesOut}
+use Rattle.replica_shared.specs.Together.{AreKept, NoneLost, laid, taken_back, TakesOut}
 use Rattle.replica_core.proofs.Steps.{cause, no_cause}
 
 -- ---- how many are dispatched, which never falls

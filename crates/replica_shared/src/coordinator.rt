@@ -1,6 +1,6 @@
 //! What lies under the lock: the core, its publisher, the words of the status, and the jobs for which memory ran out. Each
 //! call of the shared replica is one call here.
-ghost use Rattle.std.specs.Prelude.{◌≡◌, ◌⊎◌, ◌≤◌, ◌+◌, ◌++◌, ◌∷◌, [], true, false, replicate, position, None, Ok, Err, IfOk, IfErr, IfSome, OnOk, OnErr, IsErrOf, IsSome, is_some, if◌then◌else◌};
+ghost use Rattle.std.specs.Prelude.{◌≡◌, ◌⊎◌, ◌≤◌, ◌+◌, ◌++◌, ◌∷◌, [], true, false, replicate, position, None, Ok, Err, IfOk, IfErr, IfSome, OnOk, OnErr, IsErrOf, IsOk, IsSome, is_some, if◌then◌else◌};
 ghost use mathlib.Core.List.{IsPrefix};
 ghost use Rattle.store_trait.specs.declared.Op.TheVariants.{Load};
 ghost use Rattle.published.specs.History.{IsHistory, commits_in};
@@ -324,6 +324,7 @@ impl<S: RowStore + Drop, J: ReplicaNaming> Coordinator<S, J> {
         ensures upto { IfOk result (λ notice. gno ≤ commits_in notice) }
         ensures history { IfOk result (λ notice. IsHistory notice) }
         ensures published { IfOk result (λ notice. notice ≡ self.now.publication.published) }
+        ensures known { gno ≤ commits_in self.now.publication.published → IsOk result }
         ensures stopped { IfErr result (λ fault. IfSome self.now.core.stopped (λ at. fault ≡ ReplicaFault.Stopped at)) }
         ensures stop { IfErr result IsStop }
     {

@@ -18,16 +18,18 @@ use std::test::Fail;
 use std::thread;
 use std::thread::{Threads, join};
 
-/// How often the first job looks whether the second was handed in.
+/// How often a job looks whether the other was entered or handed in.
 const TURNS: u32 = 1_000_000;
 
 /// How often one yields to workers that have nothing left to do, so that they sleep.
 const PAUSE: u32 = 1_000;
 
-/// It holds job 1 until what came of job 2 was handed in, or so many turns are over.
+/// It holds job 2 until job 1 is entered, and job 1 until what came of job 2 was handed in, each for so many turns at most.
 #[derive(Drop)]
 struct HeldGate {
-    /// Job 2 was handed in.
+    /// Job 1 is entered.
+    first: AtomicBool,
+    /// Job 2 was handed in behind that.
     second: AtomicBool,
     /// And job 1 was still held then.
     came: AtomicBool,
@@ -35,23 +37,31 @@ struct HeldGate {
 
 impl WorkerGate for HeldGate {
     fn entered(&self, gno: u64) {
-        if gno != 1 {
-            return;
-        }
-        for _ in 0..TURNS {
-            if self.second.load(Ordering::SeqCst) {
-                self.came.store(true, Ordering::SeqCst);
-                return;
-            }
-            thread::yield_now();
+        if gno == 1 {
+            self.first.store(true, Ordering::SeqCst);
+            self.came.store(is_told(&self.second), Ordering::SeqCst);
+        } else {
+            let _told = is_told(&self.first);
         }
     }
 
     fn left(&self, gno: u64) {
         if gno == 2 {
-            self.second.store(true, Ordering::SeqCst);
+            let held = self.first.load(Ordering::SeqCst);
+            self.second.store(held, Ordering::SeqCst);
         }
     }
+}
+
+/// Whether it is told within the turns.
+fn is_told(told: &AtomicBool) -> bool {
+    for _ in 0..TURNS {
+        if told.load(Ordering::SeqCst) {
+            return true;
+        }
+        thread::yield_now();
+    }
+    false
 }
 
 /// What threads do with a shared replica.
@@ -137,6 +147,7 @@ fn side_by_side<J: ReplicaNaming + Send + Sync, R: Threads + Wait + Sync>(
     shared: &Shared<J>,
 ) -> (Result<(), ReplicaFault>, Result<(), ReplicaFault>, bool) {
     let gate = HeldGate {
+        first: AtomicBool::new(false),
         second: AtomicBool::new(false),
         came: AtomicBool::new(false),
     };
