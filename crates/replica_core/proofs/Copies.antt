@@ -1,6 +1,6 @@
 -- The rows of a list, sorted and each once, copied from a database.
 use Rattle.std.proofs.Common.{◌≡◌, ◌∙◌, sym, ap, refl, Bool, true, false, ◌&&◌, ◌||◌, cond, eqb, int_eq, nat_cmp, int_cmp, List, [], ◌∷◌, map, Some, None, IsPermutation}
-use Rattle.std.specs.Cmp.{IsEquivalence, unsigned_tied, tied_then, eq_by_cmp_equiv}
+use Rattle.std.specs.Cmp.{IsEquivalence, unsigned_tied, tied_then}
 use Rattle.std.specs.FinMap.{get}
 use Rattle.std.specs.List.{dedup, list_any}
 use Rattle.std.specs.List.Sorted.{IsSorted}
@@ -14,7 +14,7 @@ use Rattle.schema.specs.RowId.{row_cmp, row_total, same_row}
 use Rattle.schema.specs.Rows.{has_row}
 use Rattle.rows.specs.Database.{Database}
 use Rattle.rows.proofs.Apply.{row_is}
-use Rattle.store_trait.specs.Batch.{Entry, IsRising, rows_in}
+use Rattle.store_trait.specs.Batch.{IsRising, rows_in}
 use Rattle.store_trait.proofs.Batches.{same_batch, rows_in_rise, find-rows_in, find-of_each}
 use Rattle.store_trait.proofs.Rising.{sorted_from_keys}
 

@@ -1,9 +1,9 @@
 -- The jobs of the accepted records, over the working rows.
-use Rattle.std.proofs.Common.{◌≡◌, ◌∙◌, sym, ap, subst, refl, ℕ, zero, suc, ◌+◌, ◌-◌, ◌<◌, ◌≤◌, ℤ, Bool, true, false, cond, List, [], ◌∷◌, ◌++◌, length, take, Option, Some, None, is_some, IsSome, arith, slice_get, get_or}
+use Rattle.std.proofs.Common.{◌≡◌, ◌∙◌, sym, ap, refl, ℕ, zero, suc, ◌+◌, ◌-◌, ◌<◌, ◌≤◌, List, [], ◌∷◌, ◌++◌, length, take, Option, Some, None, is_some, arith, slice_get}
 use Rattle.std.specs.Option.{option_and_then, option_map}
-use Rattle.std.proofs.lemmas.Option.{none-some, same_Some, slice_get_within, slice_get-get_or, option_and_then_some}
+use Rattle.std.proofs.lemmas.Option.{none-some, same_Some, option_and_then_some}
 use Rattle.std.proofs.lemmas.List.{take-append-le}
-use Rattle.rows.specs.Database.{Database, writes}
+use Rattle.rows.specs.Database.{Database}
 use Rattle.rows.specs.Frame.{AgreeOn}
 use Rattle.store_trait.specs.Batch.{Entry, rows_in}
 use Rattle.store_trait.specs.Operation.{loaded}
@@ -14,9 +14,9 @@ use Rattle.executor.specs.Job.{rows_of}
 use Rattle.executor.proofs.Elsewhere.{same_input}
 use Rattle.relay.specs.Relay.{AreAcceptable}
 use Rattle.replica_core.specs.Replica.{Replica, rows_at, working_rows, job_over, job_of}
-use Rattle.replica_core.specs.Sound.{IsSound, IsUnderWay, AreEligible, HoldAlong}
+use Rattle.replica_core.specs.Sound.{AreEligible, HoldAlong}
 use Rattle.replica_core.specs.Calls.{with_accepted, committed_next}
-use Rattle.replica_core.specs.Laws.{IsJobOf, JobIsOfItsRecord, EachHasJob, JobStays, JobStaysBehind, OthersLeaveJobs}
+use Rattle.replica_core.specs.Laws.{JobIsOfItsRecord, EachHasJob, JobStays, JobStaysBehind, OthersLeaveJobs}
 use Rattle.replica_core.proofs.Apart.{rows_stay}
 
 -- ---- lists

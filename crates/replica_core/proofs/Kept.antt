@@ -1,7 +1,7 @@
 -- What a replica keeps, at each of its steps.
-use Rattle.std.proofs.Common.{◌≡◌, ◌∙◌, sym, ap, subst, refl, ℕ, zero, suc, ◌+◌, ◌-◌, ◌<◌, ◌≤◌, Bool, true, false, ◌&&◌, inl, inr, List, [], ◌∷◌, ◌++◌, map, length, take, drop, Option, Some, None, is_some, arith, slice_get, slice_set, get_or, length-drop, add-one}
-use Rattle.std.specs.Option.{option_and_then, option_map, option_map_or}
-use Rattle.std.proofs.lemmas.Bool.{and_parts, cases_lt, cases_eq, ltb-true, leb-true}
+use Rattle.std.proofs.Common.{◌≡◌, ◌∙◌, sym, ap, subst, refl, ℕ, zero, suc, ◌+◌, ◌-◌, ◌<◌, ◌≤◌, true, false, inl, inr, List, [], ◌∷◌, ◌++◌, length, take, drop, Option, Some, None, is_some, arith, slice_get, slice_set, get_or, length-drop, add-one}
+use Rattle.std.specs.Option.{option_and_then}
+use Rattle.std.proofs.lemmas.Bool.{cases_lt, cases_eq}
 use Rattle.std.proofs.lemmas.Option.{none-some, same_Some, slice_get_within}
 use Rattle.std.proofs.lemmas.List.{map-append, take-append-le, length_push, length-map, length-set, map-set, drop-drop, drop-map, get_or-drop, get_or_append_left, get_or-set_same, get_or-set_other}
 use Rattle.std.proofs.Math.Seq.{get_or-append_seam}
@@ -20,13 +20,13 @@ use Rattle.executor.specs.Laws.{LeavesThere}
 use Rattle.executor.proofs.Elsewhere.{output_is_there}
 use Rattle.relay.specs.Relay.{AreAcceptable}
 use Rattle.scheduler.specs.Marks.{Marks, all_up_to}
-use Rattle.commit_order.specs.Turns.{Line, place_of, entered, with_result, turn, passed}
-use Rattle.replica_core.specs.Replica.{Replica, dispatched, rows_at, working_rows, job_over, job_of, commits_from}
-use Rattle.replica_core.specs.Sound.{IsSound, IsUnderWay, AreEligible}
-use Rattle.replica_core.specs.Calls.{with_accepted, is_eligible, dispatched_next, with_finished, stopped_at, committed_next, with_published}
+use Rattle.commit_order.specs.Turns.{Line, entered, with_result, turn, passed}
+use Rattle.replica_core.specs.Replica.{Replica, dispatched, rows_at, job_of, commits_from}
+use Rattle.replica_core.specs.Sound.{IsSound, IsUnderWay}
+use Rattle.replica_core.specs.Calls.{with_accepted, dispatched_next, with_finished, stopped_at, committed_next, with_published}
 use Rattle.replica_core.specs.Core.{IsKept, IsTaken}
 use Rattle.replica_core.proofs.Commits.{after-next, length-committed, waiting-next}
-use Rattle.replica_core.proofs.Jobs.{slice_get-push, hold_along, job_at, job_parts, job_stays, job_stays_behind}
+use Rattle.replica_core.proofs.Jobs.{slice_get-push, hold_along, job_parts, job_stays, job_stays_behind}
 
 -- ---- lists
 
@@ -44,6 +44,10 @@ taken_within [] n x is = absurd (none-some x is)
 taken_within (y ∷ xs) zero x is = omega arith
 taken_within (y ∷ xs) (suc n) x is = let rest = taken_within xs n x is in omega arith
 
+-- a result that was taken stays one of its job
+of_same_job : {one other : Option Job} {result : Finished} → one ≡ other → IsTaken one result → IsTaken other result
+of_same_job {result = result} same = subst (λ job. IsTaken job result) same
+
 -- the next record may be dispatched: it is there, its parent is committed, and a worker is free
 pub record IsNext (r : Replica) (rec : Record) : Type 0 where
   pub got : slice_get r.accepted (dispatched r) ≡ Some rec
@@ -53,16 +57,16 @@ pub record IsNext (r : Replica) (rec : Record) : Type 0 where
 module _ (r : Replica) (marks : Marks) (line : Line) (jobs : List Job) (rows : Database) (ops : List Op) where
   pub kept_sound : IsKept r marks line jobs rows ops → IsSound r
   kept_sound h = record {
-    accepted = h.acceptable;
-    published = h.published;
+    accepted = h.log.acceptable;
+    published = h.log.published;
     dispatched = h.dispatched;
     busy = h.busy;
-    some = h.some;
-    few = h.few;
+    some = h.set_up.some;
+    few = h.set_up.few;
     rows = rows;
-    rows_are = h.rows_are;
+    rows_are = h.log.rows_are;
     eligible = h.eligible;
-    jobs = hold_along r h.acceptable h.eligible;
+    jobs = hold_along r h.log.acceptable h.eligible;
   }
 
   pub length_places : IsKept r marks line jobs rows ops → length line.places ≡ length r.under_way
@@ -78,24 +82,22 @@ module _ (r : Replica) (marks : Marks) (line : Line) (jobs : List Job) (rows : D
       let stays : (gno : ℕ) → IsUnderWay r gno → job_of (with_accepted r new) gno ≡ job_of r gno = λ gno under.
       job_stays_behind r gno new (kept_sound h) (omega arith) (omega arith) in
       record {
-        flat = h.flat;
-        acceptable = acceptable;
-        rows_are = ap (after r.tables (loaded r.base)) same ∙ h.rows_are;
-        published = h.published;
-        ops_are = h.ops_are ∙ ap (λ l. drop r.published (commits_from r.tables (loaded r.base) 1 l)) (sym same);
+        set_up = h.set_up;
+        log = record {
+          acceptable = acceptable;
+          rows_are = ap (after r.tables (loaded r.base)) same ∙ h.log.rows_are;
+          published = h.log.published;
+          ops_are = h.log.ops_are ∙ ap (λ l. drop r.published (commits_from r.tables (loaded r.base) 1 l)) (sym same);
+        };
         marks_are = h.marks_are;
         dispatched = rw (length_push r.accepted new) (omega arith);
         busy = h.busy;
-        some = h.some;
-        few = h.few;
         eligible = λ gno rec under got. h.eligible gno rec under (sym (slice_get-push r.accepted (new ∷ []) (gno - 1) (omega arith)) ∙ got);
         first = h.first;
         places = h.places;
         count = h.count;
         jobs = λ gno under. h.jobs gno under ∙ sym (stays gno under);
-        results = λ gno result under is.
-            let t = h.results gno result under is in
-            record { job = stays gno under ∙ t.job; left = t.left; output = t.output; applies = t.applies };
+        results = λ gno result under is. of_same_job (sym (stays gno under)) (h.results gno result under is);
       }
 
   -- ---- the next record dispatched
@@ -107,16 +109,11 @@ module _ (r : Replica) (marks : Marks) (line : Line) (jobs : List Job) (rows : D
       let within : dispatched r < length r.accepted = slice_get_within r.accepted (dispatched r) rec next.got in
       let one_more : length (r.under_way ++ false ∷ []) ≡ length r.under_way + 1 = length_push r.under_way false in
       record {
-        flat = h.flat;
-        acceptable = h.acceptable;
-        rows_are = h.rows_are;
-        published = h.published;
-        ops_are = h.ops_are;
+        set_up = h.set_up;
+        log = h.log;
         marks_are = h.marks_are;
         dispatched = rw one_more (omega arith);
         busy = rw one_more (omega arith);
-        some = h.some;
-        few = h.few;
         eligible = λ gno rec' under got. elim (cases_lt (dispatched r) gno) [
           | inl new ↦
               let place : gno - 1 ≡ dispatched r = (let last = under.1 in omega (arith, one_more)) in
@@ -139,15 +136,13 @@ module _ (r : Replica) (marks : Marks) (line : Line) (jobs : List Job) (rows : D
           | inl new ↦
               let place : gno - line.first ≡ length line.places = (let first = h.first in let last = under.1 in omega (arith, one_more)) in
               absurd (none-some result (sym (get_or-append_seam line.places None [] None) ∙ ap (λ n. get_or (line.places ++ None ∷ []) n None) (sym place) ∙ is))
-          | inr old ↦
-              let t = h.results gno result (under.0, old) (sym (get_or_append_left line.places (None ∷ []) None (gno - line.first) (let first = h.first in let low = under.0 in omega arith)) ∙ is) in
-              record { job = t.job; left = t.left; output = t.output; applies = t.applies }
+          | inr old ↦ h.results gno result (under.0, old) (sym (get_or_append_left line.places (None ∷ []) None (gno - line.first) (let first = h.first in let low = under.0 in omega arith)) ∙ is)
         ];
       }
 
   -- ---- a result taken
 
-  pub kept_finished : (gno : ℕ) (result : Finished) → IsKept r marks line jobs rows ops → IsUnderWay r gno → result.job.gno ≡ gno → IsTaken r gno result → IsKept (with_finished r gno) marks (with_result line result) jobs rows ops
+  pub kept_finished : (gno : ℕ) (result : Finished) → IsKept r marks line jobs rows ops → IsUnderWay r gno → result.job.gno ≡ gno → IsTaken (job_of r gno) result → IsKept (with_finished r gno) marks (with_result line result) jobs rows ops
   kept_finished gno result h under number taken =
       let lengths = length_places h in
       let first = h.first in
@@ -156,16 +151,11 @@ module _ (r : Replica) (marks : Marks) (line : Line) (jobs : List Job) (rows : D
       let here : result.job.gno - line.first ≡ gno - r.committed - 1 = omega arith in
       let as_many : length (slice_set r.under_way (gno - r.committed - 1) true) ≡ length r.under_way = length-set r.under_way (gno - r.committed - 1) true in
       record {
-        flat = h.flat;
-        acceptable = h.acceptable;
-        rows_are = h.rows_are;
-        published = h.published;
-        ops_are = h.ops_are;
+        set_up = h.set_up;
+        log = h.log;
         marks_are = h.marks_are;
         dispatched = rw as_many h.dispatched;
         busy = rw as_many h.busy;
-        some = h.some;
-        few = h.few;
         eligible = λ g rec u got. h.eligible g rec (u.0, (let last = u.1 in omega (arith, as_many))) got;
         first = h.first;
         places =
@@ -175,40 +165,34 @@ module _ (r : Replica) (marks : Marks) (line : Line) (jobs : List Job) (rows : D
         jobs = λ g u. h.jobs g (u.0, (let last = u.1 in omega (arith, as_many)));
         results = λ g other u is.
             let u_old : IsUnderWay r g = (u.0, (let last = u.1 in omega (arith, as_many))) in
-            let t : IsTaken r g other = elim (cases_eq g gno) [
+            elim (cases_eq g gno) [
               | inl same ↦
                   let place : g - line.first ≡ result.job.gno - line.first = omega arith in
                   let within : result.job.gno - line.first < length line.places = omega arith in
                   let got : Some result ≡ Some other =
                   sym (get_or-set_same line.places (result.job.gno - line.first) (Some result) None within)
                   ∙ ap (λ n. get_or (slice_set line.places (result.job.gno - line.first) (Some result)) n None) (sym place) ∙ is in
-                  subst (λ (f : Finished). IsTaken r g f) (same_Some result other got) (subst (λ n. IsTaken r n result) (sym same) taken)
+                  subst (λ (f : Finished). IsTaken (job_of r g) f) (same_Some result other got) (of_same_job (ap (job_of r) (sym same)) taken)
               | inr differs ↦
                   let at_least = u.0 in
                   h.results g other u_old
                   (sym (get_or-set_other line.places (result.job.gno - line.first) (g - line.first) (Some result) None (λ e. differs (omega arith))) ∙ is)
-            ] in
-            record { job = t.job; left = t.left; output = t.output; applies = t.applies };
+            ];
       }
 
   pub kept_stopped : (gno : ℕ) → IsKept r marks line jobs rows ops → IsKept (stopped_at r gno) marks line jobs rows ops
   kept_stopped gno h = record {
-    flat = h.flat;
-    acceptable = h.acceptable;
-    rows_are = h.rows_are;
-    published = h.published;
-    ops_are = h.ops_are;
+    set_up = h.set_up;
+    log = h.log;
     marks_are = h.marks_are;
     dispatched = h.dispatched;
     busy = h.busy;
-    some = h.some;
-    few = h.few;
     eligible = h.eligible;
     first = h.first;
     places = h.places;
     count = h.count;
     jobs = h.jobs;
-    results = λ g result u is. let t = h.results g result u is in record { job = t.job; left = t.left; output = t.output; applies = t.applies };
+    results = h.results;
   }
 
   -- ---- the next commit
@@ -221,15 +205,15 @@ module _ (r : Replica) (marks : Marks) (line : Line) (jobs : List Job) (rows : D
     pub applies : effect r.tables rec.changes rows ≡ Some leaves
     pub left_is : left ≡ rows_in (writes rec.changes) leaves
 
-  leaves_next : (result : Finished) → IsKept r marks line jobs rows ops → (t : IsTaken r (r.committed + 1) result) → LeavesNext t.left
+  leaves_next : (result : Finished) → IsKept r marks line jobs rows ops → (t : IsTaken (job_of r (r.committed + 1)) result) → LeavesNext t.left
   leaves_next result h t =
       let parts = job_parts r (r.committed + 1) result.job t.job in
       let here : r.committed + 1 - 1 ≡ r.committed = omega arith in
-      let same : parts.rows ≡ rows = same_Some parts.rows rows (sym parts.rows_are ∙ h.rows_are) in
+      let same : parts.rows ≡ rows = same_Some parts.rows rows (sym parts.rows_are ∙ h.log.rows_are) in
       let tables : result.job.schema ≡ r.tables = ap (λ (j : Job). j.schema) parts.job_is in
       let of : result.job.rec ≡ parts.rec = ap (λ (j : Job). j.rec) parts.job_is in
       let there : LeavesThere result.job.schema result.job.rec.changes parts.rows t.left =
-      output_is_there result.job parts.rows t.left (rw tables h.flat)
+      output_is_there result.job parts.rows t.left (rw tables h.set_up.flat)
       (ap (λ (j : Job). j.input) parts.job_is ∙ ap (λ (x : Record). rows_in (rows_of x) parts.rows) (sym of)) t.applies in
       record {
         rec = parts.rec;
@@ -253,25 +237,25 @@ module _ (r : Replica) (marks : Marks) (line : Line) (jobs : List Job) (rows : D
       let fewer : length (drop 1 r.under_way) ≡ length r.under_way - 1 = length-drop 1 r.under_way in
       let rows_then : rows_at r (r.committed + 1) ≡ Some next.leaves =
       after-next r.tables (loaded r.base) r.accepted r.committed next.rec next.got
-      ∙ ap (option_and_then (effect r.tables next.rec.changes)) h.rows_are ∙ next.applies in
+      ∙ ap (option_and_then (effect r.tables next.rec.changes)) h.log.rows_are ∙ next.applies in
       let put : put_batch left rows ≡ next.leaves = ap (λ b. put_batch b rows) next.left_is ∙ put_batch-writes r.tables next.rec.changes rows next.leaves next.applies in
       let was : (gno : ℕ) → IsUnderWay (committed_next r) gno → IsUnderWay r gno = λ gno u.
       (let low = u.0 in omega arith, let high = u.1 in omega (arith, fewer)) in
       let stays : (gno : ℕ) → IsUnderWay (committed_next r) gno → job_of (committed_next r) gno ≡ job_of r gno = λ gno u.
       job_stays r gno next.leaves (kept_sound h) (was gno u) u.0 rows_then in
       record {
-        flat = h.flat;
-        acceptable = h.acceptable;
-        rows_are = rows_then ∙ ap Some (sym put);
-        published = (let before = h.published in omega arith);
-        ops_are =
-            (λ i. h.ops_are i ++ Commit (r.committed + 1) (next.left_is i) ∷ [])
-            ∙ waiting-next r.tables (loaded r.base) r.accepted r.committed r.published next.rec rows next.leaves next.got h.rows_are next.applies h.published;
+        set_up = h.set_up;
+        log = record {
+          acceptable = h.log.acceptable;
+          rows_are = rows_then ∙ ap Some (sym put);
+          published = (let before = h.log.published in omega arith);
+          ops_are =
+              (λ i. h.log.ops_are i ++ Commit (r.committed + 1) (next.left_is i) ∷ [])
+              ∙ waiting-next r.tables (loaded r.base) r.accepted r.committed r.published next.rec rows next.leaves next.got h.log.rows_are next.applies h.log.published;
+        };
         marks_are = refl;
         dispatched = rw fewer (omega arith);
         busy = rw fewer (let busy = h.busy in omega arith);
-        some = h.some;
-        few = h.few;
         eligible = λ gno rec u got. (let before = h.eligible gno rec (was gno u) got in omega arith);
         first = ap (λ n. n + 1) h.first;
         places = ap (drop 1) h.places ∙ drop-map is_some 1 line.places;
@@ -283,8 +267,7 @@ module _ (r : Replica) (marks : Marks) (line : Line) (jobs : List Job) (rows : D
         results = λ gno other u at.
             let low = u.0 in
             let place : 1 + (gno - (line.first + 1)) ≡ gno - line.first = omega arith in
-            let t = h.results gno other (was gno u) (ap (λ n. get_or line.places n None) (sym place) ∙ sym (get_or-drop 1 line.places (gno - (line.first + 1)) None) ∙ at) in
-            record { job = stays gno u ∙ t.job; left = t.left; output = t.output; applies = t.applies };
+            of_same_job (sym (stays gno u)) (h.results gno other (was gno u) (ap (λ n. get_or line.places n None) (sym place) ∙ sym (get_or-drop 1 line.places (gno - (line.first + 1)) None) ∙ at));
       }
 
   -- ---- publishing
@@ -293,30 +276,30 @@ module _ (r : Replica) (marks : Marks) (line : Line) (jobs : List Job) (rows : D
   length_ops h =
       let all = h.dispatched in
       let within : r.committed ≤ length r.accepted = omega arith in
-      ap length h.ops_are ∙ length-drop r.published (commits_from r.tables (loaded r.base) 1 (take r.committed r.accepted))
-      ∙ ap (λ n. n - r.published) (length-committed r.tables (loaded r.base) r.accepted r.committed rows within h.rows_are)
+      ap length h.log.ops_are ∙ length-drop r.published (commits_from r.tables (loaded r.base) 1 (take r.committed r.accepted))
+      ∙ ap (λ n. n - r.published) (length-committed r.tables (loaded r.base) r.accepted r.committed rows within h.log.rows_are)
 
   pub kept_published : (upto : ℕ) → IsKept r marks line jobs rows ops → r.published ≤ upto → upto ≤ r.committed → IsKept (with_published r upto) marks line jobs rows (drop (upto - r.published) ops)
   kept_published upto h later done =
       let sum : r.published + (upto - r.published) ≡ upto = omega arith in
       record {
-        flat = h.flat;
-        acceptable = h.acceptable;
-        rows_are = h.rows_are;
-        published = done;
-        ops_are =
-            ap (drop (upto - r.published)) h.ops_are
-            ∙ drop-drop (upto - r.published) r.published (commits_from r.tables (loaded r.base) 1 (take r.committed r.accepted))
-            ∙ ap (λ n. drop n (commits_from r.tables (loaded r.base) 1 (take r.committed r.accepted))) sum;
+        set_up = h.set_up;
+        log = record {
+          acceptable = h.log.acceptable;
+          rows_are = h.log.rows_are;
+          published = done;
+          ops_are =
+              ap (drop (upto - r.published)) h.log.ops_are
+              ∙ drop-drop (upto - r.published) r.published (commits_from r.tables (loaded r.base) 1 (take r.committed r.accepted))
+              ∙ ap (λ n. drop n (commits_from r.tables (loaded r.base) 1 (take r.committed r.accepted))) sum;
+        };
         marks_are = h.marks_are;
         dispatched = h.dispatched;
         busy = h.busy;
-        some = h.some;
-        few = h.few;
         eligible = h.eligible;
         first = h.first;
         places = h.places;
         count = h.count;
         jobs = h.jobs;
-        results = λ g result u is. let t = h.results g result u is in record { job = t.job; left = t.left; output = t.output; applies = t.applies };
+        results = h.results;
       }

@@ -1,14 +1,13 @@
 -- What a replica of parts keeps, as each call leaves its parts.
-use Rattle.std.proofs.Common.{◌≡◌, ◌∙◌, sym, ap, subst, refl, ℕ, zero, suc, ◌+◌, ◌-◌, ◌<◌, ◌≤◌, ◌^◌, ◌⊎◌, inl, inr, Bool, true, false, not, true≢false, ◌&&◌, ◌||◌, List, [], ◌∷◌, ◌++◌, map, length, take, drop, Option, Some, None, is_some, IsSome, Result, Ok, Err, IfOk, OnErr, IsErrOf, IsErrAnd, arith, slice_get, slice_set, get_or, length-drop, if◌then◌else◌, nat_le, nat_lt, leb, ltb}
-use Rattle.std.specs.Option.{option_and_then, option_map, option_map_or, option_or}
+use Rattle.std.proofs.Common.{◌≡◌, ◌∙◌, sym, ap, subst, refl, ℕ, ◌+◌, ◌-◌, ◌<◌, ◌≤◌, ◌^◌, ◌⊎◌, inl, inr, Bool, true, false, not, true≢false, ◌&&◌, ◌||◌, List, [], ◌∷◌, ◌++◌, map, length, drop, Option, Some, None, is_some, Result, Ok, Err, IfOk, OnErr, IsErrOf, IsErrAnd, arith, slice_get, slice_set, get_or, if◌then◌else◌, nat_le, nat_lt}
+use Rattle.std.specs.Option.{option_and_then, option_map_or, option_or}
 use Rattle.std.proofs.lemmas.Bool.{and_parts, or_parts, ltb-true, leb-true, leb-false}
 use Rattle.std.proofs.lemmas.Option.{none-some, same_Some, slice_get_read, option_and_then_some}
-use Rattle.std.proofs.lemmas.List.{map-append, map-set, drop-map, length-map, length-take-le}
+use Rattle.std.proofs.lemmas.List.{map-append, map-set, drop-map, length-take-le}
 use Rattle.std.proofs.Math.ListN.{get_or-map}
 use Rattle.schema.specs.declared.Table.{Table}
-use Rattle.schema.specs.declared.Memory.{Memory}
 use Rattle.rows.specs.Database.{Database}
-use Rattle.store_trait.specs.Batch.{Entry, put_batch}
+use Rattle.store_trait.specs.Batch.{Entry}
 use Rattle.store_trait.specs.declared.Op.{Op}
 use Rattle.store_trait.specs.declared.Op.TheVariants.{Commit}
 use Rattle.record_codec.specs.declared.records.Record.{Record}
@@ -27,12 +26,12 @@ use Rattle.relay.proofs.Judged.{accepts_the_acceptable}
 use Rattle.scheduler.specs.Marks.{Marks, all_up_to}
 use Rattle.commit_order.specs.Turns.{Line, place_of, entered, with_result, turn, passed}
 use Rattle.replica_core.specs.Replica.{Replica, dispatched, job_of}
-use Rattle.replica_core.specs.Sound.{IsSound, IsUnderWay}
-use Rattle.replica_core.specs.Calls.{with_accepted, is_eligible, dispatched_next, finish_fault, IsHandedOut, was_finished, with_finished, stopped_at, next_commit, committed_next, with_published}
-use Rattle.replica_core.specs.Core.{seen_as, IsKept, IsTaken, turn_output, CommitsTurn, TakesTurn, IsJudged}
+use Rattle.replica_core.specs.Sound.{IsUnderWay}
+use Rattle.replica_core.specs.Calls.{is_eligible, dispatched_next, finish_fault, IsHandedOut, with_finished, next_commit, committed_next}
+use Rattle.replica_core.specs.Core.{seen_as, IsKept, IsTaken, turn_output, TakesTurn, IsJudged}
 use Rattle.replica_core.proofs.Apart.{place_acceptable}
 use Rattle.replica_core.proofs.Jobs.{slice_get_some}
-use Rattle.replica_core.proofs.Kept.{IsNext, taken_within, kept_sound, kept_accepted, kept_dispatched, kept_finished, kept_stopped, kept_committed, kept_published, length_ops, length_places}
+use Rattle.replica_core.proofs.Kept.{IsNext, taken_within, kept_accepted, kept_dispatched, kept_finished, kept_stopped, kept_committed, kept_published, length_places}
 
 -- ---- numbers fit
 
@@ -47,7 +46,7 @@ few_accepted ts (x ∷ xs) h =
     omega arith
 
 pub few_dispatched : (r : Replica) (marks : Marks) (line : Line) (jobs : List Job) (rows : Database) (ops : List Op) → IsKept r marks line jobs rows ops → dispatched r < 2 ^ 63
-few_dispatched r marks line jobs rows ops h = let few = few_accepted r.tables r.accepted h.acceptable in let all = h.dispatched in omega arith
+few_dispatched r marks line jobs rows ops h = let few = few_accepted r.tables r.accepted h.log.acceptable in let all = h.dispatched in omega arith
 
 -- ---- answers
 
@@ -132,7 +131,7 @@ module _ (v : relay.Relay) (base : List Entry) (marks : Marks) (published : ℕ)
     received_kept from new (Ok Accepted) left h (inr is) ok err =
         let next : IsAcceptable v.tables v.accepted new = ((accepts_the_acceptable v from new).0 (sym is)).1 in
         subst (λ (x : relay.Relay). IsKept (seen_as x base marks published line workers stopped) marks line jobs rows ops) (sym ok)
-        (kept_accepted (seen_as v base marks published line workers stopped) marks line jobs rows ops new h (next_is_acceptable v.tables v.accepted new h.acceptable next))
+        (kept_accepted (seen_as v base marks published line workers stopped) marks line jobs rows ops new h (next_is_acceptable v.tables v.accepted new h.log.acceptable next))
 
     pub dispatched_kept : (job : Job) (line_then : Line) (jobs_then : List Job) → Keeps → is_eligible (seen_as v base marks published line workers stopped) ≡ true → job_of (seen_as v base marks published line workers stopped) (dispatched (seen_as v base marks published line workers stopped) + 1) ≡ Some job → line_then ≡ entered line → jobs_then ≡ jobs ++ job ∷ [] → IsKept (seen_as v base marks published line_then workers stopped) marks line_then jobs_then rows ops
     dispatched_kept job line_then jobs_then h may made is_line is_jobs =
@@ -163,7 +162,7 @@ module _ (v : relay.Relay) (base : List Entry) (marks : Marks) (published : ℕ)
         let count = h.count in
         sym (h.jobs gno under) ∙ slice_get_read jobs (length jobs) (gno - marks.low - 1) copy refl (omega arith) at
 
-    taken_from : (result : Finished) (left : List Entry) → IsHandedOut (seen_as v base marks published line workers stopped) result → IsResult result → result.outcome ≡ Output left → IsTaken (seen_as v base marks published line workers stopped) result.job.gno result
+    taken_from : (result : Finished) (left : List Entry) → IsHandedOut (seen_as v base marks published line workers stopped) result → IsResult result → result.outcome ≡ Output left → IsTaken (job_of (seen_as v base marks published line workers stopped) result.job.gno) result
     taken_from result left of made is = record { job = of; left = left; output = is; applies = came result.outcome (executed result.job) made is }
       where
         came : (o e : Outcome) → (o ≡ Lacks) ⊎ (o ≡ e) → o ≡ Output left → e ≡ Output left

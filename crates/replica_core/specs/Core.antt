@@ -1,11 +1,15 @@
 -- What the parts of a replica keep.
-use Rattle.std.specs.Prelude.{◌≡◌, ◌⊎◌, ℕ, ◌+◌, ◌-◌, ◌≤◌, Bool, true, false, List, [], ◌∷◌, ◌++◌, map, length, slice_get, Option, Some, None, is_some, option_and_then, Result, Ok, Err}
+use Rattle.std.specs.Prelude.{◌≡◌, ◌⊎◌, ℕ, ◌+◌, ◌-◌, ◌≤◌, Bool, true, false, List, [], ◌∷◌, ◌++◌, map, length, take, drop, slice_get, Option, Some, None, is_some, option_and_then, Result, Ok, Err}
 use Rattle.schema.specs.declared.Memory.{Memory}
+use Rattle.schema.specs.declared.Table.{Table}
 use Rattle.schema.specs.Flags.{IsFlat}
 use Rattle.rows.specs.Database.{Database}
 use Rattle.store_trait.specs.Batch.{Entry, put_batch}
+use Rattle.store_trait.specs.Operation.{loaded}
 use Rattle.store_trait.specs.declared.Op.TheVariants.{Commit}
 use Rattle.store_trait.specs.declared.Op.{Op}
+use Rattle.record_codec.specs.declared.records.Record.{Record}
+use Rattle.record_codec.specs.Log.{after}
 use Rattle.executor.specs.declared.Job.{Job}
 use Rattle.executor.specs.declared.Outcome.TheVariants.{Output}
 use Rattle.executor.specs.Job.{Finished, executed, output_of}
@@ -15,7 +19,7 @@ use Rattle.relay.specs.Relay as relay
 use Rattle.relay.specs.Relay.{AreAcceptable}
 use Rattle.scheduler.specs.Marks.{Marks, all_up_to}
 use Rattle.commit_order.specs.Turns.{Line, place_of, turn, passed}
-use Rattle.replica_core.specs.Replica.{Replica, dispatched, working_rows, job_of, waiting}
+use Rattle.replica_core.specs.Replica.{Replica, dispatched, commits, job_of}
 use Rattle.replica_core.specs.Sound.{IsUnderWay, AreEligible}
 use Rattle.replica_core.specs.Calls.{finish_fault, IsHandedOut}
 
@@ -33,33 +37,42 @@ seen_as received base marks published line workers stopped = record {
   stopped = stopped;
 }
 
--- the result of the job that was handed out, and its record applies
-pub record IsTaken (r : Replica) (gno : ℕ) (result : Finished) : Type 0 where
-  pub job : job_of r gno ≡ Some result.job
+-- the result is of this job, and its record applies
+pub record IsTaken (handed_out : Option Job) (result : Finished) : Type 0 where
+  pub job : handed_out ≡ Some result.job
   pub left : List Entry
   pub output : result.outcome ≡ Output left
   pub applies : executed result.job ≡ Output left
 
--- No table has a parent. The store contains the rows after the committed records, and the operations are the commits that
+-- what no call changes: no table has a parent, and there are between 1 and 64 workers
+pub record IsSetUp (ts : List Table) (workers : ℕ) : Type 0 where
+  pub flat : IsFlat ts
+  pub some : 1 ≤ workers
+  pub few : workers ≤ 64
+
+-- What only records and commits change: the rows are those after the committed records, and the operations the commits that
+-- are not published.
+pub record IsLogKept (ts : List Table) (base : List Entry) (accepted : List Record) (committed shown : ℕ) (rows : Database) (ops : List Op) : Type 0 where
+  pub acceptable : AreAcceptable ts accepted
+  pub rows_are : after ts (loaded base) (take committed accepted) ≡ Some rows
+  pub published : shown ≤ committed
+  pub ops_are : ops ≡ drop shown (commits ts (loaded base) accepted committed)
+
+-- The store contains the rows after the committed records, and the operations are the commits that
 -- are not published. The copies of the jobs are those of the records between dispatch and commit, in order, and each
 -- result that was taken is of its record's job.
 pub record IsKept (r : Replica) (marks : Marks) (line : Line) (copies : List Job) (rows : Database) (ops : List Op) : Type 0 where
-  pub flat : IsFlat r.tables
-  pub acceptable : AreAcceptable r.tables r.accepted
-  pub rows_are : working_rows r ≡ Some rows
-  pub published : r.published ≤ r.committed
-  pub ops_are : ops ≡ waiting r
+  pub set_up : IsSetUp r.tables r.workers
+  pub log : IsLogKept r.tables r.base r.accepted r.committed r.published rows ops
   pub marks_are : marks ≡ all_up_to r.committed
   pub dispatched : dispatched r ≤ length r.accepted
   pub busy : length r.under_way ≤ r.workers
-  pub some : 1 ≤ r.workers
-  pub few : r.workers ≤ 64
   pub eligible : AreEligible r
   pub first : line.first ≡ r.committed + 1
   pub places : r.under_way ≡ map is_some line.places
   pub count : length copies ≡ length r.under_way
   pub jobs : (gno : ℕ) → IsUnderWay r gno → slice_get copies (gno - r.committed - 1) ≡ job_of r gno
-  pub results : (gno : ℕ) (result : Finished) → IsUnderWay r gno → place_of line gno ≡ Some result → IsTaken r gno result
+  pub results : (gno : ℕ) (result : Finished) → IsUnderWay r gno → place_of line gno ≡ Some result → IsTaken (job_of r gno) result
 
 -- the rows of the result whose turn has come, where it has any
 abbrev pub turn_output : Line → Option (List Entry)

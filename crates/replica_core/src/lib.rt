@@ -155,6 +155,7 @@ impl<S: RowStore> ReplicaCore<S> {
         ensures taken { finish_fault self.old done.job.gno ≡ None → IsHandedOut self.old done
             → result ≡ taken_as done done.outcome }
         ensures ok { OnOk result (self.new ≡ with_finished self.old done.job.gno) }
+        ensures back { IfErr result (λ e. e.1 ≡ done) }
         ensures err { IfErr result (λ e. self.new ≡ left_by_fault self.old e.0) }
     {
         if let Err(fault) = self.judge(&done) {

@@ -97,6 +97,17 @@ fn record(alloc: Global, gno: u64, parent: u64, change: Change) -> Result<Record
     record_of(alloc, gno, parent, vec![in alloc; change]?)
 }
 
+/// The record of this number and parent that sets one column of row 10.
+fn update_of(
+    alloc: Global,
+    gno: u64,
+    parent: u64,
+    column: u8,
+    value: i64,
+) -> Result<Record, Memory> {
+    record(alloc, gno, parent, set(10, column, value)?)
+}
+
 /// The record of this number and no parent that inserts the row of this key.
 fn insert_of(alloc: Global, gno: u64, key: i64) -> Result<Record, Memory> {
     record(alloc, gno, 0, insert(key, 5, 6)?)
@@ -135,6 +146,15 @@ fn pending(replica: &Replica) -> &[Op] {
 /// The row of this key, and how many rows there are.
 fn stored(replica: &Replica, key: i64) -> (Option<Row>, usize) {
     (replica.store().get(id(key)), replica.store().len())
+}
+
+/// The row of this key is so, one of so many.
+fn has_row(rt: &impl Abort, replica: &Replica, key: i64, want: Option<Row>, rows: usize) {
+    assert_eq!(rt; stored(replica, key), (want, rows));
+}
+
+fn has_accepted(rt: &impl Abort, replica: &Replica, records: usize) {
+    assert_eq!(rt; replica.accepted().len(), records);
 }
 
 fn receives(
@@ -244,126 +264,167 @@ fn three_inserts(rt: &(impl Abort + AllocGlobal), workers: usize) -> Result<Repl
     requires some { 1 ≤ workers }
     requires few { workers ≤ 64 }
 {
-    let alloc = rt.alloc();
-    let mut replica = replica(alloc, workers)?;
-    accepts(rt, &mut replica, &insert_of(alloc, 1, 10)?);
-    accepts(rt, &mut replica, &insert_of(alloc, 2, 11)?);
-    accepts(rt, &mut replica, &insert_of(alloc, 3, 12)?);
+    let mut replica = replica(rt.alloc(), workers)?;
+    accepts_inserts(rt, &mut replica)?;
     Ok(replica)
 }
 
-/// The second record is finished before the first; the third waits for a worker.
-fn finishes_out_of_turn(
-    rt: &(impl Abort + AllocGlobal),
-    replica: &mut Replica,
-) -> Result<(), Fail> {
-    let first = result(rt, replica, 1)?;
+fn accepts_inserts(rt: &(impl Abort + AllocGlobal), replica: &mut Replica) -> Result<(), Fail> {
+    accepts(rt, replica, &insert_of(rt.alloc(), 1, 10)?);
+    accepts(rt, replica, &insert_of(rt.alloc(), 2, 11)?);
+    accepts(rt, replica, &insert_of(rt.alloc(), 3, 12)?);
+    Ok(())
+}
+
+/// The second record is finished while the first is out; the third waits for a worker.
+fn second_is_first(rt: &(impl Abort + AllocGlobal), replica: &mut Replica) -> Result<(), Fail> {
     let second = result(rt, replica, 2)?;
     waits(rt, replica)?;
     finishes(rt, replica, second, Ok(()));
     waits(rt, replica)?;
     commits(rt, replica, None);
+    Ok(())
+}
+
+/// The second record is finished before the first.
+fn finishes_out_of_turn(
+    rt: &(impl Abort + AllocGlobal),
+    replica: &mut Replica,
+) -> Result<(), Fail> {
+    let first = result(rt, replica, 1)?;
+    second_is_first(rt, replica)?;
     finishes(rt, replica, first, Ok(()));
     waits(rt, replica)
 }
+
+/// The first commit frees a worker for the third record.
+fn commits_in_turn(rt: &(impl Abort + AllocGlobal), replica: &mut Replica) -> Result<(), Fail> {
+    commits(rt, replica, Some(1));
+    runs(rt, replica, 3)?;
+    commits(rt, replica, Some(2));
+    commits(rt, replica, Some(3));
+    commits(rt, replica, None);
+    Ok(())
+}
+
+// A test has its replica made, and lends it to the functions that do the steps: so few ways out of the test drop it.
 
 #[test]
 fn results_are_committed_in_turn(rt: HostRuntime) -> Result<(), Fail> {
     let mut replica = three_inserts(&rt, 2)?;
     finishes_out_of_turn(&rt, &mut replica)?;
-    commits(&rt, &mut replica, Some(1));
-    runs(&rt, &mut replica, 3)?;
-    commits(&rt, &mut replica, Some(2));
-    commits(&rt, &mut replica, Some(3));
-    commits(&rt, &mut replica, None);
-    are_commits(&rt, pending(&replica), [10, 11, 12], [row(5, 6); 3])?;
-    assert_eq!(rt; stored(&replica, 10), (row(5, 6), 3));
-    Ok(())
+    commits_in_turn(&rt, &mut replica)?;
+    has_row(&rt, &replica, 10, row(5, 6), 3);
+    are_commits(&rt, pending(&replica), [10, 11, 12], [row(5, 6); 3])
+}
+
+/// The second record waits until the first is committed.
+fn one_at_a_time(rt: &(impl Abort + AllocGlobal), replica: &mut Replica) -> Result<(), Fail> {
+    let done = result(rt, replica, 1)?;
+    waits(rt, replica)?;
+    finishes(rt, replica, done, Ok(()));
+    waits(rt, replica)?;
+    commits(rt, replica, Some(1));
+    runs(rt, replica, 2)
 }
 
 #[test]
 fn one_worker_is_busy_until_the_commit(rt: HostRuntime) -> Result<(), Fail> {
     let mut replica = three_inserts(&rt, 1)?;
-    let done = result(&rt, &mut replica, 1)?;
-    waits(&rt, &mut replica)?;
-    finishes(&rt, &mut replica, done, Ok(()));
-    waits(&rt, &mut replica)?;
-    commits(&rt, &mut replica, Some(1));
-    runs(&rt, &mut replica, 2)?;
     assert_eq!(rt; replica.workers(), 1);
     assert!(rt; replica.source() == source());
-    Ok(())
+    one_at_a_time(&rt, &mut replica)
 }
 
 /// A replica that has accepted the insert of row 10 as `[5, 6]`, and two updates of it, each with the one before as
 /// its parent.
 fn serial_replica(rt: &(impl Abort + AllocGlobal)) -> Result<Replica, Fail> {
-    let alloc = rt.alloc();
-    let mut replica = replica(alloc, 64)?;
-    accepts(rt, &mut replica, &record(alloc, 1, 0, insert(10, 5, 6)?)?);
-    accepts(rt, &mut replica, &record(alloc, 2, 1, set(10, 0, 7)?)?);
-    accepts(rt, &mut replica, &record(alloc, 3, 2, set(10, 1, 8)?)?);
+    let mut replica = replica(rt.alloc(), 64)?;
+    accepts_serial(rt, &mut replica)?;
     Ok(replica)
+}
+
+fn accepts_serial(rt: &(impl Abort + AllocGlobal), replica: &mut Replica) -> Result<(), Fail> {
+    accepts(rt, replica, &insert_of(rt.alloc(), 1, 10)?);
+    accepts(rt, replica, &update_of(rt.alloc(), 2, 1, 0, 7)?);
+    accepts(rt, replica, &update_of(rt.alloc(), 3, 2, 1, 8)?);
+    Ok(())
+}
+
+/// The record is executed and committed, and none may be dispatched before that.
+fn goes_alone(
+    rt: &(impl Abort + AllocGlobal),
+    replica: &mut Replica,
+    gno: u64,
+) -> Result<(), Fail> {
+    runs(rt, replica, gno)?;
+    waits(rt, replica)?;
+    commits(rt, replica, Some(gno));
+    Ok(())
 }
 
 #[test]
 fn records_wait_for_their_parents(rt: HostRuntime) -> Result<(), Fail> {
     let mut replica = serial_replica(&rt)?;
     for gno in 1..4 {
-        runs(&rt, &mut replica, gno)?;
-        waits(&rt, &mut replica)?;
-        commits(&rt, &mut replica, Some(gno));
+        goes_alone(&rt, &mut replica, gno)?;
     }
-    are_commits(
-        &rt,
-        pending(&replica),
-        [10; 3],
-        [row(5, 6), row(7, 6), row(7, 8)],
-    )?;
-    assert_eq!(rt; stored(&replica, 10), (row(7, 8), 1));
-    assert_eq!(rt; replica.accepted().len(), 3);
+    has_row(&rt, &replica, 10, row(7, 8), 1);
+    has_accepted(&rt, &replica, 3);
+    let left = [row(5, 6), row(7, 6), row(7, 8)];
+    are_commits(&rt, pending(&replica), [10; 3], left)
+}
+
+/// A record that was accepted, one past the next, and one whose parent does not cover.
+fn judges(rt: &(impl Abort + AllocGlobal), replica: &mut Replica) -> Result<(), Fail> {
+    let again = Ok(Received::Skipped);
+    receives(rt, replica, &update_of(rt.alloc(), 3, 2, 1, 8)?, again);
+    let gap = Err(ReplicaFault::Gap);
+    receives(rt, replica, &insert_of(rt.alloc(), 5, 10)?, gap);
+    let lying = Err(ReplicaFault::BadParent);
+    receives(rt, replica, &update_of(rt.alloc(), 4, 2, 1, 9)?, lying);
     Ok(())
 }
 
 #[test]
 fn what_is_received_is_judged_by_the_relay(rt: HostRuntime) -> Result<(), Fail> {
     let mut replica = serial_replica(&rt)?;
-    let third = record(rt.alloc(), 3, 2, set(10, 1, 8)?)?;
-    receives(&rt, &mut replica, &third, Ok(Received::Skipped));
-    let gap = insert_of(rt.alloc(), 5, 10)?;
-    receives(&rt, &mut replica, &gap, Err(ReplicaFault::Gap));
-    let lying = record(rt.alloc(), 4, 2, set(10, 1, 9)?)?;
-    receives(&rt, &mut replica, &lying, Err(ReplicaFault::BadParent));
-    assert_eq!(rt; replica.accepted().len(), 3);
+    judges(&rt, &mut replica)?;
+    has_accepted(&rt, &replica, 3);
     Ok(())
 }
 
-/// Each call is refused with this.
-fn is_stopped(
-    rt: &impl Abort,
-    replica: &mut Replica,
-    next: &Record,
-    done: JobResult,
-    stopped: ReplicaFault,
-) {
+/// Each call but `finish` is refused with this.
+fn is_stopped(rt: &impl Abort, replica: &mut Replica, next: &Record, stopped: ReplicaFault) {
     receives(rt, replica, next, Err(stopped));
     assert_eq!(rt; dispatch(replica).map(|job| job.is_some()), Err(stopped));
-    finishes(rt, replica, done, Err(stopped));
     assert_eq!(rt; commit_next(replica), Err(stopped));
     publishes(rt, replica, 0, Err(stopped));
 }
 
+/// The first result stops the replica, and the second is refused for that.
+fn stops(rt: &(impl Abort + AllocGlobal), replica: &mut Replica) -> Result<(), Fail> {
+    let first = result(rt, replica, 1)?;
+    let second = result(rt, replica, 2)?;
+    finishes(rt, replica, first, Err(ReplicaFault::Stopped(1)));
+    finishes(rt, replica, second, Err(ReplicaFault::Stopped(1)));
+    Ok(())
+}
+
+/// An update of an absent row, with another record behind it.
+fn does_not_apply(rt: &(impl Abort + AllocGlobal), replica: &mut Replica) -> Result<(), Fail> {
+    let absent = update_of(rt.alloc(), 1, 0, 0, 7)?;
+    accepts(rt, replica, &absent);
+    accepts(rt, replica, &insert_of(rt.alloc(), 2, 11)?);
+    stops(rt, replica)?;
+    is_stopped(rt, replica, &absent, ReplicaFault::Stopped(1));
+    Ok(())
+}
+
 #[test]
 fn a_record_that_does_not_apply_stops_the_replica(rt: HostRuntime) -> Result<(), Fail> {
-    let alloc = rt.alloc();
-    let mut replica = replica(alloc, 2)?;
-    let absent = record(alloc, 1, 0, set(10, 0, 7)?)?;
-    accepts(&rt, &mut replica, &absent);
-    accepts(&rt, &mut replica, &insert_of(alloc, 2, 11)?);
-    let first = result(&rt, &mut replica, 1)?;
-    let second = result(&rt, &mut replica, 2)?;
-    finishes(&rt, &mut replica, first, Err(ReplicaFault::Stopped(1)));
-    is_stopped(&rt, &mut replica, &absent, second, ReplicaFault::Stopped(1));
+    let mut replica = replica(rt.alloc(), 2)?;
+    does_not_apply(&rt, &mut replica)?;
     assert_eq!(rt; replica.stopped(), Some(1));
     assert_eq!(rt; pending(&replica).len(), 0);
     Ok(())
@@ -391,14 +452,33 @@ fn is_stranger(
     Ok(())
 }
 
+/// Before any dispatch, and then those on both sides of what is dispatched.
+fn strangers(rt: &(impl Abort + AllocGlobal), replica: &mut Replica) -> Result<(), Fail> {
+    is_stranger(rt, replica, 1)?;
+    runs(rt, replica, 1)?;
+    is_stranger(rt, replica, 0)?;
+    is_stranger(rt, replica, 2)?;
+    is_stranger(rt, replica, 5)
+}
+
 #[test]
 fn results_of_no_job_are_refused(rt: HostRuntime) -> Result<(), Fail> {
     let mut replica = three_inserts(&rt, 2)?;
-    is_stranger(&rt, &mut replica, 1)?;
-    runs(&rt, &mut replica, 1)?;
-    is_stranger(&rt, &mut replica, 0)?;
-    is_stranger(&rt, &mut replica, 2)?;
-    is_stranger(&rt, &mut replica, 5)?;
+    strangers(&rt, &mut replica)
+}
+
+/// The result of a copy of the job.
+fn copied(alloc: Global, job: &Job) -> Result<JobResult, Memory> {
+    Ok(execute(alloc, job.copy()?))
+}
+
+/// A copy of the job's result is taken, and another refused before the commit and behind it.
+fn doubles(rt: &(impl Abort + AllocGlobal), replica: &mut Replica, job: &Job) -> Result<(), Fail> {
+    finishes(rt, replica, copied(rt.alloc(), job)?, Ok(()));
+    let double = Err(ReplicaFault::Double);
+    finishes(rt, replica, copied(rt.alloc(), job)?, double);
+    commits(rt, replica, Some(1));
+    finishes(rt, replica, copied(rt.alloc(), job)?, double);
     Ok(())
 }
 
@@ -406,14 +486,7 @@ fn results_of_no_job_are_refused(rt: HostRuntime) -> Result<(), Fail> {
 fn second_results_are_refused(rt: HostRuntime) -> Result<(), Fail> {
     let mut replica = three_inserts(&rt, 2)?;
     let job = job(&rt, &mut replica, 1)?;
-    let first = execute(rt.alloc(), job.copy()?);
-    let second = execute(rt.alloc(), job.copy()?);
-    let third = execute(rt.alloc(), job);
-    finishes(&rt, &mut replica, first, Ok(()));
-    finishes(&rt, &mut replica, second, Err(ReplicaFault::Double));
-    commits(&rt, &mut replica, Some(1));
-    finishes(&rt, &mut replica, third, Err(ReplicaFault::Double));
-    Ok(())
+    doubles(&rt, &mut replica, &job)
 }
 
 /// The result of the job with another row in the place of what it looks at.
@@ -434,19 +507,24 @@ fn over_other_schema(alloc: Global, job: Job) -> Result<JobResult, Memory> {
     Ok(execute(alloc, Job::new(job.gno, job.rec, job.input, schema)))
 }
 
+/// A result of the same number is refused where one of the job's parts is another.
+fn others(rt: &(impl Abort + AllocGlobal), replica: &mut Replica, job: &Job) -> Result<(), Fail> {
+    let wrong = Err(ReplicaFault::WrongInput);
+    let row = over_other_row(rt.alloc(), job.copy()?)?;
+    finishes(rt, replica, row, wrong);
+    let rec = of_other_record(rt.alloc(), job.copy()?)?;
+    finishes(rt, replica, rec, wrong);
+    let schema = over_other_schema(rt.alloc(), job.copy()?)?;
+    finishes(rt, replica, schema, wrong);
+    Ok(())
+}
+
 #[test]
 fn results_of_another_job_are_refused(rt: HostRuntime) -> Result<(), Fail> {
-    let alloc = rt.alloc();
     let mut replica = three_inserts(&rt, 2)?;
     let job = job(&rt, &mut replica, 1)?;
-    let wrong = Err(ReplicaFault::WrongInput);
-    let other = over_other_row(alloc, job.copy()?)?;
-    finishes(&rt, &mut replica, other, wrong);
-    let other = of_other_record(alloc, job.copy()?)?;
-    finishes(&rt, &mut replica, other, wrong);
-    let other = over_other_schema(alloc, job.copy()?)?;
-    finishes(&rt, &mut replica, other, wrong);
-    finishes(&rt, &mut replica, execute(alloc, job), Ok(()));
+    others(&rt, &mut replica, &job)?;
+    finishes(&rt, &mut replica, execute(rt.alloc(), job), Ok(()));
     Ok(())
 }
 
@@ -477,19 +555,23 @@ fn finish_backwards(
     Ok(())
 }
 
+/// Record 65 waits while 64 are under way.
+fn the_next_waits(rt: &(impl Abort + AllocGlobal), replica: &mut Replica) -> Result<(), Fail> {
+    let mut results = all_busy(rt, replica)?;
+    accepts(rt, replica, &insert_of(rt.alloc(), 65, 65)?);
+    waits(rt, replica)?;
+    finish_backwards(rt, replica, &mut results)
+}
+
 #[test]
 fn sixty_four_workers_are_busy(rt: HostRuntime) -> Result<(), Fail> {
     let mut replica = replica(rt.alloc(), 64)?;
-    let mut results = all_busy(&rt, &mut replica)?;
-    accepts(&rt, &mut replica, &insert_of(rt.alloc(), 65, 65)?);
-    waits(&rt, &mut replica)?;
-    finish_backwards(&rt, &mut replica, &mut results)?;
+    the_next_waits(&rt, &mut replica)?;
     for gno in 1..65 {
         commits(&rt, &mut replica, Some(gno));
     }
-    runs(&rt, &mut replica, 65)?;
-    assert_eq!(rt; stored(&replica, 64), (row(5, 6), 64));
-    Ok(())
+    has_row(&rt, &replica, 64, row(5, 6), 64);
+    runs(&rt, &mut replica, 65)
 }
 
 /// The number of the commit that waits first.
@@ -500,26 +582,40 @@ fn first_pending(replica: &Replica) -> Option<u64> {
     }
 }
 
+/// So many commits wait, the first of them of this number.
+fn has_pending(rt: &impl Abort, replica: &Replica, first: Option<u64>, count: usize) {
+    assert_eq!(rt;
+        (first_pending(replica), pending(replica).len()),
+        (first, count)
+    );
+}
+
 #[test]
 fn three_hundred_commits_are_published_in_parts(rt: HostRuntime) -> Result<(), Fail> {
     let mut replica = replica(rt.alloc(), 1)?;
     for gno in 1..301 {
         passes(&rt, &mut replica, &insert_of(rt.alloc(), gno, gno as i64)?)?;
     }
-    assert_eq!(rt;
-        (first_pending(&replica), pending(&replica).len()),
-        (Some(1), 300)
-    );
+    has_pending(&rt, &replica, Some(1), 300);
     publishes(&rt, &mut replica, 100, Ok(100));
-    assert_eq!(rt;
-        (first_pending(&replica), pending(&replica).len()),
-        (Some(101), 200)
-    );
+    has_pending(&rt, &replica, Some(101), 200);
     publishes(&rt, &mut replica, 300, Ok(300));
-    assert_eq!(rt;
-        (first_pending(&replica), pending(&replica).len()),
-        (None, 0)
-    );
+    has_pending(&rt, &replica, None, 0);
+    Ok(())
+}
+
+/// The insert of row 10, which refers to this row.
+fn referring(alloc: Global, key: i64) -> Result<Record, Memory> {
+    let mut rec = insert_of(alloc, 1, 10)?;
+    rec.refs = Refs::from_rising(vec![in alloc; id(key)]?);
+    Ok(rec)
+}
+
+#[test]
+fn a_record_may_refer_to_an_absent_row(rt: HostRuntime) -> Result<(), Fail> {
+    let mut replica = replica(rt.alloc(), 1)?;
+    passes(&rt, &mut replica, &referring(rt.alloc(), 99)?)?;
+    has_row(&rt, &replica, 10, row(5, 6), 1);
     Ok(())
 }
 
@@ -534,12 +630,11 @@ fn large_store(alloc: Global) -> Result<BTreeStore, Memory> {
     Ok(store)
 }
 
-/// The record of 1024 changes: the rows -1 and down are inserted, and each is updated.
+/// The record of 1024 changes, each of a row of its own: the rows -1 and down are inserted.
 fn large_record(alloc: Global) -> Result<Record, Memory> {
     let mut list = Vec::new(alloc);
-    for key in -512..0 {
-        list.push(insert(key, 5, 6)?)?;
-        list.push(set(key, 1, key)?)?;
+    for key in -1024..0 {
+        list.push(insert(key, 5, key)?)?;
     }
     record_of(alloc, 1, 0, list)
 }
@@ -549,11 +644,11 @@ fn a_record_of_1024_changes_is_committed(rt: HostRuntime) -> Result<(), Fail> {
     let mut replica = replica_of(rt.alloc(), large_store(rt.alloc())?, 1)?;
     assert_eq!(rt; replica.base().entries().len(), 1500);
     passes(&rt, &mut replica, &large_record(rt.alloc())?)?;
-    assert_eq!(rt; stored(&replica, -512), (row(5, -512), 2012));
+    has_row(&rt, &replica, -1024, row(5, -1024), 2524);
     let [only] = pending(&replica) else {
         return Err(Fail::new("one commit waits"));
     };
-    assert_eq!(rt; only.batch().entries().len(), 512);
+    assert_eq!(rt; only.batch().entries().len(), 1024);
     Ok(())
 }
 
@@ -574,7 +669,7 @@ fn receive_again(rt: &impl Abort, replica: &mut Replica, next: &Record) {
         return;
     }
     assert_eq!(rt; first, Err(ReplicaFault::Memory));
-    assert_eq!(rt; replica.accepted().len(), 0);
+    has_accepted(rt, replica, 0);
     accepts(rt, replica, next);
 }
 
@@ -607,22 +702,25 @@ fn commit_again(rt: &impl Abort, replica: &mut Replica) {
         return;
     }
     assert_eq!(rt; first, Err(ReplicaFault::Memory));
-    assert_eq!(rt;
-        (stored(replica, 10), pending(replica).len()),
-        ((None, 0), 0)
-    );
+    has_row(rt, replica, 10, None, 0);
+    has_pending(rt, replica, None, 0);
     commits(rt, replica, Some(1));
+}
+
+fn passes_again(rt: &(impl Abort + AllocGlobal), replica: &mut Replica) -> Result<(), Fail> {
+    receive_again(rt, replica, &record_again(rt.alloc())?);
+    let job = job_again(rt, replica)?;
+    finish_again(rt, replica, job);
+    commit_again(rt, replica);
+    Ok(())
 }
 
 /// With one allocation after another refused, each call answers at its second try as if none had been.
 #[test]
 fn refused_calls_are_made_again(rt: HostRuntime) -> Result<(), Fail> {
     let mut replica = replica_again(rt.alloc())?;
-    receive_again(&rt, &mut replica, &record_again(rt.alloc())?);
-    let job = job_again(&rt, &mut replica)?;
-    finish_again(&rt, &mut replica, job);
-    commit_again(&rt, &mut replica);
-    assert_eq!(rt; stored(&replica, 10), (row(5, 6), 1));
-    assert_eq!(rt; first_pending(&replica), Some(1));
+    passes_again(&rt, &mut replica)?;
+    has_row(&rt, &replica, 10, row(5, 6), 1);
+    has_pending(&rt, &replica, Some(1), 1);
     Ok(())
 }

@@ -1,8 +1,9 @@
 -- Later states of a coordinator.
-use Rattle.std.proofs.Common.{◌∙◌, refl, List, [], arith}
+use Rattle.std.proofs.Common.{◌∙◌, refl, List, [], Option, arith}
 use Rattle.std.proofs.lemmas.List.{append-nil}
 use mathlib.Core.List.{IsPrefix}
 use Rattle.store_trait.specs.declared.Op.{Op}
+use Rattle.executor.specs.declared.Job.{Job}
 use Rattle.replica_shared.specs.Together.{State, IsLater}
 use Rattle.replica_shared.proofs.Commits.{prefix_joins}
 
@@ -24,3 +25,7 @@ later_then s t u a b =
       published = prefix_joins s.publication.published t.publication.published u.publication.published a.published b.published;
       closed = b.closed ∙ a.closed;
     }
+
+-- what is kept does not count
+pub later_keeping : (s t : State) (kept : List (Option Job)) → IsLater s t → IsLater s (record t { kept = kept })
+later_keeping s t kept a = record { tables = a.tables; base = a.base; accepted = a.accepted; committed = a.committed; published = a.published; closed = a.closed }

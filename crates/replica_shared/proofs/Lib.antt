@@ -1,3 +1,4 @@
 pub mod Commits
 pub mod Standing
+pub mod Places
 pub mod Later

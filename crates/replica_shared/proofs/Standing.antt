@@ -7,6 +7,7 @@ use Rattle.store_trait.specs.Batch.{Entry}
 use Rattle.store_trait.specs.Operation.{loaded}
 use Rattle.store_trait.specs.declared.Op.{Op}
 use Rattle.record_codec.specs.declared.records.Record.{Record}
+use Rattle.executor.specs.declared.Job.{Job}
 use Rattle.published.specs.declared.counts.Counts.{Counts}
 use Rattle.published.specs.History.{IsCommit, commits_in}
 use Rattle.published.specs.Publication.{Publishing}
@@ -71,9 +72,9 @@ pub committed_within : (r : Replica) → IsSound r → r.committed ≤ length r.
 committed_within r sound = let d = sound.dispatched in omega arith
 
 -- where as much is appended as committed, all is
-pub all_appended : (base : List Entry) (r : Replica) (p : Publishing) (closed : Bool) (appended : ℕ) (stored : List Counts) → IsSound r → r.committed ≤ appended → StandTogether base r p appended stored
-    → IsAppended (record { core = r; publication = p; closed = closed })
-all_appended base r p closed appended stored sound enough t =
+pub all_appended : (base : List Entry) (r : Replica) (p : Publishing) (closed : Bool) (kept : List (Option Job)) (appended : ℕ) (stored : List Counts) → IsSound r → r.committed ≤ appended → StandTogether base r p appended stored
+    → IsAppended (record { core = r; publication = p; closed = closed; kept = kept })
+all_appended base r p closed kept appended stored sound enough t =
     let within = committed_within r sound in
     let sizes = length_operations r.tables r.base r.accepted r.committed within in
     let some = history_length p.published t.history in

@@ -1,5 +1,5 @@
 -- What lies under the lock of a shared replica, and what is true of it each time that the lock is taken.
-use Rattle.std.specs.Prelude.{◌≡◌, ℕ, ◌+◌, ◌≤◌, Bool, true, not, ◌||◌, nat_le, List, [], ◌++◌, length, None, is_some, Result, Ok, Err}
+use Rattle.std.specs.Prelude.{◌≡◌, ℕ, ◌+◌, ◌%◌, ◌<◌, ◌≤◌, Bool, true, not, ◌||◌, nat_le, List, [], ◌++◌, length, slice_index_or, slice_set, Option, Some, None, is_some, Result, Ok, Err}
 use mathlib.Core.List.{IsPrefix}
 use Rattle.store_trait.specs.Batch.{Entry}
 use Rattle.store_trait.specs.declared.Op.{Op}
@@ -7,6 +7,7 @@ use Rattle.published.specs.declared.counts.Counts.{Counts}
 use Rattle.published.specs.History.{IsHistory, commits_in}
 use Rattle.published.specs.Publication.{Publishing}
 use Rattle.published.specs.Status.{counts_of, latest}
+use Rattle.executor.specs.declared.Job.{Job}
 use Rattle.executor.specs.declared.Outcome.{Outcome}
 use Rattle.executor.specs.declared.Outcome.TheVariants as outcomes
 use Rattle.relay.specs.declared.ReplicaFault.{ReplicaFault}
@@ -19,6 +20,8 @@ pub record State : Type 0 where
   pub publication : Publishing
   -- no more records come
   pub closed : Bool
+  -- the places of the jobs for which memory ran out
+  pub kept : List (Option Job)
 
 -- how far the replica is
 abbrev pub words_of : Replica → Counts
@@ -36,6 +39,45 @@ pub record StandTogether (base : List Entry) (r : Replica) (p : Publishing) (app
   -- the words that were stored last
   pub words : latest stored ≡ words_of r
   pub number : appended ≡ commits_in p.published + length p.waiting
+
+-- There are 64 places, and each job that is kept lies in its own, that of its number modulo 64. So many are dispatched, and it
+-- is one of these.
+abbrev pub LieInPlace : ℕ → List (Option Job) → Type 0
+LieInPlace dispatched kept = (place : ℕ) (job : Job) → slice_index_or kept place None ≡ Some job
+    → (job.gno % 64 ≡ place) × (job.gno ≤ dispatched)
+
+pub record AreKept (dispatched : ℕ) (kept : List (Option Job)) : Type 0 where
+  pub places : length kept ≡ 64
+  pub own : LieInPlace dispatched kept
+
+-- a place has a job of this number
+abbrev pub HasJob : List (Option Job) → ℕ → Type 0
+HasJob kept gno = (job : Job) × ((slice_index_or kept (gno % 64) None ≡ Some job) × (job.gno ≡ gno))
+
+-- of each number that had a kept job and is not committed, one is kept still
+abbrev pub NoneLost : Replica → List (Option Job) → List (Option Job) → Type 0
+NoneLost r kept then = (gno : ℕ) → r.committed < gno → HasJob kept gno → HasJob then gno
+
+-- the job is laid into its place
+abbrev pub laid : Job → List (Option Job) → List (Option Job)
+laid job kept = slice_set kept (job.gno % 64) (Some job)
+
+-- a job whose result is refused so is kept where memory ran out
+abbrev pub taken_back : ReplicaFault → Job → List (Option Job) → List (Option Job)
+taken_back faults.Memory job kept = laid job kept
+taken_back (faults.Stopped gno) job kept = kept
+taken_back faults.Gap job kept = kept
+taken_back faults.ForeignSource job kept = kept
+taken_back faults.Malformed job kept = kept
+taken_back faults.BadParent job kept = kept
+taken_back faults.Stranger job kept = kept
+taken_back faults.Double job kept = kept
+taken_back faults.WrongInput job kept = kept
+
+-- one of the jobs is taken out, where any is kept
+abbrev pub TakesOut : List (Option Job) → Option Job → List (Option Job) → Type 0
+TakesOut kept None then = ((place : ℕ) → slice_index_or kept place None ≡ None) × (then ≡ kept)
+TakesOut kept (Some job) then = (slice_index_or kept (job.gno % 64) None ≡ Some job) × (then ≡ slice_set kept (job.gno % 64) None)
 
 -- it tells of a stop
 abbrev pub IsStop : ReplicaFault → Type 0

@@ -1,13 +1,14 @@
 //! What lies under the lock: the core, its publisher, the words of the status, and the jobs for which memory ran out. Each
 //! call of the shared replica is one call here.
-ghost use Rattle.std.specs.Prelude.{◌≡◌, ◌⊎◌, ◌≤◌, ◌+◌, ◌++◌, ◌∷◌, [], true, false, length, replicate, None, Ok, Err, IfOk, IfErr, IfSome, OnOk, OnErr, IsErrOf, IsSome, is_some, if◌then◌else◌};
+ghost use Rattle.std.specs.Prelude.{◌≡◌, ◌⊎◌, ◌≤◌, ◌+◌, ◌++◌, ◌∷◌, [], true, false, replicate, position, None, Ok, Err, IfOk, IfErr, IfSome, OnOk, OnErr, IsErrOf, IsOk, IsSome, is_some, if◌then◌else◌};
 ghost use mathlib.Core.List.{IsPrefix};
 ghost use Rattle.store_trait.specs.declared.Op.TheVariants.{Load};
 ghost use Rattle.published.specs.History.{IsHistory, commits_in};
 ghost use Rattle.published.specs.Status.{NoneFalls, latest};
 ghost use Rattle.replica_core.specs.Replica.{operations};
 ghost use Rattle.replica_core.specs.Calls.{new_over, received, left_by_receive, finish_fault, IsHandedOut, with_finished, left_by_fault, next_commit, committed_next, unless_stopped, with_published};
-ghost use Rattle.replica_shared.specs.Together.{words_of, IsStop, is_awaited, IsLater, IsSettled, IsClosed, answered, with_waiting, IsAppended, shown};
+ghost use Rattle.replica_core.specs.Sound.{IsUnderWay};
+ghost use Rattle.replica_shared.specs.Together.{words_of, IsStop, is_awaited, IsLater, IsSettled, IsClosed, answered, with_waiting, IsAppended, shown, NoneLost, laid, taken_back, TakesOut};
 
 use crate::naming::ReplicaNaming;
 use executor::{Job, JobResult};
@@ -47,7 +48,8 @@ where
     /// How many commits were appended to the publisher.
     appended: u64,
     status: Status,
-    /// The jobs for which memory ran out, each at its gno modulo the places: those that are out lie within so many numbers.
+    /// The jobs for which memory ran out, each at its gno modulo the places: those that are out lie within so many numbers,
+    /// so none takes another's place.
     kept: Vec<Option<Job>>,
     closed: bool,
     /// It changes with whatever a worker, or one in `wait_for`, may wait for.
@@ -58,14 +60,14 @@ impl<S: RowStore + Drop, J: ReplicaNaming> Model for Coordinator<S, J>
 where
     Version<S, J>: Absorb<Step<J>, State = Common>,
 {
-    ghost use Rattle.std.specs.Prelude.{◌≡◌, length};
-    ghost use Rattle.replica_shared.specs.Together.{State, StandTogether};
+    ghost use Rattle.replica_core.specs.Replica.{dispatched};
+    ghost use Rattle.replica_shared.specs.Together.{State, StandTogether, AreKept};
 
     ghost Value = { State };
 
-    ghost view = { λ c. record { core = c.core; publication = c.publisher; closed = c.closed } };
+    ghost view = { λ c. record { core = c.core; publication = c.publisher; closed = c.closed; kept = c.kept.items } };
 
-    ghost invariant = { λ c. StandTogether J.base c.core c.publisher c.appended c.status.stored × (length c.kept.items ≡ 64) };
+    ghost invariant = { λ c. StandTogether J.base c.core c.publisher c.appended c.status.stored × AreKept (dispatched c.core) c.kept.items };
 }
 
 impl<S: RowStore + Drop, J: ReplicaNaming> Coordinator<S, J> {
@@ -80,8 +82,8 @@ impl<S: RowStore + Drop, J: ReplicaNaming> Coordinator<S, J> {
         requires base { core.base ≡ J.base }
         requires publisher { publisher ≡ record { published = Load core.base ∷ []; waiting = []; history = Load core.base ∷ [] } }
         requires status { status.stored ≡ [] }
-        requires kept { length kept.items ≡ 64 }
-        ensures { result ≡ record { core = core; publication = publisher; closed = false } }
+        requires kept { kept.items ≡ replicate 64 None }
+        ensures { result ≡ record { core = core; publication = publisher; closed = false; kept = kept.items } }
     {
         Coordinator {
             core,
@@ -167,7 +169,10 @@ impl<S: RowStore + Drop, J: ReplicaNaming> Coordinator<S, J> {
         ensures taken { finish_fault self.old.core done.job.gno ≡ None → IsHandedOut self.old.core done
             → result ≡ answered done.job.gno done.outcome }
         ensures ok { OnOk result (self.new ≡ record self.old { core = with_finished self.old.core done.job.gno }) }
-        ensures err { IfErr result (λ fault. self.new ≡ record self.old { core = left_by_fault self.old.core fault }) }
+        ensures err { IfErr result (λ fault. self.new ≡ record self.old {
+          core = left_by_fault self.old.core fault;
+          kept = taken_back fault done.job self.old.kept;
+        }) }
     {
         self.moves = self.moves.wrapping_add(1);
         match self.core.finish(done) {
@@ -181,26 +186,32 @@ impl<S: RowStore + Drop, J: ReplicaNaming> Coordinator<S, J> {
 
     // Keeps the job of a refused result where memory ran out.
     fn take_back(&mut self, fault: ReplicaFault, done: JobResult)
-        ensures { self.new ≡ self.old }
+        requires { fault ≡ ReplicaFault.Memory → IsUnderWay self.old.core done.job.gno }
+        ensures kept { self.new ≡ record self.old { kept = taken_back fault done.job self.old.kept } }
+        ensures none_lost { NoneLost self.old.core self.old.kept self.new.kept }
     {
         if fault == ReplicaFault::Memory {
             self.keep(done.into_job());
         }
     }
 
-    // Lays a job into its place.
+    // Lays a job into its place. What lay there has its number, or is committed: those between are fewer than the places.
     fn keep(&mut self, job: Job)
-        ensures { self.new ≡ self.old }
+        requires { IsUnderWay self.old.core job.gno }
+        ensures kept { self.new ≡ record self.old { kept = laid job self.old.kept } }
+        ensures none_lost { NoneLost self.old.core self.old.kept self.new.kept }
     {
+        let _sound = self.core.committed();
         let place = (job.gno % 64) as usize;
         self.kept[place] = Some(job);
     }
 
-    // A job that was kept.
+    // A job that was kept, if any is.
     fn take_kept(&mut self) -> Option<Job>
-        ensures { self.new ≡ self.old }
+        ensures same { self.new ≡ record self.old { kept = self.new.kept } }
+        ensures taken { TakesOut self.old.kept result self.new.kept }
     {
-        let place = self.kept.iter().position(|place| place.is_some())?;
+        let place = first_kept(&self.kept)?;
         self.kept[place].take()
     }
 
@@ -313,6 +324,7 @@ impl<S: RowStore + Drop, J: ReplicaNaming> Coordinator<S, J> {
         ensures upto { IfOk result (λ notice. gno ≤ commits_in notice) }
         ensures history { IfOk result (λ notice. IsHistory notice) }
         ensures published { IfOk result (λ notice. notice ≡ self.now.publication.published) }
+        ensures known { gno ≤ commits_in self.now.publication.published → IsOk result }
         ensures stopped { IfErr result (λ fault. IfSome self.now.core.stopped (λ at. fault ≡ ReplicaFault.Stopped at)) }
         ensures stop { IfErr result IsStop }
     {
@@ -363,6 +375,13 @@ impl<S: RowStore + Drop, J: ReplicaNaming> Coordinator<S, J> {
     }
 }
 
+// The first place that has a job.
+fn first_kept(kept: &[Option<Job>]) -> Option<usize>
+    ensures { result ≡ position is_some kept.now }
+{
+    kept.iter().position(|place| place.is_some())
+}
+
 // Stores how far the core is.
 fn store_words<S: RowStore>(rt: &impl Wait, core: &ReplicaCore<S>, status: &mut Status)
     requires { NoneFalls (latest status.old.stored) (words_of core.now) }
@@ -378,7 +397,7 @@ fn store_words<S: RowStore>(rt: &impl Wait, core: &ReplicaCore<S>, status: &mut 
 
 /// The memory of a coordinator: the places for jobs, and the words of the status.
 pub(crate) fn parts(alloc: Global) -> Result<(Vec<Option<Job>>, Status, Watch), Memory>
-    ensures { IfOk result (λ parts. (length parts.0.items ≡ 64) × (parts.1.stored ≡ [])) }
+    ensures { IfOk result (λ parts. (parts.0.items ≡ replicate 64 None) × (parts.1.stored ≡ [])) }
 {
     let places = empty_places(alloc)?;
     let mut status = Status::new(alloc)?;

@@ -1,9 +1,9 @@
-use Rattle.std.proofs.Common.{◌≡◌, ◌∙◌, ◌+◌, sym, ap, inr, Ok, Err, Option, ℕ, arith}
+use Rattle.std.proofs.Common.{◌∙◌, ◌+◌, sym, ap, inr, Ok, Err, arith}
 use Rattle.std.specs.Option.{option_map_or}
 use Rattle.relay.specs.declared.ReplicaFault.TheVariants.{Stopped}
 use Rattle.replica_core.specs.Replica.{Replica}
 use Rattle.replica_core.specs.Calls.{next_commit, unless_stopped}
-use Rattle.replica_core.proofs.Steps.{few_dispatched, not_stopped, committed_kept, committed_seen, copy_there, none_committed}
+use Rattle.replica_core.proofs.Steps.{few_dispatched, not_stopped, committed_kept, none_committed}
 use Rattle.replica_core.proofs.ReplicaCore.commit_next.Goals as goal
 
 pub overflow_add-gno : goal.overflow_add-gno

@@ -1,4 +1,4 @@
-use Rattle.std.proofs.Common.{◌≡◌, ◌∙◌, ◌+◌, sym, ap, true, ◌++◌, ◌∷◌, [], Some}
+use Rattle.std.proofs.Common.{◌∙◌, ◌+◌, sym, ap, ◌++◌, ◌∷◌, []}
 use Rattle.replica_core.specs.Replica.{Replica, dispatched, job_of}
 use Rattle.replica_core.specs.Calls.{is_eligible}
 use Rattle.replica_core.proofs.Steps.{dispatched_kept}

@@ -1,4 +1,4 @@
-use Rattle.std.proofs.Common.{arith, length, map, is_some}
+use Rattle.std.proofs.Common.{arith, is_some}
 use Rattle.std.proofs.lemmas.List.{length-map}
 use Rattle.executor.specs.Job.{Finished}
 use Rattle.replica_core.proofs.Steps.{few_dispatched}

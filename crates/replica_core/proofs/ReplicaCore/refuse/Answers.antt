@@ -1,4 +1,4 @@
-use Rattle.std.proofs.Common.{◌≡◌, ◌∙◌}
+use Rattle.std.proofs.Common.{◌∙◌}
 use Rattle.replica_core.proofs.Steps.{not_stopped, refusal_seen}
 use Rattle.replica_core.proofs.ReplicaCore.refuse.Goals as goal
 

@@ -1,6 +1,6 @@
-use Rattle.std.proofs.Common.{◌≡◌, ◌∙◌, subst, sym, ap, map}
+use Rattle.std.proofs.Common.{◌∙◌, subst, sym, ap, map}
 use Rattle.std.specs.FinMap.{get}
-use Rattle.store_trait.specs.Batch.{IsRising, rows_in}
+use Rattle.store_trait.specs.Batch.{IsRising}
 use Rattle.store_trait.proofs.Batches.{rows_in_rise}
 use Rattle.replica_core.proofs.dispatching.copied_rows.Goals as goal
 

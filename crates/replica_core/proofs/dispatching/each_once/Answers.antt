@@ -1,8 +1,7 @@
-use Rattle.std.proofs.Common.{◌≡◌, ◌∙◌, ap, map, List}
+use Rattle.std.proofs.Common.{◌∙◌, ap, map}
 use Rattle.std.specs.FinMap.{get}
 use Rattle.std.specs.List.{dedup}
 use Rattle.std.proofs.lemmas.List.Filters.{dedup_is}
-use Rattle.schema.specs.declared.RowId.{RowId}
 use Rattle.replica_core.proofs.Copies.{row_eq, copied_once}
 use Rattle.replica_core.proofs.dispatching.each_once.Goals as goal
 

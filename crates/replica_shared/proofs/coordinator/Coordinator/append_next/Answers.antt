@@ -6,7 +6,7 @@ use Rattle.replica_shared.proofs.coordinator.Coordinator.append_next.Goals as go
 pub returns-then-self-committed-clause-all : goal.returns-then-self-committed-clause-all
 returns-then-self-committed-clause-all g c _ =
     subst IsAppended c.self.view_is
-    (all_appended _ _ _ c.self.inside.closed _ _ c.committed-committed.ensures.sound (rw (← c.committed-committed.ensures.value) c.if-self-committed.true) c.self.invariant.0)
+    (all_appended _ _ _ c.self.inside.closed _ _ _ c.committed-committed.ensures.sound (rw (← c.committed-committed.ensures.value) c.if-self-committed.true) c.self.invariant.0)
 
 pub append-requires : goal.append-requires
 append-requires g c =

@@ -1,0 +1,11 @@
+use Rattle.std.proofs.Common.{◌≡◌, ◌∙◌, ap, refl, Err}
+use Rattle.replica_core.specs.Calls.{left_by_fault}
+use Rattle.replica_shared.proofs.Places.{still_out}
+use Rattle.replica_shared.proofs.coordinator.Coordinator.finish.Goals as goal
+
+pub take_back-requires : goal.take_back-requires
+take_back-requires g c lacks =
+    let was = c.self.inside.core in
+    let left : c.finish.new.self ≡ was = c.in-Err.ensures.err ∙ ap (left_by_fault was) lacks in
+    let back = c.in-Err.ensures.back in
+    rw (left, back) (still_out was c.in-Err.fault c.args.done c.in-Err.done (Err (c.in-Err.fault, c.in-Err.done)) refl lacks c.in-Err.ensures.refused)
