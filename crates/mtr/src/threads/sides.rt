@@ -255,3 +255,6 @@ fn judge<J: Naming>(
         Verdict::Different
     }
 }
+
+#[cfg(test)]
+mod tests;

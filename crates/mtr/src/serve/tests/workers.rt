@@ -150,8 +150,8 @@ fn one_worker_takes_one_record_at_a_time(rt: HostRuntime) {
     ends(&rt, ran, 0, ONE_WORKER_PRINTS, "");
 }
 
-/// A script of 65 records, none of which waits for another: all are dispatched as far as 64 workers go, finished from the
-/// last to the first, and committed.
+/// A script of 65 records, none of which waits for another: all are dispatched as far as 64 workers go, finished, the last
+/// of them first, and committed.
 fn full_workers(alloc: Global) -> io::Result<Vec<u8>> {
     let mut script = Vec::new(alloc);
     write!(&mut script, "table 1 1 keyed\n")?;
@@ -173,8 +173,9 @@ fn full_workers(alloc: Global) -> io::Result<Vec<u8>> {
 
 fn finish_all(script: Vec<u8>) -> io::Result<Vec<u8>> {
     let mut script = script;
-    for behind in 1..65 {
-        write!(&mut script, "finish {}\n", 65 - behind)?;
+    write!(&mut script, "finish 64\n")?;
+    for gno in 1..64 {
+        write!(&mut script, "finish {gno}\n")?;
     }
     for _gno in 1..66 {
         write!(&mut script, "next\n")?;
@@ -205,9 +206,9 @@ fn jobs_print(want: Vec<u8>) -> io::Result<Vec<u8>> {
     for gno in 1..65 {
         write!(&mut want, "job {gno}\n")?;
     }
-    write!(&mut want, "nothing\n")?;
-    for behind in 1..65 {
-        write!(&mut want, "finished {}\n", 65 - behind)?;
+    write!(&mut want, "nothing\nfinished 64\n")?;
+    for gno in 1..64 {
+        write!(&mut want, "finished {gno}\n")?;
     }
     for gno in 1..65 {
         write!(&mut want, "commit {gno}\n")?;
