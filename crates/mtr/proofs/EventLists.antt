@@ -1,5 +1,5 @@
 -- The events that lines say, kept behind one another.
-use Rattle.std.proofs.Common.{◌≡◌, ◌∙◌, sym, ap, refl, ℕ, zero, suc, ◌+◌, ◌-◌, ◌≤◌, get_or, eqb, false, List, [], ◌∷◌, ◌++◌, length, length-append, append_assoc, append-nil, arith, Some, Result, Ok, Err}
+use Rattle.std.proofs.Common.{◌≡◌, ◌∙◌, sym, ap, refl, ℕ, zero, suc, ◌+◌, ◌-◌, ◌≤◌, get_or, eqb, false, List, [], ◌∷◌, ◌++◌, length, length-append, append_assoc, append-nil, arith, Bool, true, not, Option, Some, None, is_some, Result, Ok, Err}
 use Rattle.std.specs.Result.{OnErr, OnOk}
 use Rattle.std.specs.List.{flat_map, slice_split, All}
 use Rattle.std.proofs.lemmas.Grind.{flat_map-append}
@@ -8,7 +8,10 @@ use Rattle.std.proofs.lemmas.Bool.Decides.{nat_tests}
 use Rattle.world.specs.declared.events.Event.{Event}
 use Rattle.mtr.specs.declared.script.Line.TheVariants as lines
 use Rattle.mtr.specs.Lines.{text_line}
-use Rattle.mtr.specs.Events.{event_in, event_of_line, events_of, joined}
+use Rattle.mtr.specs.Words.{Word}
+use Rattle.mtr.specs.declared.command.Verb.{Verb}
+use Rattle.mtr.specs.Command.{event_of}
+use Rattle.mtr.specs.Events.{one_or_none, event_in, event_of_line, events_of, joined}
 use Rattle.std.proofs.Math.ListN.{set}
 use Rattle.mtr.proofs.Splits.{split_behind, is_byte}
 
@@ -44,8 +47,15 @@ pub on_err_always : {T E P : Type 0} (r : Result T E) → P → OnErr r P
 on_err_always (Ok v) h = tt
 on_err_always (Err e) h = h
 
-pub event_alone : (line : List ℕ) (e : Event) → All (λ b. eqb b 10 ≡ false) line → text_line line ≡ Some (lines.Event e) → events_of line ≡ e ∷ []
-event_alone line e h says = events_of_one line h ∙ ap event_in says
+pub event_alone : (line : List ℕ) (verb : Verb) (words : List Word) (e : Event) → All (λ b. eqb b 10 ≡ false) line → text_line line ≡ Some (lines.Event verb words) → event_of verb words ≡ Some e → events_of line ≡ e ∷ []
+event_alone line verb words e h says is = events_of_one line h ∙ ap event_in says ∙ ap one_or_none is
+
+-- a line whose words were tried
+pub one_event : (line : List ℕ) (verb : Verb) (words : List Word) (found : Option Event) → All (λ b. eqb b 10 ≡ false) line → text_line line ≡ Some (lines.Event verb words) → found ≡ event_of verb words → (none : Bool) → is_some found ≡ not none → none ≡ false
+    → (e : Event) × (event_of verb words ≡ Some e) × (events_of line ≡ e ∷ [])
+one_event line verb words None h says is true told some = cc
+one_event line verb words None h says is false told some = cc
+one_event line verb words (Some e) h says is none told some = (e, sym is, event_alone line verb words e h says (sym is))
 
 -- more events of the last piece
 pub joined_set : (pieces : List (List Event)) (i : ℕ) (d new more : List Event) → i + 1 ≡ length pieces → new ≡ get_or pieces i d ++ more → joined (set pieces i new) ≡ joined pieces ++ more

@@ -1,12 +1,19 @@
 -- Lines of a script.
-use Rattle.std.proofs.Common.{◌≡◌, ◌∙◌, sym, ap, subst, refl, ℕ, Bool, true, false, cond, eqb, ◌+◌, List, [], ◌∷◌, Option, Some, None, is_some, Ok, Err}
+use Rattle.std.proofs.Common.{◌≡◌, ◌∙◌, sym, ap, subst, refl, ℕ, Bool, true, false, cond, eqb, ◌+◌, List, [], ◌∷◌, ◌++◌, Option, Some, None, is_some, Result, Ok, Err}
 use Rattle.std.specs.Str.{is_utf8, IsUtf8}
 use Rattle.std.proofs.lemmas.Str.{IsUtf8-from_is_utf8, is_utf8-from_IsUtf8}
 use Rattle.std.specs.Option.{option_map_or, IfSome}
 use Rattle.std.specs.List.{slice_split}
 use Rattle.mtr.specs.Lines.{line_of, text_line}
 use Rattle.mtr.specs.Script.{Said, added, said_with, said_by, script_of, Knows, LeavesLines}
-use Rattle.mtr.specs.Words.{◌>>=◌}
+use Rattle.mtr.specs.Words.{Word, ◌>>=◌}
+use Rattle.mtr.specs.declared.command.Verb.{Verb}
+use Rattle.mtr.specs.declared.script.Line.{Line}
+use Rattle.mtr.specs.declared.script.Line.TheVariants as lines
+use Rattle.mtr.specs.Command.{event_of}
+use Rattle.world.specs.declared.events.Event.{Event}
+use Rattle.std.specs.Prelude.{IfOk}
+use Rattle.std.specs.Bool.{then_some}
 
 pub line_of_text : (line : List ℕ) → IsUtf8 line → text_line line ≡ line_of line
 unfolding line_of
@@ -74,3 +81,21 @@ known_more (Some text) None left s after n line so_far lines taken = absurd so_f
 known_more (Some text) (Some rest) left s after n line so_far lines taken =
     left_known text lines.0 left s after n lines.1
     (sym (line_taken s after n line (slice_split (λ b. eqb b 10) lines.0) taken) ∙ ap (said_by s n) (sym lines.2) ∙ so_far)
+
+-- ---- what a line adds, by what it is about
+
+pub skipped_added : (s : Said) → added s lines.Skipped ≡ Some s
+unfolding added
+skipped_added s = refl
+
+pub event_added : (s : Said) (verb : Verb) (words : List Word) (e : Event) (events : List Event) → event_of verb words ≡ Some e → events ≡ s.events ++ e ∷ []
+    → added s (lines.Event verb words) ≡ Some (record { tables = s.tables; base = s.base; events = events })
+unfolding added
+event_added s verb words e events is h =
+    ap (λ o. o >>= (λ event. Some (record s { events = s.events ++ event ∷ [] }))) is ∙ ap (λ es. Some (record { tables = s.tables; base = s.base; events = es })) (sym h)
+
+-- what was said of what a line is about is said of the line
+pub then_taken : {E : Type 0} (r : Result Bool E) (s after : Said) (line : List ℕ) (about : Line) → said_with s line ≡ added s about
+    → IfOk r (λ is_good. added s about ≡ then_some is_good after) → IfOk r (λ is_good. said_with s line ≡ then_some is_good after)
+then_taken (Ok is_good) s after line about e h = e ∙ h
+then_taken (Err x) s after line about e h = h

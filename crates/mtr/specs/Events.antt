@@ -6,14 +6,19 @@ use Rattle.world.specs.declared.events.Event.{Event}
 use Rattle.mtr.specs.declared.script.Line.{Line}
 use Rattle.mtr.specs.declared.script.Line.TheVariants as lines
 use Rattle.mtr.specs.Lines.{text_line}
+use Rattle.mtr.specs.Command.{event_of}
+
+abbrev pub one_or_none : {A : Type 0} → Option A → List A
+one_or_none None = []
+one_or_none (Some x) = x ∷ []
 
 -- the event that a line says, if it says one
 abbrev pub event_in : Option Line → List Event
 event_in None = []
 event_in (Some lines.Skipped) = []
-event_in (Some (lines.Table t)) = []
-event_in (Some (lines.Base id columns)) = []
-event_in (Some (lines.Event e)) = e ∷ []
+event_in (Some (lines.Table words)) = []
+event_in (Some (lines.Base words)) = []
+event_in (Some (lines.Event verb words)) = one_or_none (event_of verb words)
 
 abbrev pub event_of_line : List ℕ → List Event
 event_of_line line = event_in (text_line line)

@@ -6,7 +6,7 @@ use Rattle.schema.specs.declared.Table.{Table}
 use Rattle.mtr.specs.declared.script.Line.{Line}
 use Rattle.mtr.specs.declared.script.Line.TheVariants as lines
 use Rattle.mtr.specs.Words.{Word, ◌>>=◌, alone, first_word, words_of, number_in, row_id_in, row_in}
-use Rattle.mtr.specs.Command.{verb_of, event_of}
+use Rattle.mtr.specs.Command.{verb_of}
 
 -- a table without a parent: its id, its number of columns, and the word `keyed`
 unfoldable pub table_of : List Word → Option Table
@@ -23,23 +23,23 @@ base_of words = do
   columns ← row_in id.1
   Some (id.0, columns)
 
--- what the words of a line say
+-- what the words of a line are about, by the first of them
 unfoldable pub command_of : List Word → Option Line
 command_of words = do
   name ← first_word words
-  if bytes_eq name.0 (codes "table") then option_map (λ t. lines.Table t) (table_of name.1)
-      else if bytes_eq name.0 (codes "base") then option_map (λ b. lines.Base b.0 b.1) (base_of name.1)
-      else option_map (λ e. lines.Event e) (verb_of name.0 >>= λ verb. event_of verb name.1)
+  if bytes_eq name.0 (codes "table") then Some (lines.Table name.1)
+      else if bytes_eq name.0 (codes "base") then Some (lines.Base name.1)
+      else option_map (λ verb. lines.Event verb name.1) (verb_of name.0)
 
 -- an empty line, or one that begins with `#`, which is 35
 abbrev pub is_skipped : List ℕ → Bool
 is_skipped [] = true
 is_skipped (c ∷ cs) = c == 35
 
--- what a line of text says, where it says something
+-- what a line of text is about, where its first word tells
 unfoldable pub text_line : List ℕ → Option Line
 text_line line = if is_skipped line then Some lines.Skipped else command_of (words_of line)
 
--- what a line of bytes says: they have to be text
+-- the same of a line of bytes: they have to be text
 unfoldable pub line_of : List ℕ → Option Line
 line_of line = if is_utf8 line then text_line line else None

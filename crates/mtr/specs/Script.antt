@@ -11,7 +11,8 @@ use Rattle.mtr.specs.declared.script.Line.{Line}
 use Rattle.mtr.specs.declared.script.Line.TheVariants as lines
 use Rattle.mtr.specs.declared.script.Script.{Script}
 use Rattle.mtr.specs.Words.{◌>>=◌}
-use Rattle.mtr.specs.Lines.{line_of}
+use Rattle.mtr.specs.Lines.{table_of, base_of, line_of}
+use Rattle.mtr.specs.Command.{event_of}
 
 -- a script as its lists
 pub record Said : Type 0 where
@@ -25,12 +26,19 @@ said script = record { tables = script.tables.items; base = script.base.items; e
 abbrev pub nothing : Said
 nothing = record { tables = []; base = []; events = [] }
 
--- A line more. All tables come before the first row of the base, and both before the first event.
+-- A line more, where the words behind its first are what that asks for. All tables come before the first row of the
+-- base, and both before the first event.
 unfoldable pub added : Said → Line → Option Said
 added s lines.Skipped = Some s
-added s (lines.Table t) = if length s.base == 0 && length s.events == 0 then Some (record s { tables = s.tables ++ t ∷ [] }) else None
-added s (lines.Base id columns) = if length s.events == 0 then Some (record s { base = s.base ++ (id, columns) ∷ [] }) else None
-added s (lines.Event e) = Some (record s { events = s.events ++ e ∷ [] })
+added s (lines.Table words) = do
+  table ← table_of words
+  if length s.base == 0 && length s.events == 0 then Some (record s { tables = s.tables ++ table ∷ [] }) else None
+added s (lines.Base words) = do
+  row ← base_of words
+  if length s.events == 0 then Some (record s { base = s.base ++ row ∷ [] }) else None
+added s (lines.Event verb words) = do
+  event ← event_of verb words
+  Some (record s { events = s.events ++ event ∷ [] })
 
 -- what a line makes of what was said so far, where it may come behind that
 abbrev pub said_with : Said → List ℕ → Option Said

@@ -1,10 +1,10 @@
 //! The event that a line's words are.
 //!
-//! An event has room for sixteen columns. The functions here are inlined, so that where a line is only checked no event
-//! is made.
+//! An event has room for sixteen columns. What makes one is inlined, so that where a line is only checked no event of
+//! few words is made; what reads its words is not.
 
-ghost use Rattle.std.specs.Prelude.{◌≡◌};
-ghost use Rattle.mtr.specs.Words.{alone};
+ghost use Rattle.std.specs.Prelude.{◌≡◌, ◌^◌};
+ghost use Rattle.mtr.specs.Words.{alone, number_in, row_id_in};
 ghost use Rattle.mtr.specs.Command.{verb_of, bare, at_row, event_of};
 
 use crate::words::Words;
@@ -80,25 +80,46 @@ pub fn event_of(verb: Verb, words: Words) -> Option<Event>
     ensures { result ≡ event_of verb words.entry }
 {
     match verb {
-        Verb::Begin => alone(words.u16()).map(|session| Event::Begin { session }),
+        Verb::Begin => session_of(words).map(|session| Event::Begin { session }),
         Verb::Insert => insert_of(words),
         Verb::Set => set_of(words),
         Verb::Delete => delete_of(words),
         Verb::See => at_row(words).map(|(session, row)| Event::See { session, row }),
-        Verb::Prepare => alone(words.u16()).map(|session| Event::Prepare { session }),
-        Verb::Queue => alone(words.u16()).map(|session| Event::Queue { session }),
-        Verb::Abort => alone(words.u16()).map(|session| Event::Abort { session }),
+        Verb::Prepare => session_of(words).map(|session| Event::Prepare { session }),
+        Verb::Queue => session_of(words).map(|session| Event::Queue { session }),
+        Verb::Abort => session_of(words).map(|session| Event::Abort { session }),
         Verb::Flush => bare(Event::Flush, words),
         Verb::Sync => bare(Event::Sync, words),
         Verb::Commit => bare(Event::Commit, words),
-        Verb::Deliver => alone(words.u64()).map(|gno| Event::Deliver { gno }),
+        Verb::Deliver => gno_of(words).map(|gno| Event::Deliver { gno }),
         Verb::Dispatch => bare(Event::Dispatch, words),
-        Verb::Finish => alone(words.u64()).map(|gno| Event::Finish { gno }),
+        Verb::Finish => gno_of(words).map(|gno| Event::Finish { gno }),
         Verb::Next => bare(Event::Next, words),
         Verb::Publish => bare(Event::Publish, words),
-        Verb::Read => alone(words.row_id()).map(|row| Event::Read { row }),
+        Verb::Read => row_of(words).map(|row| Event::Read { row }),
         Verb::Log => bare(Event::Log, words),
     }
+}
+
+/// A session, to the end of the line.
+fn session_of(words: Words) -> Option<u16>
+    ensures { result ≡ alone (number_in (2 ^ 16) words.entry) }
+{
+    alone(words.u16())
+}
+
+/// A record's number, to the end of the line.
+fn gno_of(words: Words) -> Option<u64>
+    ensures { result ≡ alone (number_in (2 ^ 64) words.entry) }
+{
+    alone(words.u64())
+}
+
+/// A row's table and key, to the end of the line.
+fn row_of(words: Words) -> Option<RowId>
+    ensures { result ≡ alone (row_id_in words.entry) }
+{
+    alone(words.row_id())
 }
 
 /// An event without parameters.
@@ -109,7 +130,6 @@ fn bare(event: Event, words: Words) -> Option<Event>
     if words.is_empty() { Some(event) } else { None }
 }
 
-#[inline(always)]
 fn insert_of(words: Words) -> Option<Event>
     ensures { result ≡ event_of Verb.Insert words.entry }
 {
@@ -122,7 +142,6 @@ fn insert_of(words: Words) -> Option<Event>
     })
 }
 
-#[inline(always)]
 fn set_of(words: Words) -> Option<Event>
     ensures { result ≡ event_of Verb.Set words.entry }
 {
@@ -135,7 +154,6 @@ fn set_of(words: Words) -> Option<Event>
     })
 }
 
-#[inline(always)]
 fn delete_of(words: Words) -> Option<Event>
     ensures { result ≡ event_of Verb.Delete words.entry }
 {
@@ -147,11 +165,10 @@ fn delete_of(words: Words) -> Option<Event>
 }
 
 /// A session and a row, to the end of the line.
-#[inline(always)]
 fn at_row(words: Words) -> Option<(u16, RowId)>
     ensures { result ≡ at_row words.entry }
 {
     let (session, words) = words.u16()?;
-    let row = alone(words.row_id())?;
+    let row = row_of(words)?;
     Some((session, row))
 }

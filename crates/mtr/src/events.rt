@@ -4,6 +4,7 @@ ghost use Rattle.std.specs.Prelude.{◌≡◌, ◌<◌, ◌≤◌, ◌+◌, ◌+
 ghost use Rattle.std.specs.List.{slice_split};
 ghost use Rattle.mtr.specs.Events.{event_of_line, events_of, joined, bytes_left, lines_left};
 
+use crate::command::event_of;
 use crate::cut::cut_at;
 use crate::script::{Line, text_line};
 use schema::Memory;
@@ -169,8 +170,13 @@ fn first_line(text: &str) -> (&str, Option<&str>)
 fn push_event(events: &mut Vec<Event>, line: &str) -> Result<(), Memory>
     ensures { OnOk result (events.new.items ≡ events.old.items ++ event_of_line line.now) }
 {
-    if let Some(Line::Event(event)) = text_line(line) {
-        events.push(event)?;
+    let Some(Line::Event(verb, words)) = text_line(line) else {
+        return Ok(());
+    };
+    match event_of(verb, words) {
+        Some(Event::Write { session, change }) => events.push(Event::Write { session, change })?,
+        Some(event) => events.push(event)?,
+        None => {}
     }
     Ok(())
 }

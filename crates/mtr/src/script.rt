@@ -5,7 +5,7 @@
 //! then the events. Any other line is bad; the first bad line ends the reading, and what is behind it is not kept.
 //! Of the events the text alone is kept (`events`).
 
-ghost use Rattle.std.specs.Prelude.{◌≡◌, ◌++◌, ◌∷◌, [], ◌==◌, true, false, length, IfOk, IfSome, OnOk, Some, is_some};
+ghost use Rattle.std.specs.Prelude.{◌≡◌, ◌++◌, ◌∷◌, [], ◌==◌, true, false, length, IfOk, IfSome, OnOk, Some};
 ghost use Rattle.std.specs.Bool.{then_some};
 ghost use Rattle.std.specs.List.{All};
 ghost use Rattle.mtr.specs.Lines.{table_of, base_of, command_of, is_skipped, text_line};
@@ -20,7 +20,6 @@ use schema::{Memory, RowId, Table};
 use std::alloc::Global;
 use std::io;
 use std::io::BufRead;
-use world::Event;
 
 /// What a script says.
 #[derive(Drop)]
@@ -33,17 +32,17 @@ pub struct Script {
     pub events: EventLines,
 }
 
-/// What one line says.
-#[derive(Clone, Copy, Debug, PartialEq, Eq)]
-pub enum Line {
+/// What one line is about, by its first word, and the words behind that, which were not looked at yet.
+#[derive(Drop)]
+pub enum Line<'a> {
     /// Nothing.
     Skipped,
     /// There is a table.
-    Table(Table),
+    Table(Words<'a>),
     /// A row is there at the start.
-    Base(RowId, Row),
+    Base(Words<'a>),
     /// Something happens.
-    Event(Event),
+    Event(Verb, Words<'a>),
 }
 
 impl Script {
@@ -78,43 +77,57 @@ impl Script {
         let Ok(text) = str::from_utf8(line) else {
             return Ok(false);
         };
-        let Some(line) = text_line(text) else {
+        match text_line(text) {
+            None => Ok(false),
+            Some(Line::Skipped) => Ok(true),
+            Some(Line::Table(words)) => self.add_table(words),
+            Some(Line::Base(words)) => self.add_base(words),
+            Some(Line::Event(verb, words)) => self.add_event(text, verb, words),
+        }
+    }
+
+    /// Takes the table that the words are.
+    #[tactic(auto, unfolding(crate::specs::Script::added))]
+    fn add_table(&mut self, words: Words) -> Result<bool, Memory>
+        ensures { IfOk result (λ is_good. added (said self.old) (Line.Table words.entry) ≡ then_some is_good (said self.new)) }
+    {
+        let Some(table) = table_of(words) else {
             return Ok(false);
         };
-        if !self.takes(&line) {
+        if !(self.base.is_empty() && self.events.is_empty()) {
             return Ok(false);
         }
-        self.push(text, &line)?;
+        self.tables.push(table)?;
         Ok(true)
     }
 
-    /// Whether the line may come behind what was said so far.
+    /// Takes the row at the start that the words are.
     #[tactic(auto, unfolding(crate::specs::Script::added))]
-    fn takes(&self, line: &Line) -> bool
-        ensures { result ≡ is_some (added (said self.now) line.now) }
+    fn add_base(&mut self, words: Words) -> Result<bool, Memory>
+        ensures { IfOk result (λ is_good. added (said self.old) (Line.Base words.entry) ≡ then_some is_good (said self.new)) }
     {
-        match line {
-            Line::Skipped | Line::Event(_) => true,
-            Line::Table(_) => self.base.is_empty() && self.events.is_empty(),
-            Line::Base(_, _) => self.events.is_empty(),
+        let Some(row) = base_of(words) else {
+            return Ok(false);
+        };
+        if !self.events.is_empty() {
+            return Ok(false);
         }
+        self.base.push(row)?;
+        Ok(true)
     }
 
-    /// Takes what a line says that may come.
+    /// Takes the line, which is of an event, where the words behind the verb are its parameters.
     #[tactic(auto, unfolding(crate::specs::Script::added))]
-    fn push(&mut self, text: &str, line: &Line) -> Result<(), Memory>
+    fn add_event(&mut self, text: &str, verb: Verb, words: Words) -> Result<bool, Memory>
         requires line { IsLine text.now }
-        requires says { text_line text.now ≡ Some line.now }
-        requires may_come { is_some (added (said self.old) line.now) ≡ true }
-        ensures { OnOk result (added (said self.old) line.now ≡ Some (said self.new)) }
+        requires says { text_line text.now ≡ Some (Line.Event verb words) }
+        ensures { IfOk result (λ is_good. added (said self.old) (Line.Event verb words.entry) ≡ then_some is_good (said self.new)) }
     {
-        match line {
-            Line::Skipped => {}
-            Line::Table(table) => self.tables.push(*table)?,
-            Line::Base(id, row) => self.base.push((*id, *row))?,
-            Line::Event(_) => self.events.push(text)?,
+        if event_of(verb, words).is_none() {
+            return Ok(false);
         }
-        Ok(())
+        self.events.push(text)?;
+        Ok(true)
     }
 }
 
@@ -141,7 +154,7 @@ fn take_end(line: &mut Vec<u8>) -> bool
     }
 }
 
-/// What a line of text says; `None` where it is bad.
+/// What a line of text is about; `None` where its first word is no such name.
 #[tactic(auto, unfolding(crate::specs::Lines::text_line))]
 #[inline(always)]
 pub fn text_line(line: &str) -> Option<Line>
@@ -171,12 +184,9 @@ fn command_of(words: Words) -> Option<Line>
 {
     let (name, words) = words.first()?;
     match name {
-        "table" => Some(Line::Table(table_of(words)?)),
-        "base" => {
-            let (id, row) = base_of(words)?;
-            Some(Line::Base(id, row))
-        }
-        _ => Some(Line::Event(event_of(Verb::of(name)?, words)?)),
+        "table" => Some(Line::Table(words)),
+        "base" => Some(Line::Base(words)),
+        _ => Some(Line::Event(Verb::of(name)?, words)),
     }
 }
 

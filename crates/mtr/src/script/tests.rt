@@ -3,6 +3,7 @@
 use super::*;
 use rows::{Change, Named};
 use std::test::Fail;
+use world::Event;
 
 /// The events that a script keeps.
 fn events_of(alloc: Global, lines: EventLines) -> Result<Vec<Event>, Memory> {
