@@ -99,6 +99,3 @@ fn next_row(rows: &Rows, table: u16, above: Option<i64>) -> Option<(i64, Row)>
     let (id, row) = rows.range((start, end)).next()?;
     Some((id.key, *row))
 }
-
-#[cfg(test)]
-mod tests;

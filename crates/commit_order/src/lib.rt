@@ -113,6 +113,3 @@ impl Turns {
         (gno - left - 1) as usize
     }
 }
-
-#[cfg(test)]
-mod tests;

@@ -124,6 +124,3 @@ impl Stages {
         self.sync_from = 0;
     }
 }
-
-#[cfg(test)]
-mod tests;

@@ -169,6 +169,3 @@ fn run(alloc: Global, job: &Job) -> Result<Outcome, Memory>
         None => Ok(Outcome::Undefined),
     }
 }
-
-#[cfg(test)]
-mod tests;

@@ -234,6 +234,3 @@ pub fn run_changes<S: RowStore>(
     }
     Ok(Some(overlay))
 }
-
-#[cfg(test)]
-mod tests;

@@ -17,8 +17,6 @@ pub mod plain;
 mod publisher;
 mod seat;
 mod status;
-#[cfg(test)]
-mod tests;
 mod version;
 
 pub use book::{Beginning, Naming, Notice};

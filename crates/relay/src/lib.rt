@@ -181,6 +181,3 @@ impl Relay {
         self.source
     }
 }
-
-#[cfg(test)]
-mod tests;

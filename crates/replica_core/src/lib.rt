@@ -339,6 +339,3 @@ impl<S: RowStore> ReplicaCore<S> {
         )
     }
 }
-
-#[cfg(test)]
-mod tests;

@@ -13,8 +13,6 @@ mod coordinator;
 mod gate;
 mod naming;
 mod shared;
-#[cfg(test)]
-mod tests;
 
 pub use gate::{NoGate, WorkerGate};
 pub use naming::ReplicaNaming;

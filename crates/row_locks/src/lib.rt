@@ -223,6 +223,3 @@ fn weight(held: Option<Mode>, mode: Mode) -> u16
         (Some(Mode::Exclusive), _) | (Some(Mode::Share), Mode::Exclusive) => 1,
     }
 }
-
-#[cfg(test)]
-mod tests;

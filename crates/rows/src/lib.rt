@@ -122,6 +122,3 @@ pub fn apply_one(change: &Change, before: Option<&Row>) -> Result<Option<Row>, C
         (Change::Delete { .. }, Some(_)) => Ok(None),
     }
 }
-
-#[cfg(test)]
-mod tests;

@@ -101,6 +101,3 @@ fn pass(ahead: &mut [bool], count: usize)
     let kept = ahead.len() - count;
     ahead[kept..].fill(false);
 }
-
-#[cfg(test)]
-mod tests;

@@ -267,6 +267,3 @@ fn fault_at(tables: &[Table], i: usize) -> Option<SchemaFault>
         None
     }
 }
-
-#[cfg(test)]
-mod tests;

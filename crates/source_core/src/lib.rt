@@ -20,6 +20,3 @@ mod transaction;
 pub use fault::SourceFault;
 pub use machine::SourceCore;
 pub use transaction::{Phase, Prepared, Receipt};
-
-#[cfg(test)]
-mod tests;

@@ -20,6 +20,3 @@ mod shared;
 pub use book::{Beginning, Naming, Receipt};
 pub use seat::SessionSeat;
 pub use shared::SharedSource;
-
-#[cfg(test)]
-mod tests;

@@ -1,5 +1,0 @@
-use Rattle.std.proofs.Common.{◌≡◌, ◌+◌, length}
-use Rattle.published.proofs.tests.append_upto.Given as goal
-
-abbrev pub invariant-loop-gno : goal.invariant-loop-gno
-invariant-loop-gno l = l.plain.upto + length l.plain.waiting + 1 ≡ l.gno

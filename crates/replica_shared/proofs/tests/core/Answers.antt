@@ -1,5 +1,0 @@
-use Rattle.replica_shared.proofs.Standing.{new_is_new}
-use Rattle.replica_shared.proofs.tests.core.Goals as goal
-
-pub returns : goal.returns
-returns c = new_is_new _ _ _ _ _ c.in_ok-core.ensures.fresh
