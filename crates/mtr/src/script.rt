@@ -217,6 +217,3 @@ fn base_of(words: Words) -> Option<(RowId, Row)>
     let row = words.row()?;
     Some((id, row))
 }
-
-#[cfg(test)]
-mod tests;

@@ -113,6 +113,3 @@ fn run<R: Read, W: Write>(
     let mut input = BufReader::with_capacity(alloc, CHUNK, input)?;
     run_text(alloc, workers, &mut input, output)
 }
-
-#[cfg(test)]
-mod tests;
