@@ -15,7 +15,7 @@ use Rattle.schema.specs.declared.RowId.{RowId}
 use Rattle.schema.specs.declared.Table.{Table}
 use Rattle.store_trait.specs.Batch.{Entry}
 use Rattle.mtr.specs.Script.{Said}
-use Rattle.mtr.specs.Pair.{GoesOn, Prints, present, setup_of}
+use Rattle.mtr.specs.Pair.{BeginsWith, GoesOn, Prints, setup_of}
 use Rattle.mtr.specs.Printing.{line_of, lines_of}
 use Rattle.mtr.proofs.Pieces.{along}
 
@@ -61,25 +61,24 @@ some_length (e ∷ es) h = omega arith
 pub shorter : (rest piece behind : List Event) → rest ≡ piece ++ behind → piece ≢ [] → length behind < length rest
 shorter rest piece behind e some = omega (arith, some_length piece some, ap length e, length-append piece behind)
 
-prints_it : {R : Type 0} (contents : R → Database) (script : Said) (workers : ℕ) (base : List Entry) (old new : World R) (events : List Event) (before after : Option (List ℕ)) → IsPermutation (map present script.base) base → HasRun contents (setup_of script.tables base workers) [] [] old → events ≡ script.events → GoesOn contents old new events before after → Prints workers script before after
-prints_it contents script workers base old new events before after given starts all goes =
-    let to = goes_to contents old new events script.events before after all goes in
+prints_it : (script : Said) (workers : ℕ) (old new : World Database) (before after : Option (List ℕ)) → BeginsWith workers script.tables script.base old → GoesOn (λ rows. rows) old new script.events before after → Prints workers script before after
+prints_it script workers old new before after begins goes =
     record {
-      base = base;
-      given = given;
-      replies = to.replies;
+      base = begins.base;
+      given = begins.given;
+      replies = goes.replies;
       log = new.source.log;
-      legal = (to.goes_on (setup_of script.tables base workers) [] [] starts).legal;
-      lines = to.lines;
+      legal = (goes.goes_on (setup_of script.tables begins.base workers) [] [] begins.starts).legal;
+      lines = goes.lines;
     }
 
--- what a new pair prints
-pub prints : {R T E : Type 0} (contents : R → Database) (r : Result T E) (script : Said) (workers : ℕ) (base : List Entry) (old new : World R) (events : List Event) (before after : Option (List ℕ)) → IsPermutation (map present script.base) base → HasRun contents (setup_of script.tables base workers) [] [] old → events ≡ script.events → OnOk r (GoesOn contents old new events before after) → OnOk r (Prints workers script before after)
-prints contents (Ok v) script workers base old new events before after given starts all goes = prints_it contents script workers base old new events before after given starts all goes
-prints contents (Err e) script workers base old new events before after given starts all goes = goes
+begins_along : (workers : ℕ) (tables : List Table) (rows given : List (RowId × List ℤ)) (w : World Database) → rows ≡ given → BeginsWith workers tables rows w → BeginsWith workers tables given w
+begins_along workers tables rows given w e h = let P : List (RowId × List ℤ) → Type 0 = λ x. BeginsWith workers tables x w in subst P e h
 
-pub given_along : (rows given : List (RowId × List ℤ)) (base : List Entry) → given ≡ rows → IsPermutation (map present given) base → IsPermutation (map present rows) base
-given_along rows given base e h = let P : List (RowId × List ℤ) → Type 0 = λ x. IsPermutation (map present x) base in subst P e h
-
-pub starts_along : {R : Type 0} (contents : R → Database) (tables given : List Table) (base : List Entry) (workers : ℕ) (w : World R) → given ≡ tables → HasRun contents (setup_of given base workers) [] [] w → HasRun contents (setup_of tables base workers) [] [] w
-starts_along contents tables given base workers w e h = let P : List Table → Type 0 = λ x. HasRun contents (setup_of x base workers) [] [] w in subst P e h
+-- what a new world prints that goes on by the events of a script
+pub prints : {T E : Type 0} (r : Result T E) (script : Said) (workers : ℕ) (rows : List (RowId × List ℤ)) (events : List Event) (old new : World Database) (before after : Option (List ℕ))
+    → rows ≡ script.base → events ≡ script.events
+    → BeginsWith workers script.tables rows old → OnOk r (GoesOn (λ db. db) old new events before after) → OnOk r (Prints workers script before after)
+prints (Ok v) script workers rows events old new before after given all begins goes =
+    prints_it script workers old new before after (begins_along workers script.tables rows script.base old given begins) (goes_to (λ db. db) old new events script.events before after all goes)
+prints (Err e) script workers rows events old new before after given all begins goes = goes

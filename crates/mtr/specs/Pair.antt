@@ -29,6 +29,12 @@ source = 109 ∷ 116 ∷ 114 ∷ 0 ∷ 0 ∷ 0 ∷ 64 ∷ 0 ∷ 128 ∷ 0 ∷ 0 
 abbrev pub setup_of : List Table → List Entry → ℕ → Setup
 setup_of ts base workers = record { identifier = source; tables = ts; base = all_rows (put_batch base empty); limit = 9223372036854775807; kind = by_order; workers = workers }
 
+-- The world is new: so many workers, these tables, and these rows, of which none comes twice.
+pub record BeginsWith (workers : ℕ) (tables : List Table) (rows : List (RowId × List ℤ)) (w : World Database) : Type 0 where
+  pub base : List Entry
+  pub given : IsPermutation (map present rows) base
+  pub starts : HasRun (λ rows. rows) (setup_of tables base workers) [] [] w
+
 -- The world goes on by these events from whatever runs it came by, by the source's own log, and the lines of
 -- the replies are appended, in order.
 pub record GoesOn {R : Type 0} (contents : R → Database) (old new : World R) (events : List Event) (before printed : Option (List ℕ)) : Type 0 where

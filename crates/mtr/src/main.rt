@@ -8,8 +8,6 @@
 //! all over any reader and two writers.
 #![tactic(auto)]
 
-#[cfg(test)]
-mod again_tests;
 mod command;
 mod command_line;
 mod cut;

@@ -1,26 +1,29 @@
 //! A script's events, run piece by piece: each piece's replies are printed before the next is run.
 
-ghost use Rattle.std.specs.Prelude.{◌≡◌, ◌≤◌, ◌++◌, [], IfSome, OnOk};
+ghost use Rattle.std.specs.Prelude.{◌≡◌, ◌≤◌, ◌++◌, [], IfOk, IfSome, OnOk};
 ghost use Rattle.std.specs.Io.KnownBytes.{Appends};
 ghost use Rattle.world.specs.State.{IsWorld};
 ghost use Rattle.world.specs.Seen.{seen};
 ghost use Rattle.mtr.specs.Events.{joined};
 ghost use Rattle.mtr.specs.Script.{said};
 ghost use Rattle.mtr.specs.Printing.{lines_of};
-ghost use Rattle.mtr.specs.Pair.{GoesOn, Prints, PrintsText};
+ghost use Rattle.mtr.specs.Pair.{BeginsWith, GoesOn, Prints, PrintsText};
 
 use crate::ending::Stop;
 use crate::events::Piece;
-use crate::pair::{base_of, new_pair};
+use crate::pair::{InMemory, MAX_RECORDS, SOURCE, base_of, parts_in_memory};
 use crate::printing::write_replies;
 use crate::script::Script;
+use btree_store::BTreeStore;
 use log_device::Device;
-use schema::Schema;
+use rows::Row;
+use schema::{RowId, Schema, Table};
 use std::alloc::Global;
 use std::io::{BufRead, Write};
 use store_trait::RowStore;
 use tracker_trait::Tracker;
-use world::{Reply, World};
+use uuid::Uuid;
+use world::{Reply, World, pair_of};
 
 /// Reads a script, and runs it over a new pair of so many workers. The whole of it is read and checked before the first event: the
 /// first bad line, then the tables, then the rows at the start. Each event's reply is a line of the output; where
@@ -54,15 +57,32 @@ fn run_script<W: Write>(
         base,
         events,
     } = script;
-    let schema = Schema::new(tables)?;
-    let Some(batch) = base_of(alloc, &base)? else {
-        return Err(Stop::BadBase);
-    };
-    let Some(mut world) = new_pair(alloc, schema, batch, workers)? else {
-        return Err(Stop::BadBase);
-    };
+    let mut world = open(alloc, workers, tables, &base)?;
     drop(base);
     run_pieces(alloc, &mut world, events.into_pieces(), output)
+}
+
+/// A new world in memory over a script's tables and rows at the start, with so many workers.
+fn open(
+    alloc: Global,
+    workers: usize,
+    tables: Vec<Table>,
+    rows: &[(RowId, Row)],
+) -> Result<InMemory, Stop>
+    requires some { 1 ≤ workers }
+    requires few { workers ≤ 64 }
+    ensures { IfOk result (λ world. BeginsWith workers tables.items rows.now (seen world)) }
+{
+    let schema = Schema::new(tables)?;
+    let Some(base) = base_of(alloc, rows)? else {
+        return Err(Stop::BadBase);
+    };
+    let from = Uuid::from_bytes(SOURCE);
+    let parts = parts_in_memory(alloc);
+    match pair_of(alloc, schema, from, &base, MAX_RECORDS, workers, parts)? {
+        Some(pair) => Ok(pair.into_world(alloc, base, BTreeStore::new(alloc))?),
+        None => Err(Stop::BadBase),
+    }
 }
 
 /// Runs the events of the pieces, over a world that goes on from what was done before. At most one piece's events and

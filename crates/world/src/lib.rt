@@ -5,7 +5,7 @@
 //! legal log over the rows at the start, and each reply is one that the pairs of event and reply before it and
 //! that log allow (`specs/Legal.antt`). So each read at the replica answers as the source's database after one
 //! beginning of its log. Where the log's device fails, a sync says so, and the source is halted from then on.
-//! `laws` states what follows for an operator. `begins` compares the two sides as they stand. The world stands on the
+//! `laws` states what follows for an operator. `pair_of` makes both sides of their parts. `begins` compares the two sides as they stand. The world stands on the
 //! public contracts of `source_core`, `record_codec`, `log_file`, `relay`, `executor`, `replica_core` and `published`
 //! alone.
 #![tactic(auto)]
@@ -13,8 +13,10 @@
 mod events;
 pub mod laws;
 mod machine;
+mod pair;
 mod sides;
 
 pub use events::{Event, LogText, Reply, Stamps};
 pub use machine::World;
+pub use pair::{Pair, Parts, pair_of};
 pub use sides::begins;

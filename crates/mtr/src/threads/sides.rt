@@ -1,8 +1,6 @@
 //! The two sides, from their opening to their end.
 
 ghost use Rattle.std.specs.Prelude.{◌≡◌, ◌≤◌, ◌∷◌, [], None, IfOk};
-ghost use Rattle.schema.specs.Flags.{IsFlat};
-ghost use Rattle.store_trait.specs.Fits.{Fits};
 ghost use Rattle.source_core.specs.Source.{new_source};
 ghost use Rattle.replica_core.specs.Calls.{new_over};
 ghost use Rattle.world.specs.Fresh.{IsNew};
@@ -15,26 +13,23 @@ use super::comparing::{compare, last_gno};
 use super::feeding::feed;
 use super::serving::{read_all, work_all};
 use super::trouble::Trouble;
-use crate::ending::Stop;
 use crate::options::{Options, Plan};
-use crate::pair::{MAX_RECORDS, SOURCE, empty_log};
+use crate::pair::{MAX_RECORDS, SOURCE, parts_in_memory};
 use btree_store::BTreeStore;
 use commit_order_tracker::CommitOrder;
 use log_device::MemoryDevice;
-use log_file::LogFile;
 use published::{LeftRight, OpenError, ReadSeat, open};
 use replica_core::ReplicaCore;
 use replica_shared::{ReplicaNaming, SharedReplica};
-use schema::{Memory, Schema, Table};
-use source_core::SourceCore;
+use schema::{Schema, Table};
 use source_shared::{Naming, Receipt, SharedSource};
 use std::alloc::Global;
 use std::marker::Brand;
 use std::sync::Wait;
 use std::thread::{Threads, join};
-use store_trait::fits;
+use store_trait::Batch;
 use uuid::Uuid;
-use world::begins;
+use world::{Pair, begins, pair_of};
 
 /// The source, with its log file in memory.
 pub type Source<J> = SharedSource<BTreeStore, CommitOrder, MemoryDevice, J>;
@@ -45,13 +40,8 @@ pub type Replica<K> = SharedReplica<BTreeStore, K>;
 /// A reader of the replica.
 pub type Reader<K> = ReadSeat<BTreeStore, K>;
 
-/// What both sides are made of.
-#[derive(Drop)]
-struct Cores {
-    source: SourceCore<BTreeStore, CommitOrder>,
-    log: LogFile<MemoryDevice>,
-    replica: ReplicaCore<BTreeStore>,
-}
+/// Both sides before their threads.
+type Cores = Pair<BTreeStore, CommitOrder, MemoryDevice>;
 
 /// Opens both sides over no rows, runs all threads, and compares.
 pub fn open_and_run<H: Threads + Wait + Sync>(
@@ -88,28 +78,6 @@ fn schema(alloc: Global) -> Result<Schema, Trouble> {
     Schema::new(tables).map_err(|_| Trouble::Memory)
 }
 
-/// A new log file of the program's source.
-fn new_log(alloc: Global) -> Result<LogFile<MemoryDevice>, Trouble>
-    ensures { IfOk result IsNew }
-{
-    // It is refused for want of memory alone.
-    empty_log(alloc).map_err(|_: Stop| Trouble::Memory)
-}
-
-/// A new source over these rows.
-fn new_source_core(
-    alloc: Global,
-    schema: Schema,
-    store: BTreeStore,
-) -> Result<SourceCore<BTreeStore, CommitOrder>, Memory>
-    requires flat { IsFlat schema }
-    requires fits { Fits schema store }
-    ensures { IfOk result (λ core. core ≡ new_source core.tables core.base core.limit core.kind) }
-{
-    let core = SourceCore::new(alloc, schema, store, CommitOrder, MAX_RECORDS)?;
-    Ok(core)
-}
-
 /// A new source, a new log file and a new replica of so many workers, over no rows.
 fn new_cores(alloc: Global, workers: usize) -> Result<Cores, Trouble>
     requires some { 1 ≤ workers }
@@ -118,21 +86,12 @@ fn new_cores(alloc: Global, workers: usize) -> Result<Cores, Trouble>
     ensures log { IfOk result (λ made. IsNew made.log) }
     ensures replica { IfOk result (λ made. made.replica ≡ new_over made.replica.tables made.replica.source made.replica.base made.replica.workers) }
 {
-    let schema = schema(alloc)?;
-    let store = BTreeStore::new(alloc);
-    let copy = BTreeStore::new(alloc);
-    if !schema.is_flat() || !fits(&schema, &store) || !fits(&schema, &copy) {
-        return Err(Trouble::Different);
+    let (schema, from) = (schema(alloc)?, Uuid::from_bytes(SOURCE));
+    let (base, parts) = (Batch::new(alloc), parts_in_memory(alloc));
+    match pair_of(alloc, schema, from, &base, MAX_RECORDS, workers, parts)? {
+        Some(cores) => Ok(cores),
+        None => Err(Trouble::Different),
     }
-    let log = new_log(alloc)?;
-    let from = Uuid::from_bytes(SOURCE);
-    let replica = ReplicaCore::new(alloc, schema.copy()?, from, copy, workers)?;
-    let source = new_source_core(alloc, schema, store)?;
-    Ok(Cores {
-        source,
-        log,
-        replica,
-    })
 }
 
 /// Runs both sides, under the names of their histories.
@@ -155,7 +114,7 @@ fn run_named<J: Naming + Send + Sync, K: ReplicaNaming + Send + Sync, H: Threads
     requires published { publication.base ≡ cores.replica.base }
     ensures { IfOk result Holds }
 {
-    let Cores {
+    let Pair {
         source,
         log,
         replica,
@@ -255,6 +214,3 @@ fn judge<J: Naming>(
         Verdict::Different
     }
 }
-
-#[cfg(test)]
-mod tests;

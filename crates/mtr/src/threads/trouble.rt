@@ -1,5 +1,6 @@
 //! Why the work of the threads stops.
 
+use log_file::LogFault;
 use relay::ReplicaFault;
 use schema::Memory;
 use source_core::SourceFault;
@@ -44,6 +45,15 @@ impl<T: Drop> From<AllocFailed<T>> for Trouble {
 
     fn from(_error: AllocFailed<T>) -> Trouble {
         Trouble::Memory
+    }
+}
+
+impl From<LogFault> for Trouble {
+    fn from(fault: LogFault) -> Trouble {
+        match fault {
+            LogFault::Memory => Trouble::Memory,
+            _ => Trouble::Different,
+        }
     }
 }
 

@@ -1,6 +1,0 @@
-use Rattle.world.specs.State.{IsWorld}
-use Rattle.world.specs.Seen.{seen}
-use Rattle.mtr.proofs.again_tests.replies_again.Given as goal
-
-abbrev pub invariant-loop-event : goal.invariant-loop-event
-invariant-loop-event g l = IsWorld g.R.RowStore.contents (seen l.world)

@@ -1,0 +1,167 @@
+//! Every event that is refused for want of memory is sent once more, and succeeds: the replies are those of a world that
+//! met no refusal.
+
+ghost use Rattle.std.specs.Prelude.{IfOk};
+ghost use Rattle.world.specs.Seen.{seen};
+ghost use Rattle.world.specs.State.{IsWorld};
+
+use crate::makers::{insert, row, set, sides};
+use btree_store::BTreeStore;
+use commit_order_tracker::CommitOrder;
+use log_device::{Device, MemoryDevice};
+use log_file::LogFault;
+use record_codec::CodecFault;
+use relay::ReplicaFault;
+use rows::Change;
+use schema::Memory;
+use source_core::SourceFault;
+use std::alloc::Global;
+use std::test::Fail;
+use store_trait::{Batch, RowStore};
+use tracker_trait::Tracker;
+use world::{Event, Reply, World};
+
+type InMemory = World<BTreeStore, CommitOrder, MemoryDevice, BTreeStore>;
+
+/// A new world without rows.
+fn world(alloc: Global) -> Result<InMemory, LogFault>
+    ensures { IfOk result (λ world. IsWorld (λ rows. rows) (seen world)) }
+{
+    let base = Batch::new(alloc);
+    let sides = sides(alloc, &base)?;
+    Ok(sides.into_world(alloc, base, BTreeStore::new(alloc))?)
+}
+
+/// The same, made once more where memory is refused.
+fn world_again(alloc: Global) -> Result<InMemory, LogFault>
+    ensures { IfOk result (λ world. IsWorld (λ rows. rows) (seen world)) }
+{
+    match world(alloc) {
+        Ok(world) => Ok(world),
+        Err(_) => world(alloc),
+    }
+}
+
+/// Whether memory lacked.
+fn lacks_memory(reply: &Reply) -> bool {
+    matches!(
+        reply,
+        Reply::Source(SourceFault::Memory)
+            | Reply::Replica(ReplicaFault::Memory)
+            | Reply::Codec(CodecFault::Memory)
+            | Reply::Log(LogFault::Memory)
+    )
+}
+
+/// What one event is answered, as text, where memory was there.
+fn answer<S: RowStore, T: Tracker, D: Device, R: RowStore>(
+    alloc: Global,
+    world: &mut World<S, T, D, R>,
+    event: &Event,
+) -> Result<String, Memory>
+    requires { IsWorld R.contents (seen world.old) }
+    ensures { IsWorld R.contents (seen world.new) }
+{
+    let Ok(replies) = world.run(alloc, &[*event]) else {
+        return Err(Memory);
+    };
+    if replies.iter().any(lacks_memory) {
+        return Err(Memory);
+    }
+    text_again(alloc, &replies)
+}
+
+/// Replies as text, once more where memory was refused.
+fn text_again(alloc: Global, replies: &[Reply]) -> Result<String, Memory> {
+    match format!(in alloc; "{replies:?}") {
+        Ok(text) => Ok(text),
+        Err(_) => Ok(format!(in alloc; "{replies:?}")?),
+    }
+}
+
+/// What an event is answered, sent once more where memory was refused.
+fn answer_again<S: RowStore, T: Tracker, D: Device, R: RowStore>(
+    alloc: Global,
+    world: &mut World<S, T, D, R>,
+    event: &Event,
+) -> Result<String, Memory>
+    requires { IsWorld R.contents (seen world.old) }
+    ensures { IsWorld R.contents (seen world.new) }
+{
+    match answer(alloc, world, event) {
+        Ok(text) => Ok(text),
+        Err(_) => answer(alloc, world, event),
+    }
+}
+
+/// The session writes this.
+fn write(session: u16, change: Change) -> Event {
+    Event::Write { session, change }
+}
+
+/// What happens: two sessions whose transactions are one group, one that is aborted, and one that deletes a row; and the
+/// records at the replica, of which the last comes too early once, and two are published as one.
+fn events() -> [Event; 38] {
+    let see = |session: u16| Event::See {
+        session,
+        row: row(10),
+    };
+    let delete = Change::Delete { row: row(10) };
+    [
+        Event::Begin { session: 1 },
+        Event::Begin { session: 2 },
+        write(1, insert(10, 5, 6)),
+        write(1, set(10, 7)),
+        write(2, insert(20, 8, 9)),
+        see(1),
+        Event::Prepare { session: 1 },
+        Event::Prepare { session: 2 },
+        Event::Queue { session: 1 },
+        Event::Queue { session: 2 },
+        Event::Flush,
+        Event::Sync,
+        Event::Commit,
+        Event::Begin { session: 1 },
+        write(1, insert(30, 8, 9)),
+        Event::Abort { session: 1 },
+        Event::Begin { session: 2 },
+        write(2, delete),
+        Event::Prepare { session: 2 },
+        Event::Queue { session: 2 },
+        Event::Flush,
+        Event::Sync,
+        Event::Commit,
+        Event::Deliver { gno: 3 },
+        Event::Deliver { gno: 1 },
+        Event::Deliver { gno: 2 },
+        Event::Dispatch,
+        Event::Dispatch,
+        Event::Finish { gno: 2 },
+        Event::Finish { gno: 1 },
+        Event::Next,
+        Event::Next,
+        Event::Publish,
+        Event::Deliver { gno: 3 },
+        Event::Dispatch,
+        Event::Finish { gno: 3 },
+        Event::Log,
+        Event::Read { row: row(10) },
+    ]
+}
+
+/// Runs both worlds side by side. Each request for memory is refused once at most, so one of the two met no refusal.
+#[test]
+fn events_are_sent_again(rt: HostRuntime) -> Result<(), Fail> {
+    let alloc = rt.alloc();
+    let mut one = world_again(alloc)?;
+    let mut other = world_again(alloc)?;
+    for event in events() {
+        let answer = answer_again(alloc, &mut one, &event)?;
+        assert_eq!(rt;
+            answer,
+            answer_again(alloc, &mut other, &event)?,
+            "at {event:?}"
+        );
+    }
+    Ok(())
+}
