@@ -14,7 +14,7 @@ use rows::Row;
 use schema::{Memory, RowId};
 use std::alloc::{AllocError, Global};
 use store_trait::Batch;
-use world::{Parts, World};
+use world::{PairParts, World};
 
 /// The identifier of the program's source, 6d747200-0000-4000-8000-000000000001.
 pub const SOURCE: [u8; 16] = [
@@ -45,12 +45,12 @@ fn entries_of(alloc: Global, rows: &[(RowId, Row)]) -> Result<Vec<(RowId, Option
 pub type InMemory = World<BTreeStore, CommitOrder, MemoryDevice, BTreeStore>;
 
 /// The parts of a pair in memory, whose records' parents are their order parents. It takes no memory.
-pub fn parts_in_memory(alloc: Global) -> Parts<BTreeStore, CommitOrder, MemoryDevice>
+pub fn parts_in_memory(alloc: Global) -> PairParts<BTreeStore, CommitOrder, MemoryDevice>
     ensures rows { result.rows ≡ empty }
     ensures copy { result.copy ≡ empty }
     ensures tracker { result.tracker ≡ CommitOrder }
 {
-    Parts {
+    PairParts {
         rows: BTreeStore::new(alloc),
         copy: BTreeStore::new(alloc),
         tracker: CommitOrder,

@@ -16,7 +16,7 @@ use schema::{RowId, Schema, Table};
 use std::alloc::Global;
 use store_trait::Batch;
 use uuid::Uuid;
-use world::{Pair, Parts, World, pair_of};
+use world::{Pair, PairParts, World, pair_of};
 
 /// The identifier of the source.
 pub const SOURCE: [u8; 16] = [1; 16];
@@ -68,7 +68,7 @@ pub fn sides(alloc: Global, base: &Batch) -> Result<InMemory, LogFault>
     ensures log { IfOk result (λ made. IsNew made.log) }
     ensures replica { IfOk result (λ made. made.replica ≡ new_over made.replica.tables made.replica.source made.replica.base made.replica.workers) }
 {
-    let parts = Parts {
+    let parts = PairParts {
         rows: BTreeStore::new(alloc),
         copy: BTreeStore::new(alloc),
         tracker: CommitOrder,

@@ -1,3 +1,4 @@
+pub mod NewPairs
 pub mod Parts
 pub mod Groups
 pub mod Sessions

@@ -18,5 +18,5 @@ mod sides;
 
 pub use events::{Event, LogText, Reply, Stamps};
 pub use machine::World;
-pub use pair::{Pair, Parts, pair_of};
+pub use pair::{Pair, PairParts, pair_of};
 pub use sides::begins;
