@@ -8,6 +8,18 @@ use schema::{Memory, RowId, Schema, Table};
 use std::alloc::Global;
 use store_trait::{Batch, RowStore};
 
+/// What the call answers, made once more where memory lacked.
+macro_rules! again {
+    ($call:expr) => {
+        match $call {
+            Ok(answer) => answer,
+            Err(_) => $call?,
+        }
+    };
+}
+
+pub(crate) use again;
+
 /// A row by its id, or that there is none.
 pub type Entry = (RowId, Option<Row>);
 

@@ -1,57 +1,39 @@
 //! What a transaction's changes leave over committed rows.
 
 use crate::makers::{
-    Entry, delete, four_tables, insert, many_rows, removed, same_rows, set, store, update,
+    Entry, again, delete, four_tables, insert, many_rows, removed, same_rows, set, store, update,
 };
 use btree_store::BTreeStore;
 use overlay::{Overlay, run_changes};
 use rows::Change;
 use schema::{Memory, Schema};
 use std::alloc::Global;
-use std::process::Abort;
 use std::test::Fail;
 use store_trait::Batch;
 
-/// What the changes leave over these rows, or `None` where one does not apply; each call is made again where memory lacked.
-fn left(
+/// Whether the changes leave this over the rows, or where it is `None` one of them does not apply; each call is made again
+/// where memory lacked.
+fn leaves(
     alloc: Global,
     schema: &Schema,
     store: &BTreeStore,
     changes: &[Change],
-) -> Result<Option<Batch>, Memory> {
-    let ran = run_changes(alloc, schema, store, changes).or_else(|_| run_changes(
-        alloc, schema, store, changes,
-    ))?;
+    want: Option<&[Entry]>,
+) -> Result<bool, Memory> {
+    let ran = again!(run_changes(alloc, schema, store, changes));
     let Some(overlay) = ran else {
-        return Ok(None);
+        return Ok(want.is_none());
     };
-    let batch = overlay.batch(alloc).or_else(|_| overlay.batch(alloc))?;
-    Ok(Some(batch))
+    let batch = again!(overlay.batch(alloc));
+    Ok(want.is_some_and(|want| batch.entries() == want))
 }
 
-fn is_left(batch: Option<&Batch>, want: Option<&[Entry]>) -> bool {
-    match (batch, want) {
-        (Some(batch), Some(want)) => batch.entries() == want,
-        (None, None) => true,
-        _ => false,
-    }
-}
-
-/// A parent that is looked for among the committed rows alone, or asked for where the change gives none.
+/// A parent that is looked for among the committed rows alone, or asked for where the change gives none. Row 1 of table 1 is
+/// committed, with a child, and row 5 is not.
 #[test]
 fn children_have_the_parents_that_are_seen(rt: HostRuntime) -> Result<(), Fail> {
     let schema = four_tables(rt.alloc())?;
     let store = store(rt.alloc(), &[set(1, 1, 0), set(2, 9, 1)])?;
-    assert_children(&rt, &schema, &store)?;
-    Ok(())
-}
-
-/// Changes of children of row 1 of table 1, which is committed, and of row 5, which is not.
-fn assert_children(
-    rt: &(impl Abort + AllocGlobal),
-    schema: &Schema,
-    store: &BTreeStore,
-) -> Result<(), Memory> {
     let cases: [(&[Change], Option<&[Entry]>); 7] = [
         (&[insert(2, 10, 5), insert(1, 5, 0)], None),
         (
@@ -72,8 +54,8 @@ fn assert_children(
         ),
     ];
     for (changes, want) in cases {
-        let batch = left(rt.alloc(), schema, store, changes)?;
-        assert!(rt; is_left(batch.as_ref(), want), "{changes:?}");
+        let left = leaves(rt.alloc(), &schema, &store, changes, want);
+        assert_eq!(rt; left, Ok(true), "{changes:?}");
     }
     Ok(())
 }
@@ -89,20 +71,20 @@ fn inserts(alloc: Global, keys: u16) -> Result<Vec<Change>, Memory> {
     Ok(changes)
 }
 
-/// What the most changes of a transaction leave over no rows.
-fn most_left(alloc: Global) -> Result<Option<Batch>, Memory> {
-    let schema = four_tables(alloc).or_else(|_| four_tables(alloc))?;
-    let changes = inserts(alloc, 512).or_else(|_| inserts(alloc, 512))?;
-    left(alloc, &schema, &BTreeStore::new(alloc), &changes)
+/// Whether the most changes of a transaction leave these rows, where there were none.
+fn most_leave(alloc: Global, rows: &Batch) -> Result<bool, Memory> {
+    let schema = again!(four_tables(alloc));
+    let changes = again!(inserts(alloc, 512));
+    let store = BTreeStore::new(alloc);
+    leaves(alloc, &schema, &store, &changes, Some(rows.entries()))
 }
 
 /// A run or a batch that gives up, at the most changes of a transaction or where memory lacked once.
 #[test]
 fn most_changes_are_run_again(rt: HostRuntime) -> Result<(), Fail> {
     let alloc = rt.alloc();
-    let batch = most_left(alloc)?;
-    let rows = many_rows(alloc, &[1, 2], 512).or_else(|_| many_rows(alloc, &[1, 2], 512))?;
-    assert!(rt; is_left(batch.as_ref(), Some(rows.entries())));
+    let rows = again!(many_rows(alloc, &[1, 2], 512));
+    assert_eq!(rt; most_leave(alloc, &rows), Ok(true));
     Ok(())
 }
 
@@ -117,7 +99,7 @@ fn push_again(overlay: Overlay, entry: &Entry) -> Result<Overlay, Memory> {
         Err(overlay) => overlay.into_roomy().map_err(|_| Memory)?,
     };
     let mut overlay = roomy.push(Change::Delete { row: entry.0 }, entry.1);
-    push(&mut overlay, entry).or_else(|_| push(&mut overlay, entry))?;
+    again!(push(&mut overlay, entry));
     Ok(overlay)
 }
 
@@ -133,10 +115,10 @@ fn pushed_again(alloc: Global, rows: &Batch) -> Result<Overlay, Memory> {
 #[test]
 fn many_changes_are_pushed_again(rt: HostRuntime) -> Result<(), Fail> {
     let alloc = rt.alloc();
-    let rows = many_rows(alloc, &[1, 2], 256).or_else(|_| many_rows(alloc, &[1, 2], 256))?;
+    let rows = again!(many_rows(alloc, &[1, 2], 256));
     let overlay = pushed_again(alloc, &rows)?;
     assert_eq!(rt; overlay.len(), 1024);
-    let batch = overlay.batch(alloc).or_else(|_| overlay.batch(alloc))?;
+    let batch = again!(overlay.batch(alloc));
     assert!(rt; same_rows(&batch, &rows));
     Ok(())
 }

@@ -1,6 +1,6 @@
 //! Batches, operations and stores of rows.
 
-use crate::makers::{Entry, batch, four_tables, many_rows, removed, same_rows, set, store};
+use crate::makers::{Entry, again, batch, four_tables, many_rows, removed, same_rows, set, store};
 use btree_store::BTreeStore;
 use rows::Row;
 use schema::{Memory, RowId, Schema};
@@ -24,8 +24,8 @@ fn rows_fit_their_schema(rt: HostRuntime) -> Result<(), Fail> {
         (&[(RowId { table: 3, key: 1 }, Row::new(&[0; 15]))], false),
     ];
     for (entries, want) in cases {
-        let fit = rows_fit(rt.alloc(), &schema, entries)?;
-        assert_eq!(rt; fit, want, "{entries:?}");
+        let fit = rows_fit(rt.alloc(), &schema, entries);
+        assert_eq!(rt; fit, Ok(want), "{entries:?}");
     }
     Ok(())
 }
@@ -54,7 +54,7 @@ fn many_batches(alloc: Global, keys: i64) -> Result<Vec<Batch>, Memory> {
 #[test]
 fn three_hundred_batches_are_put_again(rt: HostRuntime) -> Result<(), Fail> {
     let alloc = rt.alloc();
-    let batches = many_batches(alloc, 60).or_else(|_| many_batches(alloc, 60))?;
+    let batches = again!(many_batches(alloc, 60));
     let mut store = BTreeStore::new(alloc);
     assert!(rt; run_again(&mut store, &batches));
     assert_eq!(rt; store.len(), 60);
@@ -64,26 +64,26 @@ fn three_hundred_batches_are_put_again(rt: HostRuntime) -> Result<(), Fail> {
 /// The rows are put, and once more over themselves, each again where memory lacked.
 fn stored_again(alloc: Global, rows: &Batch) -> Result<BTreeStore, Memory> {
     let mut store = BTreeStore::new(alloc);
-    store.put_all(rows).or_else(|_| store.put_all(rows))?;
-    store.put_all(rows).or_else(|_| store.put_all(rows))?;
+    again!(store.put_all(rows));
+    again!(store.put_all(rows));
     Ok(store)
 }
 
 fn read_again(alloc: Global, store: &BTreeStore) -> Result<Batch, Memory> {
-    let schema = four_tables(alloc).or_else(|_| four_tables(alloc))?;
+    let schema = again!(four_tables(alloc));
     if !fits(&schema, store) {
         return Err(Memory);
     }
-    snapshot(alloc, store, &schema).or_else(|_| snapshot(alloc, store, &schema))
+    Ok(again!(snapshot(alloc, store, &schema)))
 }
 
-/// A copy of each kind of operation, made again where memory lacked.
+/// A copy of each kind of operation.
 fn copied_again(rows: Batch) -> Result<Op, Memory> {
     let load = Op::Load(rows);
-    let copy = load.copy().or_else(|_| load.copy())?;
-    let batch = copy.batch().copy().or_else(|_| copy.batch().copy())?;
+    let copy = again!(load.copy());
+    let batch = again!(copy.batch().copy());
     let commit = Op::Commit { gno: 5, batch };
-    commit.copy().or_else(|_| commit.copy())
+    Ok(again!(commit.copy()))
 }
 
 /// A put, a snapshot or a copy that gives up, where there are many rows or where memory lacked once.
@@ -91,7 +91,7 @@ fn copied_again(rows: Batch) -> Result<Op, Memory> {
 fn two_thousand_rows_are_put_again(rt: HostRuntime) -> Result<(), Fail> {
     let alloc = rt.alloc();
     let tables = [1, 2, 3, 256];
-    let rows = many_rows(alloc, &tables, 500).or_else(|_| many_rows(alloc, &tables, 500))?;
+    let rows = again!(many_rows(alloc, &tables, 500));
     let copy = copied_again(read_again(alloc, &stored_again(alloc, &rows)?)?)?;
     assert!(rt; same_rows(copy.batch(), &rows));
     Ok(())

@@ -1,6 +1,6 @@
 //! Schemas, and the texts of faults.
 
-use crate::makers::table;
+use crate::makers::{again, table};
 use rows::ChangeFault;
 use schema::{Memory, Schema, SchemaFault, Table};
 use std::alloc::Global;
@@ -42,9 +42,9 @@ fn tables_to(alloc: Global, last: u16) -> Result<Vec<Table>, Memory> {
 /// A copy that gives up, at the most tables or where memory lacked once.
 #[test]
 fn most_tables_are_copied_again(rt: HostRuntime) -> Result<(), Fail> {
-    let tables = tables_to(rt.alloc(), 256).or_else(|_| tables_to(rt.alloc(), 256))?;
+    let tables = again!(tables_to(rt.alloc(), 256));
     let schema = Schema::new(tables)?;
-    let copy = schema.copy().or_else(|_| schema.copy())?;
+    let copy = again!(schema.copy());
     assert_eq!(rt; copy.tables().len(), 256);
     assert_eq!(rt; copy.tables(), schema.tables());
     Ok(())
@@ -56,24 +56,13 @@ fn is_told(alloc: Global, fault: &impl Display, text: &str) -> Result<bool, Fail
 
 /// Another text: no clause says what is printed.
 #[test]
-fn faults_of_a_schema_are_told(rt: HostRuntime) -> Result<(), Fail> {
-    let texts = [
-        (SchemaFault::Count, "B1 Count"),
-        (SchemaFault::Id, "B2 Id"),
-        (SchemaFault::Columns, "B3 Columns"),
-        (SchemaFault::Twice, "B4 Twice"),
-        (SchemaFault::Parent, "B5 Parent"),
-        (SchemaFault::Memory, "B6 Memory"),
-    ];
-    for (fault, text) in texts {
-        assert!(rt; is_told(rt.alloc(), &fault, text)?, "{text}");
-    }
-    Ok(())
-}
-
-/// Another text: no clause says what is printed.
-#[test]
-fn faults_of_a_change_are_told(rt: HostRuntime) -> Result<(), Fail> {
+fn faults_are_told_by_number_and_name(rt: HostRuntime) -> Result<(), Fail> {
+    assert!(rt; is_told(rt.alloc(), &SchemaFault::Count, "B1 Count")?);
+    assert!(rt; is_told(rt.alloc(), &SchemaFault::Id, "B2 Id")?);
+    assert!(rt; is_told(rt.alloc(), &SchemaFault::Columns, "B3 Columns")?);
+    assert!(rt; is_told(rt.alloc(), &SchemaFault::Twice, "B4 Twice")?);
+    assert!(rt; is_told(rt.alloc(), &SchemaFault::Parent, "B5 Parent")?);
+    assert!(rt; is_told(rt.alloc(), &SchemaFault::Memory, "B6 Memory")?);
     assert!(rt; is_told(rt.alloc(), &ChangeFault::Present, "F1 Present")?);
     assert!(rt; is_told(rt.alloc(), &ChangeFault::Absent, "F2 Absent")?);
     assert!(rt; is_told(rt.alloc(), &ChangeFault::Columns, "F3 Columns")?);
