@@ -13,7 +13,7 @@ use schema::RowId;
 use world::Event;
 
 /// The first word of an event's line.
-#[derive(Clone, Copy, Debug, PartialEq, Eq)]
+#[derive(Clone, Copy)]
 pub enum Verb {
     Begin,
     Insert,

@@ -13,7 +13,7 @@ use std::io;
 use std::io::{ErrorKind, Write};
 
 /// How the program ends.
-#[derive(Clone, Copy, Debug, PartialEq, Eq)]
+#[derive(Clone, Copy)]
 pub enum Ending {
     /// All was done.
     Done,
@@ -49,7 +49,7 @@ impl Ending {
 }
 
 /// Why the program's work stopped.
-#[derive(Clone, Copy, Debug, PartialEq, Eq)]
+#[derive(Clone, Copy)]
 pub enum Stop {
     /// The first line of the script, counted from 1, that says nothing known, or that stands behind one that it
     /// has to precede.
@@ -146,7 +146,7 @@ impl Stop {
         ensures ending { result ≢ Ending.Stream → result ≡ ending_of self }
         ensures text { result ≢ Ending.Stream → Appends (E.contents errors.old) (E.contents errors.new) (stop_text self ++ 10 ∷ []) }
     {
-        if self == Stop::Stream {
+        if let Stop::Stream = self {
             return Ending::Stream;
         }
         match self.write_line(errors) {

@@ -4,7 +4,7 @@ use std::alloc::AllocError;
 use thiserror::Error;
 
 /// What the words behind the program's name ask for.
-#[derive(Clone, Copy, Debug, PartialEq, Eq)]
+#[derive(Clone, Copy)]
 pub enum Options {
     /// `run`: a script is read on standard input and run, by so many workers at the replica, 1 to 64.
     Run { workers: usize },
@@ -15,7 +15,7 @@ pub enum Options {
 }
 
 /// How many threads there are of each kind, and how much they do.
-#[derive(Clone, Copy, Debug, PartialEq, Eq)]
+#[derive(Clone, Copy)]
 pub struct Plan {
     /// The workers at the replica, 1 to 64.
     pub workers: usize,

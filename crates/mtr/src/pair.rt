@@ -48,7 +48,6 @@ pub type InMemory = World<BTreeStore, CommitOrder, MemoryDevice, BTreeStore>;
 pub fn parts_in_memory(alloc: Global) -> PairParts<BTreeStore, CommitOrder, MemoryDevice>
     ensures rows { result.rows ≡ empty }
     ensures copy { result.copy ≡ empty }
-    ensures tracker { result.tracker ≡ CommitOrder }
 {
     PairParts {
         rows: BTreeStore::new(alloc),

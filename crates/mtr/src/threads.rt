@@ -32,7 +32,7 @@ use std::thread::Threads;
 use trouble::Trouble;
 
 /// What both sides came to.
-#[derive(Clone, Copy, Debug, PartialEq, Eq)]
+#[derive(Clone, Copy)]
 pub enum Verdict {
     /// The same: the greatest gno of the receipts, and the number of commits that the replica has published.
     Equal { log: u64, published: u64 },

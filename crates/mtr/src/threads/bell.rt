@@ -3,7 +3,7 @@
 use std::sync::{Condvar, Mutex, Wait};
 
 /// How far the sessions are.
-#[derive(Clone, Copy, Debug, PartialEq, Eq)]
+#[derive(Clone, Copy)]
 pub struct Told {
     /// The number of transactions committed.
     pub commits: u64,

@@ -7,7 +7,7 @@ use source_core::SourceFault;
 use std::alloc::{AllocError, AllocFailed};
 
 /// Why a thread's work, or that over all threads, was not done.
-#[derive(Clone, Copy, Debug, PartialEq, Eq)]
+#[derive(Clone, Copy)]
 pub enum Trouble {
     /// Memory ran out.
     Memory,
