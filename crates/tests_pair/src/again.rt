@@ -5,10 +5,8 @@ ghost use Rattle.std.specs.Prelude.{IfOk};
 ghost use Rattle.world.specs.Seen.{seen};
 ghost use Rattle.world.specs.State.{IsWorld};
 
-use crate::makers::{insert, row, set, sides};
-use btree_store::BTreeStore;
-use commit_order_tracker::CommitOrder;
-use log_device::{Device, MemoryDevice};
+use crate::makers::{InOne, insert, row, set, world};
+use log_device::Device;
 use log_file::LogFault;
 use record_codec::CodecFault;
 use relay::ReplicaFault;
@@ -16,24 +14,14 @@ use rows::Change;
 use schema::Memory;
 use source_core::SourceFault;
 use std::alloc::Global;
+use std::process::Abort;
 use std::test::Fail;
-use store_trait::{Batch, RowStore};
+use store_trait::RowStore;
 use tracker_trait::Tracker;
 use world::{Event, Reply, World};
 
-type InMemory = World<BTreeStore, CommitOrder, MemoryDevice, BTreeStore>;
-
-/// A new world without rows.
-fn world(alloc: Global) -> Result<InMemory, LogFault>
-    ensures { IfOk result (λ world. IsWorld (λ rows. rows) (seen world)) }
-{
-    let base = Batch::new(alloc);
-    let sides = sides(alloc, &base)?;
-    Ok(sides.into_world(alloc, base, BTreeStore::new(alloc))?)
-}
-
-/// The same, made once more where memory is refused.
-fn world_again(alloc: Global) -> Result<InMemory, LogFault>
+/// A new world, made once more where memory is refused.
+fn world_again(alloc: Global) -> Result<InOne, LogFault>
     ensures { IfOk result (λ world. IsWorld (λ rows. rows) (seen world)) }
 {
     match world(alloc) {
@@ -149,19 +137,31 @@ fn events() -> [Event; 38] {
     ]
 }
 
-/// Runs both worlds side by side. Each request for memory is refused once at most, so one of the two met no refusal.
+/// Runs both worlds side by side, and compares what they answer.
+fn answer_alike(
+    rt: &impl Abort,
+    alloc: Global,
+    one: &mut InOne,
+    other: &mut InOne,
+    events: &[Event],
+) -> Result<(), Memory>
+    requires one { IsWorld (λ rows. rows) (seen one.old) }
+    requires other { IsWorld (λ rows. rows) (seen other.old) }
+{
+    for event in events {
+        let answer = answer_again(alloc, one, event)?;
+        let same = answer_again(alloc, other, event)?;
+        assert_eq!(rt; answer.as_str(), same.as_str());
+    }
+    Ok(())
+}
+
+/// Each request for memory is refused once at most, so one of the two worlds met no refusal.
 #[test]
 fn events_are_sent_again(rt: HostRuntime) -> Result<(), Fail> {
     let alloc = rt.alloc();
     let mut one = world_again(alloc)?;
     let mut other = world_again(alloc)?;
-    for event in events() {
-        let answer = answer_again(alloc, &mut one, &event)?;
-        assert_eq!(rt;
-            answer,
-            answer_again(alloc, &mut other, &event)?,
-            "at {event:?}"
-        );
-    }
+    answer_alike(&rt, alloc, &mut one, &mut other, &events())?;
     Ok(())
 }

@@ -1,6 +1,7 @@
 //! What the tests begin with: a table, changes of its rows, and both sides.
 
 ghost use Rattle.std.specs.Prelude.{◌≡◌, IfOk};
+ghost use Rattle.std.specs.FinMap.{empty};
 ghost use Rattle.source_core.specs.Source.{new_source};
 ghost use Rattle.replica_core.specs.Calls.{new_over};
 ghost use Rattle.world.specs.Fresh.{IsNew};
@@ -23,6 +24,9 @@ pub const SOURCE: [u8; 16] = [1; 16];
 
 /// Both sides in memory.
 pub type InMemory = Pair<BTreeStore, CommitOrder, MemoryDevice>;
+
+/// Both sides in memory, as one world.
+pub type InOne = World<BTreeStore, CommitOrder, MemoryDevice, BTreeStore>;
 
 /// A row of table 1.
 pub fn row(key: i64) -> RowId {
@@ -62,21 +66,41 @@ fn schema(alloc: Global) -> Result<Schema, LogFault> {
     Schema::new(tables).map_err(|_| LogFault::Memory)
 }
 
-/// New sides over these rows, with two workers.
-pub fn sides(alloc: Global, base: &Batch) -> Result<InMemory, LogFault>
-    ensures source { IfOk result (λ made. made.source ≡ new_source made.source.tables made.source.base made.source.limit made.source.kind) }
-    ensures log { IfOk result (λ made. IsNew made.log) }
-    ensures replica { IfOk result (λ made. made.replica ≡ new_over made.replica.tables made.replica.source made.replica.base made.replica.workers) }
+/// What both sides are made of: ordered maps, parents by the commit order, and a log in memory.
+fn parts(alloc: Global) -> PairParts<BTreeStore, CommitOrder, MemoryDevice>
+    ensures rows { result.rows ≡ empty }
+    ensures copy { result.copy ≡ empty }
 {
-    let parts = PairParts {
+    PairParts {
         rows: BTreeStore::new(alloc),
         copy: BTreeStore::new(alloc),
         tracker: CommitOrder,
         device: MemoryDevice::new(alloc),
-    };
+    }
+}
+
+/// New sides without rows, with two workers.
+pub fn sides(alloc: Global) -> Result<InMemory, LogFault>
+    ensures source { IfOk result (λ made. made.source ≡ new_source made.source.tables made.source.base made.source.limit made.source.kind) }
+    ensures log { IfOk result (λ made. IsNew made.log) }
+    ensures replica { IfOk result (λ made. made.replica ≡ new_over made.replica.tables made.replica.source made.replica.base made.replica.workers) }
+{
+    let (schema, base) = (schema(alloc)?, Batch::new(alloc));
     let identifier = Uuid::from_bytes(SOURCE);
-    match pair_of(alloc, schema(alloc)?, identifier, base, 1000, 2, parts)? {
+    match pair_of(alloc, schema, identifier, &base, 1000, 2, parts(alloc))? {
         Some(sides) => Ok(sides),
+        None => Err(LogFault::OutOfTurn),
+    }
+}
+
+/// The same as one world.
+pub fn world(alloc: Global) -> Result<InOne, LogFault>
+    ensures { IfOk result (λ world. IsWorld (λ rows. rows) (seen world)) }
+{
+    let (schema, base) = (schema(alloc)?, Batch::new(alloc));
+    let identifier = Uuid::from_bytes(SOURCE);
+    match pair_of(alloc, schema, identifier, &base, 1000, 2, parts(alloc))? {
+        Some(sides) => Ok(sides.into_world(alloc, base, BTreeStore::new(alloc))?),
         None => Err(LogFault::OutOfTurn),
     }
 }

@@ -21,7 +21,6 @@ use std::marker::Brand;
 use std::process::Abort;
 use std::sync::Wait;
 use std::test::Fail;
-use store_trait::Batch;
 use uuid::Uuid;
 use world::{Pair, begins};
 
@@ -35,7 +34,7 @@ const OTHER: [u8; 16] = [7; 16];
 #[test]
 fn both_sides_on_one_thread(rt: HostRuntime) -> Result<(), Fail> {
     let alloc = rt.alloc();
-    let sides = sides(alloc, &Batch::new(alloc))?;
+    let sides = sides(alloc)?;
     let base = sides.replica.base().copy()?;
     story::<Brand, Brand, _>(
         &rt,
