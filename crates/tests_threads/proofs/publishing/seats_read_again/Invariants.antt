@@ -1,0 +1,5 @@
+use Rattle.tests_threads.proofs.publishing.seats_read_again.Given as goal
+
+-- the publication that was just begun
+abbrev pub ghosts-seen_by : goal.ghosts-seen_by
+ghosts-seen_by g a = record { book = a.beginning.book }

@@ -1,0 +1,5 @@
+use Rattle.tests_threads.proofs.publishing.two_publish_beside_two_seats.Given as goal
+
+-- the publication that was just begun
+abbrev pub ghosts-run_beside : goal.ghosts-run_beside
+ghosts-run_beside g a = record { book = a.beginning.book }

@@ -1,0 +1,9 @@
+use Rattle.tests_threads.proofs.replicas.has_run.Given as goal
+
+-- the rows of the core
+abbrev pub ghosts-run_over-J-ReplicaNaming : goal.ghosts-run_over-J-ReplicaNaming
+ghosts-run_over-J-ReplicaNaming g a = record { base = a.core.base }
+
+-- the publication that just began
+abbrev pub ghosts-run_over-J-Naming : goal.ghosts-run_over-J-Naming
+ghosts-run_over-J-Naming g a = record { book = a.beginning.book }

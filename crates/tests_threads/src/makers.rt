@@ -1,0 +1,117 @@
+//! What the tests begin with: a schema, rows, changes and records, new cores over no rows, and commits that set one row.
+ghost use Rattle.std.specs.Prelude.{◌≡◌, IfOk};
+ghost use Rattle.published.specs.History.{IsCommit};
+ghost use Rattle.replica_core.specs.Calls.{new_over};
+ghost use Rattle.source_core.specs.Source.{new_source};
+
+use btree_store::BTreeStore;
+use commit_order_tracker::CommitOrder;
+use published::Answer;
+use record_codec::{Changes, Flags, Record, Refs};
+use replica_core::ReplicaCore;
+use rows::{Change, Named, Row};
+use schema::{Memory, RowId, Schema, Table};
+use source_core::SourceCore;
+use std::alloc::Global;
+use store_trait::{Batch, Op, fits};
+use uuid::Uuid;
+
+/// The source of the log.
+pub const SOURCE: u128 = 0x8c5f8f9a_1111_11ef_9d3a_0242ac120002;
+
+/// The row that is set.
+pub const ONE: RowId = RowId { table: 1, key: 10 };
+
+/// Table 1, of 2 columns.
+fn schema(alloc: Global) -> Result<Schema, Memory> {
+    let tables = vec![in alloc;
+        Table {
+            id: 1,
+            columns: 2,
+            keyed: true,
+            parent: None
+        },
+    ]?;
+    Schema::new(tables).map_err(|_| Memory)
+}
+
+/// A source of no rows, for 256 records.
+pub fn source(alloc: Global) -> Result<SourceCore<BTreeStore, CommitOrder>, Memory>
+    ensures { IfOk result (λ core. core ≡ new_source core.tables core.base core.limit core.kind) }
+{
+    let schema = schema(alloc)?;
+    let store = BTreeStore::new(alloc);
+    if !schema.is_flat() || !fits(&schema, &store) {
+        return Err(Memory);
+    }
+    let core = SourceCore::new(alloc, schema, store, CommitOrder, 256)?;
+    Ok(core)
+}
+
+/// A replica of no rows, with three workers.
+pub fn replica(alloc: Global) -> Result<ReplicaCore<BTreeStore>, Memory>
+    ensures { IfOk result (λ core. core ≡ new_over core.tables core.source core.base core.workers) }
+{
+    let schema = schema(alloc)?;
+    let store = BTreeStore::new(alloc);
+    if !schema.is_flat() || !fits(&schema, &store) {
+        return Err(Memory);
+    }
+    let core = ReplicaCore::new(alloc, schema, Uuid::from_u128(SOURCE), store, 3)?;
+    Ok(core)
+}
+
+/// An insert into table 1.
+pub fn insert(key: i64, columns: [i64; 2]) -> Result<Change, Memory> {
+    Ok(Change::Insert {
+        row: RowId { table: 1, key },
+        values: Row::new(&columns).ok_or(Memory)?,
+    })
+}
+
+/// An update of column 0.
+pub fn set(key: i64, value: i64) -> Result<Change, Memory> {
+    Ok(Change::Update {
+        row: RowId { table: 1, key },
+        columns: Named::of(&[(0, value)]).ok_or(Memory)?,
+    })
+}
+
+/// The record of this number with one change.
+pub fn record(alloc: Global, gno: u64, parent: u64, change: Change) -> Result<Record, Memory> {
+    Ok(Record {
+        gno,
+        sequence: gno,
+        parent,
+        flags: Flags {
+            fk: false,
+            missing_keys: false,
+        },
+        refs: Refs::none(alloc),
+        changes: Changes::new(vec![in alloc; change]?).ok_or(Memory)?,
+    })
+}
+
+/// The row `ONE` is set to this number.
+pub fn set_to(alloc: Global, n: i64) -> Result<Batch, Memory> {
+    let row = Row::new(&[n]).ok_or(Memory)?;
+    Ok(Batch::from_rising(vec![in alloc; (ONE, Some(row))]?))
+}
+
+/// The commit that sets the row `ONE` to its own number.
+pub fn commit(alloc: Global, gno: u64) -> Result<Op, Memory>
+    ensures { IfOk result (λ op. IsCommit op gno) }
+{
+    Ok(Op::Commit {
+        gno,
+        batch: set_to(alloc, gno.cast_signed())?,
+    })
+}
+
+/// What is read of the row `ONE` once so many commits are published.
+pub fn answer(upto: u64) -> Answer {
+    Answer {
+        row: Row::new(&[upto.cast_signed()]),
+        upto,
+    }
+}

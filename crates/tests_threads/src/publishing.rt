@@ -1,0 +1,232 @@
+//! Publication: what a seat, a watch and a plain store show, and what those who publish and read side by side see.
+ghost use Rattle.std.specs.Prelude.{◌≡◌, ◌≤◌, [], IfOk};
+
+use crate::desk::{Desk, LAST};
+use crate::makers::{ONE, answer, commit, set_to};
+use btree_store::BTreeStore;
+use published::plain::Plain;
+use published::{Beginning, Counts, Naming, Notice, OpenError, ReadSeat, Status};
+use schema::Memory;
+use std::alloc::Global;
+use std::marker::Brand;
+use std::process::Abort;
+use std::sync::{Mutex, Wait};
+use std::test::Fail;
+use std::thread::{Threads, join};
+
+/// Catches a call that gives up where memory is there, once it was refused, or where some number of commits wait.
+#[test]
+fn plain_publishes_again(rt: HostRuntime) -> Result<(), Fail> {
+    let alloc = rt.alloc();
+    let mut plain = match plain_of_base(alloc) {
+        Ok(plain) => plain,
+        Err(_) => plain_of_base(alloc)?,
+    };
+    for upto in [0, 1, 3, 303] {
+        plain_again(&rt, alloc, &mut plain, upto)?;
+    }
+    Ok(())
+}
+
+fn plain_of_base(alloc: Global) -> Result<Plain<BTreeStore>, Memory>
+    ensures { IfOk result (λ plain. (plain.upto ≡ 0) × (plain.waiting ≡ [])) }
+{
+    Plain::new(alloc, BTreeStore::new(alloc), set_to(alloc, 0)?)
+}
+
+/// Publishes the commits up to this one.
+fn plain_again(
+    rt: &impl Abort,
+    alloc: Global,
+    plain: &mut Plain<BTreeStore>,
+    upto: u16,
+) -> Result<(), Memory> {
+    if append_upto(alloc, plain, upto).is_err() {
+        append_upto(alloc, plain, upto)?;
+    }
+    if plain.publish().is_err() {
+        plain.publish()?;
+    }
+    assert_eq!(rt; plain.read(ONE), answer(upto as u64));
+    Ok(())
+}
+
+fn append_upto(alloc: Global, plain: &mut Plain<BTreeStore>, last: u16) -> Result<(), Memory> {
+    let first = plain.appended().checked_add(1).ok_or(Memory)?;
+    for gno in first..last as u64 + 1 {
+        plain.append(&commit(alloc, gno)?)?;
+    }
+    Ok(())
+}
+
+const SOME: Counts = Counts {
+    received: 3,
+    committed: 2,
+    published: 1,
+};
+
+const MORE: Counts = Counts {
+    received: 3,
+    committed: 3,
+    published: 2,
+};
+
+/// Catches a watch that is refused where memory is there, and one that shows for ever what was stored when it was made.
+#[test]
+fn watches_are_made_again(rt: HostRuntime) -> Result<(), Fail> {
+    let mut status = match Status::new(rt.alloc()) {
+        Ok(status) => status,
+        Err(_) => Status::new(rt.alloc())?,
+    };
+    status.store(&rt, SOME);
+    let mut watch = match status.watch() {
+        Ok(watch) => watch,
+        Err(_) => status.watch()?,
+    };
+    assert_eq!(rt; watch.load(&rt), SOME);
+    status.store(&rt, MORE);
+    assert_eq!(rt; watch.load(&rt), MORE);
+    Ok(())
+}
+
+/// Catches a seat that is refused, or answers nothing, while the publisher is there, and a publisher that gives up for good
+/// once memory was refused, or where some number of commits wait.
+#[test]
+fn seats_read_again(rt: HostRuntime) -> Result<(), Fail> {
+    for _try in 0..2 {
+        let Ok(base) = set_to(rt.alloc(), 0) else {
+            continue;
+        };
+        if seen_by::<Brand, _>(&rt, rt.alloc(), Beginning::of(base))? {
+            return Ok(());
+        }
+    }
+    Err("twice no memory")?
+}
+
+/// Whether there was memory for the most seats. Then commits are published, with one more behind a refused call or none.
+fn seen_by<J: Naming, R: Wait + Abort>(
+    rt: &R,
+    alloc: Global,
+    beginning: Beginning,
+) -> Result<bool, Fail>
+    requires { beginning.book ≡ J.book }
+{
+    let (mut desk, mut seats) = match Desk::<J, R>::open(rt, alloc, beginning, 32) {
+        Ok(opened) => opened,
+        Err(cause) => {
+            assert_eq!(rt; cause, OpenError::Memory);
+            return Ok(false);
+        }
+    };
+    assert_eq!(rt; seats.len(), 32);
+    for (count, more) in [(1, 0), (2, 1), (1, 0), (300, 1)] {
+        publish_seen(rt, alloc, &mut desk, &mut seats, count, more)?;
+    }
+    Ok(true)
+}
+
+/// Publishes so many commits, and the second number more where it was refused.
+fn publish_seen<J: Naming, R: Wait + Abort>(
+    rt: &R,
+    alloc: Global,
+    desk: &mut Desk<'_, J, R>,
+    seats: &mut [ReadSeat<BTreeStore, J>],
+    count: u64,
+    more: u64,
+) -> Result<(), Memory> {
+    desk.append_again(alloc, count)?;
+    all_read(rt, desk, seats);
+    if desk.publish().is_err() {
+        all_read(rt, desk, seats);
+        desk.publish_again(alloc, more)?;
+    }
+    all_read(rt, desk, seats);
+    Ok(())
+}
+
+/// Each seat reads the row as the published commits leave it, also once it has learnt which these are.
+fn all_read<J: Naming, R: Wait + Abort>(
+    rt: &R,
+    desk: &Desk<'_, J, R>,
+    seats: &mut [ReadSeat<BTreeStore, J>],
+) {
+    let upto = desk.tell().upto();
+    for seat in seats {
+        assert_eq!(rt; seat.read(ONE), Some(answer(upto)));
+        assert_eq!(rt; read_on(rt, seat, desk.tell(), upto), upto);
+    }
+}
+
+/// What a seat reads once it has learnt this, and has read so far before. Answers how many commits it sees.
+fn read_on<J: Naming>(
+    rt: &impl Abort,
+    seat: &mut ReadSeat<BTreeStore, J>,
+    notice: Notice<J>,
+    seen: u64,
+) -> u64 {
+    let floor = notice.upto().max(seen);
+    seat.learn(notice);
+    let found = seat.read(ONE).expect(rt, "the publisher is there");
+    assert!(rt; found.upto >= floor, "{} falls below {floor}", found.upto);
+    assert_eq!(rt; found, answer(found.upto));
+    found.upto
+}
+
+/// Catches an answer that falls, one below what was learnt, a row that is not that of its number, and a commit that is lost or
+/// a publisher that gives up where two have it in turn.
+#[test]
+fn two_publish_beside_two_seats(rt: HostRuntime) -> Result<(), Fail> {
+    let beginning = Beginning::of(set_to(rt.alloc(), 0)?);
+    run_beside::<Brand, _>(&rt, rt.alloc(), beginning)
+}
+
+fn run_beside<J: Naming + Send + Sync, R: Threads + Wait + Abort + Sync>(
+    rt: &R,
+    alloc: Global,
+    beginning: Beginning,
+) -> Result<(), Fail>
+    requires { beginning.book ≡ J.book }
+{
+    let (desk, mut seats) = Desk::<J, R>::open(rt, alloc, beginning, 2)?;
+    let (Some(one), Some(two)) = (seats.pop(), seats.pop()) else {
+        return Err("two seats")?;
+    };
+    let desk = Mutex::new(desk);
+    // (Where no thread can be made, those who read come last.)
+    join(
+        rt,
+        || join(rt, || follow(rt, &desk, one), || follow(rt, &desk, two)),
+        || join(
+            rt,
+            || publish_all(rt, alloc, &desk),
+            || publish_all(rt, alloc, &desk),
+        ),
+    );
+    Ok(())
+}
+
+/// Publishes commit by commit, until all are published.
+fn publish_all<J: Naming, R: Wait>(rt: &R, alloc: Global, desk: &Mutex<Desk<'_, J, R>>) {
+    for _ in 0..LAST {
+        if desk.lock(rt).publish_again(alloc, 1).is_err() {
+            return;
+        }
+    }
+}
+
+/// Reads until all is published.
+fn follow<J: Naming, R: Wait + Abort>(
+    rt: &R,
+    desk: &Mutex<Desk<'_, J, R>>,
+    mut seat: ReadSeat<BTreeStore, J>,
+) {
+    let mut seen = 0;
+    for _ in rt.forever() {
+        let notice = desk.lock(rt).tell();
+        seen = read_on(rt, &mut seat, notice, seen);
+        if seen == LAST {
+            return;
+        }
+    }
+}
