@@ -77,13 +77,23 @@ fn story<J: Naming, K: ReplicaNaming, R: Wait + Abort>(
         1,
     )?;
     let replica: Replica<K> = SharedReplica::new(rt, alloc, replica, publisher, seats)?;
-    let committed = commits(rt, &source);
-    let applied = applies(rt, alloc, &source, &replica);
+    let met = meet(rt, alloc, &source, &replica);
     let (core, publisher) = replica.end();
     drop(publisher.close(rt));
-    applied?;
-    assert!(rt; begins(&source.end(&committed?), &core));
+    assert!(rt; begins(&source.end(&met?), &core));
     Ok(())
+}
+
+/// What happens between the opening and the end; it answers the source's receipts.
+fn meet<J: Naming, K: ReplicaNaming, R: Wait + Abort>(
+    rt: &R,
+    alloc: Global,
+    source: &Source<J>,
+    replica: &Replica<K>,
+) -> Result<[Receipt<J>; 2], Fail> {
+    let receipts = commits(rt, source)?;
+    applies(rt, alloc, source, replica)?;
+    Ok(receipts)
 }
 
 /// Session 2 commits a row that session 1 held, and then session 1 sets a column of it.
