@@ -29,7 +29,7 @@ source = 109 ∷ 116 ∷ 114 ∷ 0 ∷ 0 ∷ 0 ∷ 64 ∷ 0 ∷ 128 ∷ 0 ∷ 0 
 abbrev pub setup_of : List Table → List Entry → ℕ → Setup
 setup_of ts base workers = record { identifier = source; tables = ts; base = all_rows (put_batch base empty); limit = 9223372036854775807; kind = by_order; workers = workers }
 
--- The world is new: so many workers, these tables, and these rows, of which none comes twice.
+-- The world is new: it has so many workers, these tables, and these rows at the start, in some order.
 pub record BeginsWith (workers : ℕ) (tables : List Table) (rows : List (RowId × List ℤ)) (w : World Database) : Type 0 where
   pub base : List Entry
   pub given : IsPermutation (map present rows) base
