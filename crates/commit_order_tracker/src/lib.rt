@@ -2,7 +2,7 @@
 //!
 //! A transaction's parent is its order parent: what was committed when it was prepared. Since rows stay locked until
 //! their transaction commits, all that conflicts with it was committed by then; so the parent covers it in the whole
-//! log, and the tracker need not remember anything. It stands on `tracker_trait`, whose law it meets with the number 0.
+//! log, and the tracker need not remember anything. It stands on `tracker_trait`.
 #![tactic(auto)]
 
 ghost use Rattle.std.specs.Prelude.{◌≡◌};
@@ -21,8 +21,6 @@ impl Tracker for CommitOrder {
     ghost kind = { λ _. by_order };
 
     ghost agrees = { λ _ _ _. Unit {0} };
-
-    ghost begins = { λ _ _ _. 0 };
 
     fn stamp(
         &mut self,

@@ -1,25 +1,25 @@
--- Copies of the rows of a record, and what its changes do to them and to the database that they are of.
-use Rattle.std.proofs.Common.{◌≡◌, sym, ap, ◌∙◌, refl, Bool, true, false, cond, List, [], ◌∷◌, ◌++◌, Option, Some, None, ℤ, unwrap_or}
-use Rattle.std.specs.Prelude.{option_and_then, option_to_list}
+-- Copies of the rows of a record, and what it does to them and to the database that they are of.
+use Rattle.std.proofs.Common.{◌≡◌, sym, ap, ◌∙◌, refl, Bool, true, false, cond, List, ◌++◌, Option, Some, None, unwrap_or, inl, inr}
 use Rattle.std.specs.Option.{option_map_or}
 use Rattle.std.specs.FinMap.{get, empty}
-use Rattle.schema.specs.declared.Table.{Table}
+use Rattle.std.proofs.lemmas.Bool.{or_cases}
+use Rattle.std.proofs.lemmas.List.Folds.{list_any-append}
 use Rattle.schema.specs.declared.RowId.{RowId}
-use Rattle.schema.specs.Rows.{has_row}
-use Rattle.schema.specs.Flags.{IsFlat}
-use Rattle.schema.proofs.Flat.{no_link}
-use Rattle.rows.specs.declared.Change.{Change}
-use Rattle.rows.specs.Database.{Database, target, writes, parent_of, parent_in, apply, effect, kin}
-use Rattle.rows.specs.Frame.{AgreeOn, SameEffect}
-use Rattle.rows.proofs.Apply.{has_row-left}
+use Rattle.schema.specs.RowId.{same_row}
+use Rattle.schema.specs.Rows.{has_row, SameRows}
+use Rattle.rows.specs.Database.{Database, writes, effect, kin}
+use Rattle.rows.specs.Frame.{AgreeOn}
+use Rattle.rows.proofs.Apply.{has_row-left, has_row-right}
 use Rattle.rows.proofs.Frame.{looks_only}
 use Rattle.store_trait.specs.Batch.{Entry, rows_in}
 use Rattle.store_trait.specs.Operation.{loaded}
 use Rattle.store_trait.proofs.Batches.{get-put_batch, same_batch, rows_in_rise, find-rows_in}
-use Rattle.record_codec.specs.declared.records.Record.{Record}
-use Rattle.executor.specs.declared.Outcome.TheVariants.{Output, Undefined}
-use Rattle.executor.specs.Job.{rows_of}
-use Rattle.executor.specs.Laws.{InputIsRows, SameRowsIn, SameInput, FlatHasNoKin, OutputHoldsElsewhere, RefusalHoldsElsewhere, OutputIsThere, UndefinedIsThere}
+use Rattle.executor.specs.declared.Job.{Job}
+use Rattle.executor.specs.declared.Outcome.{Outcome}
+use Rattle.executor.specs.declared.Outcome.TheVariants.{Output, Undefined, WrongRefs}
+use Rattle.executor.specs.Job.{rows_of, same_rows, executed}
+use Rattle.executor.specs.Laws.{InputIsRows, SameRowsIn, SameInput, IsGood, GoodDoesTheSame, GoodElsewhere, OutputIsGood, OutputIsThere, GoodHasOutput, FaultIsThere}
+use Rattle.executor.proofs.Sets.{tells_sets}
 
 -- ---- copies
 
@@ -42,81 +42,99 @@ same_rows_in rows a b agree =
 pub same_input : SameInput
 same_input rec a b agree = same_rows_in (rows_of rec) a b agree
 
--- ---- no kin
+-- ---- databases that have the rows of a record alike
 
-never : {A B : Type 0} (f : A → Option B) (o : Option A) → ((x : A) → f x ≡ None) → option_to_list (option_and_then f o) ≡ []
-never f None none = refl
-never f (Some x) none = ap option_to_list (none x)
+-- a row that is in the one list or the other
+in_either : (xs ys zs : List RowId) (q : RowId) → SameRows zs ys → has_row (xs ++ ys) q ≡ true → has_row (xs ++ zs) q ≡ true
+in_either xs ys zs q same is =
+    elim (or_cases (has_row xs q) (has_row ys q) (sym (list_any-append (same_row q) xs ys) ∙ is)) [
+      | inl here ↦ has_row-left xs zs q here
+      | inr there ↦ has_row-right xs zs q (same q ∙ there)
+    ]
 
-no_parent_of : (ts : List Table) → IsFlat ts → (id : RowId) (columns : List ℤ) → parent_of ts id.table columns ≡ None
-no_parent_of ts flat id columns = rw (no_link ts flat id.table) refl
+pub good_does_the_same : GoodDoesTheSame
+good_does_the_same ts rec db other good agree =
+    looks_only ts rec.changes db good.leaves other good.applies
+    (λ q is. agree q (in_either (writes rec.changes) (kin ts rec.changes db) rec.refs q good.refs is))
 
-no_parent_in : (ts : List Table) (db : Database) (id : RowId) → IsFlat ts → parent_in ts db id ≡ []
-no_parent_in ts db id flat = never (parent_of ts id.table) (get db id) (no_parent_of ts flat id)
-
-none_or : {A B : Type 0} (f : A → List B) (o : Option A) → ((x : A) → f x ≡ []) → option_map_or f o [] ≡ []
-none_or f None none = refl
-none_or f (Some x) none = none x
-
-none_of_three : {B : Type 0} {a b c : List B} → a ≡ [] → b ≡ [] → c ≡ [] → a ++ b ++ c ≡ []
-none_of_three p q r = λ i. p i ++ q i ++ r i
-
-pub flat_has_no_kin : FlatHasNoKin
-flat_has_no_kin ts [] db flat = refl
-flat_has_no_kin ts (change ∷ changes) db flat =
-    none_or (λ after. parent_in ts db (target change) ++ parent_in ts after (target change) ++ kin ts changes after) (apply ts change db) (λ after.
-    none_of_three (no_parent_in ts db (target change) flat) (no_parent_in ts after (target change) flat) (flat_has_no_kin ts changes after flat))
-
--- ---- the database that the copies are of
-
-append_nil : {A : Type 0} (xs : List A) → xs ++ [] ≡ xs
-append_nil [] = refl
-append_nil (x ∷ xs) = ap (λ l. x ∷ l) (append_nil xs)
-
--- where no table has a parent, two databases that have the same at the rows written look alike to the changes
-flat_same_effect : (ts : List Table) (changes : List Change) (before after other : Database) → IsFlat ts → effect ts changes before ≡ Some after → AgreeOn (writes changes) before other → SameEffect ts changes before after other
-flat_same_effect ts changes before after other flat applies agree =
-    let all : writes changes ++ kin ts changes before ≡ writes changes = ap (λ l. writes changes ++ l) (flat_has_no_kin ts changes before flat) ∙ append_nil (writes changes) in
-    looks_only ts changes before after other applies (λ q is. agree q (ap (λ l. has_row l q) (sym all) ∙ is))
-
--- the copies of the rows of a record have those that it writes as they are
-written_as_there : (rec : Record) (db : Database) → AgreeOn (writes rec.changes) (loaded (rows_in (rows_of rec) db)) db
-written_as_there rec db q is = input_is_rows (rows_of rec) db q (has_row-left (writes rec.changes) rec.refs q is)
-
-pub output_holds : OutputHoldsElsewhere
-output_holds ts rec db leaves flat applies =
-    let same = flat_same_effect ts rec.changes (loaded (rows_in (rows_of rec) db)) leaves db flat applies (written_as_there rec db) in
-    record { after_ = same.leaves; applies = same.defined; rows = same_rows_in (writes rec.changes) leaves same.leaves same.same_writes }
-
-by_cases : {X : Type 0} (o p : Option X) → ((x : X) → p ≡ Some x → (y : X) × (o ≡ Some y)) → o ≡ None → p ≡ None
-by_cases o None also none = refl
-by_cases o (Some x) also none = let there = also x refl in cc (there.1)
-
-pub refusal_holds : RefusalHoldsElsewhere
-refusal_holds ts rec db flat refused =
-    let copies = loaded (rows_in (rows_of rec) db) in
-    by_cases (effect ts rec.changes copies) (effect ts rec.changes db) (λ after applies.
-    let same = flat_same_effect ts rec.changes db after copies flat applies (λ q is. sym (written_as_there rec db q is)) in
-    (same.leaves, same.defined)) refused
+pub good_elsewhere : GoodElsewhere
+good_elsewhere ts rec db other good agree =
+    let same = good_does_the_same ts rec db other good agree in
+    record {
+      leaves = same.leaves;
+      applies = same.defined;
+      refs = λ q. good.refs q ∙ ap (λ l. has_row l q) (sym same.same_kin);
+    }
 
 -- ---- jobs
 
--- an outcome that is an output is of rows that the changes leave
-output_of_rows : (f : Database → List Entry) (o : Option Database) (left : List Entry) → option_map_or (λ leaves. Output (f leaves)) o Undefined ≡ Output left → (leaves : Database) × (o ≡ Some leaves) × (f leaves ≡ left)
-output_of_rows f None left is = cc
-output_of_rows f (Some leaves) left is = (leaves, refl, cc)
+-- what an outcome that is an output is of
+pub record Came (f : Database → List Entry) (same : Bool) (o : Option Database) (left : List Entry) : Type 0 where
+  pub leaves : Database
+  pub applies : o ≡ Some leaves
+  pub exact : same ≡ true
+  pub rows : f leaves ≡ left
 
-undefined_of_none : (f : Database → List Entry) (o : Option Database) → option_map_or (λ leaves. Output (f leaves)) o Undefined ≡ Undefined → o ≡ None
-undefined_of_none f None is = refl
-undefined_of_none f (Some leaves) is = cc
+came : (f : Database → List Entry) (same : Bool) (o : Option Database) (left : List Entry) → option_map_or (λ leaves. cond same (Output (f leaves)) WrongRefs) o Undefined ≡ Output left → Came f same o left
+came f same None left is = cc
+came f true (Some leaves) left is = record { leaves = leaves; applies = refl; exact = refl; rows = cc }
+came f false (Some leaves) left is = cc
+
+comes : (f : Database → List Entry) (same : Bool) (o : Option Database) (leaves : Database) → o ≡ Some leaves → same ≡ true → option_map_or (λ leaves. cond same (Output (f leaves)) WrongRefs) o Undefined ≡ Output (f leaves)
+comes f same o leaves applies exact =
+    ap (λ (p : Option Database). option_map_or (λ leaves. cond same (Output (f leaves)) WrongRefs) p Undefined) applies ∙ ap (λ b. cond b (Output (f leaves)) WrongRefs) exact
+
+output_came : (job : Job) (left : List Entry) → executed job ≡ Output left → Came (rows_in (writes job.rec.changes)) (same_rows job.rec.refs (kin job.schema job.rec.changes (loaded job.input))) (effect job.schema job.rec.changes (loaded job.input)) left
+output_came job left is =
+    came (rows_in (writes job.rec.changes)) (same_rows job.rec.refs (kin job.schema job.rec.changes (loaded job.input))) (effect job.schema job.rec.changes (loaded job.input)) left is
+
+pub good_came : (job : Job) (left : List Entry) → Came (rows_in (writes job.rec.changes)) (same_rows job.rec.refs (kin job.schema job.rec.changes (loaded job.input))) (effect job.schema job.rec.changes (loaded job.input)) left → IsGood job.schema job.rec (loaded job.input)
+good_came job left c =
+    record { leaves = c.leaves; applies = c.applies; refs = (tells_sets job.rec.refs (kin job.schema job.rec.changes (loaded job.input))).0 c.exact }
+
+pub output_is_good : OutputIsGood
+output_is_good job = (
+  λ out. good_came job out.0 (output_came job out.0 out.1),
+  λ good. (
+    rows_in (writes job.rec.changes) good.leaves,
+    comes (rows_in (writes job.rec.changes)) (same_rows job.rec.refs (kin job.schema job.rec.changes (loaded job.input))) (effect job.schema job.rec.changes (loaded job.input)) good.leaves good.applies
+        ((tells_sets job.rec.refs (kin job.schema job.rec.changes (loaded job.input))).1 good.refs),
+  ),
+)
+
+-- the input of a job has its rows as they are in the database that it is of
+as_there : (job : Job) (db : Database) → job.input ≡ rows_in (rows_of job.rec) db → AgreeOn (rows_of job.rec) (loaded job.input) db
+as_there job db input q is = ap (λ batch. get (loaded batch) q) input ∙ input_is_rows (rows_of job.rec) db q is
 
 pub output_is_there : OutputIsThere
-output_is_there job db left flat input is =
-    let found = output_of_rows (rows_in (writes job.rec.changes)) (effect job.schema job.rec.changes (loaded job.input)) left is in
-    let there = output_holds job.schema job.rec db found.0 flat (ap (λ batch. effect job.schema job.rec.changes (loaded batch)) (sym input) ∙ found.1) in
-    record { after_ = there.after_; applies = there.applies; rows = sym found.2 ∙ there.rows }
+output_is_there job db left input is =
+    let c = output_came job left is in
+    let good : IsGood job.schema job.rec (loaded job.input) =
+    record { leaves = c.leaves; applies = c.applies; refs = (tells_sets job.rec.refs (kin job.schema job.rec.changes (loaded job.input))).0 c.exact } in
+    let agree = as_there job db input in
+    let same = good_does_the_same job.schema job.rec (loaded job.input) db good agree in
+    let there = good_elsewhere job.schema job.rec (loaded job.input) db good agree in
+    record {
+      after_ = same.leaves;
+      applies = same.defined;
+      refs = there.refs;
+      rows = sym c.rows ∙ same_rows_in (writes job.rec.changes) c.leaves same.leaves same.same_writes;
+    }
 
-pub undefined_is_there : UndefinedIsThere
-undefined_is_there job db flat input is =
-    refusal_holds job.schema job.rec db flat
-    (ap (λ batch. effect job.schema job.rec.changes (loaded batch)) (sym input) ∙ undefined_of_none (rows_in (writes job.rec.changes)) (effect job.schema job.rec.changes (loaded job.input)) is)
+pub good_has_output : GoodHasOutput
+good_has_output job db input good =
+    (output_is_good job).1 (good_elsewhere job.schema job.rec db (loaded job.input) good (λ q is. sym (as_there job db input q is)))
+
+undefined_apart : (o : Outcome) (left : List Entry) → o ≡ Output left → o ≡ Undefined → ⊥
+undefined_apart o left out fault = cc
+
+refs_apart : (o : Outcome) (left : List Entry) → o ≡ Output left → o ≡ WrongRefs → ⊥
+refs_apart o left out fault = cc
+
+pub fault_is_there : FaultIsThere
+fault_is_there job db input fault good =
+    let out = good_has_output job db input good in
+    elim fault [
+      | inl undefined ↦ undefined_apart (executed job) out.0 out.1 undefined
+      | inr wrong ↦ refs_apart (executed job) out.0 out.1 wrong
+    ]

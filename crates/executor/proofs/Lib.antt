@@ -1,2 +1,4 @@
+pub mod Sets
+pub mod Running
 pub mod Elsewhere
 pub mod Comparing

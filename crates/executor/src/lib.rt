@@ -3,18 +3,20 @@
 //! A `Job` has all that the execution of one record needs: the record, copies of the rows that it writes and refers
 //! to, and the schema. `execute` looks at nothing else, so it needs no lock, and any thread may run it. A `JobResult`
 //! keeps its job, and its type keeps that its outcome is what comes of that job: the rows that the record writes, as its
-//! changes leave them, or that they do not apply. It stands on `overlay` for running the changes, and on
-//! `btree_store` for the rows that they run over.
+//! changes leave them; or that they do not apply; or that they apply and look at other parent rows than the record states.
+//! `laws` states what that says of the database that the rows are copies of. It stands on `overlay` for running the changes,
+//! and on `btree_store` for the rows that they run over.
 #![tactic(auto)]
 
 ghost use Rattle.std.specs.Prelude.{◌≡◌, ◌⊎◌, ◌↔◌, IsTrue, IfOk};
 ghost use Rattle.executor.specs.Job.{executed, output_of, IsResult};
 
+mod kin;
 pub mod laws;
 mod same;
 
 use btree_store::BTreeStore;
-use overlay::run_changes;
+use kin::{Run, are_exactly, run_changes};
 use record_codec::{Record, same_records};
 use same::{same_batches, same_schemas};
 use schema::{Memory, Schema};
@@ -40,6 +42,9 @@ pub enum Outcome {
     Output(Batch),
     /// One of the changes does not apply to the rows.
     Undefined,
+    /// The changes apply, and the record's refs are not exactly the parent rows, before and after each change, of the changed
+    /// child rows: one is missing, or one is no such row.
+    WrongRefs,
     /// Memory ran out. The job may be executed again.
     Memory,
 }
@@ -86,14 +91,13 @@ impl Job {
         })
     }
 
-    /// Whether the two jobs are equal in all parts. It takes no memory. The time is that of a walk over the parts.
-    pub fn equals(&self, other: &Job) -> bool
-        ensures { IsTrue result ↔ (self.now ≡ other.now) }
+    /// Whether the job has this record, these rows and this schema. It takes no memory. The time is that of a walk over them.
+    pub fn is_of(&self, rec: &Record, input: &Batch, schema: &Schema) -> bool
+        ensures { IsTrue result ↔ ((self.now.rec ≡ rec.now) × (self.now.input ≡ input.now) × (self.now.schema ≡ schema.now)) }
     {
-        self.gno == other.gno
-            && same_records(&self.rec, &other.rec)
-            && same_batches(&self.input, &other.input)
-            && same_schemas(&self.schema, &other.schema)
+        same_records(&self.rec, rec)
+            && same_batches(&self.input, input)
+            && same_schemas(&self.schema, schema)
     }
 }
 
@@ -120,15 +124,15 @@ impl JobResult {
         self.job.gno
     }
 
-    /// The rows that came of it, without the job: `None` where its record does not apply, or memory ran out. It takes
-    /// no memory.
+    /// The rows that came of it, without the job: `None` where its record does not apply or states other refs, or memory ran
+    /// out. It takes no memory.
     pub fn into_output(self) -> Option<Batch>
         ensures { result ≡ output_of self.outcome }
     {
         let JobResult { outcome, .. } = self;
         match outcome {
             Outcome::Output(batch) => Some(batch),
-            Outcome::Undefined | Outcome::Memory => None,
+            Outcome::Undefined | Outcome::WrongRefs | Outcome::Memory => None,
         }
     }
 
@@ -144,9 +148,11 @@ impl JobResult {
     }
 }
 
-/// Executes a job: runs its record's changes over its input. The answer tells of memory that ran out. With b changes and r
-/// rows in the input the time is that of putting the rows into a store of their own, of 2b look-ups there, and of sorting b
-/// rows.
+/// Executes a job: runs its record's changes over its input, and compares the record's refs with the parent rows that the
+/// changes look at there. `Undefined` comes exactly where the changes do not apply, `WrongRefs` exactly where they apply and the
+/// refs are not these rows, and else the output; but where memory runs out the answer tells of that. With b changes and r rows
+/// in the input the time is that of putting the rows into a store of their own, of 3b look-ups there, of sorting b rows and
+/// up to 2b parent rows, and of as many searches.
 pub fn execute(alloc: Global, job: Job) -> JobResult
     ensures job { result.job ≡ job }
     ensures outcome { (result.outcome ≡ Outcome.Memory) ⊎ (result.outcome ≡ executed job) }
@@ -164,8 +170,12 @@ fn run(alloc: Global, job: &Job) -> Result<Outcome, Memory>
 {
     let mut rows = BTreeStore::new(alloc);
     rows.put_all(&job.input)?;
-    match run_changes(alloc, &job.schema, &rows, job.rec.changes.list())? {
-        Some(overlay) => Ok(Outcome::Output(overlay.batch(alloc)?)),
-        None => Ok(Outcome::Undefined),
+    let Some(run) = run_changes(alloc, &job.schema, &rows, job.rec.changes.list())? else {
+        return Ok(Outcome::Undefined);
+    };
+    let Run { overlay, kin } = run;
+    if !are_exactly(&job.rec.refs, kin) {
+        return Ok(Outcome::WrongRefs);
     }
+    Ok(Outcome::Output(overlay.batch(alloc)?))
 }

@@ -9,4 +9,7 @@ pub mod Runs
 pub mod HexTexts
 pub mod LogTexts
 pub mod HexBack
+pub mod Readings
+pub mod Sides
 mod OptionNumbers
+mod Choices

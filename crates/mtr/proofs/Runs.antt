@@ -1,19 +1,19 @@
 -- Runs that go on from one another.
-use Rattle.std.proofs.Common.{◌≡◌, ◌∙◌, sym, ap, ℕ, ◌<◌, List, [], ◌∷◌, ◌++◌, refl, map, ℤ, Result, Ok, Err, Option, append_assoc, append-nil, subst, ◌≢◌, length, length-append, arith}
+use Rattle.std.proofs.Common.{◌≡◌, ◌∙◌, sym, ap, ℕ, ◌<◌, List, [], ◌∷◌, ◌++◌, refl, ℤ, Result, Ok, Err, Option, append_assoc, append-nil, subst, ◌≢◌, length, length-append, arith}
 use Rattle.std.specs.Io.KnownBytes.{Appends}
 use Rattle.std.proofs.KnownBytes.{Appends-trans, Appends-nil}
 use Rattle.std.proofs.lemmas.Grind.{flat_map-append}
 use Rattle.rows.specs.Database.{Database}
+use Rattle.tracker_trait.specs.Kind.{Kind}
 use Rattle.world.specs.declared.events.Event.{Event}
 use Rattle.world.specs.declared.events.Reply.{Reply}
 use Rattle.world.specs.Legal.{Setup}
 use Rattle.world.specs.Run.{HasRun}
 use Rattle.world.specs.State.{World}
-use Rattle.std.specs.Prelude.{IsPermutation}
+use Rattle.world.proofs.LawsOne.{only_answer}
 use Rattle.std.specs.Result.{OnOk}
 use Rattle.schema.specs.declared.RowId.{RowId}
 use Rattle.schema.specs.declared.Table.{Table}
-use Rattle.store_trait.specs.Batch.{Entry}
 use Rattle.mtr.specs.Script.{Said}
 use Rattle.mtr.specs.Pair.{BeginsWith, GoesOn, Prints, setup_of}
 use Rattle.mtr.specs.Printing.{line_of, lines_of}
@@ -61,24 +61,27 @@ some_length (e ∷ es) h = omega arith
 pub shorter : (rest piece behind : List Event) → rest ≡ piece ++ behind → piece ≢ [] → length behind < length rest
 shorter rest piece behind e some = omega (arith, some_length piece some, ap length e, length-append piece behind)
 
-prints_it : (script : Said) (workers : ℕ) (old new : World Database) (before after : Option (List ℕ)) → BeginsWith workers script.tables script.base old → GoesOn (λ rows. rows) old new script.events before after → Prints workers script before after
-prints_it script workers old new before after begins goes =
+prints_it : {R : Type 0} (contents : R → Database) (script : Said) (kind : Kind) (workers : ℕ) (old new : World R) (before after : Option (List ℕ)) → BeginsWith contents kind workers script.tables script.base old → GoesOn contents old new script.events before after → Prints kind workers script before after
+prints_it contents script kind workers old new before after begins goes =
+    let setup = setup_of kind script.tables begins.base workers in
+    let legal = (goes.goes_on setup [] [] begins.starts).legal in
     record {
       base = begins.base;
       given = begins.given;
       replies = goes.replies;
       log = new.source.log;
-      legal = (goes.goes_on (setup_of script.tables begins.base workers) [] [] begins.starts).legal;
+      legal = legal;
+      only = only_answer setup new.source.log script.events goes.replies legal;
       lines = goes.lines;
     }
 
-begins_along : (workers : ℕ) (tables : List Table) (rows given : List (RowId × List ℤ)) (w : World Database) → rows ≡ given → BeginsWith workers tables rows w → BeginsWith workers tables given w
-begins_along workers tables rows given w e h = let P : List (RowId × List ℤ) → Type 0 = λ x. BeginsWith workers tables x w in subst P e h
+begins_along : {R : Type 0} (contents : R → Database) (kind : Kind) (workers : ℕ) (tables : List Table) (rows given : List (RowId × List ℤ)) (w : World R) → rows ≡ given → BeginsWith contents kind workers tables rows w → BeginsWith contents kind workers tables given w
+begins_along contents kind workers tables rows given w e h = let P : List (RowId × List ℤ) → Type 0 = λ x. BeginsWith contents kind workers tables x w in subst P e h
 
 -- what a new world prints that goes on by the events of a script
-pub prints : {T E : Type 0} (r : Result T E) (script : Said) (workers : ℕ) (rows : List (RowId × List ℤ)) (events : List Event) (old new : World Database) (before after : Option (List ℕ))
+pub prints : {R T E : Type 0} (contents : R → Database) (r : Result T E) (script : Said) (kind : Kind) (workers : ℕ) (rows : List (RowId × List ℤ)) (events : List Event) (old new : World R) (before after : Option (List ℕ))
     → rows ≡ script.base → events ≡ script.events
-    → BeginsWith workers script.tables rows old → OnOk r (GoesOn (λ db. db) old new events before after) → OnOk r (Prints workers script before after)
-prints (Ok v) script workers rows events old new before after given all begins goes =
-    prints_it script workers old new before after (begins_along workers script.tables rows script.base old given begins) (goes_to (λ db. db) old new events script.events before after all goes)
-prints (Err e) script workers rows events old new before after given all begins goes = goes
+    → BeginsWith contents kind workers script.tables rows old → OnOk r (GoesOn contents old new events before after) → OnOk r (Prints kind workers script before after)
+prints contents (Ok v) script kind workers rows events old new before after given all begins goes =
+    prints_it contents script kind workers old new before after (begins_along contents kind workers script.tables rows script.base old given begins) (goes_to contents old new events script.events before after all goes)
+prints contents (Err e) script kind workers rows events old new before after given all begins goes = goes

@@ -27,6 +27,7 @@ name_of verbs.Dispatch = codes "dispatch"
 name_of verbs.Finish = codes "finish"
 name_of verbs.Next = codes "next"
 name_of verbs.Publish = codes "publish"
+name_of verbs.Executed = codes "executed"
 name_of verbs.Read = codes "read"
 name_of verbs.Log = codes "log"
 
@@ -69,11 +70,12 @@ event_of verbs.Dispatch words = bare events.Dispatch words
 event_of verbs.Finish words = option_map (λ gno. events.Finish gno) (alone (number_in (2 ^ 64) words))
 event_of verbs.Next words = bare events.Next words
 event_of verbs.Publish words = bare events.Publish words
+event_of verbs.Executed words = bare events.Executed words
 event_of verbs.Read words = option_map (λ id. events.Read id) (alone (row_id_in words))
 event_of verbs.Log words = bare events.Log words
 
 abbrev pub all_verbs : List Verb
-all_verbs = verbs.Begin ∷ verbs.Insert ∷ verbs.Set ∷ verbs.Delete ∷ verbs.See ∷ verbs.Prepare ∷ verbs.Queue ∷ verbs.Abort ∷ verbs.Flush ∷ verbs.Sync ∷ verbs.Commit ∷ verbs.Deliver ∷ verbs.Dispatch ∷ verbs.Finish ∷ verbs.Next ∷ verbs.Publish ∷ verbs.Read ∷ verbs.Log ∷ []
+all_verbs = verbs.Begin ∷ verbs.Insert ∷ verbs.Set ∷ verbs.Delete ∷ verbs.See ∷ verbs.Prepare ∷ verbs.Queue ∷ verbs.Abort ∷ verbs.Flush ∷ verbs.Sync ∷ verbs.Commit ∷ verbs.Deliver ∷ verbs.Dispatch ∷ verbs.Finish ∷ verbs.Next ∷ verbs.Publish ∷ verbs.Executed ∷ verbs.Read ∷ verbs.Log ∷ []
 
 -- the verb of this name
 unfoldable pub verb_of : Word → Option Verb

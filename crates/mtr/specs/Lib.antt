@@ -12,4 +12,5 @@ pub mod Hex
 pub mod LogLines
 pub mod Decode
 pub mod HexText
+pub mod Reading
 pub mod Threads

@@ -1,5 +1,5 @@
 -- Which lines of a script say what.
-use Rattle.std.specs.Prelude.{ℕ, ◌^◌, ℤ, Bool, true, ◌==◌, if◌then◌else◌, List, [], ◌∷◌, codes, Option, Some, None, option_map}
+use Rattle.std.specs.Prelude.{ℕ, ◌^◌, ℤ, Bool, true, false, ◌==◌, if◌then◌else◌, List, [], ◌∷◌, length, codes, Option, Some, None, option_map}
 use Rattle.std.specs.Str.{bytes_eq, is_utf8}
 use Rattle.schema.specs.declared.RowId.{RowId}
 use Rattle.schema.specs.declared.Table.{Table}
@@ -8,13 +8,34 @@ use Rattle.mtr.specs.declared.script.Line.TheVariants as lines
 use Rattle.mtr.specs.Words.{Word, ◌>>=◌, alone, first_word, words_of, number_in, row_id_in, row_in}
 use Rattle.mtr.specs.Command.{verb_of}
 
--- a table without a parent: its id, its number of columns, and the word `keyed`
+-- whether a table of this kind has keys
+abbrev pub keyed_of : Word → Option Bool
+keyed_of kind = if bytes_eq kind (codes "keyed") then Some true else if bytes_eq kind (codes "keyless") then Some false else None
+
+-- the column whose value is the parent row's key, and the parent's id
+unfoldable pub link_in : List Word → Option (ℕ × ℕ)
+link_in words = do
+  column ← number_in (2 ^ 8) words
+  table ← alone (number_in (2 ^ 16) column.1)
+  Some (column.0, table)
+
+-- what stands behind the word `parent`
+abbrev pub named_parent : Option (Word × List Word) → Option (Option (ℕ × ℕ))
+named_parent found = found >>= λ name. if bytes_eq name.0 (codes "parent") then option_map (λ link. Some link) (link_in name.1) else None
+
+-- the parent of a table, where words are left
+unfoldable pub parent_of : List Word → Option (Option (ℕ × ℕ))
+parent_of words = if length words == 0 then Some None else named_parent (first_word words)
+
+-- a table: its id, its number of columns, its kind, and its parent
 unfoldable pub table_of : List Word → Option Table
 table_of words = do
   id ← number_in (2 ^ 16) words
   columns ← number_in (2 ^ 8) id.1
-  kind ← alone (first_word columns.1)
-  if bytes_eq kind (codes "keyed") then Some (record { id = id.0; columns = columns.0; keyed = true; parent = None }) else None
+  kind ← first_word columns.1
+  keyed ← keyed_of kind.0
+  parent ← parent_of kind.1
+  Some (record { id = id.0; columns = columns.0; keyed = keyed; parent = parent })
 
 -- a row of the base: its table, its key, and its columns
 unfoldable pub base_of : List Word → Option (RowId × List ℤ)

@@ -1,18 +1,45 @@
 -- The command line of the program, as `clap` reads it.
-use Rattle.std.specs.Prelude.{◌≡◌, ◌⊎◌, ◌≤◌, ℕ, true, Bool, false, not, if◌then◌else◌, List, [], ◌∷◌, codes, Option, Some, None, option_and_then}
+use Rattle.std.specs.Prelude.{◌≡◌, ◌⊎◌, ◌≤◌, ℕ, true, Bool, false, not, if◌then◌else◌, List, [], ◌∷◌, map, codes, Option, Some, None, option_and_then, Result, MatchResult}
+use Rattle.std.specs.Borrow.{Bor}
 use Rattle.std.specs.List.{list_any}
 use Rattle.std.specs.Str.{bytes_eq}
 use Rattle.std.specs.Str.Parse.{digits_value, without_leading_plus}
-use Rattle.clap.specs.Words.{App, Row, Rule, Text, new_app, new_rule, with_rule, with_subcommand, subcommand_of, one_of, fault_of}
+use Rattle.clap.specs.Words.{App, Row, Rule, Text, new_app, new_rule, with_rule, with_subcommand, subcommand_of, one_of, first_of, fault_of}
 use Rattle.clap.specs.ValueTests.{is_unsigned_in}
 use Rattle.clap.specs.declared.builder.value_parser.ValueParser.TheVariants as parsers
 use Rattle.clap.specs.declared.error.kind.ErrorKind.{ErrorKind}
 use Rattle.clap.specs.declared.error.kind.ErrorKind.TheVariants as kinds
 use Rattle.mtr.specs.Words.{◌>>=◌}
+use Rattle.commit_order_tracker.specs.Tracker.{by_order}
+use Rattle.tracker_trait.specs.Kind.{Kind}
+use Rattle.tracker_trait.specs.declared.Mode.{Mode}
+use Rattle.tracker_trait.specs.declared.Mode.TheVariants as modes
+use Rattle.mtr.specs.declared.command_line.Names.{Names}
 use Rattle.mtr.specs.declared.options.LineFault.{LineFault}
 use Rattle.mtr.specs.declared.options.LineFault.TheVariants as faults
 use Rattle.mtr.specs.declared.options.Options.{Options}
 use Rattle.mtr.specs.declared.options.Options.TheVariants.{Run, Threads, Decode}
+use Rattle.mtr.specs.declared.options.Sides.{Sides}
+use Rattle.mtr.specs.declared.options.Store.{Store}
+use Rattle.mtr.specs.declared.options.Store.TheVariants as stores
+
+-- the words of an option, which `clap` takes by reference: what it makes of a command line does not depend on where they lie
+abbrev pub Choices : Type 0
+Choices = Bor (List (Bor Text))
+
+-- these are the words of `--tracker` and of `--store`
+abbrev pub AreNames : Names → Type 0
+AreNames names = (map (λ w. w.now) names.trackers.now ≡ codes "commit-order" ∷ codes "writeset" ∷ codes "writeset-session" ∷ [])
+    × (map (λ w. w.now) names.stores.now ≡ codes "btree" ∷ codes "vector" ∷ [])
+
+-- the option `--NAME WORD` of one of these words, with this default
+abbrev pub choice_rule : Text → Choices → Text → Rule
+choice_rule name choices default = record (new_rule name) {
+  long = Some name;
+  parser = Some (parsers.Names choices);
+  value_names = 1;
+  defaults = default ∷ [];
+}
 
 -- the option `--NAME N` of a number from 1 to the greatest, with this default
 abbrev pub number_rule : Text → ℕ → Text → Rule
@@ -23,36 +50,35 @@ number_rule name greatest default = record (new_rule name) {
   defaults = default ∷ [];
 }
 
-abbrev pub workers_rule : Rule
-workers_rule = number_rule (codes "workers") 64 (codes "4")
-
-abbrev pub sessions_rule : Rule
-sessions_rule = number_rule (codes "sessions") 16 (codes "4")
-
-abbrev pub transactions_rule : Rule
-transactions_rule = number_rule (codes "transactions") 1000 (codes "10")
-
-abbrev pub seats_rule : Rule
-seats_rule = number_rule (codes "seats") 32 (codes "2")
+-- a subcommand of this name over both sides, with what these are made of
+abbrev pub sides_app : Text → Names → App
+sides_app name names = with_rule (with_rule (with_rule (with_rule (new_app name)
+    (choice_rule (codes "tracker") names.trackers (codes "commit-order")))
+    (choice_rule (codes "store") names.stores (codes "btree")))
+    (number_rule (codes "history") 1000000 (codes "25000")))
+    (number_rule (codes "workers") 64 (codes "4"))
 
 -- `run`
-abbrev pub run_app : App
-run_app = with_rule (new_app (codes "run")) workers_rule
+abbrev pub run_app : Names → App
+run_app names = sides_app (codes "run") names
 
 -- `threads`
-abbrev pub threads_app : App
-threads_app = with_rule (with_rule (with_rule (with_rule (new_app (codes "threads")) workers_rule) sessions_rule) transactions_rule) seats_rule
+abbrev pub threads_app : Names → App
+threads_app names = with_rule (with_rule (with_rule (sides_app (codes "threads") names)
+    (number_rule (codes "sessions") 16 (codes "4")))
+    (number_rule (codes "transactions") 1000 (codes "10")))
+    (number_rule (codes "seats") 32 (codes "2"))
 
 -- `decode`
 abbrev pub decode_app : App
 decode_app = new_app (codes "decode")
 
 -- the words are those behind the program's name, and one of them has to be a subcommand; each has a version
-abbrev pub program : App
-program =
+abbrev pub program : Names → App
+program names =
     let app = new_app (codes "mtr") in
     let top = record app.top { no_binary_name = true; subcommand_required = true; has_version = true; propagate_version = true } in
-    with_subcommand (with_subcommand (with_subcommand (record app { top = top }) run_app.top) threads_app.top) decode_app.top
+    with_subcommand (with_subcommand (with_subcommand (record app { top = top }) (run_app names).top) (threads_app names).top) decode_app.top
 
 -- the number from 1 to the greatest that an option has by the words, or by its default, as what was found has it
 abbrev pub number_of : Text → ℕ → List Row → Option ℕ
@@ -60,18 +86,50 @@ number_of name greatest rows = do
   text ← one_of name rows
   if is_unsigned_in 1 greatest text then Some (digits_value 10 (without_leading_plus text)) else None
 
+-- the mode of this name
+abbrev pub mode_named : Text → Option Mode
+mode_named name =
+    if bytes_eq name (codes "commit-order") then Some modes.CommitOrder
+    else if bytes_eq name (codes "writeset") then Some modes.Writeset
+    else if bytes_eq name (codes "writeset-session") then Some modes.WritesetSession
+    else None
+
+-- the mode that the words name, or the one by default
+abbrev pub mode_of : List Row → Option Mode
+mode_of rows = option_and_then mode_named (first_of (codes "tracker") rows)
+
+-- the store of this name
+abbrev pub store_named : Text → Option Store
+store_named name =
+    if bytes_eq name (codes "btree") then Some stores.BTree
+    else if bytes_eq name (codes "vector") then Some stores.Vector
+    else None
+
+-- the store that the words name, or the one by default
+abbrev pub store_of : List Row → Option Store
+store_of rows = option_and_then store_named (first_of (codes "store") rows)
+
+-- what both sides are made of
+abbrev pub sides_of : List Row → Option Sides
+sides_of rows = do
+  tracker ← mode_of rows
+  store ← store_of rows
+  history ← number_of (codes "history") 1000000 rows
+  workers ← number_of (codes "workers") 64 rows
+  Some (record { tracker = tracker; store = store; history = history; workers = workers })
+
 abbrev pub run_options : List Row → Option Options
 run_options rows = do
-  workers ← number_of (codes "workers") 64 rows
-  Some (Run workers)
+  sides ← sides_of rows
+  Some (Run sides)
 
 abbrev pub threads_options : List Row → Option Options
 threads_options rows = do
-  workers ← number_of (codes "workers") 64 rows
+  sides ← sides_of rows
   sessions ← number_of (codes "sessions") 16 rows
   transactions ← number_of (codes "transactions") 1000 rows
   seats ← number_of (codes "seats") 32 rows
-  Some (Threads (record { workers = workers; sessions = sessions; transactions = transactions; seats = seats }))
+  Some (Threads (record { sides = sides; sessions = sessions; transactions = transactions; seats = seats }))
 
 -- what a subcommand of this name asks for, with what was found behind it
 abbrev pub options_for : Text × List Row → Option Options
@@ -81,24 +139,37 @@ options_for found =
     else if bytes_eq found.0 (codes "decode") then Some Decode
     else None
 
--- what the words ask for: the subcommand that they name, and the number of each of its options
-abbrev pub options_of : List Text → Option Options
-options_of words = option_and_then options_for (subcommand_of program words)
+-- what the words ask for: the subcommand that they name, and the names and the numbers of its options
+abbrev pub options_of : Names → List Text → Option Options
+options_of names words = option_and_then options_for (subcommand_of (program names) words)
+
+-- the words ask for these options
+pub record AsksFor (words : List Text) (asked : Options) : Type 0 where
+  pub names : Names
+  pub are : AreNames names
+  pub named : options_of names words ≡ Some asked
 
 -- a number from 1 to the greatest
 abbrev pub IsUpTo : ℕ → ℕ → Type 0
 IsUpTo greatest n = (1 ≤ n) × (n ≤ greatest)
 
 -- each number is in its range
+abbrev pub AreSides : Sides → Type 0
+AreSides sides = IsUpTo 1000000 sides.history × IsUpTo 64 sides.workers
+
 abbrev pub IsInRange : Options → Type 0
-IsInRange (Run workers) = IsUpTo 64 workers
-IsInRange (Threads plan) = IsUpTo 64 plan.workers × IsUpTo 16 plan.sessions × IsUpTo 1000 plan.transactions × IsUpTo 32 plan.seats
+IsInRange (Run sides) = AreSides sides
+IsInRange (Threads plan) = AreSides plan.sides × IsUpTo 16 plan.sessions × IsUpTo 1000 plan.transactions × IsUpTo 32 plan.seats
 IsInRange Decode = Unit {0}
+
+-- what both sides are made of by default
+abbrev pub default_sides : Sides
+default_sides = record { tracker = modes.CommitOrder; store = stores.BTree; history = 25000; workers = 4 }
 
 -- the name of a subcommand, and what it asks for where nothing stands behind it
 abbrev pub IsByDefault : Text → Options → Type 0
-IsByDefault name (Run workers) = (name ≡ codes "run") × (workers ≡ 4)
-IsByDefault name (Threads plan) = (name ≡ codes "threads") × (plan ≡ record { workers = 4; sessions = 4; transactions = 10; seats = 2 })
+IsByDefault name (Run sides) = (name ≡ codes "run") × (sides ≡ default_sides)
+IsByDefault name (Threads plan) = (name ≡ codes "threads") × (plan ≡ record { sides = default_sides; sessions = 4; transactions = 10; seats = 2 })
 IsByDefault name Decode = name ≡ codes "decode"
 
 -- whether an error of this kind is what the words asked for
@@ -116,7 +187,21 @@ is_mistake kind = not (is_asked kind)
 
 -- The fault is of a kind that an error at these words may have. A mistake is also told where the words ask for nothing that
 -- is known, which is no error of clap's.
-abbrev pub IsOfWords : List Text → LineFault → Type 0
-IsOfWords words (faults.Line text) = ((fault_of program words ≡ []) × (options_of words ≡ None)) ⊎ (list_any is_mistake (fault_of program words) ≡ true)
-IsOfWords words (faults.Asked text) = list_any is_asked (fault_of program words) ≡ true
-IsOfWords words faults.Memory = Unit {0}
+abbrev pub IsOfWords : Names → List Text → LineFault → Type 0
+IsOfWords names words (faults.Line text) = ((fault_of (program names) words ≡ []) × (options_of names words ≡ None)) ⊎ (list_any is_mistake (fault_of (program names) words) ≡ true)
+IsOfWords names words (faults.Asked text) = list_any is_asked (fault_of (program names) words) ≡ true
+IsOfWords names words faults.Memory = Unit {0}
+
+-- help and the version are told where the words ask for them, and faults of the command line where they don't
+pub record TellsFaults (words : List Text) (answer : Result Options LineFault) : Type 0 where
+  pub names : Names
+  pub are : AreNames names
+  pub told : MatchResult answer (λ _. fault_of (program names) words ≡ []) (IsOfWords names words)
+
+-- what a tracker is made for that these options ask for; the commit order keeps no history
+abbrev pub kind_for : Sides → Kind
+kind_for sides = elim sides.tracker [
+    modes.CommitOrder ↦ by_order
+  | modes.Writeset ↦ record { mode = modes.Writeset; limit = sides.history }
+  | modes.WritesetSession ↦ record { mode = modes.WritesetSession; limit = sides.history }
+]

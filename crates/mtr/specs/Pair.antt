@@ -6,10 +6,12 @@ use Rattle.rows.specs.Database.{Database}
 use Rattle.schema.specs.declared.RowId.{RowId}
 use Rattle.schema.specs.declared.Table.{Table}
 use Rattle.store_trait.specs.Batch.{Entry, put_batch, all_rows}
-use Rattle.commit_order_tracker.specs.Tracker.{by_order}
+use Rattle.tracker_trait.specs.Kind.{Kind}
+use Rattle.log_index.specs.declared.Entry.{Entry as Seen}
 use Rattle.record_codec.specs.declared.records.Record.{Record}
 use Rattle.world.specs.declared.events.Event.{Event}
 use Rattle.world.specs.declared.events.Reply.{Reply}
+use Rattle.world.specs.Laws.{IsOnlyAnswer}
 use Rattle.world.specs.Legal.{Setup, AreLegal}
 use Rattle.world.specs.Run.{HasRun}
 use Rattle.world.specs.State.{World}
@@ -24,16 +26,20 @@ present row = (row.0, Some row.1)
 abbrev pub source : List ℕ
 source = 109 ∷ 116 ∷ 114 ∷ 0 ∷ 0 ∷ 0 ∷ 64 ∷ 0 ∷ 128 ∷ 0 ∷ 0 ∷ 0 ∷ 0 ∷ 0 ∷ 0 ∷ 1 ∷ []
 
--- what the pair begins with: this source, these tables, the rows that the batch loads, parents by the commit order, and so
--- many workers
-abbrev pub setup_of : List Table → List Entry → ℕ → Setup
-setup_of ts base workers = record { identifier = source; tables = ts; base = all_rows (put_batch base empty); limit = 9223372036854775807; kind = by_order; workers = workers }
+-- a new tracker, which has seen no log
+abbrev pub IsNewTracker : {T : Type 0} → (T → List Table → List Seen → Type 0) → T → Type 0
+IsNewTracker agrees tracker = (ts : List Table) → agrees tracker ts []
 
--- The world is new: it has so many workers, these tables, and these rows at the start, in some order.
-pub record BeginsWith (workers : ℕ) (tables : List Table) (rows : List (RowId × List ℤ)) (w : World Database) : Type 0 where
+-- what the pair begins with: this source, these tables, the rows that the batch loads, parents by a tracker of this kind, and
+-- so many workers
+abbrev pub setup_of : Kind → List Table → List Entry → ℕ → Setup
+setup_of kind ts base workers = record { identifier = source; tables = ts; base = all_rows (put_batch base empty); limit = 9223372036854775807; kind = kind; workers = workers }
+
+-- The world is new: it has a tracker of this kind, so many workers, these tables, and these rows at the start, in some order.
+pub record BeginsWith {R : Type 0} (contents : R → Database) (kind : Kind) (workers : ℕ) (tables : List Table) (rows : List (RowId × List ℤ)) (w : World R) : Type 0 where
   pub base : List Entry
   pub given : IsPermutation (map present rows) base
-  pub starts : HasRun (λ rows. rows) (setup_of tables base workers) [] [] w
+  pub starts : HasRun contents (setup_of kind tables base workers) [] [] w
 
 -- The world goes on by these events from whatever runs it came by, by the source's own log, and the lines of
 -- the replies are appended, in order.
@@ -42,19 +48,22 @@ pub record GoesOn {R : Type 0} (contents : R → Database) (old new : World R) (
   pub goes_on : (setup : Setup) (es : List Event) (rs : List Reply) → HasRun contents setup es rs old → HasRun contents setup (es ++ events) (rs ++ replies) new
   pub lines : Appends before printed (lines_of replies)
 
--- What a script prints: over a pair of so many workers that begins with its tables and its rows, one reply to each of its events.
+-- What a script prints: over a pair of this tracker and of so many workers, which begins with its tables and its rows, one reply
+-- to each of its events.
 -- They are legal over one log that is legal over the rows: each read at the replica answers as the source's
 -- database after one beginning of that log. Their lines are appended, in order.
-pub record Prints (workers : ℕ) (script : Said) (before printed : Option (List ℕ)) : Type 0 where
+pub record Prints (kind : Kind) (workers : ℕ) (script : Said) (before printed : Option (List ℕ)) : Type 0 where
   pub base : List Entry
   pub given : IsPermutation (map present script.base) base
   pub replies : List Reply
   pub log : List Record
-  pub legal : AreLegal (setup_of script.tables base workers) log script.events replies
+  pub legal : AreLegal (setup_of kind script.tables base workers) log script.events replies
+  -- and no other replies are legal, but for want of memory and for the choice of a sync that fails, whatever stores keep the rows
+  pub only : IsOnlyAnswer (setup_of kind script.tables base workers) script.events replies
   pub lines : Appends before printed (lines_of replies)
 
 -- what a text prints that is a script
-pub record PrintsText (workers : ℕ) (text : List ℕ) (before printed : Option (List ℕ)) : Type 0 where
+pub record PrintsText (kind : Kind) (workers : ℕ) (text : List ℕ) (before printed : Option (List ℕ)) : Type 0 where
   pub script : Said
   pub says : script_of text ≡ Ok script
-  pub prints : Prints workers script before printed
+  pub prints : Prints kind workers script before printed

@@ -1,5 +1,5 @@
 -- The texts of what is printed: what an event is answered is a line of its own.
-use Rattle.std.specs.Prelude.{ℕ, ◌+◌, ◌-◌, ℤ, List, [], ◌∷◌, ◌++◌, length, codes, Some, None}
+use Rattle.std.specs.Prelude.{ℕ, ◌+◌, ◌-◌, ◌==◌, if◌then◌else◌, ℤ, List, [], ◌∷◌, ◌++◌, length, codes, Some, None}
 use Rattle.std.specs.List.{flat_map}
 use Rattle.std.specs.Fmt.{decimal, signed_decimal}
 use Rattle.source_core.specs.declared.fault.SourceFault.{SourceFault}
@@ -10,6 +10,8 @@ use Rattle.record_codec.specs.declared.fault.CodecFault.{CodecFault}
 use Rattle.record_codec.specs.declared.fault.CodecFault.TheVariants as codec
 use Rattle.log_file.specs.declared.fault.LogFault.{LogFault}
 use Rattle.log_file.specs.declared.fault.LogFault.TheVariants as log
+use Rattle.gtid_set.specs.Ids.{Ids}
+use Rattle.gtid_set.specs.Text.{text_of as text_of_set}
 use Rattle.mtr.specs.HexText.{hex_text}
 use Rattle.world.specs.declared.events.Reply.{Reply}
 use Rattle.world.specs.declared.events.Reply.TheVariants as replies
@@ -24,6 +26,8 @@ source_text source.WrongColumns = codes "S5 WrongColumns"
 source_text source.RowLocked = codes "S6 RowLocked"
 source_text source.RowExists = codes "S7 RowExists"
 source_text source.NoRow = codes "S8 NoRow"
+source_text source.NoParent = codes "S9 NoParent"
+source_text source.HasChild = codes "S10 HasChild"
 source_text source.TooManyChanges = codes "S11 TooManyChanges"
 source_text source.Halted = codes "S12 Halted"
 source_text source.Memory = codes "S13 Memory"
@@ -79,6 +83,10 @@ stamps_text stamps = flat_map stamp_text stamps
 abbrev pub range_text : ℕ → ℕ → List ℕ
 range_text first last = decimal first ++ codes "-" ++ decimal last
 
+-- a set of ids, `none` where it is empty
+abbrev pub ids_text : Ids → List ℕ
+ids_text ids = if length ids.numbers == 0 then codes "none" else text_of_set ids
+
 -- what an event prints
 abbrev pub text_of : Reply → List ℕ
 text_of replies.Done = codes "ok"
@@ -97,6 +105,7 @@ text_of (replies.Job gno) = codes "job " ++ decimal gno
 text_of (replies.Finished gno) = codes "finished " ++ decimal gno
 text_of (replies.Commit gno) = codes "commit " ++ decimal gno
 text_of (replies.Published upto) = codes "published " ++ decimal upto
+text_of (replies.Executed ids) = ids_text ids
 text_of (replies.Read upto (Some columns)) = decimal upto ++ codes ":" ++ columns_text columns
 text_of (replies.Read upto None) = decimal upto ++ codes ": none"
 text_of (replies.Source fault) = source_text fault

@@ -1,18 +1,27 @@
--- What the sessions of `threads` write, what their rows are in the end, and what is printed.
-use Rattle.std.specs.Prelude.{◌≡◌, ℕ, ℤ, pos, ◌+◌, ◌-◌, ◌*◌, ◌≤◌, nat_lt, if◌then◌else◌, List, [], ◌∷◌, ◌++◌, All, codes, Option}
+-- What the sessions of `threads` write, what their rows are in the end, when both sides came to the same, and what is printed.
+use Rattle.std.specs.Prelude.{◌≡◌, ℕ, ℤ, pos, ◌+◌, ◌-◌, ◌*◌, ◌≤◌, nat_lt, nat_le, if◌then◌else◌, Bool, true, List, [], ◌∷◌, ◌++◌, All, take, codes, Option, Some, None, option_and_then}
 use mathlib.Core.List.{IsPrefix}
+use Rattle.std.specs.List.{list_all}
+use Rattle.std.specs.FinMap.{get}
 use Rattle.std.specs.Fmt.{decimal}
 use Rattle.std.specs.Io.KnownBytes.{Appends}
+use Rattle.store_trait.specs.declared.Op.{Op}
 use Rattle.store_trait.specs.Operation.{loaded}
+use Rattle.record_codec.specs.Log.{after}
 use Rattle.source_core.specs.declared.transaction.Receipt.{Receipt}
 use Rattle.source_core.specs.Source.{Source, IsSound as IsSoundSource}
-use Rattle.replica_core.specs.Replica.{Replica}
+use Rattle.source_shared.specs.Engine.{IsCommitted}
+use Rattle.replica_core.specs.Replica.{operations}
 use Rattle.replica_core.specs.Sound.{IsSound as IsSoundReplica}
+use Rattle.published.specs.History.{commits_in}
 use Rattle.schema.specs.declared.RowId.{RowId}
 use Rattle.rows.specs.declared.Change.{Change}
 use Rattle.rows.specs.declared.Change.TheVariants.{Insert, Update}
+use Rattle.mtr.specs.Reading.{NoneFalls, AreTold}
 use Rattle.mtr.specs.declared.ending.Ending.{Ending}
 use Rattle.mtr.specs.declared.ending.Ending.TheVariants as endings
+use Rattle.mtr.specs.declared.threads.ended.Ended.{Ended}
+use Rattle.mtr.specs.declared.threads.reading.Shown.{Shown}
 use Rattle.mtr.specs.declared.threads.Verdict.{Verdict}
 use Rattle.mtr.specs.declared.threads.Verdict.TheVariants as verdicts
 
@@ -38,20 +47,63 @@ pub record IsLast (receipts : List Receipt) (last : ℕ) : Type 0 where
   pub all : All (λ (r : Receipt). r.gno ≤ last) receipts
   pub least : (bound : ℕ) → All (λ (r : Receipt). r.gno ≤ bound) receipts → last ≤ bound
 
--- Both sides came to the same. They began with the same rows, and what the replica accepted is a beginning of the source's
--- log, which is legal over these; the source committed so many records or more, and the replica published so many.
-pub record AreEqual (log published : ℕ) (source : Source) (replica : Replica) : Type 0 where
-  pub legal : IsSoundSource source
-  pub sound : IsSoundReplica replica
-  pub rows : loaded source.base ≡ loaded replica.base
-  pub begins : IsPrefix replica.accepted source.log
-  pub committed : log ≤ source.committed
-  pub shown : replica.published ≡ published
+-- no answer is of more commits
+abbrev pub are_within : ℕ → List Shown → Bool
+are_within most shown = list_all (λ (s : Shown). nat_le s.answer.upto most) shown
 
--- a verdict of equal sides is of two that are
-abbrev pub Holds : Verdict → Type 0
-Holds (verdicts.Equal log published) = (source : Source) × (replica : Replica) × AreEqual log published source replica
-Holds verdicts.Different = Unit {0}
+-- What holds of both sides however they ended. The sessions' receipts are those of committed records of the source, and what
+-- readers saw are beginnings of what the replica published: the operations of the first records that it committed.
+pub record IsEnded {S T : Type 0} (e : Ended S T) : Type 0 where
+  pub tables : e.replica.tables ≡ e.source.tables
+  pub given : All (IsCommitted e.source) e.receipts.items
+  pub shown : List Op
+  pub are : shown ≡ operations e.replica.tables e.replica.base e.replica.accepted (commits_in shown)
+  pub within : commits_in shown ≤ e.replica.committed
+  pub counted : e.replica.published ≤ commits_in shown
+  pub told : All (λ v. AreTold shown v.items) e.readings.items
+
+-- What was compared: both sides began with the same rows, and what the replica accepted is a beginning of the source's log; it
+-- published as many commits as it told, and no reader saw more.
+pub record Agree {S T : Type 0} (e : Ended S T) : Type 0 where
+  pub counted : e.replica.published ≡ e.published
+  pub rows : loaded e.source.base ≡ loaded e.replica.base
+  pub begins : IsPrefix e.replica.accepted e.source.log
+  pub within : list_all (λ v. are_within e.published v.items) e.readings.items ≡ true
+
+-- the answer is the row as it is in the source's database after the first so many records of its log, no more than these
+pub record IsOfSource (s : Source) (most : ℕ) (a : Shown) : Type 0 where
+  pub within : a.answer.upto ≤ most
+  pub row : a.answer.row ≡ option_and_then (λ db. get db a.id) (after s.tables (loaded s.base) (take a.answer.upto s.log))
+
+-- and so is each that a reader saw, and none shows fewer commits than one before it
+pub record AreOfSource (s : Source) (most : ℕ) (shown : List Shown) : Type 0 where
+  pub each : All (IsOfSource s most) shown
+  pub none_falls : NoneFalls shown
+
+-- Both sides came to the same. They are over one schema and began with the same rows, and what the replica accepted is a
+-- beginning of the source's log, which is legal over these. The receipts are those of committed records, the greatest of them
+-- this one; so many commits are published at the replica, and whatever its readers saw, the source's database had.
+pub record AreEqual {S T : Type 0} (log published : ℕ) (e : Ended S T) : Type 0 where
+  pub legal : IsSoundSource e.source
+  pub sound : IsSoundReplica e.replica
+  pub tables : e.replica.tables ≡ e.source.tables
+  pub rows : loaded e.source.base ≡ loaded e.replica.base
+  pub begins : IsPrefix e.replica.accepted e.source.log
+  pub given : All (IsCommitted e.source) e.receipts.items
+  pub last : IsLast e.receipts.items log
+  pub committed : log ≤ e.source.committed
+  pub counted : e.replica.published ≡ published
+  pub answers : All (λ v. AreOfSource e.source published v.items) e.readings.items
+
+-- a verdict of equal sides is of two that are, and the other of two that do not agree
+abbrev pub Holds : {S T : Type 0} → Verdict → Ended S T → Type 0
+Holds (verdicts.Equal log published) e = AreEqual log published e
+Holds verdicts.Different e = ¬ Agree e
+
+-- the verdict is that of these two sides; where a call was refused before they ended they count as different
+abbrev pub IsVerdictOf : {S T : Type 0} → Verdict → Option (Ended S T) → Type 0
+IsVerdictOf verdict None = verdict ≡ verdicts.Different
+IsVerdictOf verdict (Some e) = IsEnded e × Holds verdict e
 
 -- what is printed, and the ending with it
 abbrev pub verdict_text : Verdict → List ℕ
@@ -62,9 +114,9 @@ abbrev pub ending_for : Verdict → Ending
 ending_for (verdicts.Equal log published) = endings.Done
 ending_for verdicts.Different = endings.Different
 
--- the line of a verdict that holds is printed
-pub record PrintsVerdict (ending : Ending) (before printed : Option (List ℕ)) : Type 0 where
+-- the line of the verdict of these two sides is printed
+pub record PrintsVerdict {S T : Type 0} (ending : Ending) (ended : Option (Ended S T)) (before printed : Option (List ℕ)) : Type 0 where
   pub verdict : Verdict
-  pub holds : Holds verdict
+  pub holds : IsVerdictOf verdict ended
   pub ends : ending ≡ ending_for verdict
   pub line : Appends before printed (verdict_text verdict ++ 10 ∷ [])

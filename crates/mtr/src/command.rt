@@ -31,6 +31,7 @@ pub enum Verb {
     Finish,
     Next,
     Publish,
+    Executed,
     Read,
     Log,
 }
@@ -59,6 +60,7 @@ impl Verb {
             "finish" => Some(Verb::Finish),
             "next" => Some(Verb::Next),
             "publish" => Some(Verb::Publish),
+            "executed" => Some(Verb::Executed),
             "read" => Some(Verb::Read),
             "log" => Some(Verb::Log),
             _ => None,
@@ -96,6 +98,7 @@ pub fn event_of(verb: Verb, words: Words) -> Option<Event>
         Verb::Finish => gno_of(words).map(|gno| Event::Finish { gno }),
         Verb::Next => bare(Event::Next, words),
         Verb::Publish => bare(Event::Publish, words),
+        Verb::Executed => bare(Event::Executed, words),
         Verb::Read => row_of(words).map(|row| Event::Read { row }),
         Verb::Log => bare(Event::Log, words),
     }

@@ -3,13 +3,14 @@
 ghost use Rattle.std.specs.Prelude.{◌≡◌, [], ◌∷◌, false, map, codes, option_map, option_and_then, Some, IfOk, IfErr, IfSome, IfNone, MatchResult};
 ghost use Rattle.clap.specs.Words.{Text, app_of, rule_of, rows_of, found_of, kind_of, fault_of, subcommand_rows_of};
 ghost use Rattle.clap.specs.declared.builder.command.Command.TheViews.{out-Command as fields_of};
-ghost use Rattle.mtr.specs.Options.{program, run_app, threads_app, decode_app, workers_rule, number_rule, number_of, IsUpTo, threads_options, options_for, options_of, IsInRange, IsByDefault, IsOfKind, IsOfWords};
+ghost use Rattle.mtr.specs.Options.{program, run_app, sides_app, threads_app, decode_app, choice_rule, number_rule, AreNames, mode_of, store_of, number_of, IsUpTo, AreSides, sides_of, threads_options, options_for, AsksFor, TellsFaults, IsInRange, IsByDefault, IsOfKind};
 
-use crate::options::{LineFault, Options, Plan};
+use crate::options::{LineFault, Options, Plan, Sides, Store, mode_named};
 use clap::error::ErrorKind;
 use clap::{Arg, ArgMatches, Command, value_parser};
 use std::alloc::{AllocError, Global};
 use std::env::Args;
+use tracker_trait::Mode;
 
 /// What `--version` prints behind the program's name.
 const VERSION: &str = "1.0.0";
@@ -23,6 +24,13 @@ Usage: mtr <COMMAND>
 For more information, try '--help'.
 ";
 
+/// The words that the options `--tracker` and `--store` take.
+#[derive(Clone, Copy)]
+pub struct Names<'a> {
+    pub trackers: &'a [&'a str],
+    pub stores: &'a [&'a str],
+}
+
 /// What the words of a command line ask for, of which the first is the program's name.
 pub fn asked(alloc: Global, words: Args) -> Result<Options, LineFault>
     ensures ranges { IfOk result IsInRange }
@@ -34,16 +42,16 @@ pub fn asked(alloc: Global, words: Args) -> Result<Options, LineFault>
 
 /// What the words behind the program's name ask for.
 pub fn options<'a>(alloc: Global, words: &'a [&'a str]) -> Result<Options, LineFault>
-    // The subcommand is the one that the words name, and each of its options has the number that they give it, or its
-    // default.
-    ensures named { IfOk result (λ asked. options_of (map (λ w. w.now) words.entry.now) ≡ Some asked) }
+    // The subcommand is the one that the words name, and each of its options has the store or the number that they give it,
+    // or its default.
+    ensures named { IfOk result (AsksFor (map (λ w. w.now) words.entry.now)) }
     ensures ranges { IfOk result IsInRange }
     // Help and the version are told where the words ask for them, and faults of the command line where they don't.
-    ensures told { MatchResult result (λ _. fault_of program (map (λ w. w.now) words.entry.now) ≡ []) (IsOfWords (map (λ w. w.now) words.entry.now)) }
+    ensures told { TellsFaults (map (λ w. w.now) words.entry.now) result }
     // The name of a subcommand alone asks for its defaults, and is refused for want of memory only.
     ensures alone { (name : Text) (asked : Options) → IsByDefault name asked → map (λ w. w.now) words.entry.now ≡ name ∷ [] → MatchResult result (λ given. given ≡ asked) (λ fault. fault ≡ LineFault.Memory) }
 {
-    let matches = match command(alloc)?.try_get_matches_from(words) {
+    let matches = match command(alloc, choices())?.try_get_matches_from(words) {
         Ok(matches) => matches,
         Err(error) => return Err(fault_of(alloc, &error)),
     };
@@ -68,9 +76,7 @@ fn options_for(name: &str, found: &ArgMatches) -> Option<Options>
     ensures ranges { IfSome result IsInRange }
 {
     match name {
-        "run" => Some(Options::Run {
-            workers: number(found, "workers", 64)?,
-        }),
+        "run" => Some(Options::Run(sides(found)?)),
         "threads" => Some(Options::Threads(plan(found)?)),
         "decode" => Some(Options::Decode),
         _ => None,
@@ -83,11 +89,38 @@ fn plan(found: &ArgMatches) -> Option<Plan>
     ensures ranges { IfSome result (λ plan. IsInRange (Options.Threads plan)) }
 {
     Some(Plan {
-        workers: number(found, "workers", 64)?,
+        sides: sides(found)?,
         sessions: number(found, "sessions", 16)?,
         transactions: number(found, "transactions", 1000)?,
         seats: number(found, "seats", 32)?,
     })
+}
+
+/// What both sides are made of.
+fn sides(found: &ArgMatches) -> Option<Sides>
+    ensures named { result ≡ sides_of (rows_of (found_of found.now)) }
+    ensures ranges { IfSome result AreSides }
+{
+    Some(Sides {
+        tracker: tracker(found)?,
+        store: store(found)?,
+        history: number(found, "history", 1_000_000)?,
+        workers: number(found, "workers", 64)?,
+    })
+}
+
+/// How parents are found.
+fn tracker(found: &ArgMatches) -> Option<Mode>
+    ensures { result ≡ mode_of (rows_of (found_of found.now)) }
+{
+    mode_named(found.get_str("tracker")?)
+}
+
+/// The store.
+fn store(found: &ArgMatches) -> Option<Store>
+    ensures { result ≡ store_of (rows_of (found_of found.now)) }
+{
+    Store::named(found.get_str("store")?)
 }
 
 /// The number of an option.
@@ -103,9 +136,19 @@ fn number(found: &ArgMatches, name: &str, greatest: usize) -> Option<usize>
     }
 }
 
-/// The command line as `clap` has it.
-fn command<'a>(alloc: Global) -> Result<Command<'a>, AllocError>
-    ensures { IfOk result (λ command. app_of command ≡ program) }
+/// The names of the trackers and of the stores.
+fn choices() -> Names<'static>
+    ensures { AreNames result }
+{
+    Names {
+        trackers: &["commit-order", "writeset", "writeset-session"],
+        stores: &["btree", "vector"],
+    }
+}
+
+/// The command line as `clap` has it, with these names of trackers and stores.
+fn command<'a>(alloc: Global, names: Names<'a>) -> Result<Command<'a>, AllocError>
+    ensures { IfOk result (λ command. app_of command ≡ program names.entry) }
 {
     Command::new(alloc, "mtr")
         .about("A source with group commit, and a replica that applies its log in parallel")
@@ -114,50 +157,99 @@ fn command<'a>(alloc: Global) -> Result<Command<'a>, AllocError>
         .no_binary_name(true)
         .bin_name("mtr")?
         .subcommand_required(true)
-        .subcommand(run_command(alloc)?)?
-        .subcommand(threads_command(alloc)?)?
+        .subcommand(run_command(alloc, names)?)?
+        .subcommand(threads_command(alloc, names)?)?
         .subcommand(decode_command(alloc))
 }
 
-/// `run`; each option's help has its range, and clap adds its default.
-fn run_command<'a>(alloc: Global) -> Result<Command<'a>, AllocError>
-    ensures shape { IfOk result (λ command. app_of command ≡ run_app) }
+/// `run`.
+fn run_command<'a>(alloc: Global, names: Names<'a>) -> Result<Command<'a>, AllocError>
+    ensures shape { IfOk result (λ command. app_of command ≡ run_app names.entry) }
     ensures local { IfOk result (λ command. (fields_of command).has_globals ≡ false) }
 {
-    Command::new(alloc, "run")
-        .about("Runs the script on standard input")
-        .arg(workers_option(alloc))
+    sides_command(
+        alloc,
+        "run",
+        "Runs the script on standard input",
+        names,
+    )
 }
 
-fn threads_command<'a>(alloc: Global) -> Result<Command<'a>, AllocError>
-    ensures shape { IfOk result (λ command. app_of command ≡ threads_app) }
+fn threads_command<'a>(alloc: Global, names: Names<'a>) -> Result<Command<'a>, AllocError>
+    ensures shape { IfOk result (λ command. app_of command ≡ threads_app names.entry) }
     ensures local { IfOk result (λ command. (fields_of command).has_globals ≡ false) }
 {
-    Command::new(alloc, "threads")
-        .about(
-            "Commits in many threads at the source, applies in many at the replica, and compares both",
-        )
-        .arg(workers_option(alloc))?
+    sides_command(
+        alloc,
+        "threads",
+        "Commits in many threads at the source, applies in many at the replica, and compares both",
+        names,
+    )?
+    .arg(number_option(
+        alloc,
+        "sessions",
+        16,
+        "4",
+        "The sessions at the source, 1 to 16",
+    ))?
+    .arg(number_option(
+        alloc,
+        "transactions",
+        1000,
+        "10",
+        "The transactions of each session, 1 to 1000",
+    ))?
+    .arg(number_option(
+        alloc,
+        "seats",
+        32,
+        "2",
+        "The readers of the replica, 1 to 32",
+    ))
+}
+
+/// A subcommand over both sides, with the options that say what these are made of; each option's help has its range, and clap
+/// adds its default.
+fn sides_command<'a>(
+    alloc: Global,
+    name: &'a str,
+    about: &'a str,
+    names: Names<'a>,
+) -> Result<Command<'a>, AllocError>
+    ensures shape { IfOk result (λ command. app_of command ≡ sides_app name.entry.now names.entry) }
+    ensures local { IfOk result (λ command. (fields_of command).has_globals ≡ false) }
+{
+    Command::new(alloc, name)
+        .about(about)
+        .arg(choice_option(
+            alloc,
+            "tracker",
+            "TRACKER",
+            names.trackers,
+            "commit-order",
+            "How the source finds the parents of transactions",
+        ))?
+        .arg(choice_option(
+            alloc,
+            "store",
+            "STORE",
+            names.stores,
+            "btree",
+            "The store of the rows at source and replica",
+        ))?
         .arg(number_option(
             alloc,
-            "sessions",
-            16,
+            "history",
+            1_000_000,
+            "25000",
+            "The digests of written rows that a tracker keeps, 1 to 1000000",
+        ))?
+        .arg(number_option(
+            alloc,
+            "workers",
+            64,
             "4",
-            "The sessions at the source, 1 to 16",
-        ))?
-        .arg(number_option(
-            alloc,
-            "transactions",
-            1000,
-            "10",
-            "The transactions of each session, 1 to 1000",
-        ))?
-        .arg(number_option(
-            alloc,
-            "seats",
-            32,
-            "2",
-            "The readers of the replica, 1 to 32",
+            "The workers at the replica, 1 to 64",
         ))
 }
 
@@ -170,24 +262,31 @@ fn decode_command<'a>(alloc: Global) -> Command<'a>
     )
 }
 
-fn workers_option<'a>(alloc: Global) -> Arg<'a>
-    ensures rule { rule_of result ≡ workers_rule }
+/// The option `--NAME WORD`, of one of these words.
+fn choice_option<'a>(
+    alloc: Global,
+    name: &'a str,
+    value: &'a str,
+    choices: &'a [&'a str],
+    default: &'a str,
+    help: &'a str,
+) -> Arg<'a>
+    ensures rule { rule_of result ≡ choice_rule name.entry.now choices.entry default.entry.now }
     ensures local { result.global ≡ false }
 {
-    number_option(
-        alloc,
-        "workers",
-        64,
-        "4",
-        "The workers at the replica, 1 to 64",
-    )
+    Arg::new(alloc, name)
+        .long(name)
+        .value_name(value)
+        .default_value(default)
+        .help(help)
+        .value_parser(choices)
 }
 
 /// The option `--NAME N` of a number from 1 to the greatest.
 fn number_option<'a>(
     alloc: Global,
     name: &'a str,
-    greatest: u16,
+    greatest: u32,
     default: &'a str,
     help: &'a str,
 ) -> Arg<'a>

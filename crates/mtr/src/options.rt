@@ -1,24 +1,79 @@
 //! What the command line asks for.
 
+ghost use Rattle.std.specs.Prelude.{◌≡◌};
+ghost use Rattle.mtr.specs.Options.{mode_named};
+
 use std::alloc::AllocError;
 use thiserror::Error;
+use tracker_trait::Mode;
 
 /// What the words behind the program's name ask for.
 #[derive(Clone, Copy)]
 pub enum Options {
-    /// `run`: a script is read on standard input and run, by so many workers at the replica, 1 to 64.
-    Run { workers: usize },
+    /// `run`: a script is read on standard input and run over both sides.
+    Run(Sides),
     /// `threads`: sessions, workers and readers run in threads of their own.
     Threads(Plan),
     /// `decode`: a log file is read on standard input as hexadecimal text, and its records are printed.
     Decode,
 }
 
+/// What both sides are made of.
+#[derive(Clone, Copy)]
+pub struct Sides {
+    /// How the source finds parents.
+    pub tracker: Mode,
+    /// The store of the source's rows, of the replica's, and of both copies that readers see.
+    pub store: Store,
+    /// The greatest number of digests of written rows that a tracker keeps, 1 to 1000000: MySQL's
+    /// `binlog_transaction_dependency_history_size`. The commit order keeps none.
+    pub history: usize,
+    /// The workers at the replica, 1 to 64.
+    pub workers: usize,
+}
+
+/// How the source finds the parents of transactions, by its name.
+pub fn mode_named(name: &str) -> Option<Mode>
+    ensures { result ≡ mode_named name.now }
+{
+    match name {
+        "commit-order" => Some(Mode::CommitOrder),
+        "writeset" => Some(Mode::Writeset),
+        "writeset-session" => Some(Mode::WritesetSession),
+        _ => None,
+    }
+}
+
+/// In which store both sides keep their rows. What they answer is the same in each.
+#[derive(Clone, Copy, Debug, PartialEq, Eq)]
+pub enum Store {
+    /// `btree`: an ordered map.
+    BTree,
+    /// `vector`: one sorted vector.
+    Vector,
+}
+
+impl Store {
+    ghost use Rattle.std.specs.Prelude.{◌≡◌};
+    ghost use Rattle.mtr.specs.Options.{store_named};
+
+    /// The store of this name.
+    pub fn named(name: &str) -> Option<Store>
+        ensures { result ≡ store_named name.now }
+    {
+        match name {
+            "btree" => Some(Store::BTree),
+            "vector" => Some(Store::Vector),
+            _ => None,
+        }
+    }
+}
+
 /// How many threads there are of each kind, and how much they do.
 #[derive(Clone, Copy)]
 pub struct Plan {
-    /// The workers at the replica, 1 to 64.
-    pub workers: usize,
+    /// What both sides are made of.
+    pub sides: Sides,
     /// The sessions at the source, 1 to 16.
     pub sessions: usize,
     /// The transactions of each session, 1 to 1000.

@@ -8,12 +8,13 @@ ghost use Rattle.schema.specs.RowId.{same_row};
 ghost use Rattle.mtr.specs.Pair.{present};
 
 use btree_store::BTreeStore;
-use commit_order_tracker::CommitOrder;
 use log_device::MemoryDevice;
 use rows::Row;
 use schema::{Memory, RowId};
 use std::alloc::{AllocError, Global};
-use store_trait::Batch;
+use store_trait::{Batch, RowStore};
+use tracker_trait::Tracker;
+use vector_store::VectorStore;
 use world::{PairParts, World};
 
 /// The identifier of the program's source, 6d747200-0000-4000-8000-000000000001.
@@ -41,18 +42,41 @@ fn entries_of(alloc: Global, rows: &[(RowId, Row)]) -> Result<Vec<(RowId, Option
     rows.iter().map(|row| (row.0, Some(row.1))).collect(alloc)
 }
 
-/// A world in memory.
-pub type InMemory = World<BTreeStore, CommitOrder, MemoryDevice, BTreeStore>;
+/// A store of which both sides can have as many as they need.
+pub trait NewStore: RowStore + Drop + Send + Sync {
+    /// One without rows. It takes no memory.
+    fn without_rows(alloc: Global) -> Self
+        ensures { Self.contents result ≡ empty };
+}
 
-/// The parts of a pair in memory, whose records' parents are their order parents. It takes no memory.
-pub fn parts_in_memory(alloc: Global) -> PairParts<BTreeStore, CommitOrder, MemoryDevice>
-    ensures rows { result.rows ≡ empty }
-    ensures copy { result.copy ≡ empty }
+impl NewStore for BTreeStore {
+    fn without_rows(alloc: Global) -> BTreeStore {
+        BTreeStore::new(alloc)
+    }
+}
+
+impl NewStore for VectorStore {
+    fn without_rows(alloc: Global) -> VectorStore {
+        VectorStore::new(alloc)
+    }
+}
+
+/// A world in memory.
+pub type InMemory<S, T> = World<S, T, MemoryDevice, S>;
+
+/// The parts of a pair in memory, whose records get their parents by this tracker. It takes no memory.
+pub fn parts_in_memory<S: NewStore, T: Tracker>(
+    alloc: Global,
+    tracker: T,
+) -> PairParts<S, T, MemoryDevice>
+    ensures rows { S.contents result.rows ≡ empty }
+    ensures copy { S.contents result.copy ≡ empty }
+    ensures tracker { result.tracker ≡ tracker }
 {
     PairParts {
-        rows: BTreeStore::new(alloc),
-        copy: BTreeStore::new(alloc),
-        tracker: CommitOrder,
+        rows: S::without_rows(alloc),
+        copy: S::without_rows(alloc),
+        tracker,
         device: MemoryDevice::new(alloc),
     }
 }

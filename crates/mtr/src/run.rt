@@ -7,80 +7,131 @@ ghost use Rattle.world.specs.Seen.{seen};
 ghost use Rattle.mtr.specs.Events.{joined};
 ghost use Rattle.mtr.specs.Script.{said};
 ghost use Rattle.mtr.specs.Printing.{lines_of};
-ghost use Rattle.mtr.specs.Pair.{BeginsWith, GoesOn, Prints, PrintsText};
+ghost use Rattle.mtr.specs.Options.{AreSides, kind_for};
+ghost use Rattle.mtr.specs.Pair.{IsNewTracker, BeginsWith, GoesOn, Prints, PrintsText};
 
 use crate::ending::Stop;
 use crate::events::Piece;
-use crate::pair::{InMemory, MAX_RECORDS, SOURCE, base_of, parts_in_memory};
+use crate::options::{Sides, Store};
+use crate::pair::{InMemory, MAX_RECORDS, NewStore, SOURCE, base_of, parts_in_memory};
 use crate::printing::write_replies;
 use crate::script::Script;
 use btree_store::BTreeStore;
+use commit_order_tracker::CommitOrder;
 use log_device::Device;
 use rows::Row;
 use schema::{RowId, Schema, Table};
 use std::alloc::Global;
 use std::io::{BufRead, Write};
 use store_trait::RowStore;
-use tracker_trait::Tracker;
+use tracker_trait::{Mode, Tracker};
 use uuid::Uuid;
+use vector_store::VectorStore;
 use world::{Reply, World, pair_of};
+use writeset_trackers::{WriteSetSession, WriteSetTracker};
 
-/// Reads a script, and runs it over a new pair of so many workers. The whole of it is read and checked before the first event: the
-/// first bad line, then the tables, then the rows at the start. Each event's reply is a line of the output; where
-/// the work stops after a beginning of the events, so does the output, after a whole line.
+/// Reads a script, and runs it over a new pair that is made of these parts. The whole of it is read and checked before the
+/// first event: the first bad line, then the tables, then the rows at the start. Each event's reply is a line of the output;
+/// where the work stops after a beginning of the events, so does the output, after a whole line.
 pub fn run_text<R: BufRead, W: Write>(
     alloc: Global,
-    workers: usize,
+    sides: Sides,
     input: &mut R,
     output: &mut W,
 ) -> Result<(), Stop>
-    requires some { 1 ≤ workers }
-    requires few { workers ≤ 64 }
-    ensures { OnOk result (IfSome (R.remaining input.old) (λ text. PrintsText workers text (W.contents output.old) (W.contents output.new))) }
+    requires { AreSides sides }
+    ensures { OnOk result (IfSome (R.remaining input.old) (λ text. PrintsText (kind_for sides) sides.workers text (W.contents output.old) (W.contents output.new))) }
 {
-    run_script(alloc, workers, Script::read(alloc, input)?, output)
+    run_by_mode(alloc, sides, Script::read(alloc, input)?, output)
+}
+
+/// Runs a script over a new pair whose source finds parents in the way that is asked for.
+fn run_by_mode<W: Write>(
+    alloc: Global,
+    sides: Sides,
+    script: Script,
+    output: &mut W,
+) -> Result<(), Stop>
+    requires { AreSides sides }
+    ensures { OnOk result (Prints (kind_for sides) sides.workers (said script) (W.contents output.old) (W.contents output.new)) }
+{
+    let limit = sides.history as u32;
+    match sides.tracker {
+        Mode::CommitOrder => run_by(alloc, CommitOrder, sides, script, output),
+        Mode::Writeset => {
+            let tracker = WriteSetTracker::with_limit(alloc, limit)?;
+            run_by(alloc, tracker, sides, script, output)
+        }
+        Mode::WritesetSession => {
+            let tracker = WriteSetSession::with_limit(alloc, limit)?;
+            run_by(alloc, tracker, sides, script, output)
+        }
+    }
+}
+
+/// Runs a script over a new pair with this tracker.
+fn run_by<T: Tracker + Drop, W: Write>(
+    alloc: Global,
+    tracker: T,
+    sides: Sides,
+    script: Script,
+    output: &mut W,
+) -> Result<(), Stop>
+    requires tracker { IsNewTracker T.agrees tracker }
+    requires sides { AreSides sides }
+    ensures { OnOk result (Prints (T.kind tracker) sides.workers (said script) (W.contents output.old) (W.contents output.new)) }
+{
+    let workers = sides.workers;
+    match sides.store {
+        Store::BTree => run_script::<BTreeStore, T, W>(alloc, tracker, workers, script, output),
+        Store::Vector => run_script::<VectorStore, T, W>(alloc, tracker, workers, script, output),
+    }
 }
 
 /// Runs a script over a new pair.
-fn run_script<W: Write>(
+fn run_script<S: NewStore, T: Tracker + Drop, W: Write>(
     alloc: Global,
+    tracker: T,
     workers: usize,
     script: Script,
     output: &mut W,
 ) -> Result<(), Stop>
+    requires tracker { IsNewTracker T.agrees tracker }
     requires some { 1 ≤ workers }
     requires few { workers ≤ 64 }
-    ensures { OnOk result (Prints workers (said script) (W.contents output.old) (W.contents output.new)) }
+    ensures { OnOk result (Prints (T.kind tracker) workers (said script) (W.contents output.old) (W.contents output.new)) }
 {
     let Script {
         tables,
         base,
         events,
     } = script;
-    let mut world = open(alloc, workers, tables, &base)?;
+    let mut world = open::<S, T>(alloc, tracker, workers, tables, &base)?;
     drop(base);
     run_pieces(alloc, &mut world, events.into_pieces(), output)
 }
 
 /// A new world in memory over a script's tables and rows at the start, with so many workers.
-fn open(
+fn open<S: NewStore, T: Tracker + Drop>(
     alloc: Global,
+    tracker: T,
     workers: usize,
     tables: Vec<Table>,
     rows: &[(RowId, Row)],
-) -> Result<InMemory, Stop>
+) -> Result<InMemory<S, T>, Stop>
+    requires tracker { IsNewTracker T.agrees tracker }
     requires some { 1 ≤ workers }
     requires few { workers ≤ 64 }
-    ensures { IfOk result (λ world. BeginsWith workers tables.items rows.now (seen world)) }
+    ensures { IfOk result (λ world. BeginsWith S.contents (T.kind tracker) workers tables.items rows.now (seen world)) }
 {
     let schema = Schema::new(tables)?;
     let Some(base) = base_of(alloc, rows)? else {
         return Err(Stop::BadBase);
     };
     let from = Uuid::from_bytes(SOURCE);
-    let parts = parts_in_memory(alloc);
+    let parts = parts_in_memory::<S, T>(alloc, tracker);
     match pair_of(alloc, schema, from, &base, MAX_RECORDS, workers, parts)? {
-        Some(pair) => Ok(pair.into_world(alloc, base, BTreeStore::new(alloc))?),
+        Some(pair) => Ok(pair.into_world(alloc, base, S::without_rows(alloc))?),
         None => Err(Stop::BadBase),
     }
 }

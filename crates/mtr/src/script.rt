@@ -8,7 +8,7 @@
 ghost use Rattle.std.specs.Prelude.{◌≡◌, ◌++◌, ◌∷◌, [], ◌==◌, true, false, length, IfOk, IfSome, OnOk, Some};
 ghost use Rattle.std.specs.Bool.{then_some};
 ghost use Rattle.std.specs.List.{All};
-ghost use Rattle.mtr.specs.Lines.{table_of, base_of, command_of, is_skipped, text_line};
+ghost use Rattle.mtr.specs.Lines.{table_of, keyed_of, link_in, parent_of, base_of, command_of, is_skipped, text_line};
 ghost use Rattle.mtr.specs.Script.{said, said_with, added, Says, IsLine, LeavesLines, TakesEnd};
 
 use crate::command::{Verb, alone, event_of};
@@ -196,17 +196,52 @@ fn table_of(words: Words) -> Option<Table>
 {
     let (id, words) = words.u16()?;
     let (columns, words) = words.u8()?;
-    let kind = alone(words.first())?;
-    if kind == "keyed" {
-        Some(Table {
-            id,
-            columns,
-            keyed: true,
-            parent: None,
-        })
+    let (kind, words) = words.first()?;
+    let keyed = is_keyed(kind)?;
+    let parent = parent_of(words)?;
+    Some(Table {
+        id,
+        columns,
+        keyed,
+        parent,
+    })
+}
+
+/// Whether a table of this kind has keys; `None` where the word is no kind.
+fn is_keyed(kind: &str) -> Option<bool>
+    ensures { result ≡ keyed_of kind.now }
+{
+    match kind {
+        "keyed" => Some(true),
+        "keyless" => Some(false),
+        _ => None,
+    }
+}
+
+/// The parent that a table has where words are left: the column, and the parent's id.
+#[tactic(auto, unfolding(crate::specs::Lines::parent_of))]
+fn parent_of(words: Words) -> Option<Option<(u8, u16)>>
+    ensures { result ≡ parent_of words.entry }
+{
+    if words.is_empty() {
+        return Some(None);
+    }
+    let (name, words) = words.first()?;
+    if name == "parent" {
+        Some(Some(link_of(words)?))
     } else {
         None
     }
+}
+
+/// A column and a table's id, to the end of the line.
+#[tactic(auto, unfolding(crate::specs::Lines::link_in))]
+fn link_of(words: Words) -> Option<(u8, u16)>
+    ensures { result ≡ link_in words.entry }
+{
+    let (column, words) = words.u8()?;
+    let table = alone(words.u16())?;
+    Some((column, table))
 }
 
 #[tactic(auto, unfolding(crate::specs::Lines::base_of))]

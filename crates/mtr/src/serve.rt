@@ -1,23 +1,29 @@
 //! The program's work, over any reader and two writers. Only `threads` uses the handle.
 
-ghost use Rattle.std.specs.Prelude.{◌≡◌, ◌≢◌, ◌≤◌, ◌∷◌, [], ◌++◌, IfErr, IfSome, OnOk};
+ghost use Rattle.std.specs.Prelude.{◌≡◌, ◌≢◌, ◌≤◌, ◌∷◌, [], ◌++◌, IfOk, IfErr, IfSome, OnOk};
 ghost use Rattle.std.specs.Io.KnownBytes.{Appends};
 ghost use Rattle.mtr.specs.Ending.{ending_of, stop_text};
-ghost use Rattle.mtr.specs.Options.{IsInRange};
-ghost use Rattle.mtr.specs.Pair.{PrintsText};
+ghost use Rattle.mtr.specs.Options.{AreSides, IsInRange, kind_for};
+ghost use Rattle.mtr.specs.Pair.{IsNewTracker, PrintsText};
 
 use crate::command_line::{NOT_UTF8, asked};
 use crate::decode::decode;
 use crate::ending::{Ending, Stop};
-use crate::options::{LineFault, Options};
+use crate::options::{LineFault, Options, Plan, Sides, Store};
 use crate::run::run_text;
 use crate::threads::run_threads;
+use btree_store::BTreeStore;
+use commit_order_tracker::CommitOrder;
+use schema::Memory;
 use std::alloc::Global;
 use std::env::Args;
 use std::io;
 use std::io::{BufReader, ErrorKind, Read, Write};
 use std::sync::Wait;
 use std::thread::Threads;
+use tracker_trait::{Mode, Tracker};
+use vector_store::VectorStore;
+use writeset_trackers::{WriteSetSession, WriteSetTracker};
 
 /// As many bytes are read at once.
 const CHUNK: usize = 65536;
@@ -78,12 +84,78 @@ fn serve<H: Threads + Wait + Sync, R: Read, W: Write, E: Write>(
     requires { IsInRange options.now }
 {
     match options {
-        Options::Run { workers } => tell(run(alloc, *workers, input, output), errors),
-        Options::Threads(plan) => match run_threads(rt, alloc, plan, output) {
-            Ok(ending) => ending,
-            Err(stop) => stop.tell(errors),
-        },
+        Options::Run(sides) => tell(run(alloc, *sides, input, output), errors),
+        Options::Threads(plan) => threads(rt, alloc, plan, output, errors),
         Options::Decode => tell(decode(alloc, input, output), errors),
+    }
+}
+
+/// Runs both sides in many threads, with the tracker that the plan asks for.
+fn threads<H: Threads + Wait + Sync, W: Write, E: Write>(
+    rt: &H,
+    alloc: Global,
+    plan: &Plan,
+    output: &mut W,
+    errors: &mut E,
+) -> Ending
+    requires { IsInRange (Options.Threads plan.now) }
+{
+    let limit = plan.sides.history as u32;
+    match plan.sides.tracker {
+        Mode::CommitOrder => threads_by(rt, alloc, Ok(CommitOrder), plan, output, errors),
+        Mode::Writeset => {
+            let tracker = WriteSetTracker::with_limit(alloc, limit);
+            threads_by(rt, alloc, tracker, plan, output, errors)
+        }
+        Mode::WritesetSession => {
+            let tracker = WriteSetSession::with_limit(alloc, limit);
+            threads_by(rt, alloc, tracker, plan, output, errors)
+        }
+    }
+}
+
+/// Runs both sides in many threads with this tracker, where there is memory for it, over the plan's store.
+fn threads_by<
+    T: Tracker + Drop + Send + Sync,
+    H: Threads + Wait + Sync,
+    W: Write,
+    E: Write,
+>(
+    rt: &H,
+    alloc: Global,
+    tracker: Result<T, Memory>,
+    plan: &Plan,
+    output: &mut W,
+    errors: &mut E,
+) -> Ending
+    requires tracker { IfOk tracker (IsNewTracker T.agrees) }
+    requires plan { IsInRange (Options.Threads plan.now) }
+{
+    let tracker = match tracker {
+        Ok(tracker) => tracker,
+        Err(Memory) => return Stop::Memory.tell(errors),
+    };
+    match plan.sides.store {
+        Store::BTree => tell_ending(
+            run_threads::<BTreeStore, T, H, W>(rt, alloc, tracker, plan, output),
+            errors,
+        ),
+        Store::Vector => tell_ending(
+            run_threads::<VectorStore, T, H, W>(rt, alloc, tracker, plan, output),
+            errors,
+        ),
+    }
+}
+
+/// How the work ended that came to these sides; where it stopped that is told.
+fn tell_ending<S: Drop, E: Write>(came: Result<(Ending, S), Stop>, errors: &mut E) -> Ending
+    ensures ended { IfOk came (λ came. result ≡ came.0) }
+    ensures stopped { IfErr came (λ stop. result ≢ Ending.Stream → result ≡ ending_of stop) }
+    ensures told { IfErr came (λ stop. result ≢ Ending.Stream → Appends (E.contents errors.old) (E.contents errors.new) (stop_text stop ++ 10 ∷ [])) }
+{
+    match came {
+        Ok((ending, _)) => ending,
+        Err(stop) => stop.tell(errors),
     }
 }
 
@@ -99,17 +171,16 @@ fn tell<E: Write>(done: Result<(), Stop>, errors: &mut E) -> Ending
     }
 }
 
-/// Runs the script of a reader, with so many workers.
+/// Runs the script of a reader, over both sides that are made of these parts.
 fn run<R: Read, W: Write>(
     alloc: Global,
-    workers: usize,
+    sides: Sides,
     input: &mut R,
     output: &mut W,
 ) -> Result<(), Stop>
-    requires some { 1 ≤ workers }
-    requires few { workers ≤ 64 }
-    ensures { OnOk result (IfSome (R.remaining input.old) (λ text. PrintsText workers text (W.contents output.old) (W.contents output.new))) }
+    requires { AreSides sides }
+    ensures { OnOk result (IfSome (R.remaining input.old) (λ text. PrintsText (kind_for sides) sides.workers text (W.contents output.old) (W.contents output.new))) }
 {
     let mut input = BufReader::with_capacity(alloc, CHUNK, input)?;
-    run_text(alloc, workers, &mut input, output)
+    run_text(alloc, sides, &mut input, output)
 }

@@ -1,34 +1,41 @@
 //! A source and a replica in many threads.
 //!
-//! Each session, each worker and each reader has a thread of its own, and so has the wire that hands the source's records
-//! to the replica. `changes` is what a session writes and what its rows are in the end; `bell` wakes the wire; `feeding` is
-//! the work of the sessions and of the wire, `serving` that of the workers and the readers. Once all threads have ended
-//! `comparing` reads each row on both sides, and `sides` opens and ends these.
+//! Each session, each worker and each reader has a thread of its own, and so has the wire that sends the source's log to the
+//! replica, as bytes in pieces. `changes` is what a session writes and what its rows are in the end; `feeding` is the work of the
+//! sessions and of the wire, `serving` that of the workers and the readers. Once all threads have ended `comparing` reads each
+//! row on both sides, and `sides` opens and ends these. `reading` keeps what a reader saw, and `ended` judges what came of both
+//! sides.
 //!
 //! No thread waits for one that may never come: the wire is told when the sessions have ended, whatever they came to, and
 //! the workers when the wire has. Where no thread can be made the work is done one after another, in that order.
 
-mod bell;
 mod changes;
 mod comparing;
+mod ended;
 mod feeding;
+mod reading;
 mod serving;
 mod sides;
 mod trouble;
 
-ghost use Rattle.std.specs.Prelude.{◌≡◌, ◌++◌, ◌∷◌, [], IfOk, OnOk};
+ghost use Rattle.std.specs.Prelude.{◌≡◌, ◌++◌, ◌∷◌, [], IfOk, IfSome, OnOk};
 ghost use Rattle.std.specs.Io.KnownBytes.{Appends};
 ghost use Rattle.mtr.specs.Options.{IsInRange};
-ghost use Rattle.mtr.specs.Threads.{PrintsVerdict, verdict_text, ending_for};
+ghost use Rattle.mtr.specs.Pair.{IsNewTracker};
+ghost use Rattle.mtr.specs.Threads.{IsEnded, IsVerdictOf, PrintsVerdict, verdict_text, ending_for};
 
 use crate::ending::{Ending, Stop};
 use crate::options::{Options, Plan};
+use crate::pair::NewStore;
+use ended::Ended;
 use sides::open_and_run;
 use std::alloc::Global;
 use std::io;
 use std::io::Write;
 use std::sync::Wait;
 use std::thread::Threads;
+use store_trait::RowStore;
+use tracker_trait::Tracker;
 use trouble::Trouble;
 
 /// What both sides came to.
@@ -40,24 +47,44 @@ pub enum Verdict {
     Different,
 }
 
-/// Runs both sides as the plan says, and prints what they came to. With t transactions in all the time is t log t.
-pub fn run_threads<H: Threads + Wait + Sync, W: Write>(
+/// Runs both sides as the plan says, over stores of this type, and prints what they came to. It answers that, and the two sides.
+/// With t transactions in all the time is t log t, and more for a store whose batches cost more.
+pub fn run_threads<
+    S: NewStore,
+    T: Tracker + Drop + Send + Sync,
+    H: Threads + Wait + Sync,
+    W: Write,
+>(
     rt: &H,
     alloc: Global,
+    tracker: T,
     plan: &Plan,
     output: &mut W,
-) -> Result<Ending, Stop>
-    requires { IsInRange (Options.Threads plan.now) }
-    ensures { IfOk result (λ ending. PrintsVerdict ending (W.contents output.old) (W.contents output.new)) }
+) -> Result<(Ending, Option<Ended<S, T>>), Stop>
+    requires tracker { IsNewTracker T.agrees tracker }
+    requires plan { IsInRange (Options.Threads plan.now) }
+    ensures { IfOk result (λ came. PrintsVerdict came.0 came.1 (W.contents output.old) (W.contents output.new)) }
 {
-    let verdict = match open_and_run(rt, alloc, plan) {
-        Ok(verdict) => verdict,
-        Err(Trouble::Different) => Verdict::Different,
+    let ended = match open_and_run::<S, T, H>(rt, alloc, tracker, plan) {
+        Ok(ended) => Some(ended),
+        Err(Trouble::Different) => None,
         Err(Trouble::Memory) => return Err(Stop::Memory),
     };
+    let verdict = verdict_of(&ended);
     write_verdict(output, verdict)?;
     output.flush()?;
-    Ok(verdict.ending())
+    Ok((verdict.ending(), ended))
+}
+
+/// The verdict of two sides; different where a call was refused before they ended.
+fn verdict_of<S: RowStore, T: Tracker>(ended: &Option<Ended<S, T>>) -> Verdict
+    requires { IfSome ended.now IsEnded }
+    ensures { IsVerdictOf result ended.now }
+{
+    match ended {
+        Some(ended) => ended.verdict(),
+        None => Verdict::Different,
+    }
 }
 
 impl Verdict {

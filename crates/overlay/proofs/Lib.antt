@@ -3,3 +3,6 @@ pub mod Follow
 pub mod Run
 pub mod Apart
 pub mod Joining
+pub mod Misfits
+pub mod ChildRows
+pub mod Scan

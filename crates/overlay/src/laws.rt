@@ -1,6 +1,8 @@
 //! What follows from the definitions alone. Each function states a law by its contract, and does nothing.
 
 ghost use Rattle.overlay.specs.Follows.{NoneFollows, StepFollows, PushedFollows, ShowsRows, SeesAfter, MovesOver};
+ghost use Rattle.overlay.specs.Misfit.{LeavesWhereItApplies};
+ghost use Rattle.overlay.specs.Children.{TellsChildren};
 ghost use Rattle.overlay.specs.Joining.{ApartGoesOn, ApartWithoutConflict, JoinedGoesOn, JoinedHasRows, JoinedRises, NotYetJoined, JoinedIsAfter, BatchIsAfter};
 
 /// How the overlay of changes that apply one after another goes on: from no changes, by a change that applies,
@@ -39,4 +41,11 @@ pub fn joined()
 pub fn joined_is_after()
     ensures joined { JoinedIsAfter }
     ensures batch { BatchIsAfter }
+{}
+
+/// What a transaction sees of a change and of children: a change leaves its row just where it applies, and whether a row
+/// has a child tells whether some row names it as its parent.
+pub fn sees()
+    ensures leaves { LeavesWhereItApplies }
+    ensures children { TellsChildren }
 {}

@@ -2,8 +2,8 @@
 //!
 //! An `Overlay` has the changes of a transaction in the order in which they were made, and what they leave of
 //! each row that they are of. Laid over the committed rows it shows what the transaction sees; its batch, put
-//! into them, commits it. `Joined` makes one batch of what several transactions leave. `row_seen`, `parent_seen`
-//! and `left_seen` look through an overlay into a store, and `run_changes` makes the overlay of a whole list of
+//! into them, commits it. `Joined` makes one batch of what several transactions leave. `row_seen`, `parent_seen`,
+//! `left_seen` and `has_child` look through an overlay into a store, and `run_changes` makes the overlay of a whole list of
 //! changes. `laws` states what the overlay of changes that apply one after another shows, and what the joined
 //! batch of transactions leaves that do not touch each other's rows.
 #![tactic(auto)]
@@ -11,19 +11,22 @@
 ghost use Rattle.std.specs.Prelude.{◌≡◌, ◌↔◌, [], length, IsTrue, IfOk, OnOk, OnErr, unwrap_or, option_copied};
 ghost use Rattle.std.specs.Option.{option_map};
 ghost use Rattle.std.specs.FinMap.{get as row_of};
-ghost use Rattle.rows.specs.Database.{target, apply, effect, parent_of, has_parent};
+ghost use Rattle.rows.specs.Database.{target, effect, parent_of, has_parent};
 ghost use Rattle.rows.specs.Effect.{parent_stands, sets_parent};
 ghost use Rattle.store_trait.specs.Batch.{IsRising};
 ghost use Rattle.overlay.specs.Pending.{none_pending, pushed, left_at, seen, pending_of};
+ghost use Rattle.overlay.specs.Misfit.{left_or};
 
+mod children;
 mod joined;
 pub mod laws;
 mod roomy;
 
+pub use children::has_child;
 use indexmap::IndexMap;
 pub use joined::Joined;
 pub use roomy::Roomy;
-use rows::{Change, Row, apply_one};
+use rows::{Change, ChangeFault, Row, apply_one};
 use schema::{Memory, RowId, Schema};
 use std::alloc::Global;
 use std::marker::Model;
@@ -164,27 +167,43 @@ pub fn parent_seen<S: RowStore>(
     }
 }
 
-/// What the change leaves of its row, where it applies to the rows as the transaction sees them. It takes no
-/// memory. The time is that of at most two look-ups in the store.
+/// Why a change does not apply to the rows as a transaction sees them.
+#[derive(Clone, Copy, Debug, PartialEq, Eq)]
+pub enum Misfit {
+    /// It does not fit its own row: an insert of one that is there, another change of one that is not, or a column that
+    /// it lacks.
+    Row(ChangeFault),
+    /// The row that it gives its own as parent is not there.
+    NoParent,
+}
+
+/// What the change leaves of its row, where it applies to the rows as the transaction sees them, or why it does not: its
+/// own row is looked at first, and then the parent that the change gives it. It takes no memory. The time is that of at
+/// most two look-ups in the store.
 pub fn left_seen<S: RowStore>(
     overlay: &Overlay,
     schema: &Schema,
     store: &S,
     change: &Change,
-) -> Option<Option<Row>>
-    ensures { result ≡ option_map (λ after. row_of after (target change.now)) (apply schema.now change.now (seen overlay.now (S.contents store.now))) }
+) -> Result<Option<Row>, Misfit>
+    ensures { result ≡ left_or schema.now change.now (seen overlay.now (S.contents store.now)) }
 {
     let before = row_seen(overlay, store, change.target());
-    let left = apply_one(change, before.as_ref()).ok()?;
-    if parent_holds(overlay, schema, store, change, left.as_ref()) {
-        Some(left)
-    } else {
-        None
+    match apply_one(change, before.as_ref()) {
+        Ok(left) => {
+            if parent_holds(overlay, schema, store, change, left.as_ref()) {
+                Ok(left)
+            } else {
+                Err(Misfit::NoParent)
+            }
+        }
+        Err(fault) => Err(Misfit::Row(fault)),
     }
 }
 
-/// Whether the parent that the change gives its row, which it leaves so, is there, if it gives one.
-fn parent_holds<S: RowStore>(
+/// Whether the parent that the change gives its row, which it leaves so, is there, if it gives one. It takes no memory.
+/// The time is that of at most one look-up in the store.
+pub fn parent_holds<S: RowStore>(
     overlay: &Overlay,
     schema: &Schema,
     store: &S,
@@ -227,7 +246,7 @@ pub fn run_changes<S: RowStore>(
 {
     let mut overlay = Overlay::with_room(alloc, changes.len())?;
     for change in changes {
-        let Some(left) = left_seen(&overlay, schema, store, change) else {
+        let Ok(left) = left_seen(&overlay, schema, store, change) else {
             return Ok(None);
         };
         overlay.push(*change, left)?;

@@ -1,14 +1,12 @@
 -- Which records a parent covers, by the test of each record.
-use Rattle.std.proofs.Common.{◌≡◌, ℕ, zero, suc, ◌+◌, ◌<◌, Bool, true, false, not, ◌||◌, ◌&&◌, nat_le, List, [], ◌∷◌, map, reverse, drop, Some, refl, ap, ◌∙◌, arith, IsTrue, ◌↔◌}
+use Rattle.std.proofs.Common.{◌≡◌, ℕ, ◌+◌, Bool, true, false, not, ◌||◌, ◌&&◌, nat_le, List, [], ◌∷◌, map, Some, refl, IsTrue, ◌↔◌}
 use Rattle.std.specs.List.{list_all, slice_get}
-use Rattle.std.proofs.lemmas.List.{reverse-append}
-use Rattle.std.proofs.lemmas.List.Folds.{list_all-append}
 use Rattle.schema.specs.Rows.{Touched, conflicts}
 use Rattle.schema.specs.Covering.{Covers}
 use Rattle.record_codec.specs.declared.records.Record.{Record}
 use Rattle.record_codec.specs.Log.{touched, place_of}
 use Rattle.relay.specs.Relay.{is_covered}
-use Rattle.relay.proofs.Numbers.{le_from, le_to, above_to}
+use Rattle.relay.proofs.Numbers.{le_from, le_to}
 
 -- ---- one record
 
@@ -46,40 +44,6 @@ covers_passes (before ∷ log) rows parent all =
 pub covered_by_parent : (log : List Record) (new : Record) → IsTrue (is_covered log new) ↔ Covers (map place_of log) (touched new) new.parent
 covered_by_parent log new = (passed_covers log (touched new) new.parent, covers_passes log (touched new) new.parent)
 
--- ---- the records behind the parent
-
-turned : (a b : Bool) → (a && (b && true)) ≡ (b && a)
-turned true true = refl
-turned true false = refl
-turned false true = refl
-turned false false = refl
-
-pub list_all-reverse : {X : Type 0} (p : X → Bool) (xs : List X) → list_all p (reverse xs) ≡ list_all p xs
-list_all-reverse p [] = refl
-list_all-reverse p (x ∷ xs) =
-    ap (list_all p) (reverse-append (x ∷ []) xs) ∙ list_all-append p (reverse xs) (x ∷ []) ∙ turned (list_all p (reverse xs)) (p x) ∙ ap (λ b. p x && b) (list_all-reverse p xs)
-
--- the test of a record behind the parent
-abbrev pub is_apart : Touched → Record → Bool
-is_apart rows before = not (conflicts (touched before) rows)
-
--- records above the parent pass where they do not conflict
-all_behind : (log : List Record) (rows : Touched) (parent : ℕ) → ((i : ℕ) (r : Record) → slice_get log i ≡ Some r → parent < r.sequence) → list_all (is_apart rows) log ≡ list_all (is_passed rows parent) log
-all_behind [] rows parent above = refl
-all_behind (r ∷ log) rows parent above =
-    let here = above_to r.sequence parent (above 0 r refl) in
-    rw here (ap (λ b. is_apart rows r && b) (all_behind log rows parent (λ i q is. above (suc i) q is)))
-
 -- the records are numbered behind n
 abbrev pub AreBehind : ℕ → List Record → Type 0
 AreBehind n log = (i : ℕ) (r : Record) → slice_get log i ≡ Some r → r.sequence ≡ n + i + 1
-
--- so only those behind the parent have to be looked at
-pub behind_parent : (log : List Record) (n k : ℕ) (rows : Touched) (parent : ℕ) → AreBehind n log → parent ≡ n + k → list_all (is_apart rows) (drop k log) ≡ list_all (is_passed rows parent) log
-behind_parent [] n zero rows parent are e = refl
-behind_parent [] n (suc k) rows parent are e = refl
-behind_parent (r ∷ log) n zero rows parent are e = all_behind (r ∷ log) rows parent (λ i q is. let number = are i q is in omega arith)
-behind_parent (r ∷ log) n (suc k) rows parent are e =
-    let number = are 0 r refl in
-    let here = le_to r.sequence parent (omega arith) in
-    rw here (behind_parent log (n + 1) k rows parent (λ i q is. let at = are (suc i) q is in omega arith) (omega arith))

@@ -1,9 +1,9 @@
 -- What the tests of a received record say.
-use Rattle.std.proofs.Common.{◌≡◌, ℕ, ◌+◌, ◌-◌, ◌<◌, ◌≤◌, ◌^◌, Bool, true, false, not, ◌&&◌, ◌||◌, nat_le, nat_lt, List, [], ◌∷◌, ◌++◌, length, take, drop, reverse, Result, Ok, Err, refl, sym, ap, subst, ◌∙◌, arith, length-drop}
+use Rattle.std.proofs.Common.{◌≡◌, ℕ, ◌+◌, ◌-◌, ◌<◌, ◌≤◌, ◌^◌, Bool, true, false, not, ◌&&◌, ◌||◌, nat_le, nat_lt, List, [], ◌∷◌, ◌++◌, length, Result, Ok, Err, refl, sym, ap, subst, ◌∙◌, arith}
 use Rattle.std.specs.Prelude.{◌==◌, if◌then◌else◌}
 use Rattle.std.specs.List.{list_all}
 use Rattle.std.specs.Str.{bytes_eq}
-use Rattle.std.proofs.lemmas.List.{take_all}
+use Rattle.std.proofs.lemmas.Bool.{and_from, and_parts}
 use Rattle.std.proofs.lemmas.Slice.Eq.{bytes_eq-Decides}
 use Rattle.schema.specs.declared.Table.{Table}
 use Rattle.rows.specs.Shape.{is_shaped}
@@ -13,11 +13,16 @@ use Rattle.relay.specs.declared.ReplicaFault.{ReplicaFault}
 use Rattle.relay.specs.declared.ReplicaFault.TheVariants.{Gap, ForeignSource, Malformed, BadParent}
 use Rattle.relay.specs.declared.Received.{Received}
 use Rattle.relay.specs.declared.Received.TheVariants.{Accepted, Skipped}
-use Rattle.relay.specs.Relay.{Relay, is_malformed, is_covered, received, IsAcceptable, AreAcceptable}
+use Rattle.relay.specs.Form.{has_flags, are_parents, has_ref}
+use Rattle.relay.specs.Relay.{Relay, is_formed, is_malformed, is_covered, received, IsAcceptable}
 use Rattle.relay.specs.Laws.{AcceptsTheAcceptable}
 use Rattle.relay.proofs.Numbers.{lt_from, eq_from, le_to, above_to, lt_to, eq_to, ne_to}
-use Rattle.relay.proofs.Covered.{is_apart, behind_parent, passed_covers, covers_passes, list_all-reverse}
-use Rattle.relay.proofs.Acceptable.{are_behind, next_is_acceptable}
+use Rattle.relay.specs.Touches.{Marks, Notes}
+use Rattle.relay.specs.Kept.{IsKept}
+use Rattle.gtid_set.specs.Ids.{Ids, first_ids, Adds}
+use Rattle.gtid_set.proofs.Firsts.{next}
+use Rattle.relay.proofs.Covered.{passed_covers, covers_passes}
+use Rattle.relay.proofs.Last.{one_more_kept}
 
 -- the answer by its tests
 abbrev pub answer_by : Bool → Bool → Bool → Bool → Bool → Result Received ReplicaFault
@@ -43,27 +48,48 @@ all_passed false malformed skipped next covered e = absurd cc
 -- ---- the form of a record
 
 abbrev malformed_by : Bool → Bool → Bool → Bool → Bool → Bool
-malformed_by some few same below shaped = not (some && few) || not same || not below || not shaped
+malformed_by some few same below formed = not (some && few) || not same || not below || not formed
 
 record WellFormed (s f g b h : Bool) : Type 0 where
   some : s ≡ true
   few : f ≡ true
   same : g ≡ true
   below : b ≡ true
-  shaped : h ≡ true
+  formed : h ≡ true
 
-well_formed : (some few same below shaped : Bool) → malformed_by some few same below shaped ≡ false → WellFormed some few same below shaped
-well_formed true true true true true e = record { some = refl; few = refl; same = refl; below = refl; shaped = refl }
+-- the parts of what the tables allow
+record Formed (s f p r : Bool) : Type 0 where
+  shaped : s ≡ true
+  flags : f ≡ true
+  parents : p ≡ true
+  refs : r ≡ true
+
+formed_by : (shaped flags parents refs : Bool) → (shaped && flags && parents && refs) ≡ true → Formed shaped flags parents refs
+formed_by shaped flags parents refs h =
+    let three = and_parts (shaped && flags && parents) refs h in
+    let two = and_parts (shaped && flags) parents three.0 in
+    let one = and_parts shaped flags two.0 in
+    record { shaped = one.0; flags = one.1; parents = two.1; refs = three.1 }
+
+formed_of : (ts : List Table) (log : List Record) (new : Record) → IsAcceptable ts log new → is_formed ts new ≡ true
+formed_of ts log new is =
+    and_from (list_all (is_shaped ts) new.changes && has_flags ts new && are_parents ts new.refs) (list_all (has_ref ts new.refs) new.changes)
+    (and_from (list_all (is_shaped ts) new.changes && has_flags ts new) (are_parents ts new.refs)
+    (and_from (list_all (is_shaped ts) new.changes) (has_flags ts new) is.shaped is.flags) is.parents) is.refs
+
+well_formed : (some few same below formed : Bool) → malformed_by some few same below formed ≡ false → WellFormed some few same below formed
+well_formed true true true true true e = record { some = refl; few = refl; same = refl; below = refl; formed = refl }
 well_formed true true true true false e = absurd cc
-well_formed true true true false shaped e = absurd cc
-well_formed true true false below shaped e = absurd cc
-well_formed true false same below shaped e = absurd cc
-well_formed false few same below shaped e = absurd cc
+well_formed true true true false formed e = absurd cc
+well_formed true true false below formed e = absurd cc
+well_formed true false same below formed e = absurd cc
+well_formed false few same below formed e = absurd cc
 
 pub accepted_is_acceptable : (r : Relay) (from : List ℕ) (new : Record) → received r from new ≡ Ok Accepted → (from ≡ r.source) × IsAcceptable r.tables r.accepted new
 accepted_is_acceptable r from new e =
     let p = all_passed (bytes_eq from r.source) (is_malformed r.tables new) (nat_le new.gno (length r.accepted)) (new.gno == length r.accepted + 1) (is_covered r.accepted new) e in
-    let w = well_formed (nat_le 1 new.gno) (nat_lt new.gno (2 ^ 63)) (new.sequence == new.gno) (nat_lt new.parent new.sequence) (list_all (is_shaped r.tables) new.changes) p.malformed in
+    let w = well_formed (nat_le 1 new.gno) (nat_lt new.gno (2 ^ 63)) (new.sequence == new.gno) (nat_lt new.parent new.sequence) (is_formed r.tables new) p.malformed in
+    let f = formed_by (list_all (is_shaped r.tables) new.changes) (has_flags r.tables new) (are_parents r.tables new.refs) (list_all (has_ref r.tables new.refs) new.changes) w.formed in
     let gno = eq_from new.gno (length r.accepted + 1) p.next in (
       (bytes_eq-Decides from r.source).0 p.same,
       record {
@@ -72,22 +98,25 @@ accepted_is_acceptable r from new e =
         bound = lt_from new.gno (2 ^ 63) w.few;
         below = lt_from new.parent new.sequence w.below;
         covers = passed_covers r.accepted (touched new) new.parent p.covered;
-        shaped = w.shaped;
+        shaped = f.shaped;
+        flags = f.flags;
+        parents = f.parents;
+        refs = f.refs;
       },
     )
 
-not_malformed : (some few same below shaped : Bool) → WellFormed some few same below shaped → malformed_by some few same below shaped ≡ false
-not_malformed some few same below shaped w = rw (w.some, w.few, w.same, w.below, w.shaped)
+not_malformed : (some few same below formed : Bool) → WellFormed some few same below formed → malformed_by some few same below formed ≡ false
+not_malformed some few same below formed w = rw (w.some, w.few, w.same, w.below, w.formed)
 
 pub well_formed_record : (ts : List Table) (log : List Record) (new : Record) → IsAcceptable ts log new → is_malformed ts new ≡ false
 well_formed_record ts log new is =
-    not_malformed (nat_le 1 new.gno) (nat_lt new.gno (2 ^ 63)) (new.sequence == new.gno) (nat_lt new.parent new.sequence) (list_all (is_shaped ts) new.changes)
+    not_malformed (nat_le 1 new.gno) (nat_lt new.gno (2 ^ 63)) (new.sequence == new.gno) (nat_lt new.parent new.sequence) (is_formed ts new)
     (record {
       some = le_to 1 new.gno (omega (arith, is.gno));
       few = lt_to new.gno (2 ^ 63) is.bound;
       same = eq_to new.sequence new.gno (is.sequence ∙ sym is.gno);
       below = lt_to new.parent new.sequence is.below;
-      shaped = is.shaped;
+      formed = formed_of ts log new is;
     })
 
 by_passed : (same malformed skipped next covered : Bool) → Passed same malformed skipped next covered → answer_by same malformed skipped next covered ≡ Ok Accepted
@@ -107,20 +136,25 @@ acceptable_is_accepted r from new same is =
 pub accepts_the_acceptable : AcceptsTheAcceptable
 accepts_the_acceptable r from new = (accepted_is_acceptable r from new, λ both. acceptable_is_accepted r from new both.0 both.1)
 
--- the walk over the records behind the parent tells whether all are covered
-pub covered_behind : (ts : List Table) (log all : List Record) (new : Record) (found : Bool) → AreAcceptable ts log → all ≡ log →
-    found ≡ list_all (is_apart (touched new)) (reverse (take (length all - new.parent) (drop new.parent all))) → is_covered log new ≡ found
-covered_behind ts log all new found are same e =
-    let rest : take (length all - new.parent) (drop new.parent all) ≡ drop new.parent all = take_all (length all - new.parent) (drop new.parent all) (omega (arith, length-drop new.parent all)) in
-    sym (e ∙ ap (λ l. list_all (is_apart (touched new)) (reverse l)) rest ∙ list_all-reverse (is_apart (touched new)) (drop new.parent all) ∙ ap (λ l. list_all (is_apart (touched new)) (drop new.parent l)) same
-    ∙ behind_parent log 0 new.parent (touched new) new.parent (are_behind ts log are) (omega arith))
+-- what a record that is accepted is, as it is judged
+pub next_of : (r now : Relay) (from : List ℕ) (new : Record) (answer : Result Received ReplicaFault) → r ≡ now → answer ≡ received now from new → answer ≡ Ok Accepted → (from ≡ r.source) × IsAcceptable r.tables r.accepted new
+next_of r now from new answer same e is = accepted_is_acceptable r from new (ap (λ (q : Relay). received q from new) same ∙ sym e ∙ is)
 
--- what a relay keeps once it took a copy of a record that is accepted
-pub copy_is_kept : (r now : Relay) (from : List ℕ) (new copy : Record) (left : List Record) (answer : Result Received ReplicaFault) → AreAcceptable r.tables r.accepted → r ≡ now →
-    answer ≡ received now from new → answer ≡ Ok Accepted → copy ≡ new → left ≡ r.accepted ++ copy ∷ [] → AreAcceptable r.tables left
-copy_is_kept r now from new copy left answer are same e is as_new kept =
-    let next = (accepted_is_acceptable r from new (ap (λ (q : Relay). received q from new) same ∙ sym e ∙ is)).1 in
-    subst (AreAcceptable r.tables) (ap (λ q. r.accepted ++ q ∷ []) (sym as_new) ∙ sym kept) (next_is_acceptable r.tables r.accepted new are next)
+-- the id is put in behind those before it
+pub next_put : (source : List ℕ) (gno : ℕ) (old new : Ids) → 1 ≤ gno → gno < 2 ^ 63 → old ≡ first_ids source (gno - 1) → Adds old new (record { source = source; gno = gno }) → new ≡ first_ids source gno
+next_put source gno old new some few before adds =
+    let n = gno - 1 in
+    let number : n + 1 ≡ gno = omega arith in
+    let behind : Adds (first_ids source n) new (record { source = source; gno = gno }) = subst (λ (s : Ids). Adds s new (record { source = source; gno = gno })) before adds in
+    let put : Adds (first_ids source n) new (record { source = source; gno = n + 1 }) = subst (λ (k : ℕ). Adds (first_ids source n) new (record { source = source; gno = k })) (sym number) behind in
+    next source n new (omega arith) put ∙ ap (first_ids source) number
+
+-- what a relay keeps once it took a copy of a record that is accepted, put its id in, and noted its rows
+pub copy_is_kept : (r : Relay) (from : List ℕ) (new copy : Record) (left : List Record) (ids with_next : Ids) (marks roomy noted : Marks) → IsKept r.tables r.source r.accepted ids marks → (from ≡ r.source) × IsAcceptable r.tables r.accepted new →
+    copy ≡ new → left ≡ r.accepted ++ copy ∷ [] → with_next ≡ first_ids from new.gno → roomy ≡ marks → Notes roomy new noted → IsKept r.tables r.source left with_next noted
+copy_is_kept r from new copy left ids with_next marks roomy noted kept next as_new pushed put room notes =
+    one_more_kept r.tables r.source r.accepted left ids with_next marks noted new kept next.1 (pushed ∙ ap (λ q. r.accepted ++ q ∷ []) as_new) (put ∙ ap (λ s. first_ids s new.gno) next.0)
+    (subst (λ (m : Marks). Notes m new noted) room notes)
 
 -- ---- records that are not the next
 

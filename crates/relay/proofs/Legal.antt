@@ -1,13 +1,21 @@
 -- What a relay makes of a legal log.
 use Rattle.std.proofs.Common.{◌≡◌, ℕ, ◌+◌, ◌<◌, true, List, [], ◌∷◌, ◌++◌, length, take, refl, sym, ap, subst, ◌∙◌, arith, inl, inr, length-append, length-take}
 use Rattle.std.specs.List.{list_all}
-use Rattle.std.proofs.lemmas.Bool.{cases_eq, cases_lt}
+use Rattle.std.proofs.lemmas.Bool.{cases_eq, cases_lt, and_from}
+use Rattle.std.specs.Cmp.{booleans_Decides}
+use Rattle.std.proofs.Math.Bool.{beq}
 use Rattle.schema.specs.declared.Table.{Table}
+use Rattle.schema.specs.Flags.{is_fk, misses_keys}
+use Rattle.rows.specs.Database.{writes}
 use Rattle.rows.specs.Shape.{is_shaped}
 use Rattle.record_codec.specs.declared.records.Record.{Record}
+use Rattle.record_codec.specs.declared.records.Flags.{Flags}
+use Rattle.record_codec.specs.Log.{flags_of}
+use Rattle.relay.specs.Form.{has_flags}
 use Rattle.relay.specs.Relay.{received, IsAcceptable}
 use Rattle.relay.specs.Laws.{AreShaped, LegalIsAcceptable, ReceivesOfLog}
 use Rattle.relay.proofs.Acceptable.{split_at}
+use Rattle.relay.proofs.Referred.{refs_are_parents, all_have_refs}
 use Rattle.relay.proofs.Judged.{well_formed_record, acceptable_is_accepted, is_skipped, is_gap, by_number, at_most, at_next, past_next}
 
 shaped_in : (ts : List Table) (front rest : List Record) (new : Record) → AreShaped ts (front ++ new ∷ rest) → list_all (is_shaped ts) new.changes ≡ true
@@ -16,6 +24,13 @@ shaped_in ts (r ∷ front) rest new all = shaped_in ts front rest new all.1
 
 within : (log front rest : List Record) (new : Record) → log ≡ front ++ new ∷ rest → length front < length log
 within log front rest new e = omega (arith, ap length e, length-append front (new ∷ rest))
+
+-- flags that are those of the tables that are written pass the test
+flags_fit : (ts : List Table) (new : Record) → new.flags ≡ flags_of ts (writes new.changes) → has_flags ts new ≡ true
+flags_fit ts new is =
+    let fk : beq new.flags.fk (is_fk ts (writes new.changes)) ≡ true = (booleans_Decides new.flags.fk (is_fk ts (writes new.changes))).1 (ap (λ (f : Flags). f.fk) is) in
+    let keys : beq new.flags.missing_keys (misses_keys ts (writes new.changes)) ≡ true = (booleans_Decides new.flags.missing_keys (misses_keys ts (writes new.changes))).1 (ap (λ (f : Flags). f.missing_keys) is) in
+    and_from (beq new.flags.fk (is_fk ts (writes new.changes))) (beq new.flags.missing_keys (misses_keys ts (writes new.changes))) fk keys
 
 pub legal_is_acceptable : LegalIsAcceptable
 legal_is_acceptable ts base log legal shaped few = λ front new rest e.
@@ -28,6 +43,9 @@ legal_is_acceptable ts base log legal shaped few = λ front new rest e.
       below = next.below;
       covers = next.covers;
       shaped = shaped_in ts front rest new (subst (λ (l : List Record). AreShaped ts l) e shaped);
+      flags = flags_fit ts new next.flags;
+      parents = refs_are_parents ts new.changes next.before new.refs next.refs;
+      refs = all_have_refs ts new.changes next.before next.leaves new.refs next.applies (λ q is. next.refs q ∙ is);
     }
 
 take_front : (front rest : List Record) (new : Record) → take (length front) (front ++ new ∷ rest) ≡ front

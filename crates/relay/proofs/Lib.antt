@@ -1,5 +1,9 @@
+pub mod Referred
+pub mod Searching
 pub mod Numbers
+pub mod Marks
 pub mod Covered
 pub mod Acceptable
+pub mod Last
 pub mod Judged
 pub mod Legal

@@ -1,2 +1,5 @@
+pub mod Form
 pub mod Relay
+pub mod Touches
+pub mod Kept
 pub mod Laws

@@ -8,6 +8,7 @@ use Rattle.schema.specs.Covering.{Covers}
 use Rattle.rows.specs.Shape.{is_shaped}
 use Rattle.record_codec.specs.declared.records.Record.{Record}
 use Rattle.record_codec.specs.Log.{touched, place_of}
+use Rattle.relay.specs.Form.{has_flags, are_parents, has_ref}
 use Rattle.relay.specs.declared.ReplicaFault.{ReplicaFault}
 use Rattle.relay.specs.declared.ReplicaFault.TheVariants.{Gap, ForeignSource, Malformed, BadParent}
 use Rattle.relay.specs.declared.Received.{Received}
@@ -20,12 +21,19 @@ pub record Relay : Type 0 where
   -- the records accepted, in order
   pub accepted : List Record
 
+-- Whether a source of these tables may write such changes, flags and refs, whatever the rows are: each change is of a table,
+-- and of columns that the table has; the flags are those of the tables that the changes write; each ref is of a table that is
+-- a parent; and each parent row that a change gives its row, as an insert into a child table does and an update that names the
+-- parent column, is among the refs.
+abbrev pub is_formed : List Table → Record → Bool
+is_formed ts new = list_all (is_shaped ts) new.changes && has_flags ts new && are_parents ts new.refs && list_all (has_ref ts new.refs) new.changes
+
 -- A record that no source of these tables writes, whatever is before it: its number is 0 or past the last one there can be;
--- its sequence number is another, or not above its parent; or a change is of no table, or of columns that its table lacks.
+-- its sequence number is another, or not above its parent; or its changes, flags and refs are none that these tables allow.
 abbrev pub is_malformed : List Table → Record → Bool
 is_malformed ts new =
     not (nat_le 1 new.gno && nat_lt new.gno (2 ^ 63)) || not (new.sequence == new.gno) || not (nat_lt new.parent new.sequence)
-    || not (list_all (is_shaped ts) new.changes)
+    || not (is_formed ts new)
 
 -- whether each of these records that conflicts with the new one is numbered at most its parent
 abbrev pub is_covered : List Record → Record → Bool
@@ -51,7 +59,8 @@ left_by_receive r new Accepted = with_accepted r new
 left_by_receive r new Skipped = r
 
 -- A record that may stand behind these: the next number, as gno and as sequence number; a parent below it that covers them;
--- and each change of a table, and of columns that the table has.
+-- each change of a table, and of columns that the table has; the flags of the tables that they write; refs to rows of parent
+-- tables alone, and among them each parent row that a change gives its row.
 pub record IsAcceptable (ts : List Table) (log : List Record) (new : Record) : Type 0 where
   pub gno : new.gno ≡ length log + 1
   pub sequence : new.sequence ≡ length log + 1
@@ -59,6 +68,9 @@ pub record IsAcceptable (ts : List Table) (log : List Record) (new : Record) : T
   pub below : new.parent < new.sequence
   pub covers : Covers (map place_of log) (touched new) new.parent
   pub shaped : list_all (is_shaped ts) new.changes ≡ true
+  pub flags : has_flags ts new ≡ true
+  pub parents : are_parents ts new.refs ≡ true
+  pub refs : list_all (has_ref ts new.refs) new.changes ≡ true
 
 -- each of the records may stand behind those before it
 abbrev pub AreAcceptable : List Table → List Record → Type 0

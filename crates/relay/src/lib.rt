@@ -3,21 +3,29 @@
 //! A `Relay` keeps the records that it accepted, in order. Nothing that is received is trusted: a record is accepted only from
 //! its source, in the form that this source's tables allow, as the next, and with a parent that covers what was
 //! accepted before. So whatever is received, the records that it keeps may be applied by many workers. What a record's changes
-//! do to the rows is not looked at. It stands on `record_codec` for records.
+//! do to the rows is not looked at. Beside the records it keeps their ids as a set, of which it asks whether a record came
+//! before, and which of them touched each row last (`touches`), so that no parent is judged by a walk over them. It stands on
+//! `record_codec` for records, on `gtid_set` for ids, and on `indexmap`.
 #![tactic(auto)]
 
-ghost use Rattle.std.specs.Prelude.{◌≡◌, ◌⊎◌, IfOk, OnErr, IsErrOf, [], Ok};
-ghost use Rattle.relay.specs.Relay.{received, left_by_receive, AreAcceptable};
+ghost use Rattle.std.specs.Prelude.{◌≡◌, ◌⊎◌, IfOk, OnErr, IsErrOf, [], Ok, false, nat_le, length};
+ghost use Rattle.relay.specs.Relay.{is_malformed as malformed, received, left_by_receive, AreAcceptable};
 
+mod form;
+mod ids;
 mod judging;
 pub mod laws;
+mod touches;
 
-use judging::{is_malformed, none_conflicts};
+use gtid_set::GtidSet;
+use ids::add_next;
+use judging::is_malformed;
 use record_codec::Record;
-use schema::{Memory, Schema};
-use std::alloc::{AllocFailed, Global};
+use schema::{Gtid, Memory, Schema};
+use std::alloc::{AllocError, AllocFailed, Global};
 use std::marker::Model;
 use thiserror::Error;
+use touches::Touches;
 use uuid::Uuid;
 
 /// What became of a record that was received.
@@ -72,6 +80,17 @@ impl From<Memory> for ReplicaFault {
     }
 }
 
+impl From<AllocError> for ReplicaFault {
+    ghost use Rattle.std.specs.Prelude.{◌≡◌};
+    ghost use Rattle.relay.specs.declared.ReplicaFault.TheVariants as faults;
+
+    ghost from_gives = { λ _ e. e ≡ faults.Memory };
+
+    fn from(_error: AllocError) -> ReplicaFault {
+        ReplicaFault::Memory
+    }
+}
+
 impl<T: Drop> From<AllocFailed<T>> for ReplicaFault {
     ghost use Rattle.std.specs.Prelude.{◌≡◌};
     ghost use Rattle.relay.specs.declared.ReplicaFault.TheVariants as faults;
@@ -89,16 +108,20 @@ pub struct Relay {
     schema: Schema,
     source: Uuid,
     accepted: Vec<Record>,
+    /// The ids of the records accepted.
+    ids: GtidSet,
+    touches: Touches,
 }
 
 impl Model for Relay {
-    ghost use Rattle.relay.specs.Relay.{Relay, AreAcceptable};
+    ghost use Rattle.relay.specs.Relay.{Relay};
+    ghost use Rattle.relay.specs.Kept.{IsKept};
 
     ghost Value = { Relay };
 
     ghost view = { λ r. record { tables = r.schema; source = r.source; accepted = r.accepted.items } };
 
-    ghost invariant = { λ r. AreAcceptable r.schema r.accepted.items };
+    ghost invariant = { λ r. IsKept r.schema r.source r.accepted.items r.ids r.touches.rows };
 }
 
 impl Relay {
@@ -110,16 +133,20 @@ impl Relay {
             schema,
             source,
             accepted: Vec::new(alloc),
+            ids: GtidSet::new(alloc),
+            touches: Touches::new(alloc),
         }
     }
 
     /// Accepts a copy of the record where it is the next, and skips one that was accepted before. It is refused, in this order,
     /// with `P2` where it is not of the relay's source; with `P3` where no source of these tables writes it: a number of 0 or
-    /// from 2 to the power 63 on, a sequence number that is not the gno, a parent that is not below it, or a change of no
-    /// table or of columns that its table lacks; skipped; with `P1` where its number is past the next; with `P4` where a
-    /// record that was accepted, and is numbered above its parent, conflicts with it; and with `P9`. The time is that of a walk
-    /// over the tables for each change, of the copy and, with n records behind the parent and b changes and r refs in each,
-    /// of n * b * (b + r) tests. Only the copy takes memory.
+    /// from 2 to the power 63 on, a sequence number that is not the gno, a parent that is not below it, a change of no
+    /// table or of columns that its table lacks, other flags than those of the tables that it writes, a ref to a table that is
+    /// no parent, or a child row's new parent that is not among the refs; skipped; with `P1` where its number is past the next;
+    /// with `P4` where a record that was accepted, and is numbered above its parent, conflicts with it; and with `P9`. The time
+    /// is that of some walks over the tables for each change and each ref, of a search in the refs for each change, of the copy,
+    /// and of two look-ups in a map for each change and each ref, expected constant each: it does not grow with the records that
+    /// were accepted. The copy takes memory, and so do the first id and each row that no record touched before.
     pub fn receive(&mut self, from: Uuid, new: &Record) -> Result<Received, ReplicaFault>
         ensures answer { IsErrOf result ReplicaFault.Memory ⊎ (result ≡ received self.old from new.now) }
 
@@ -131,7 +158,13 @@ impl Relay {
     {
         let answer = self.judge(from, new)?;
         if answer == Received::Accepted {
-            self.accepted.push(new.copy()?)?;
+            // Room first: behind the id nothing may fail.
+            self.touches.reserve(new)?;
+            self.accepted.reserve(1)?;
+            let copy = new.copy()?;
+            add_next(&mut self.ids, from, new.gno)?;
+            self.accepted.push(copy).unwrap();
+            self.touches.note(new);
         }
         Ok(answer)
     }
@@ -146,17 +179,28 @@ impl Relay {
         if is_malformed(&self.schema, new) {
             return Err(ReplicaFault::Malformed);
         }
-        let next = self.accepted.len() as u64 + 1;
-        if new.gno < next {
+        if self.has_received(from, new) {
             return Ok(Received::Skipped);
         }
-        if new.gno > next {
+        if new.gno != self.accepted.len() as u64 + 1 {
             return Err(ReplicaFault::Gap);
         }
-        if !none_conflicts(&self.accepted[new.parent as usize..], new) {
+        if !self.touches.are_behind(new) {
             return Err(ReplicaFault::BadParent);
         }
         Ok(Received::Accepted)
+    }
+
+    /// Whether a record of its id was accepted before.
+    fn has_received(&self, from: Uuid, new: &Record) -> bool
+        requires source { from ≡ self.now.source }
+        requires formed { malformed self.now.tables new.now ≡ false }
+        ensures { result ≡ nat_le new.now.gno (length self.now.accepted) }
+    {
+        self.ids.contains(Gtid {
+            source: from,
+            gno: new.gno,
+        })
     }
 
     /// The records accepted, in order, the record of number 1 first.

@@ -24,7 +24,7 @@ use Rattle.commit_order.specs.Turns.{Line, entered, with_result, turn, passed}
 use Rattle.replica_core.specs.Replica.{Replica, dispatched, rows_at, job_of, commits_from}
 use Rattle.replica_core.specs.Sound.{IsSound, IsUnderWay}
 use Rattle.replica_core.specs.Calls.{with_accepted, dispatched_next, with_finished, stopped_at, committed_next, with_published}
-use Rattle.replica_core.specs.Core.{IsKept, IsTaken}
+use Rattle.replica_core.specs.Core.{IsKept, IsTaken, input_in}
 use Rattle.replica_core.proofs.Commits.{after-next, length-committed, waiting-next}
 use Rattle.replica_core.proofs.Jobs.{slice_get-push, hold_along, job_parts, job_stays, job_stays_behind}
 
@@ -54,8 +54,8 @@ pub record IsNext (r : Replica) (rec : Record) : Type 0 where
   pub parent : rec.parent ≤ r.committed
   pub free : length r.under_way < r.workers
 
-module _ (r : Replica) (marks : Marks) (line : Line) (jobs : List Job) (rows : Database) (ops : List Op) where
-  pub kept_sound : IsKept r marks line jobs rows ops → IsSound r
+module _ (r : Replica) (marks : Marks) (line : Line) (inputs : List (List Entry)) (rows : Database) (ops : List Op) where
+  pub kept_sound : IsKept r marks line inputs rows ops → IsSound r
   kept_sound h = record {
     accepted = h.log.acceptable;
     published = h.log.published;
@@ -69,12 +69,12 @@ module _ (r : Replica) (marks : Marks) (line : Line) (jobs : List Job) (rows : D
     jobs = hold_along r h.log.acceptable h.eligible;
   }
 
-  pub length_places : IsKept r marks line jobs rows ops → length line.places ≡ length r.under_way
+  pub length_places : IsKept r marks line inputs rows ops → length line.places ≡ length r.under_way
   length_places h = sym (length-map line.places is_some) ∙ ap length (sym h.places)
 
   -- ---- one more record accepted
 
-  pub kept_accepted : (new : Record) → IsKept r marks line jobs rows ops → AreAcceptable r.tables (r.accepted ++ new ∷ []) → IsKept (with_accepted r new) marks line jobs rows ops
+  pub kept_accepted : (new : Record) → IsKept r marks line inputs rows ops → AreAcceptable r.tables (r.accepted ++ new ∷ []) → IsKept (with_accepted r new) marks line inputs rows ops
   kept_accepted new h acceptable =
       let all = h.dispatched in
       let within : r.committed ≤ length r.accepted = omega arith in
@@ -96,13 +96,13 @@ module _ (r : Replica) (marks : Marks) (line : Line) (jobs : List Job) (rows : D
         first = h.first;
         places = h.places;
         count = h.count;
-        jobs = λ gno under. h.jobs gno under ∙ sym (stays gno under);
+        kept = λ gno under. h.kept gno under ∙ ap input_in (sym (stays gno under));
         results = λ gno result under is. of_same_job (sym (stays gno under)) (h.results gno result under is);
       }
 
   -- ---- the next record dispatched
 
-  pub kept_dispatched : (rec : Record) (job : Job) → IsKept r marks line jobs rows ops → IsNext r rec → job_of r (dispatched r + 1) ≡ Some job → IsKept (dispatched_next r) marks (entered line) (jobs ++ job ∷ []) rows ops
+  pub kept_dispatched : (rec : Record) (job : Job) → IsKept r marks line inputs rows ops → IsNext r rec → job_of r (dispatched r + 1) ≡ Some job → IsKept (dispatched_next r) marks (entered line) (inputs ++ job.input ∷ []) rows ops
   kept_dispatched rec job h next made =
       let lengths = length_places h in
       let free = next.free in
@@ -124,13 +124,13 @@ module _ (r : Replica) (marks : Marks) (line : Line) (jobs : List Job) (rows : D
         ];
         first = h.first;
         places = ap (λ l. l ++ false ∷ []) h.places ∙ sym (map-append is_some line.places (None ∷ []));
-        count = length_push jobs job ∙ ap (λ n. n + 1) h.count ∙ sym one_more;
-        jobs = λ gno under. elim (cases_lt (dispatched r) gno) [
+        count = length_push inputs job.input ∙ ap (λ n. n + 1) h.count ∙ sym one_more;
+        kept = λ gno under. elim (cases_lt (dispatched r) gno) [
           | inl new ↦
               let number : gno ≡ dispatched r + 1 = (let last = under.1 in omega (arith, one_more)) in
-              let place : gno - r.committed - 1 ≡ length jobs = (let count = h.count in omega arith) in
-              ap (slice_get (jobs ++ job ∷ [])) place ∙ slice_get-seam jobs job [] ∙ sym made ∙ ap (job_of r) (sym number)
-          | inr old ↦ slice_get-push jobs (job ∷ []) (gno - r.committed - 1) (let count = h.count in let low = under.0 in omega arith) ∙ h.jobs gno (under.0, old)
+              let place : gno - r.committed - 1 ≡ length inputs = (let count = h.count in omega arith) in
+              ap (slice_get (inputs ++ job.input ∷ [])) place ∙ slice_get-seam inputs job.input [] ∙ ap input_in (sym made ∙ ap (job_of r) (sym number))
+          | inr old ↦ slice_get-push inputs (job.input ∷ []) (gno - r.committed - 1) (let count = h.count in let low = under.0 in omega arith) ∙ h.kept gno (under.0, old)
         ];
         results = λ gno result under is. elim (cases_lt (dispatched r) gno) [
           | inl new ↦
@@ -142,7 +142,7 @@ module _ (r : Replica) (marks : Marks) (line : Line) (jobs : List Job) (rows : D
 
   -- ---- a result taken
 
-  pub kept_finished : (gno : ℕ) (result : Finished) → IsKept r marks line jobs rows ops → IsUnderWay r gno → result.job.gno ≡ gno → IsTaken (job_of r gno) result → IsKept (with_finished r gno) marks (with_result line result) jobs rows ops
+  pub kept_finished : (gno : ℕ) (result : Finished) → IsKept r marks line inputs rows ops → IsUnderWay r gno → result.job.gno ≡ gno → IsTaken (job_of r gno) result → IsKept (with_finished r gno) marks (with_result line result) inputs rows ops
   kept_finished gno result h under number taken =
       let lengths = length_places h in
       let first = h.first in
@@ -162,7 +162,7 @@ module _ (r : Replica) (marks : Marks) (line : Line) (jobs : List Job) (rows : D
             (λ i. slice_set (h.places i) (sym here i) true)
             ∙ sym (map-set is_some line.places (result.job.gno - line.first) (Some result));
         count = h.count ∙ sym as_many;
-        jobs = λ g u. h.jobs g (u.0, (let last = u.1 in omega (arith, as_many)));
+        kept = λ g u. h.kept g (u.0, (let last = u.1 in omega (arith, as_many)));
         results = λ g other u is.
             let u_old : IsUnderWay r g = (u.0, (let last = u.1 in omega (arith, as_many))) in
             elim (cases_eq g gno) [
@@ -180,7 +180,7 @@ module _ (r : Replica) (marks : Marks) (line : Line) (jobs : List Job) (rows : D
             ];
       }
 
-  pub kept_stopped : (gno : ℕ) → IsKept r marks line jobs rows ops → IsKept (stopped_at r gno) marks line jobs rows ops
+  pub kept_stopped : (gno : ℕ) → IsKept r marks line inputs rows ops → IsKept (stopped_at r gno) marks line inputs rows ops
   kept_stopped gno h = record {
     set_up = h.set_up;
     log = h.log;
@@ -191,7 +191,7 @@ module _ (r : Replica) (marks : Marks) (line : Line) (jobs : List Job) (rows : D
     first = h.first;
     places = h.places;
     count = h.count;
-    jobs = h.jobs;
+    kept = h.kept;
     results = h.results;
   }
 
@@ -205,15 +205,15 @@ module _ (r : Replica) (marks : Marks) (line : Line) (jobs : List Job) (rows : D
     pub applies : effect r.tables rec.changes rows ≡ Some leaves
     pub left_is : left ≡ rows_in (writes rec.changes) leaves
 
-  leaves_next : (result : Finished) → IsKept r marks line jobs rows ops → (t : IsTaken (job_of r (r.committed + 1)) result) → LeavesNext t.left
+  leaves_next : (result : Finished) → IsKept r marks line inputs rows ops → (t : IsTaken (job_of r (r.committed + 1)) result) → LeavesNext t.left
   leaves_next result h t =
       let parts = job_parts r (r.committed + 1) result.job t.job in
       let here : r.committed + 1 - 1 ≡ r.committed = omega arith in
       let same : parts.rows ≡ rows = same_Some parts.rows rows (sym parts.rows_are ∙ h.log.rows_are) in
       let tables : result.job.schema ≡ r.tables = ap (λ (j : Job). j.schema) parts.job_is in
       let of : result.job.rec ≡ parts.rec = ap (λ (j : Job). j.rec) parts.job_is in
-      let there : LeavesThere result.job.schema result.job.rec.changes parts.rows t.left =
-      output_is_there result.job parts.rows t.left (rw tables h.set_up.flat)
+      let there : LeavesThere result.job.schema result.job.rec parts.rows t.left =
+      output_is_there result.job parts.rows t.left
       (ap (λ (j : Job). j.input) parts.job_is ∙ ap (λ (x : Record). rows_in (rows_of x) parts.rows) (sym of)) t.applies in
       record {
         rec = parts.rec;
@@ -223,7 +223,7 @@ module _ (r : Replica) (marks : Marks) (line : Line) (jobs : List Job) (rows : D
         left_is = there.rows ∙ ap (λ (x : Record). rows_in (writes x.changes) there.after_) of;
       }
 
-  pub kept_committed : (result : Finished) (left : List Entry) → IsKept r marks line jobs rows ops → turn line ≡ Some result → result.outcome ≡ Output left → IsKept (committed_next r) (all_up_to (r.committed + 1)) (passed line) (drop 1 jobs) (put_batch left rows) (ops ++ Commit (r.committed + 1) left ∷ [])
+  pub kept_committed : (result : Finished) (left : List Entry) → IsKept r marks line inputs rows ops → turn line ≡ Some result → result.outcome ≡ Output left → IsKept (committed_next r) (all_up_to (r.committed + 1)) (passed line) (drop 1 inputs) (put_batch left rows) (ops ++ Commit (r.committed + 1) left ∷ [])
   kept_committed result left h is output =
       let lengths = length_places h in
       let first = h.first in
@@ -259,11 +259,11 @@ module _ (r : Replica) (marks : Marks) (line : Line) (jobs : List Job) (rows : D
         eligible = λ gno rec u got. (let before = h.eligible gno rec (was gno u) got in omega arith);
         first = ap (λ n. n + 1) h.first;
         places = ap (drop 1) h.places ∙ drop-map is_some 1 line.places;
-        count = length-drop 1 jobs ∙ ap (λ n. n - 1) h.count ∙ sym fewer;
-        jobs = λ gno u.
+        count = length-drop 1 inputs ∙ ap (λ n. n - 1) h.count ∙ sym fewer;
+        kept = λ gno u.
             let low = u.0 in
             let place : gno - (r.committed + 1) - 1 + 1 ≡ gno - r.committed - 1 = omega arith in
-            slice_get-behind jobs (gno - (r.committed + 1) - 1) ∙ ap (slice_get jobs) place ∙ h.jobs gno (was gno u) ∙ sym (stays gno u);
+            slice_get-behind inputs (gno - (r.committed + 1) - 1) ∙ ap (slice_get inputs) place ∙ h.kept gno (was gno u) ∙ ap input_in (sym (stays gno u));
         results = λ gno other u at.
             let low = u.0 in
             let place : 1 + (gno - (line.first + 1)) ≡ gno - line.first = omega arith in
@@ -272,14 +272,14 @@ module _ (r : Replica) (marks : Marks) (line : Line) (jobs : List Job) (rows : D
 
   -- ---- publishing
 
-  pub length_ops : IsKept r marks line jobs rows ops → length ops ≡ r.committed - r.published
+  pub length_ops : IsKept r marks line inputs rows ops → length ops ≡ r.committed - r.published
   length_ops h =
       let all = h.dispatched in
       let within : r.committed ≤ length r.accepted = omega arith in
       ap length h.log.ops_are ∙ length-drop r.published (commits_from r.tables (loaded r.base) 1 (take r.committed r.accepted))
       ∙ ap (λ n. n - r.published) (length-committed r.tables (loaded r.base) r.accepted r.committed rows within h.log.rows_are)
 
-  pub kept_published : (upto : ℕ) → IsKept r marks line jobs rows ops → r.published ≤ upto → upto ≤ r.committed → IsKept (with_published r upto) marks line jobs rows (drop (upto - r.published) ops)
+  pub kept_published : (upto : ℕ) → IsKept r marks line inputs rows ops → r.published ≤ upto → upto ≤ r.committed → IsKept (with_published r upto) marks line inputs rows (drop (upto - r.published) ops)
   kept_published upto h later done =
       let sum : r.published + (upto - r.published) ≡ upto = omega arith in
       record {
@@ -300,6 +300,6 @@ module _ (r : Replica) (marks : Marks) (line : Line) (jobs : List Job) (rows : D
         first = h.first;
         places = h.places;
         count = h.count;
-        jobs = h.jobs;
+        kept = h.kept;
         results = h.results;
       }

@@ -4,3 +4,5 @@ pub mod Jobs
 pub mod Kept
 pub mod Steps
 pub mod Copies
+pub mod Handing
+pub mod Pieces

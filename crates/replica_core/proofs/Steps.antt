@@ -2,7 +2,7 @@
 use Rattle.std.proofs.Common.{◌≡◌, ◌∙◌, sym, ap, subst, refl, ℕ, ◌+◌, ◌-◌, ◌<◌, ◌≤◌, ◌^◌, ◌⊎◌, inl, inr, Bool, true, false, not, true≢false, ◌&&◌, ◌||◌, List, [], ◌∷◌, ◌++◌, map, length, drop, Option, Some, None, is_some, Result, Ok, Err, IfOk, OnErr, IsErrOf, IsErrAnd, arith, slice_get, slice_set, get_or, if◌then◌else◌, nat_le, nat_lt}
 use Rattle.std.specs.Option.{option_and_then, option_map_or, option_or}
 use Rattle.std.proofs.lemmas.Bool.{and_parts, or_parts, ltb-true, leb-true, leb-false}
-use Rattle.std.proofs.lemmas.Option.{none-some, same_Some, slice_get_read, option_and_then_some}
+use Rattle.std.proofs.lemmas.Option.{none-some, same_Some, option_and_then_some}
 use Rattle.std.proofs.lemmas.List.{map-append, map-set, drop-map, length-take-le}
 use Rattle.std.proofs.Math.ListN.{get_or-map}
 use Rattle.schema.specs.declared.Table.{Table}
@@ -13,7 +13,7 @@ use Rattle.store_trait.specs.declared.Op.TheVariants.{Commit}
 use Rattle.record_codec.specs.declared.records.Record.{Record}
 use Rattle.executor.specs.declared.Job.{Job}
 use Rattle.executor.specs.declared.Outcome.{Outcome}
-use Rattle.executor.specs.declared.Outcome.TheVariants.{Output, Undefined, Memory as Lacks}
+use Rattle.executor.specs.declared.Outcome.TheVariants.{Output, Undefined, WrongRefs, Memory as Lacks}
 use Rattle.executor.specs.Job.{Finished, IsResult, executed, output_of}
 use Rattle.relay.specs.declared.ReplicaFault.{ReplicaFault}
 use Rattle.relay.specs.declared.ReplicaFault.TheVariants.{Stopped, Stranger, Double, Memory as NoMemory}
@@ -45,8 +45,8 @@ few_accepted ts (x ∷ xs) h =
     let bound = is.bound in
     omega arith
 
-pub few_dispatched : (r : Replica) (marks : Marks) (line : Line) (jobs : List Job) (rows : Database) (ops : List Op) → IsKept r marks line jobs rows ops → dispatched r < 2 ^ 63
-few_dispatched r marks line jobs rows ops h = let few = few_accepted r.tables r.accepted h.log.acceptable in let all = h.dispatched in omega arith
+pub few_dispatched : (r : Replica) (marks : Marks) (line : Line) (inputs : List (List Entry)) (rows : Database) (ops : List Op) → IsKept r marks line inputs rows ops → dispatched r < 2 ^ 63
+few_dispatched r marks line inputs rows ops h = let few = few_accepted r.tables r.accepted h.log.acceptable in let all = h.dispatched in omega arith
 
 -- ---- answers
 
@@ -120,23 +120,23 @@ module _ (v : relay.Relay) (base : List Entry) (marks : Marks) (published : ℕ)
   seen_committed : seen_as v base (all_up_to (marks.low + 1)) published (passed line) workers stopped ≡ committed_next (seen_as v base marks published line workers stopped)
   seen_committed = ap (λ (u : List Bool). record (seen_as v base marks published line workers stopped) { committed = marks.low + 1; under_way = u }) (sym (drop-map is_some 1 line.places))
 
-  module _ (jobs : List Job) (rows : Database) (ops : List Op) where
+  module _ (inputs : List (List Entry)) (rows : Database) (ops : List Op) where
     abbrev pub Keeps : Type 0
-    Keeps = IsKept (seen_as v base marks published line workers stopped) marks line jobs rows ops
+    Keeps = IsKept (seen_as v base marks published line workers stopped) marks line inputs rows ops
 
-    pub received_kept : (from : List ℕ) (new : Record) (result : Result Received ReplicaFault) (left : relay.Relay) → Keeps → (IsErrOf result NoMemory ⊎ (result ≡ relay.received v from new)) → IfOk result (λ answer. left ≡ relay.left_by_receive v new answer) → OnErr result (left ≡ v) → IsKept (seen_as left base marks published line workers stopped) marks line jobs rows ops
-    received_kept from new (Err fault) left h answer ok err = subst (λ (x : relay.Relay). IsKept (seen_as x base marks published line workers stopped) marks line jobs rows ops) (sym err) h
-    received_kept from new (Ok Skipped) left h answer ok err = subst (λ (x : relay.Relay). IsKept (seen_as x base marks published line workers stopped) marks line jobs rows ops) (sym ok) h
+    pub received_kept : (from : List ℕ) (new : Record) (result : Result Received ReplicaFault) (left : relay.Relay) → Keeps → (IsErrOf result NoMemory ⊎ (result ≡ relay.received v from new)) → IfOk result (λ answer. left ≡ relay.left_by_receive v new answer) → OnErr result (left ≡ v) → IsKept (seen_as left base marks published line workers stopped) marks line inputs rows ops
+    received_kept from new (Err fault) left h answer ok err = subst (λ (x : relay.Relay). IsKept (seen_as x base marks published line workers stopped) marks line inputs rows ops) (sym err) h
+    received_kept from new (Ok Skipped) left h answer ok err = subst (λ (x : relay.Relay). IsKept (seen_as x base marks published line workers stopped) marks line inputs rows ops) (sym ok) h
     received_kept from new (Ok Accepted) left h (inl lacks) ok err = cc
     received_kept from new (Ok Accepted) left h (inr is) ok err =
         let next : IsAcceptable v.tables v.accepted new = ((accepts_the_acceptable v from new).0 (sym is)).1 in
-        subst (λ (x : relay.Relay). IsKept (seen_as x base marks published line workers stopped) marks line jobs rows ops) (sym ok)
-        (kept_accepted (seen_as v base marks published line workers stopped) marks line jobs rows ops new h (next_is_acceptable v.tables v.accepted new h.log.acceptable next))
+        subst (λ (x : relay.Relay). IsKept (seen_as x base marks published line workers stopped) marks line inputs rows ops) (sym ok)
+        (kept_accepted (seen_as v base marks published line workers stopped) marks line inputs rows ops new h (next_is_acceptable v.tables v.accepted new h.log.acceptable next))
 
-    pub dispatched_kept : (job : Job) (line_then : Line) (jobs_then : List Job) → Keeps → is_eligible (seen_as v base marks published line workers stopped) ≡ true → job_of (seen_as v base marks published line workers stopped) (dispatched (seen_as v base marks published line workers stopped) + 1) ≡ Some job → line_then ≡ entered line → jobs_then ≡ jobs ++ job ∷ [] → IsKept (seen_as v base marks published line_then workers stopped) marks line_then jobs_then rows ops
-    dispatched_kept job line_then jobs_then h may made is_line is_jobs =
+    pub dispatched_kept : (job : Job) (line_then : Line) (inputs_then : List (List Entry)) → Keeps → is_eligible (seen_as v base marks published line workers stopped) ≡ true → job_of (seen_as v base marks published line workers stopped) (dispatched (seen_as v base marks published line workers stopped) + 1) ≡ Some job → line_then ≡ entered line → inputs_then ≡ inputs ++ job.input ∷ [] → IsKept (seen_as v base marks published line_then workers stopped) marks line_then inputs_then rows ops
+    dispatched_kept job line_then inputs_then h may made is_line is_inputs =
         let next = eligible_next (seen_as v base marks published line workers stopped) may in
-        rw (is_line, is_jobs, seen_entered) (kept_dispatched (seen_as v base marks published line workers stopped) marks line jobs rows ops next.0 job h next.1 made)
+        rw (is_line, is_inputs, seen_entered) (kept_dispatched (seen_as v base marks published line workers stopped) marks line inputs rows ops next.0 job h next.1 made)
 
     -- ---- a result that may be taken
 
@@ -155,13 +155,6 @@ module _ (v : relay.Relay) (base : List Entry) (marks : Marks) (published : ℕ)
         let free = or_parts (nat_le gno marks.low) (get_or (map is_some line.places) (gno - marks.low - 1) false) so.2 in
         ((leb-false gno marks.low free.0, leb-true gno many known.1), none_there (place_of line gno) (sym (place_seen gno h) ∙ free.1))
 
-    pub copy_is : (gno : ℕ) (copy : Job) → Keeps → IsUnderWay (seen_as v base marks published line workers stopped) gno → copy ≡ get_or jobs (gno - marks.low - 1) copy → job_of (seen_as v base marks published line workers stopped) gno ≡ Some copy
-    copy_is gno copy h under at =
-        let low = under.0 in
-        let high = under.1 in
-        let count = h.count in
-        sym (h.jobs gno under) ∙ slice_get_read jobs (length jobs) (gno - marks.low - 1) copy refl (omega arith) at
-
     taken_from : (result : Finished) (left : List Entry) → IsHandedOut (seen_as v base marks published line workers stopped) result → IsResult result → result.outcome ≡ Output left → IsTaken (job_of (seen_as v base marks published line workers stopped) result.job.gno) result
     taken_from result left of made is = record { job = of; left = left; output = is; applies = came result.outcome (executed result.job) made is }
       where
@@ -169,21 +162,21 @@ module _ (v : relay.Relay) (base : List Entry) (marks : Marks) (published : ℕ)
         came o e (inl lacks) is = cc
         came o e (inr same) is = sym same ∙ is
 
-    pub finished_kept : (result : Finished) (left : List Entry) (line_then : Line) → Keeps → finish_fault (seen_as v base marks published line workers stopped) result.job.gno ≡ None → IsHandedOut (seen_as v base marks published line workers stopped) result → IsResult result → result.outcome ≡ Output left → line_then ≡ with_result line result → IsKept (seen_as v base marks published line_then workers stopped) marks line_then jobs rows ops
+    pub finished_kept : (result : Finished) (left : List Entry) (line_then : Line) → Keeps → finish_fault (seen_as v base marks published line workers stopped) result.job.gno ≡ None → IsHandedOut (seen_as v base marks published line workers stopped) result → IsResult result → result.outcome ≡ Output left → line_then ≡ with_result line result → IsKept (seen_as v base marks published line_then workers stopped) marks line_then inputs rows ops
     finished_kept result left line_then h free of made is is_line =
         let under = under_way_from result.job.gno h free in
         rw (is_line, seen_finished result result.job.gno h.first refl)
-        (kept_finished (seen_as v base marks published line workers stopped) marks line jobs rows ops result.job.gno result h under.0 refl (taken_from result left of made is))
+        (kept_finished (seen_as v base marks published line workers stopped) marks line inputs rows ops result.job.gno result h under.0 refl (taken_from result left of made is))
 
     pub finished_seen : (result : Finished) (line_then : Line) → Keeps → line_then ≡ with_result line result → seen_as v base marks published line_then workers stopped ≡ with_finished (seen_as v base marks published line workers stopped) result.job.gno
     finished_seen result line_then h is_line = rw is_line (seen_finished result result.job.gno h.first refl)
 
-    pub stopped_kept : (gno : ℕ) → Keeps → IsKept (seen_as v base marks published line workers (Some gno)) marks line jobs rows ops
-    stopped_kept gno h = kept_stopped (seen_as v base marks published line workers stopped) marks line jobs rows ops gno h
+    pub stopped_kept : (gno : ℕ) → Keeps → IsKept (seen_as v base marks published line workers (Some gno)) marks line inputs rows ops
+    stopped_kept gno h = kept_stopped (seen_as v base marks published line workers stopped) marks line inputs rows ops gno h
 
-    pub published_kept : (upto : ℕ) (ops_then : List Op) → Keeps → published ≤ upto → upto ≤ marks.low → ops_then ≡ drop (upto - published) ops → IsKept (seen_as v base marks upto line workers stopped) marks line jobs rows ops_then
+    pub published_kept : (upto : ℕ) (ops_then : List Op) → Keeps → published ≤ upto → upto ≤ marks.low → ops_then ≡ drop (upto - published) ops → IsKept (seen_as v base marks upto line workers stopped) marks line inputs rows ops_then
     published_kept upto ops_then h later done is_ops =
-        rw is_ops (kept_published (seen_as v base marks published line workers stopped) marks line jobs rows ops upto h later done)
+        rw is_ops (kept_published (seen_as v base marks published line workers stopped) marks line inputs rows ops upto h later done)
 
     -- ---- the next commit
 
@@ -194,16 +187,17 @@ module _ (v : relay.Relay) (base : List Entry) (marks : Marks) (published : ℕ)
         output_is : (o : Outcome) → output_of o ≡ Some rows_left → o ≡ Output rows_left
         output_is (Output entries) out = ap Output (same_Some entries rows_left out)
         output_is Undefined out = absurd (none-some rows_left out)
+        output_is WrongRefs out = absurd (none-some rows_left out)
         output_is Lacks out = absurd (none-some rows_left out)
 
-    pub committed_kept : (gno : ℕ) (done : Bool) (marks_then : Marks) (line_then : Line) (jobs_then : List Job) (rows_then : Database) (ops_then : List Op) → Keeps → gno ≡ marks.low + 1 → done ≡ true → TakesTurn gno line rows ops (Ok done) line_then rows_then ops_then → marks_then ≡ all_up_to gno → jobs_then ≡ drop 1 jobs → IsKept (seen_as v base marks_then published line_then workers stopped) marks_then line_then jobs_then rows_then ops_then
-    committed_kept gno false marks_then line_then jobs_then rows_then ops_then h number is put is_marks is_jobs = absurd (true≢false (sym is))
-    committed_kept gno true marks_then line_then jobs_then rows_then ops_then h number is put is_marks is_jobs =
+    pub committed_kept : (gno : ℕ) (done : Bool) (marks_then : Marks) (line_then : Line) (inputs_then : List (List Entry)) (rows_then : Database) (ops_then : List Op) → Keeps → gno ≡ marks.low + 1 → done ≡ true → TakesTurn gno line rows ops (Ok done) line_then rows_then ops_then → marks_then ≡ all_up_to gno → inputs_then ≡ drop 1 inputs → IsKept (seen_as v base marks_then published line_then workers stopped) marks_then line_then inputs_then rows_then ops_then
+    committed_kept gno false marks_then line_then inputs_then rows_then ops_then h number is put is_marks is_inputs = absurd (true≢false (sym is))
+    committed_kept gno true marks_then line_then inputs_then rows_then ops_then h number is put is_marks is_inputs =
         let next = turn_taken put.left put.output in
         let up : marks_then ≡ all_up_to (marks.low + 1) = is_marks ∙ ap all_up_to number in
         let more : ops_then ≡ ops ++ Commit (marks.low + 1) put.left ∷ [] = put.ops_are ∙ ap (λ n. ops ++ Commit n put.left ∷ []) number in
-        rw (up, put.line_is, is_jobs, put.rows_are, more, seen_committed)
-        (kept_committed (seen_as v base marks published line workers stopped) marks line jobs rows ops next.0 put.left h next.1 next.2)
+        rw (up, put.line_is, is_inputs, put.rows_are, more, seen_committed)
+        (kept_committed (seen_as v base marks published line workers stopped) marks line inputs rows ops next.0 put.left h next.1 next.2)
 
     pub committed_seen : (gno : ℕ) (done : Bool) (marks_then : Marks) (line_then : Line) (rows_then : Database) (ops_then : List Op) → gno ≡ marks.low + 1 → done ≡ true → TakesTurn gno line rows ops (Ok done) line_then rows_then ops_then → marks_then ≡ all_up_to gno → seen_as v base marks_then published line_then workers stopped ≡ committed_next (seen_as v base marks published line workers stopped)
     committed_seen gno false marks_then line_then rows_then ops_then number is put is_marks = absurd (true≢false (sym is))
@@ -211,12 +205,12 @@ module _ (v : relay.Relay) (base : List Entry) (marks : Marks) (published : ℕ)
         rw (is_marks ∙ ap all_up_to number, put.line_is) seen_committed
 
     -- the copy of its job is there to be dropped
-    pub copy_there : (gno : ℕ) (done : Bool) (line_then : Line) (rows_then : Database) (ops_then : List Op) → Keeps → done ≡ true → TakesTurn gno line rows ops (Ok done) line_then rows_then ops_then → 1 ≤ length jobs
+    pub copy_there : (gno : ℕ) (done : Bool) (line_then : Line) (rows_then : Database) (ops_then : List Op) → Keeps → done ≡ true → TakesTurn gno line rows ops (Ok done) line_then rows_then ops_then → 1 ≤ length inputs
     copy_there gno false line_then rows_then ops_then h is put = absurd (true≢false (sym is))
     copy_there gno true line_then rows_then ops_then h is put =
         let next = turn_taken put.left put.output in
         let some : 0 < length line.places = taken_within line.places 0 next.0 next.1 in
-        let lengths = length_places (seen_as v base marks published line workers stopped) marks line jobs rows ops h in
+        let lengths = length_places (seen_as v base marks published line workers stopped) marks line inputs rows ops h in
         let count = h.count in
         omega arith
 
@@ -226,7 +220,7 @@ module _ (v : relay.Relay) (base : List Entry) (marks : Marks) (published : ℕ)
       | inl absent ↦ absent
       | inr there ↦
           let some : 0 < length line.places = taken_within line.places 0 there.0 there.1 in
-          let lengths = length_places (seen_as v base marks published line workers stopped) marks line jobs rows ops h in
+          let lengths = length_places (seen_as v base marks published line workers stopped) marks line inputs rows ops h in
           let front : marks.low + 1 - line.first ≡ 0 = (let first = h.first in omega arith) in
           let taken = h.results (marks.low + 1) there.0 (omega arith, omega arith) (ap (λ n. get_or line.places n None) front ∙ there.1) in
           let output : turn_output line ≡ Some taken.left =
@@ -248,16 +242,6 @@ module _ (v : relay.Relay) (base : List Entry) (marks : Marks) (published : ℕ)
         ap (λ (b : Bool). if b then Some (marks.low + 1) else None) absent
 
     -- ---- what is told of a result
-
-    -- a result that is not refused, by the copy of its record's job
-    judged_by : (result : Finished) (copy : Job) → Keeps → finish_fault (seen_as v base marks published line workers stopped) result.job.gno ≡ None → copy ≡ get_or jobs (result.job.gno - marks.low - 1) copy → job_of (seen_as v base marks published line workers stopped) result.job.gno ≡ Some copy
-    judged_by result copy h free at = copy_is result.job.gno copy h (under_way_from result.job.gno h free).0 at
-
-    pub judged_same : (result : Finished) (copy : Job) → Keeps → finish_fault (seen_as v base marks published line workers stopped) result.job.gno ≡ None → copy ≡ get_or jobs (result.job.gno - marks.low - 1) copy → copy ≡ result.job → IsHandedOut (seen_as v base marks published line workers stopped) result
-    judged_same result copy h free at same = judged_by result copy h free at ∙ ap Some same
-
-    pub judged_other : (result : Finished) (copy : Job) → Keeps → finish_fault (seen_as v base marks published line workers stopped) result.job.gno ≡ None → copy ≡ get_or jobs (result.job.gno - marks.low - 1) copy → (copy ≡ result.job → ⊥) → IsHandedOut (seen_as v base marks published line workers stopped) result → ⊥
-    judged_other result copy h free at differs of = differs (same_Some copy result.job (sym (judged_by result copy h free at) ∙ of))
 
     -- the tests of a number, as they are made over the line
     pub refusal_seen : (now : Replica) (gno low many : ℕ) → Keeps → seen_as v base marks published line workers stopped ≡ now → stopped ≡ None → low ≡ marks.low → many ≡ dispatched now → refusal (nat_le 1 gno && nat_le gno many) (nat_le gno low || is_some (place_of line gno)) ≡ told_as (finish_fault now gno)

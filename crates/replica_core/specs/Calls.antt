@@ -1,7 +1,8 @@
 -- What each call of a replica answers, and what it leaves.
-use Rattle.std.specs.Prelude.{◌≡◌, ℕ, ◌+◌, ◌-◌, Bool, true, false, not, ◌&&◌, ◌||◌, ◌==◌, nat_le, nat_lt, if◌then◌else◌, List, [], ◌∷◌, ◌++◌, length, drop, slice_get, slice_set, slice_index_or, Option, Some, None, is_some, Result, Ok, Err}
+use Rattle.std.specs.Prelude.{◌≡◌, ℕ, ◌+◌, ◌-◌, Bool, true, false, not, ◌&&◌, ◌||◌, nat_le, nat_lt, if◌then◌else◌, List, [], ◌∷◌, ◌++◌, length, drop, slice_get, slice_set, slice_index_or, Option, Some, None, Result, Ok, Err}
 use Rattle.std.specs.Option.{option_map_or, option_or}
 use Rattle.schema.specs.declared.Table.{Table}
+use Rattle.gtid_set.specs.Ids.{Ids, first_ids}
 use Rattle.store_trait.specs.Batch.{Entry}
 use Rattle.record_codec.specs.declared.records.Record.{Record}
 use Rattle.executor.specs.declared.Job.{Job}
@@ -84,10 +85,12 @@ finish_fault r gno =
 abbrev pub IsHandedOut : Replica → Finished → Type 0
 IsHandedOut r result = job_of r result.job.gno ≡ Some result.job
 
--- what is answered to a result of the job that was handed out: where its changes do not apply the replica stops
+-- what is answered to a result of the job that was handed out: where its changes do not apply, or look at other parent rows
+-- than its record states, the replica stops
 abbrev pub taken_as : Finished → Outcome → Result (Unit {0}) (ReplicaFault × Finished)
 taken_as result (outcomes.Output batch) = Ok tt
 taken_as result outcomes.Undefined = Err (Stopped result.job.gno, result)
+taken_as result outcomes.WrongRefs = Err (Stopped result.job.gno, result)
 taken_as result outcomes.Memory = Err (Memory, result)
 
 abbrev pub with_finished : Replica → ℕ → Replica
@@ -120,3 +123,8 @@ committed_next r = record r { committed = r.committed + 1; under_way = drop 1 r.
 
 abbrev pub with_published : Replica → ℕ → Replica
 with_published r upto = record r { published = upto }
+
+-- executed: the ids of the committed records
+
+abbrev pub executed_ids : Replica → Ids
+executed_ids r = first_ids r.source r.committed

@@ -1,8 +1,8 @@
 -- What the parts of a replica keep.
 use Rattle.std.specs.Prelude.{◌≡◌, ◌⊎◌, ℕ, ◌+◌, ◌-◌, ◌≤◌, Bool, true, false, List, [], ◌∷◌, ◌++◌, map, length, take, drop, slice_get, Option, Some, None, is_some, option_and_then, Result, Ok, Err}
+use Rattle.std.specs.Option.{option_map}
 use Rattle.schema.specs.declared.Memory.{Memory}
 use Rattle.schema.specs.declared.Table.{Table}
-use Rattle.schema.specs.Flags.{IsFlat}
 use Rattle.rows.specs.Database.{Database}
 use Rattle.store_trait.specs.Batch.{Entry, put_batch}
 use Rattle.store_trait.specs.Operation.{loaded}
@@ -44,9 +44,8 @@ pub record IsTaken (handed_out : Option Job) (result : Finished) : Type 0 where
   pub output : result.outcome ≡ Output left
   pub applies : executed result.job ≡ Output left
 
--- what no call changes: no table has a parent, and there are between 1 and 64 workers
-pub record IsSetUp (ts : List Table) (workers : ℕ) : Type 0 where
-  pub flat : IsFlat ts
+-- what no call changes: there are between 1 and 64 workers
+pub record IsSetUp (workers : ℕ) : Type 0 where
   pub some : 1 ≤ workers
   pub few : workers ≤ 64
 
@@ -58,11 +57,15 @@ pub record IsLogKept (ts : List Table) (base : List Entry) (accepted : List Reco
   pub published : shown ≤ committed
   pub ops_are : ops ≡ drop shown (commits ts (loaded base) accepted committed)
 
+-- the rows of a job
+abbrev pub input_in : Option Job → Option (List Entry)
+input_in job = option_map (λ (j : Job). j.input) job
+
 -- The store contains the rows after the committed records, and the operations are the commits that
--- are not published. The copies of the jobs are those of the records between dispatch and commit, in order, and each
+-- are not published. The rows that are kept are those of the jobs between dispatch and commit, in order, and each
 -- result that was taken is of its record's job.
-pub record IsKept (r : Replica) (marks : Marks) (line : Line) (copies : List Job) (rows : Database) (ops : List Op) : Type 0 where
-  pub set_up : IsSetUp r.tables r.workers
+pub record IsKept (r : Replica) (marks : Marks) (line : Line) (inputs : List (List Entry)) (rows : Database) (ops : List Op) : Type 0 where
+  pub set_up : IsSetUp r.workers
   pub log : IsLogKept r.tables r.base r.accepted r.committed r.published rows ops
   pub marks_are : marks ≡ all_up_to r.committed
   pub dispatched : dispatched r ≤ length r.accepted
@@ -70,8 +73,8 @@ pub record IsKept (r : Replica) (marks : Marks) (line : Line) (copies : List Job
   pub eligible : AreEligible r
   pub first : line.first ≡ r.committed + 1
   pub places : r.under_way ≡ map is_some line.places
-  pub count : length copies ≡ length r.under_way
-  pub jobs : (gno : ℕ) → IsUnderWay r gno → slice_get copies (gno - r.committed - 1) ≡ job_of r gno
+  pub count : length inputs ≡ length r.under_way
+  pub kept : (gno : ℕ) → IsUnderWay r gno → slice_get inputs (gno - r.committed - 1) ≡ input_in (job_of r gno)
   pub results : (gno : ℕ) (result : Finished) → IsUnderWay r gno → place_of line gno ≡ Some result → IsTaken (job_of r gno) result
 
 -- the rows of the result whose turn has come, where it has any

@@ -3,3 +3,4 @@ pub mod Sound
 pub mod Calls
 pub mod Laws
 pub mod Core
+pub mod Wire

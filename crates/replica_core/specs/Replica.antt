@@ -1,5 +1,5 @@
 -- What a replica is seen as.
-use Rattle.std.specs.Prelude.{◌≡◌, ℕ, ◌+◌, ◌-◌, ◌≤◌, ◌<◌, Bool, List, [], ◌∷◌, take, drop, length, slice_get, Option, Some, option_and_then}
+use Rattle.std.specs.Prelude.{ℕ, ◌+◌, ◌-◌, Bool, List, [], ◌∷◌, take, drop, length, slice_get, Option, option_and_then}
 use Rattle.std.specs.Option.{option_map_or, option_map}
 use Rattle.schema.specs.declared.Table.{Table}
 use Rattle.rows.specs.Database.{Database, effect, writes}

@@ -1,5 +1,5 @@
 -- What holds of every replica, whatever was received.
-use Rattle.std.specs.Prelude.{◌≡◌, ℕ, ◌+◌, ◌-◌, ◌<◌, ◌≤◌, length, slice_get, Option, Some}
+use Rattle.std.specs.Prelude.{◌≡◌, ℕ, ◌-◌, ◌<◌, ◌≤◌, length, slice_get, Some}
 use Rattle.rows.specs.Database.{Database}
 use Rattle.store_trait.specs.Batch.{rows_in}
 use Rattle.record_codec.specs.declared.records.Record.{Record}

@@ -39,7 +39,7 @@ fn ready_rows(turns: &Turns) -> Option<&Batch>
 {
     match turns.ready()?.outcome() {
         Outcome::Output(batch) => Some(batch),
-        Outcome::Undefined | Outcome::Memory => None,
+        Outcome::Undefined | Outcome::WrongRefs | Outcome::Memory => None,
     }
 }
 

@@ -1,6 +1,7 @@
 //! What follows from the definitions alone. Each function states a law by its contract, and does nothing.
 
 ghost use Rattle.replica_core.specs.Laws.{OneCommitMore, OneCommitEach, FirstCommits, OperationsLeaveRows, JobIsOfItsRecord, EachHasJob, JobStays, JobStaysBehind, OthersLeaveJobs};
+ghost use Rattle.replica_core.specs.Wire.{NothingTaken, TakesOn};
 
 /// The commits of records grow with the records, one each.
 pub fn commits()
@@ -26,4 +27,10 @@ pub fn jobs_stay()
     ensures committed { JobStays }
     ensures accepted { JobStaysBehind }
     ensures others { OthersLeaveJobs }
+{}
+
+/// What became of all bytes that a wire took: the records accepted are named by these bytes, wherever they were cut.
+pub fn wires()
+    ensures nothing { NothingTaken }
+    ensures goes_on { TakesOn }
 {}

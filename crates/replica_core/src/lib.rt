@@ -6,30 +6,32 @@
 //! committed records, and that its waiting operations are their commits past the published ones. What each call
 //! answers and leaves is defined in `specs/Calls.antt`, and what is true of every replica in `specs/Sound.antt`. Nothing
 //! that is received is trusted: the parent of each accepted record covers those before it (`relay`), so the rows of a job
-//! are those of every database up to its record's place, and a record is known to apply once it was executed. It
-//! stands on `relay`, `scheduler`, `executor` and `commit_order`, on `store_trait` for the rows, and on `record_codec`
-//! for records.
+//! are those of every database up to its record's place, and a record is known to apply once it was executed. A `Wire` takes
+//! the bytes of a log in pieces and hands on their records (`specs/Wire.antt`). It stands on `relay`, `scheduler`, `executor`
+//! and `commit_order`, on `store_trait` for the rows, on `record_codec` and `record_stream` for records, and on `gtid_set` for
+//! ids.
 #![tactic(auto)]
 
-ghost use Rattle.std.specs.Prelude.{◌≡◌, ◌≤◌, ◌⊎◌, IfOk, IfSome, OnOk, OnErr, IfErr, IsErrOf, IsSome, None, Err, Ok, is_some, true, ◌+◌, if◌then◌else◌};
+ghost use Rattle.std.specs.Prelude.{◌≡◌, ◌≤◌, ◌<◌, ◌⊎◌, ◌↔◌, IsTrue, IfOk, IfSome, OnOk, OnErr, IfErr, IsErrOf, IsSome, None, Err, Ok, is_some, true, ◌+◌, if◌then◌else◌};
 ghost use Rattle.std.specs.Option.{option_map_or};
-ghost use Rattle.schema.specs.Flags.{IsFlat};
 ghost use Rattle.store_trait.specs.Batch.{all_rows};
 ghost use Rattle.store_trait.specs.Fits.{Fits};
 ghost use Rattle.store_trait.specs.Operation.{loaded};
 ghost use Rattle.replica_core.specs.Replica.{working_rows, waiting, dispatched, job_of};
-ghost use Rattle.replica_core.specs.Sound.{IsSound};
+ghost use Rattle.replica_core.specs.Sound.{IsSound, IsUnderWay};
 ghost use Rattle.replica_core.specs.Core.{IsJudged};
-ghost use Rattle.replica_core.specs.Calls.{new_over, unless_stopped, received, left_by_receive, is_eligible, next_job, dispatched_next, finish_fault, IsHandedOut, taken_as, with_finished, left_by_fault, next_commit, committed_next, with_published};
+ghost use Rattle.replica_core.specs.Calls.{new_over, unless_stopped, received, left_by_receive, is_eligible, next_job, dispatched_next, finish_fault, IsHandedOut, taken_as, with_finished, left_by_fault, next_commit, committed_next, with_published, executed_ids};
 
 mod committing;
 mod dispatching;
 pub mod laws;
+mod wire;
 
 use commit_order::{PLACES, Turns};
 use committing::{commit_turn, drop_first};
 use dispatching::{job_over, refuse_finish, refuse_stopped};
 use executor::{Job, JobResult, Outcome};
+use gtid_set::GtidSet;
 use record_codec::Record;
 use relay::{Received, Relay, ReplicaFault};
 use scheduler::Scheduler;
@@ -38,6 +40,7 @@ use std::alloc::Global;
 use std::marker::Model;
 use store_trait::{Batch, Op, RowStore, snapshot};
 use uuid::Uuid;
+pub use wire::{Wire, WireFault};
 
 /// A replica with up to 64 workers. `new` makes it.
 #[derive(Drop)]
@@ -47,8 +50,9 @@ pub struct ReplicaCore<S: RowStore> {
     store: S,
     scheduler: Scheduler,
     turns: Turns,
-    /// A copy of each job that was handed out and is not committed, in order.
-    jobs: Vec<Job>,
+    /// Of each job that was handed out and is not committed, in order, a copy of its rows: its record stands among those
+    /// accepted, and the schema is the relay's.
+    inputs: Vec<Batch>,
     workers: usize,
     published: u64,
     waiting: Vec<Op>,
@@ -66,7 +70,7 @@ impl<S: RowStore> Model for ReplicaCore<S> {
 
     ghost invariant = { λ c.
         IsKept (seen_as c.relay c.base c.scheduler c.published c.turns c.workers c.stopped)
-        c.scheduler c.turns c.jobs.items (S.contents c.store) c.waiting.items };
+        c.scheduler c.turns c.inputs.items (S.contents c.store) c.waiting.items };
 }
 
 impl<S: RowStore> ReplicaCore<S> {
@@ -82,7 +86,6 @@ impl<S: RowStore> ReplicaCore<S> {
     where
         S: Drop,
         requires fits { Fits schema (S.contents store) }
-        requires flat { IsFlat schema }
         requires some { 1 ≤ workers }
         requires few { workers ≤ 64 }
         ensures fresh { IfOk result (λ core. core ≡ new_over schema source (all_rows (S.contents store)) workers) }
@@ -90,14 +93,14 @@ impl<S: RowStore> ReplicaCore<S> {
     {
         let base = snapshot(alloc, &store, &schema)?;
         let turns = Turns::new(alloc)?;
-        let jobs = Vec::with_capacity(alloc, PLACES)?;
+        let inputs = Vec::with_capacity(alloc, PLACES)?;
         Ok(ReplicaCore {
             relay: Relay::new(alloc, schema, source),
             base,
             store,
             scheduler: Scheduler::new(),
             turns,
-            jobs,
+            inputs,
             workers,
             published: 0,
             waiting: Vec::new(alloc),
@@ -122,8 +125,8 @@ impl<S: RowStore> ReplicaCore<S> {
 
     /// Hands out the job of the next record in log order, once its parent is committed (as MySQL's `LOGICAL_CLOCK` has
     /// it) and a worker is free: fewer are dispatched and not committed than there are workers. The job has copies of the
-    /// record, of the schema and of the rows that the record writes and refers to; the core keeps one of its own. The time and
-    /// the memory are those of two jobs.
+    /// record, of the schema and of the rows that the record writes and refers to; the core keeps one more of these rows. The
+    /// time and the memory are those of the job and of its rows once more.
     pub fn dispatch(&mut self) -> Result<Option<Job>, ReplicaFault>
         ensures answer { IsErrOf result ReplicaFault.Memory ⊎ (result ≡ unless_stopped self.old (next_job self.old)) }
 
@@ -138,15 +141,15 @@ impl<S: RowStore> ReplicaCore<S> {
             return Ok(None);
         }
         let job = self.next_job()?;
-        self.jobs.push(job.copy()?)?;
+        self.inputs.push(job.input.copy()?)?;
         self.turns.enter(job.gno);
         Ok(Some(job))
     }
 
     /// Takes the result of a job that was handed out; it waits for its turn. Each refusal hands the result back: in this
     /// order a stop; `P6` where no record of its number was dispatched; `P7` where a result of it was taken; `P8` where its record,
-    /// its rows or its schema are not those handed out; `P5` where the changes do not apply to the rows, which stops the
-    /// replica; and `P9` where the result itself tells of memory that ran out, so that its job may be executed and finished
+    /// its rows or its schema are not those handed out; `P5` where the changes do not apply to the rows, or look at
+    /// other parent rows than the refs, which stops the replica; and `P9` where the result itself tells of memory that ran out, so that its job may be executed and finished
     /// again. It takes no memory. The time is that of comparing the jobs.
     pub fn finish(&mut self, done: JobResult) -> Result<(), (ReplicaFault, JobResult)>
         ensures refused { IfSome (finish_fault self.old done.job.gno) (λ fault. result ≡ Err (fault, done)) }
@@ -166,7 +169,7 @@ impl<S: RowStore> ReplicaCore<S> {
                 self.turns.finish(done);
                 Ok(())
             }
-            Outcome::Undefined => {
+            Outcome::Undefined | Outcome::WrongRefs => {
                 self.stopped = Some(done.gno());
                 Err((ReplicaFault::Stopped(done.gno()), done))
             }
@@ -193,7 +196,7 @@ impl<S: RowStore> ReplicaCore<S> {
         if !commit_turn(&mut self.store, &mut self.waiting, &mut self.turns, gno)? {
             return Ok(None);
         }
-        drop_first(&mut self.jobs, 1);
+        drop_first(&mut self.inputs, 1);
         self.scheduler.committed(gno);
         Ok(Some(gno))
     }
@@ -240,6 +243,19 @@ impl<S: RowStore> ReplicaCore<S> {
         ensures sound { IsSound self.now }
     {
         self.scheduler.low_water()
+    }
+
+    /// The ids of the committed records, those of the source from 1 to their number, as MySQL's `gtid_executed`; the empty set
+    /// where none is committed, which takes no memory. The time is constant. A stop comes before want of memory.
+    pub fn executed(&self) -> Result<GtidSet, ReplicaFault>
+        ensures answer { IsErrOf result ReplicaFault.Memory ⊎ (result ≡ unless_stopped self.now (executed_ids self.now)) }
+
+        // Memory runs out only in the place of an interval.
+        ensures memory { IsErrOf result ReplicaFault.Memory → (self.now.stopped ≡ None) × (0 < self.now.committed) }
+    {
+        refuse_stopped(self.stopped)?;
+        let alloc = *self.waiting.allocator();
+        Ok(GtidSet::first(alloc, self.source(), self.committed())?)
     }
 
     /// The number of commits published: the first so many of those committed.
@@ -318,12 +334,21 @@ impl<S: RowStore> ReplicaCore<S> {
         ensures { IsJudged self.now done.now result }
     {
         self.refuse(done.gno())?;
-        let place = (done.gno() - self.scheduler.low_water() - 1) as usize;
-        if self.jobs[place].equals(done.job()) {
+        if self.is_handed_out(done.job()) {
             Ok(())
         } else {
             Err(ReplicaFault::WrongInput)
         }
+    }
+
+    /// Whether the job is the one that was handed out of its number.
+    fn is_handed_out(&self, job: &Job) -> bool
+        requires { IsUnderWay self.now job.now.gno }
+        ensures { IsTrue result ↔ (job_of self.now job.now.gno ≡ Some job.now) }
+    {
+        let rec = &self.relay.accepted()[(job.gno - 1) as usize];
+        let input = &self.inputs[(job.gno - self.scheduler.low_water() - 1) as usize];
+        job.is_of(rec, input, self.relay.schema())
     }
 
     /// Refuses the number of a result, whatever the result is.

@@ -1,17 +1,17 @@
 -- Later states of a coordinator.
-use Rattle.std.proofs.Common.{◌∙◌, refl, List, [], Option, arith}
+use Rattle.std.proofs.Common.{◌≡◌, ◌∙◌, sym, ap, subst, refl, Bool, List, [], arith}
 use Rattle.std.proofs.lemmas.List.{append-nil}
 use mathlib.Core.List.{IsPrefix}
 use Rattle.store_trait.specs.declared.Op.{Op}
-use Rattle.executor.specs.declared.Job.{Job}
-use Rattle.replica_shared.specs.Together.{State, IsLater}
+use Rattle.replica_core.specs.Replica.{Replica}
+use Rattle.replica_shared.specs.Together.{State, IsLater, Settles, DispatchesMore}
 use Rattle.replica_shared.proofs.Commits.{prefix_joins}
 
 itself : (xs : List Op) → IsPrefix xs xs
 itself xs = ([], append-nil xs)
 
 pub later_itself : (s : State) → IsLater s s
-later_itself s = record { tables = refl; base = refl; accepted = refl; committed = omega arith; published = itself s.publication.published; closed = refl }
+later_itself s = record { tables = refl; source = refl; base = refl; accepted = refl; committed = omega arith; published = itself s.publication.published; closed = refl }
 
 pub later_then : (s t u : State) → IsLater s t → IsLater t u → IsLater s u
 later_then s t u a b =
@@ -19,6 +19,7 @@ later_then s t u a b =
     let second = b.committed in
     record {
       tables = b.tables ∙ a.tables;
+      source = b.source ∙ a.source;
       base = b.base ∙ a.base;
       accepted = b.accepted ∙ a.accepted;
       committed = omega arith;
@@ -26,6 +27,52 @@ later_then s t u a b =
       closed = b.closed ∙ a.closed;
     }
 
--- what is kept does not count
-pub later_keeping : (s t : State) (kept : List (Option Job)) → IsLater s t → IsLater s (record t { kept = kept })
-later_keeping s t kept a = record { tables = a.tables; base = a.base; accepted = a.accepted; committed = a.committed; published = a.published; closed = a.closed }
+-- ---- what settles
+
+pub settles_itself : (s : State) → Settles s s
+settles_itself s = record { later = later_itself s; stopped = refl; kept = refl; claimed = refl; told = refl }
+
+pub settles_then : (s t u : State) → Settles s t → Settles t u → Settles s u
+settles_then s t u a b = record {
+  later = later_then s t u a.later b.later;
+  stopped = b.stopped ∙ a.stopped;
+  kept = b.kept ∙ a.kept;
+  claimed = b.claimed ∙ a.claimed;
+  told = b.told ∙ a.told;
+}
+
+-- whether something is left to do does not count
+pub settles_from : (s : State) (behind : Bool) (t : State) → Settles (record s { behind = behind }) t → Settles s t
+settles_from s behind t h = record {
+  later = record { tables = h.later.tables; source = h.later.source; base = h.later.base; accepted = h.later.accepted; committed = h.later.committed; published = h.later.published; closed = h.later.closed };
+  stopped = h.stopped;
+  kept = h.kept;
+  claimed = h.claimed;
+  told = h.told;
+}
+
+pub settles_to : (s t : State) (behind : Bool) → Settles s t → Settles s (record t { behind = behind })
+settles_to s t behind h = record {
+  later = record { tables = h.later.tables; source = h.later.source; base = h.later.base; accepted = h.later.accepted; committed = h.later.committed; published = h.later.published; closed = h.later.closed };
+  stopped = h.stopped;
+  kept = h.kept;
+  claimed = h.claimed;
+  told = h.told;
+}
+
+pub dispatching_settles : (s t : State) → DispatchesMore s t → Settles s t
+dispatching_settles s t h = record {
+  later = record {
+    tables = ap (λ (r : Replica). r.tables) h.core;
+    source = ap (λ (r : Replica). r.source) h.core;
+    base = ap (λ (r : Replica). r.base) h.core;
+    accepted = ap (λ (r : Replica). r.accepted) h.core;
+    committed = (let same : t.core.committed ≡ s.core.committed = ap (λ (r : Replica). r.committed) h.core in omega arith);
+    published = subst (λ (x : State). IsPrefix s.publication.published x.publication.published) (sym h.same) (itself s.publication.published);
+    closed = ap (λ (x : State). x.closed) h.same;
+  };
+  stopped = ap (λ (r : Replica). r.stopped) h.core;
+  kept = ap (λ (x : State). x.kept) h.same;
+  claimed = ap (λ (x : State). x.claimed) h.same;
+  told = ap (λ (x : State). x.told) h.same;
+}

@@ -1,1 +1,4 @@
+pub mod Queue
+pub mod Outlet
 pub mod Together
+pub mod Feeding

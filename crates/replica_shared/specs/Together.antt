@@ -1,8 +1,11 @@
 -- What lies under the lock of a shared replica, and what is true of it each time that the lock is taken.
-use Rattle.std.specs.Prelude.{◌≡◌, ℕ, ◌+◌, ◌%◌, ◌<◌, ◌≤◌, Bool, true, not, ◌||◌, nat_le, List, [], ◌++◌, length, slice_index_or, slice_set, Option, Some, None, is_some, Result, Ok, Err}
+use Rattle.std.specs.Prelude.{◌≡◌, ℕ, ◌+◌, ◌-◌, ◌%◌, ◌<◌, ◌≤◌, Bool, true, false, not, ◌&&◌, ◌||◌, ◌==◌, nat_le, nat_lt, count_by, replicate, IfErr, MatchOption, List, [], ◌∷◌, ◌++◌, length, slice_index_or, slice_set, Option, Some, None, is_some, Result, Ok, Err}
 use mathlib.Core.List.{IsPrefix}
+use Rattle.schema.specs.declared.Table.{Table}
 use Rattle.store_trait.specs.Batch.{Entry}
 use Rattle.store_trait.specs.declared.Op.{Op}
+use Rattle.store_trait.specs.declared.Op.TheVariants.{Load}
+use Rattle.record_codec.specs.declared.records.Record.{Record}
 use Rattle.published.specs.declared.counts.Counts.{Counts}
 use Rattle.published.specs.History.{IsHistory, commits_in}
 use Rattle.published.specs.Publication.{Publishing}
@@ -12,8 +15,15 @@ use Rattle.executor.specs.declared.Outcome.{Outcome}
 use Rattle.executor.specs.declared.Outcome.TheVariants as outcomes
 use Rattle.relay.specs.declared.ReplicaFault.{ReplicaFault}
 use Rattle.relay.specs.declared.ReplicaFault.TheVariants as faults
-use Rattle.replica_core.specs.Replica.{Replica, operations}
-use Rattle.replica_core.specs.Calls.{next_commit, with_published}
+use Rattle.relay.specs.declared.Received.{Received}
+use Rattle.relay.specs.declared.Received.TheVariants.{Accepted, Skipped}
+use Rattle.replica_core.specs.Replica.{Replica, dispatched, operations}
+use Rattle.replica_core.specs.Calls.{next_commit, next_job, is_eligible, dispatched_next, with_finished, left_by_fault, with_published, left_by_receive}
+use Rattle.replica_shared.specs.Outlet.{Queued, AreInLine, empty_outlet}
+use Rattle.replica_shared.specs.declared.news.News.{News}
+use Rattle.replica_shared.specs.declared.news.Outlook.{Outlook}
+use Rattle.replica_shared.specs.declared.news.Next.{Next}
+use Rattle.replica_shared.specs.declared.news.Next.TheVariants as found
 
 pub record State : Type 0 where
   pub core : Replica
@@ -22,14 +32,37 @@ pub record State : Type 0 where
   pub closed : Bool
   -- the places of the jobs for which memory ran out
   pub kept : List (Option Job)
+  -- the coordinator's end of the queue: the first so many jobs were pushed, and the next may wait for memory
+  pub outlet : Queued
+  -- so many of those pushed were claimed by workers
+  pub claimed : ℕ
+  -- something may be left to commit, to publish or to dispatch, as behind want of memory
+  pub behind : Bool
+  -- what those who wait were told last
+  pub told : Outlook
+
+-- a state of these parts
+abbrev pub state_of : Replica → Publishing → Bool → List (Option Job) → Queued → ℕ → Bool → Outlook → State
+state_of core publication closed kept outlet claimed behind told = record {
+  core = core;
+  publication = publication;
+  closed = closed;
+  kept = kept;
+  outlet = outlet;
+  claimed = claimed;
+  behind = behind;
+  told = told;
+}
 
 -- how far the replica is
 abbrev pub words_of : Replica → Counts
 words_of r = counts_of (length r.accepted) r.committed r.published
 
 -- What the core keeps is true of itself: its rows are those after the committed records. With it, over one base, stand the
--- publisher and the words of the status.
-pub record StandTogether (base : List Entry) (r : Replica) (p : Publishing) (appended : ℕ) (stored : List Counts) : Type 0 where
+-- publisher and the words of the status. It takes the records of this source.
+pub record StandTogether (tables : List Table) (source : List ℕ) (base : List Entry) (r : Replica) (p : Publishing) (appended : ℕ) (stored : List Counts) : Type 0 where
+  pub tables_are : r.tables ≡ tables
+  pub source_is : r.source ≡ source
   pub base_is : r.base ≡ base
   pub history : IsHistory p.published
   -- the operations that are published, and behind them those that are appended, are the first of those of the committed records
@@ -83,6 +116,10 @@ TakesOut kept (Some job) then = (slice_index_or kept (job.gno % 64) None ≡ Som
 abbrev pub IsStop : ReplicaFault → Type 0
 IsStop fault = (at : ℕ) × (fault ≡ faults.Stopped at)
 
+-- it tells of the stop of this state, in which the commit of this number is not published
+abbrev pub IsStopBehind : State → ℕ → ReplicaFault → Type 0
+IsStopBehind s gno fault = (at : ℕ) × (s.core.stopped ≡ Some at) × (fault ≡ faults.Stopped at) × (commits_in s.publication.published < gno)
+
 -- neither is the commit of this number published, nor is the replica stopped
 abbrev pub is_awaited : State → ℕ → Bool
 is_awaited s gno = not (nat_le gno (commits_in s.publication.published) || is_some s.core.stopped)
@@ -90,21 +127,63 @@ is_awaited s gno = not (nat_le gno (commits_in s.publication.published) || is_so
 -- Of the same accepted records as many are committed or more, and what is published goes on from what was.
 pub record IsLater (old new : State) : Type 0 where
   pub tables : new.core.tables ≡ old.core.tables
+  pub source : new.core.source ≡ old.core.source
   pub base : new.core.base ≡ old.core.base
   pub accepted : new.core.accepted ≡ old.core.accepted
   pub committed : old.core.committed ≤ new.core.committed
   pub published : IsPrefix old.publication.published new.publication.published
   pub closed : new.closed ≡ old.closed
 
--- all is committed that can be, and published
+-- all is committed that can be, published and dispatched
 pub record IsSettled (s : State) : Type 0 where
   pub committed : next_commit s.core ≡ None
   pub published : s.core.published ≡ s.core.committed
+  pub dispatched : is_eligible s.core ≡ false
+  pub pushed : s.outlet.aside ≡ None
 
--- no more records come, and all that did are committed
-pub record IsClosed (s : State) : Type 0 where
-  pub closed : s.closed ≡ true
-  pub committed : s.core.committed ≡ length s.core.accepted
+-- something is left to do only where the state says so, or where the replica is stopped
+abbrev pub IsBehindOrSettled : State → Type 0
+IsBehindOrSettled s = s.core.stopped ≡ None → s.behind ≡ false → IsSettled s
+
+-- no more records come, and all that did are committed and published
+abbrev pub is_ended : State → Bool
+is_ended s = s.closed && (s.core.committed == length s.core.accepted) && (s.core.published == s.core.committed)
+
+-- all that is true each time that the lock is taken
+pub record IsWhole (tables : List Table) (source : List ℕ) (base : List Entry) (s : State) (appended : ℕ) (stored : List Counts) : Type 0 where
+  pub stand : StandTogether tables source base s.core s.publication appended stored
+  pub kept : AreKept (dispatched s.core) s.kept
+  pub line : AreInLine (dispatched s.core) s.outlet
+  pub claims : s.claimed ≤ s.outlet.pushed
+  pub rest : IsBehindOrSettled s
+
+-- ---- what those who wait are told
+
+-- how many jobs there are that no worker has
+abbrev pub offers : State → ℕ
+offers s = (s.outlet.pushed - s.claimed) + count_by is_some s.kept
+
+abbrev pub outlook_of : State → Outlook
+outlook_of s = record {
+  offers = offers s;
+  behind = s.behind;
+  published = commits_in s.publication.published;
+  over = is_some s.core.stopped || is_ended s;
+}
+
+-- there is nothing for a worker: it waits
+abbrev pub is_idle : State → Bool
+is_idle s = not (nat_lt 0 (offers s) || s.behind || (is_some s.core.stopped || is_ended s))
+
+-- One worker is told where something is left to do, and where there are jobs and their number is another than was told: it
+-- takes one, and tells the next. Those who wait for a commit are told where more is published. At a stop and at the end
+-- all are told.
+abbrev pub news_between : Outlook → Outlook → News
+news_between told now = record {
+  work = now.behind || (nat_lt 0 now.offers && (not (now.offers == told.offers) || told.behind));
+  published = nat_lt told.published now.published;
+  over = now.over && not told.over;
+}
 
 -- ---- what each step leaves
 
@@ -112,6 +191,7 @@ pub record IsClosed (s : State) : Type 0 where
 abbrev pub answered : ℕ → Outcome → Result (Unit {0}) ReplicaFault
 answered gno (outcomes.Output batch) = Ok tt
 answered gno outcomes.Undefined = Err (faults.Stopped gno)
+answered gno outcomes.WrongRefs = Err (faults.Stopped gno)
 answered gno outcomes.Memory = Err faults.Memory
 
 -- these operations are appended
@@ -132,3 +212,83 @@ shown s = record s {
   core = with_published s.core (commits_in s.publication.published + length s.publication.waiting);
   publication = published_all s.publication;
 }
+
+-- over a new core, whose rows are published
+abbrev pub new_state : Replica → State
+new_state core = state_of core (record { published = Load core.base ∷ []; waiting = []; history = Load core.base ∷ [] }) false (replicate 64 None) empty_outlet 0 false
+    (record { offers = 0; behind = false; published = 0; over = false })
+
+-- A later state, in which all was done that could be. What is kept, what was claimed and what was told stays.
+pub record Settles (old new : State) : Type 0 where
+  pub later : IsLater old new
+  pub stopped : new.core.stopped ≡ old.core.stopped
+  pub kept : new.kept ≡ old.kept
+  pub claimed : new.claimed ≡ old.claimed
+  pub told : new.told ≡ old.told
+
+-- why it may not be
+abbrev pub IsFaultOf : State → ReplicaFault → Type 0
+IsFaultOf s fault = MatchOption s.core.stopped (fault ≡ faults.Memory) (λ at. fault ≡ faults.Stopped at)
+
+-- what the core's `receive` leaves
+abbrev pub left_by_accept : State → Record → Received → State
+left_by_accept s new Accepted = record s { core = left_by_receive s.core new Accepted; behind = true }
+left_by_accept s new Skipped = s
+
+abbrev pub AcceptsAndSettles : State → Record → State → Type 0
+AcceptsAndSettles s new then = Settles (left_by_accept s new Accepted) then
+
+-- what the core's `finish` leaves
+abbrev pub left_by_finish : State → ℕ → State
+left_by_finish s gno = record s { core = with_finished s.core gno; behind = true }
+
+abbrev pub refused_so : State → ReplicaFault → Job → State
+refused_so s fault job = record s { core = left_by_fault s.core fault; kept = taken_back fault job s.kept }
+
+-- A result of the job that was handed out: where it is taken all is done that then can be. Where its record does not apply, or
+-- states other refs than its changes look at, the replica stops at that record, and where memory ran out the job is kept.
+abbrev pub HandsIn : State → Job → Outcome → Result (Unit {0}) ReplicaFault → State → Type 0
+HandsIn s job (outcomes.Output batch) result then = Settles (left_by_finish s job.gno) then × IfErr result (λ fault. fault ≡ faults.Memory)
+HandsIn s job outcomes.Undefined result then = (result ≡ Err (faults.Stopped job.gno)) × (then ≡ refused_so s (faults.Stopped job.gno) job)
+HandsIn s job outcomes.WrongRefs result then = (result ≡ Err (faults.Stopped job.gno)) × (then ≡ refused_so s (faults.Stopped job.gno) job)
+HandsIn s job outcomes.Memory result then = (result ≡ Err faults.Memory) × (then ≡ refused_so s faults.Memory job)
+
+-- one more record is dispatched, and its job is the next to be pushed
+pub record DispatchesOne (old new : State) : Type 0 where
+  pub job : Job
+  pub is_next : next_job old.core ≡ Some job
+  pub left : new ≡ record old { core = dispatched_next old.core; outlet = record old.outlet { aside = Some job } }
+
+-- records are dispatched and their jobs are pushed, and else nothing changes
+pub record DispatchesMore (old new : State) : Type 0 where
+  pub core : new.core ≡ record old.core { under_way = new.core.under_way }
+  pub commit : next_commit new.core ≡ next_commit old.core
+  pub same : new ≡ record old { core = new.core; outlet = new.outlet }
+
+-- a worker claims one of the jobs that were pushed
+abbrev pub with_claim : State → State
+with_claim s = record s { claimed = s.claimed + 1 }
+
+-- no job is kept
+abbrev pub NoneIsKept : List (Option Job) → Type 0
+NoneIsKept kept = (place : ℕ) → slice_index_or kept place None ≡ None
+
+-- no job is kept, and each that was pushed was claimed
+abbrev pub NoneIsLeft : State → Type 0
+NoneIsLeft s = NoneIsKept s.kept × (s.outlet.pushed ≤ s.claimed)
+
+-- What a worker finds: a job that is kept comes first, then one that was pushed. There is none only where neither is, and none
+-- from then on exactly at the end.
+abbrev pub Finds : State → Next → State → Type 0
+Finds s (found.Kept job) then = TakesOut s.kept (Some job) then.kept × (then ≡ record s { kept = then.kept })
+Finds s found.Claim then = NoneIsKept s.kept × (s.claimed < s.outlet.pushed) × (then ≡ with_claim s)
+Finds s found.Nothing then = NoneIsLeft s × (is_ended s ≡ false) × (then ≡ s)
+Finds s found.Ended then = NoneIsLeft s × (is_ended s ≡ true) × (then ≡ s)
+
+-- the same once all is done that was left behind
+pub record FindsBehind (old : State) (next : Next) (new : State) : Type 0 where
+  pub between : State
+  pub settles : Settles old between
+  pub settled : IsSettled between
+  pub behind : between.behind ≡ false
+  pub finds : Finds between next new

@@ -1,23 +1,28 @@
-//! What lies under the lock: the core, its publisher, the words of the status, and the jobs for which memory ran out. Each
-//! call of the shared replica is one call here.
-ghost use Rattle.std.specs.Prelude.{◌≡◌, ◌⊎◌, ◌≤◌, ◌+◌, ◌++◌, ◌∷◌, [], true, false, replicate, position, None, Ok, Err, IfOk, IfErr, IfSome, OnOk, OnErr, IsErrOf, IsOk, IsSome, is_some, if◌then◌else◌};
+//! What lies under the lock: the core, its publisher, the words of the status, the coordinator's end of the queue, and the jobs
+//! for which memory ran out. Each call of the shared replica is one call here.
+ghost use Rattle.std.specs.Prelude.{◌≡◌, ◌⊎◌, ◌≤◌, ◌<◌, ◌+◌, ◌++◌, ◌∷◌, [], true, false, replicate, position, count_by, length, None, Ok, Err, IfOk, IfErr, IfSome, OnOk, OnErr, IsErrOf, IsOk, IsSome, is_some, if◌then◌else◌};
 ghost use mathlib.Core.List.{IsPrefix};
 ghost use Rattle.store_trait.specs.declared.Op.TheVariants.{Load};
 ghost use Rattle.published.specs.History.{IsHistory, commits_in};
 ghost use Rattle.published.specs.Status.{NoneFalls, latest};
 ghost use Rattle.replica_core.specs.Replica.{operations};
-ghost use Rattle.replica_core.specs.Calls.{new_over, received, left_by_receive, finish_fault, IsHandedOut, with_finished, left_by_fault, next_commit, committed_next, unless_stopped, with_published};
+ghost use Rattle.replica_core.specs.Calls.{new_over, received, left_by_receive, is_eligible, finish_fault, IsHandedOut, with_finished, left_by_fault, next_commit, committed_next, unless_stopped, with_published};
 ghost use Rattle.replica_core.specs.Sound.{IsUnderWay};
-ghost use Rattle.replica_shared.specs.Together.{words_of, IsStop, is_awaited, IsLater, IsSettled, IsClosed, answered, with_waiting, IsAppended, shown, NoneLost, laid, taken_back, TakesOut};
+ghost use Rattle.replica_core.specs.Wire.{Takes};
+ghost use Rattle.replica_shared.specs.Feeding.{IsNamed, left_by_take, SettlesOrLacks, told_behind, TakesAndSettles};
+ghost use Rattle.replica_shared.specs.Outlet.{empty_outlet, pushed_aside};
+ghost use Rattle.replica_shared.specs.Together.{State, words_of, is_awaited, IsStopBehind, IsLater, IsSettled, Settles, IsFaultOf, new_state, left_by_accept, AcceptsAndSettles, left_by_finish, refused_so, HandsIn, NoneIsKept, Finds, FindsBehind, DispatchesOne, DispatchesMore, is_ended, is_idle, offers, outlook_of, news_between, answered, with_waiting, IsAppended, shown, NoneLost, laid, taken_back, TakesOut};
 
 use crate::naming::ReplicaNaming;
+use crate::news::{News, Next, Outlook, Sleepers};
+use crate::outlet::Outlet;
 use executor::{Job, JobResult};
 use left_right::Absorb;
 use published::{Common, Counts, Notice, Publisher, Status, Step, Version, Watch};
 use record_codec::Record;
 use relay::{Received, ReplicaFault};
-use replica_core::ReplicaCore;
-use replica_core::laws::commits;
+use replica_core::laws::{commits, jobs};
+use replica_core::{ReplicaCore, Wire, WireFault};
 use schema::Memory;
 use std::alloc::Global;
 use std::marker::Model;
@@ -27,16 +32,6 @@ use uuid::Uuid;
 
 /// How many jobs can be out, and so how many can be kept.
 const PLACES: usize = 64;
-
-/// What there is for a worker.
-pub enum Next {
-    /// A job to execute.
-    Job(Job),
-    /// None now.
-    Nothing,
-    /// None from now on: no more records come, and all that did are committed and published.
-    Ended,
-}
 
 /// Contracts see it as `State` of `specs/Together.antt`.
 pub struct Coordinator<S: RowStore + Drop, J: ReplicaNaming>
@@ -52,22 +47,27 @@ where
     /// so none takes another's place.
     kept: Vec<Option<Job>>,
     closed: bool,
-    /// It changes with whatever a worker, or one in `wait_for`, may wait for.
-    moves: u64,
+    outlet: Outlet,
+    /// How many of the jobs that were pushed were claimed by workers.
+    claimed: u64,
+    /// Something may be left to commit, to publish or to dispatch.
+    behind: bool,
+    /// What those who wait were told last.
+    told: Outlook,
+    sleepers: Sleepers,
 }
 
 impl<S: RowStore + Drop, J: ReplicaNaming> Model for Coordinator<S, J>
 where
     Version<S, J>: Absorb<Step<J>, State = Common>,
 {
-    ghost use Rattle.replica_core.specs.Replica.{dispatched};
-    ghost use Rattle.replica_shared.specs.Together.{State, StandTogether, AreKept};
+    ghost use Rattle.replica_shared.specs.Together.{State, state_of, IsWhole};
 
     ghost Value = { State };
 
-    ghost view = { λ c. record { core = c.core; publication = c.publisher; closed = c.closed; kept = c.kept.items } };
+    ghost view = { λ c. state_of c.core c.publisher c.closed c.kept.items c.outlet c.claimed c.behind c.told };
 
-    ghost invariant = { λ c. StandTogether J.base c.core c.publisher c.appended c.status.stored × AreKept (dispatched c.core) c.kept.items };
+    ghost invariant = { λ c. IsWhole J.tables J.source J.base (state_of c.core c.publisher c.closed c.kept.items c.outlet c.claimed c.behind c.told) c.appended c.status.stored };
 }
 
 impl<S: RowStore + Drop, J: ReplicaNaming> Coordinator<S, J> {
@@ -77,13 +77,17 @@ impl<S: RowStore + Drop, J: ReplicaNaming> Coordinator<S, J> {
         publisher: Publisher<S, J>,
         status: Status,
         kept: Vec<Option<Job>>,
+        outlet: Outlet,
     ) -> Coordinator<S, J>
         requires core { core ≡ new_over core.tables core.source core.base core.workers }
+        requires tables { core.tables ≡ J.tables }
+        requires source { core.source ≡ J.source }
         requires base { core.base ≡ J.base }
         requires publisher { publisher ≡ record { published = Load core.base ∷ []; waiting = []; history = Load core.base ∷ [] } }
         requires status { status.stored ≡ [] }
         requires kept { kept.items ≡ replicate 64 None }
-        ensures { result ≡ record { core = core; publication = publisher; closed = false; kept = kept.items } }
+        requires outlet { outlet ≡ empty_outlet }
+        ensures { result ≡ new_state core }
     {
         Coordinator {
             core,
@@ -92,11 +96,23 @@ impl<S: RowStore + Drop, J: ReplicaNaming> Coordinator<S, J> {
             status,
             kept,
             closed: false,
-            moves: 0,
+            outlet,
+            claimed: 0,
+            behind: false,
+            told: Outlook {
+                offers: 0,
+                behind: false,
+                published: 0,
+                over: false,
+            },
+            sleepers: Sleepers {
+                workers: 0,
+                readers: 0,
+            },
         }
     }
 
-    // The core's call.
+    // The core's call; then what may be dispatched is. Behind want of memory the record may have been accepted.
     pub(crate) fn receive(
         &mut self,
         rt: &impl Wait,
@@ -106,55 +122,154 @@ impl<S: RowStore + Drop, J: ReplicaNaming> Coordinator<S, J> {
         ensures answer { IsErrOf result ReplicaFault.Memory ⊎ (result ≡ received self.old.core from new.now) }
         ensures memory { IsErrOf result ReplicaFault.Memory
             → received self.old.core from new.now ≡ Ok Received.Accepted }
-        ensures ok { IfOk result (λ answer. self.new ≡ record self.old { core = left_by_receive self.old.core new.now answer }) }
+        ensures accepted { result ≡ Ok Received.Accepted → AcceptsAndSettles self.old new.now self.new × IsSettled self.new }
+        ensures skipped { result ≡ Ok Received.Skipped → self.new ≡ self.old }
+        ensures lacking { IsErrOf result ReplicaFault.Memory → (self.new ≡ self.old) ⊎ AcceptsAndSettles self.old new.now self.new }
+        ensures refused { IfErr result (λ fault. (fault ≡ ReplicaFault.Memory → ⊥) → self.new ≡ self.old) }
+    {
+        let answer = self.accept(rt, from, new)?;
+        if answer == Received::Accepted {
+            self.settle(rt)?;
+        }
+        Ok(answer)
+    }
+
+    // The core's call.
+    fn accept(&mut self, rt: &impl Wait, from: Uuid, new: &Record) -> Result<Received, ReplicaFault>
+        ensures answer { IsErrOf result ReplicaFault.Memory ⊎ (result ≡ received self.old.core from new.now) }
+        ensures memory { IsErrOf result ReplicaFault.Memory
+            → received self.old.core from new.now ≡ Ok Received.Accepted }
+        ensures ok { IfOk result (λ answer. self.new ≡ left_by_accept self.old new.now answer) }
         ensures err { OnErr result (self.new ≡ self.old) }
     {
         let _sound = self.core.committed();
         let answer = self.core.receive(from, new)?;
-        store_words(rt, &self.core, &mut self.status);
-        self.moves = self.moves.wrapping_add(1);
+        if answer == Received::Accepted {
+            store_words(rt, &self.core, &mut self.status);
+            self.behind = true;
+        }
         Ok(answer)
     }
 
-    // What there is for a worker, once what was handed in is committed and published as far as can be. A job for which memory
-    // ran out comes first.
+    // The wire's call over the core; then, where records were accepted, what may be dispatched is. Behind want of memory for that
+    // the piece is taken, as behind a refused record of it, and so that is told: who sent the piece again would send its bytes
+    // twice. A fault of the wire's own call comes first.
+    pub(crate) fn take(
+        &mut self,
+        rt: &impl Wait,
+        wire: &mut Wire,
+        piece: &[u8],
+    ) -> Result<u64, WireFault>
+        ensures takes { TakesAndSettles self.old wire.old piece.now result wire.new self.new }
+        ensures named { IsNamed J.tables J.source J.base self.old.core }
+    {
+        let before = self.accepted();
+        let taken = self.take_piece(rt, wire, piece);
+        let settled = self.settle_past(rt, before);
+        told_of(taken, settled)
+    }
+
+    // The wire's call over the core.
+    fn take_piece(
+        &mut self,
+        rt: &impl Wait,
+        wire: &mut Wire,
+        piece: &[u8],
+    ) -> Result<u64, WireFault>
+        ensures takes { Takes wire.old self.old.core piece.now result wire.new self.new.core }
+        ensures left { self.new ≡ left_by_take self.old self.new.core }
+        ensures named { IsNamed J.tables J.source J.base self.old.core }
+    {
+        let _sound = self.core.committed();
+        let before = self.core.accepted().len();
+        let taken = wire.take(&mut self.core, piece);
+        if before < self.core.accepted().len() {
+            store_words(rt, &self.core, &mut self.status);
+            self.behind = true;
+        }
+        taken
+    }
+
+    // Does all that can be done, where more than so many records were accepted.
+    fn settle_past(&mut self, rt: &impl Wait, before: usize) -> Result<(), ReplicaFault>
+        requires runs { before < length self.old.core.accepted → self.old.core.stopped ≡ None }
+        ensures none { length self.old.core.accepted ≤ before → (result ≡ Ok tt) × (self.new ≡ self.old) }
+        ensures some { before < length self.old.core.accepted → SettlesOrLacks self.old result self.new }
+    {
+        if before < self.accepted() {
+            self.settle(rt)
+        } else {
+            Ok(())
+        }
+    }
+
+    // Whose records the core takes.
+    pub(crate) fn source(&self) -> Uuid
+        ensures { result ≡ J.source }
+    {
+        self.core.source()
+    }
+
+    // How many records were accepted.
+    fn accepted(&self) -> usize
+        ensures { result ≡ length self.now.core.accepted }
+    {
+        self.core.accepted().len()
+    }
+
+    // What there is for a worker, once all is done that was left behind. A job for which memory ran out comes first.
     pub(crate) fn next(&mut self, rt: &impl Wait) -> Result<Next, ReplicaFault>
-        ensures later { IsLater self.old self.new }
-        ensures ended { IfOk result (λ next. next ≡ Next.Ended → IsSettled self.new × IsClosed self.new) }
+        // Whoever has nothing to find waits.
+        requires { is_idle self.old ≡ false }
+        ensures stopped { IfSome self.old.core.stopped (λ at. result ≡ Err (ReplicaFault.Stopped at)) }
+        ensures ok { IfOk result (λ next. FindsBehind self.old next self.new) }
+        ensures err { IfErr result (λ fault. Settles self.old self.new × (fault ≡ ReplicaFault.Memory → self.new.behind ≡ true)) }
     {
         self.settle(rt)?;
+        Ok(self.find())
+    }
+
+    // What there is for a worker, where all was done.
+    fn find(&mut self) -> Next
+        ensures { Finds self.old result self.new }
+    {
         match self.take_kept() {
-            Some(job) => Ok(Next::Job(job)),
-            None => self.dispatch(),
+            Some(job) => Next::Kept(job),
+            None => self.claim(),
         }
     }
 
-    // The core's call.
-    fn dispatch(&mut self) -> Result<Next, ReplicaFault>
-        ensures later { IsLater self.old self.new }
-        ensures ended { IfOk result (λ next. next ≡ Next.Ended → (self.new ≡ self.old) × IsClosed self.new) }
+    // One of the jobs that were pushed, where any is left.
+    fn claim(&mut self) -> Next
+        requires { NoneIsKept self.old.kept }
+        ensures { Finds self.old result self.new }
     {
-        match self.core.dispatch()? {
-            Some(job) => Ok(Next::Job(job)),
-            None => Ok(self.at_rest()),
-        }
-    }
-
-    // What there is where there is no job.
-    fn at_rest(&self) -> Next
-        ensures { result ≡ Next.Ended → IsClosed self.now }
-    {
-        if self.closed && self.core.committed() == self.core.accepted().len() as u64 {
+        if self.claimed < self.outlet.pushed() {
+            self.claimed += 1;
+            Next::Claim
+        } else if self.is_ended() {
             Next::Ended
         } else {
             Next::Nothing
         }
     }
 
-    // Takes the result of a job, commits what can be, and publishes it.
+    // Whether no more records come, and all that did are committed and published.
+    fn is_ended(&self) -> bool
+        ensures { result ≡ is_ended self.now }
+    {
+        self.closed
+            && self.core.committed() == self.core.accepted().len() as u64
+            && self.core.published() == self.core.committed()
+    }
+
+    // Takes the result of a job, commits what can be, publishes it at once, and dispatches what then may be.
     pub(crate) fn hand_in(&mut self, rt: &impl Wait, done: JobResult) -> Result<(), ReplicaFault>
-        ensures later { IsLater self.old self.new }
-        ensures refused { IfSome (finish_fault self.old.core done.job.gno) (λ fault. result ≡ Err fault) }
+        ensures refused { IfSome (finish_fault self.old.core done.job.gno) (λ fault. (result ≡ Err fault) × (self.new ≡ self.old)) }
+        ensures other { finish_fault self.old.core done.job.gno ≡ None → ¬ IsHandedOut self.old.core done
+            → (result ≡ Err ReplicaFault.WrongInput) × (self.new ≡ self.old) }
+        ensures taken { finish_fault self.old.core done.job.gno ≡ None → IsHandedOut self.old.core done
+            → HandsIn self.old done.job done.outcome result self.new }
         ensures ok { OnOk result (IsSettled self.new) }
     {
         self.finish(done)?;
@@ -168,15 +283,14 @@ impl<S: RowStore + Drop, J: ReplicaNaming> Coordinator<S, J> {
             → result ≡ Err ReplicaFault.WrongInput }
         ensures taken { finish_fault self.old.core done.job.gno ≡ None → IsHandedOut self.old.core done
             → result ≡ answered done.job.gno done.outcome }
-        ensures ok { OnOk result (self.new ≡ record self.old { core = with_finished self.old.core done.job.gno }) }
-        ensures err { IfErr result (λ fault. self.new ≡ record self.old {
-          core = left_by_fault self.old.core fault;
-          kept = taken_back fault done.job self.old.kept;
-        }) }
+        ensures ok { OnOk result (self.new ≡ left_by_finish self.old done.job.gno) }
+        ensures err { IfErr result (λ fault. self.new ≡ refused_so self.old fault done.job) }
     {
-        self.moves = self.moves.wrapping_add(1);
         match self.core.finish(done) {
-            Ok(()) => Ok(()),
+            Ok(()) => {
+                self.behind = true;
+                Ok(())
+            }
             Err((fault, done)) => {
                 self.take_back(fault, done);
                 Err(fault)
@@ -215,19 +329,27 @@ impl<S: RowStore + Drop, J: ReplicaNaming> Coordinator<S, J> {
         self.kept[place].take()
     }
 
-    // Commits what can be committed, and publishes it.
+    // Commits what can be committed, publishes it, and dispatches what then may be.
     fn settle(&mut self, rt: &impl Wait) -> Result<(), ReplicaFault>
-        ensures later { IsLater self.old self.new }
-        ensures ok { OnOk result (IsSettled self.new) }
+        ensures settles { Settles self.old self.new }
+        ensures ok { OnOk result (IsSettled self.new × (self.new.behind ≡ false) × (self.old.core.stopped ≡ None)) }
+        ensures stopped { IfSome self.old.core.stopped (λ at. result ≡ Err (ReplicaFault.Stopped at)) }
+        ensures err { IfErr result (λ fault. IsFaultOf self.old fault × (self.new.behind ≡ true)) }
     {
+        self.behind = true;
         self.commit_all(rt)?;
-        self.publish_all(rt)
+        self.publish_all(rt)?;
+        self.dispatch_all(rt)?;
+        self.behind = false;
+        Ok(())
     }
 
     // Commits each record whose turn it is.
     fn commit_all(&mut self, rt: &impl Wait) -> Result<(), ReplicaFault>
-        ensures later { IsLater self.old self.new }
-        ensures ok { OnOk result (next_commit self.new.core ≡ None) }
+        requires { self.old.behind ≡ true }
+        ensures settles { Settles self.old self.new × (self.new.behind ≡ true) }
+        ensures ok { OnOk result ((next_commit self.new.core ≡ None) × (self.old.core.stopped ≡ None)) }
+        ensures err { IfErr result (IsFaultOf self.old) }
     {
         for _ in rt.forever() {
             if self.commit_next(rt)?.is_none() {
@@ -239,8 +361,10 @@ impl<S: RowStore + Drop, J: ReplicaNaming> Coordinator<S, J> {
 
     // The core's call.
     fn commit_next(&mut self, rt: &impl Wait) -> Result<Option<u64>, ReplicaFault>
+        requires { self.old.behind ≡ true }
         ensures answer { IsErrOf result ReplicaFault.Memory
             ⊎ (result ≡ unless_stopped self.old.core (next_commit self.old.core)) }
+        ensures memory { IsErrOf result ReplicaFault.Memory → self.old.core.stopped ≡ None }
         ensures ok { IfOk result (λ gno.
             self.new ≡ record self.old { core = if is_some gno then committed_next self.old.core else self.old.core }) }
         ensures err { OnErr result (self.new ≡ self.old) }
@@ -249,16 +373,18 @@ impl<S: RowStore + Drop, J: ReplicaNaming> Coordinator<S, J> {
         let next = self.core.commit_next()?;
         if next.is_some() {
             store_words(rt, &self.core, &mut self.status);
-            self.moves = self.moves.wrapping_add(1);
         }
         Ok(next)
     }
 
-    // Publishes all that is committed.
+    // Publishes all that is committed, at once.
     fn publish_all(&mut self, rt: &impl Wait) -> Result<(), ReplicaFault>
-        ensures later { IsLater self.old self.new }
+        requires behind { self.old.behind ≡ true }
+        requires runs { self.old.core.stopped ≡ None }
+        ensures settles { Settles self.old self.new × (self.new.behind ≡ true) }
         ensures core { self.new.core ≡ with_published self.old.core self.new.core.published }
         ensures ok { OnOk result (self.new.core.published ≡ self.new.core.committed) }
+        ensures err { IfErr result (λ fault. fault ≡ ReplicaFault.Memory) }
     {
         if self.core.published() == self.core.committed() {
             return Ok(());
@@ -271,6 +397,7 @@ impl<S: RowStore + Drop, J: ReplicaNaming> Coordinator<S, J> {
     fn append_all(&mut self, rt: &impl Wait) -> Result<(), ReplicaFault>
         ensures same { self.new ≡ with_waiting self.old self.new.publication.waiting }
         ensures all { OnOk result (IsAppended self.new) }
+        ensures err { IfErr result (λ fault. fault ≡ ReplicaFault.Memory) }
     {
         for _ in rt.forever() {
             if !self.append_next()? {
@@ -284,7 +411,7 @@ impl<S: RowStore + Drop, J: ReplicaNaming> Coordinator<S, J> {
     fn append_next(&mut self) -> Result<bool, ReplicaFault>
         ensures same { self.new ≡ with_waiting self.old self.new.publication.waiting }
         ensures all { IfOk result (λ more. more ≡ false → IsAppended self.new) }
-        ensures err { OnErr result (self.new ≡ self.old) }
+        ensures err { IfErr result (λ fault. (fault ≡ ReplicaFault.Memory) × (self.new ≡ self.old)) }
     {
         commits();
         let (published, committed) = (self.core.published(), self.core.committed());
@@ -299,16 +426,63 @@ impl<S: RowStore + Drop, J: ReplicaNaming> Coordinator<S, J> {
 
     // Publishes what was appended.
     fn show(&mut self, rt: &impl Wait) -> Result<(), ReplicaFault>
+        requires behind { self.old.behind ≡ true }
+        requires runs { self.old.core.stopped ≡ None }
         ensures ok { OnOk result (self.new ≡ shown self.old) }
-        ensures err { OnErr result (self.new ≡ record self.old { publication = self.new.publication }) }
+        ensures err { IfErr result (λ fault. (fault ≡ ReplicaFault.Memory) × (self.new ≡ record self.old { publication = self.new.publication })) }
         ensures later { IsPrefix self.old.publication.published self.new.publication.published }
     {
         let _sound = self.core.committed();
         let upto = self.publisher.publish(rt)?;
         self.core.publish(upto)?;
         store_words(rt, &self.core, &mut self.status);
-        self.moves = self.moves.wrapping_add(1);
         Ok(())
+    }
+
+    // Dispatches what may be, and pushes it. A job whose push is refused waits, and is pushed first the next time.
+    fn dispatch_all(&mut self, rt: &impl Wait) -> Result<(), ReplicaFault>
+        requires behind { self.old.behind ≡ true }
+        requires runs { self.old.core.stopped ≡ None }
+        ensures same { DispatchesMore self.old self.new }
+        ensures ok { OnOk result ((is_eligible self.new.core ≡ false) × (self.new.outlet.aside ≡ None)) }
+        ensures err { IfErr result (λ fault. fault ≡ ReplicaFault.Memory) }
+    {
+        for _ in rt.forever() {
+            self.push(rt)?;
+            if !self.dispatch()? {
+                return Ok(());
+            }
+        }
+        unreachable!()
+    }
+
+    // Pushes the job that waits, if any does.
+    fn push(&mut self, rt: &impl Wait) -> Result<(), ReplicaFault>
+        requires behind { self.old.behind ≡ true }
+        ensures ok { OnOk result (self.new ≡ record self.old { outlet = pushed_aside self.old.outlet }) }
+        ensures err { IfErr result (λ fault. (fault ≡ ReplicaFault.Memory) × (self.new ≡ self.old)) }
+    {
+        Ok(self.outlet.push(rt)?)
+    }
+
+    // The core's call; the job is the next to be pushed. `false` where there is none.
+    fn dispatch(&mut self) -> Result<bool, ReplicaFault>
+        requires behind { self.old.behind ≡ true }
+        requires runs { self.old.core.stopped ≡ None }
+        requires free { self.old.outlet.aside ≡ None }
+        ensures some { result ≡ Ok true → DispatchesOne self.old self.new }
+        ensures none { result ≡ Ok false → (is_eligible self.old.core ≡ false) × (self.new ≡ self.old) }
+        ensures err { IfErr result (λ fault. (fault ≡ ReplicaFault.Memory) × (self.new ≡ self.old)) }
+    {
+        jobs();
+        let _sound = self.core.committed();
+        match self.core.dispatch()? {
+            Some(job) => {
+                self.outlet.put(job);
+                Ok(true)
+            }
+            None => Ok(false),
+        }
     }
 
     // Whether neither the commit of this gno is published nor the replica stopped.
@@ -323,11 +497,11 @@ impl<S: RowStore + Drop, J: ReplicaNaming> Coordinator<S, J> {
         requires { is_awaited self.now gno ≡ false }
         ensures upto { IfOk result (λ notice. gno ≤ commits_in notice) }
         ensures history { IfOk result (λ notice. IsHistory notice) }
+        ensures begins { IfOk result (λ notice. IsPrefix (Load J.base ∷ []) notice) }
         ensures published { IfOk result (λ notice. notice ≡ self.now.publication.published) }
-        ensures known { gno ≤ commits_in self.now.publication.published → IsOk result }
-        ensures stopped { IfErr result (λ fault. IfSome self.now.core.stopped (λ at. fault ≡ ReplicaFault.Stopped at)) }
-        ensures stop { IfErr result IsStop }
+        ensures stopped { IfErr result (λ fault. IsStopBehind self.now gno fault) }
     {
+        let _sound = self.core.committed();
         let notice = self.publisher.tell();
         if gno <= notice.upto() {
             return Ok(notice);
@@ -341,6 +515,8 @@ impl<S: RowStore + Drop, J: ReplicaNaming> Coordinator<S, J> {
     // The core and the publisher.
     pub(crate) fn end(self) -> (ReplicaCore<S>, Publisher<S, J>)
         ensures state { (result.0 ≡ self.core) × (result.1 ≡ self.publication) }
+        ensures tables { result.0.tables ≡ J.tables }
+        ensures source { result.0.source ≡ J.source }
         ensures base { result.0.base ≡ J.base }
         ensures published { result.1.published ≡ operations result.0.tables result.0.base result.0.accepted (commits_in result.1.published) }
         ensures within { commits_in result.1.published ≤ result.0.committed }
@@ -354,7 +530,11 @@ impl<S: RowStore + Drop, J: ReplicaNaming> Coordinator<S, J> {
             status: _,
             kept: _,
             closed: _,
-            moves: _,
+            outlet: _,
+            claimed: _,
+            behind: _,
+            told: _,
+            sleepers: _,
         } = self;
         commits();
         let _sound = core.committed();
@@ -366,13 +546,91 @@ impl<S: RowStore + Drop, J: ReplicaNaming> Coordinator<S, J> {
         ensures { self.new ≡ record self.old { closed = true } }
     {
         self.closed = true;
-        self.moves = self.moves.wrapping_add(1);
     }
 
-    // A number that changes with whatever a worker, or one in `wait_for`, may wait for.
-    pub(crate) fn moves(&self) -> u64 {
-        self.moves
+    // Whether there is nothing for a worker.
+    pub(crate) fn is_idle(&self) -> bool
+        ensures { result ≡ is_idle self.now }
+    {
+        let now = self.outlook();
+        !(0 < now.offers || now.behind || now.over)
     }
+
+    // What those who wait look at.
+    fn outlook(&self) -> Outlook
+        ensures { result ≡ outlook_of self.now }
+    {
+        Outlook {
+            offers: self.offers(),
+            behind: self.behind,
+            published: self.publisher.tell().upto(),
+            over: self.core.stopped().is_some() || self.is_ended(),
+        }
+    }
+
+    // How many jobs there are that no worker has.
+    fn offers(&self) -> u64
+        ensures { result ≡ offers self.now }
+    {
+        let _sound = self.core.committed();
+        (self.outlet.pushed() - self.claimed) + count_kept(&self.kept)
+    }
+
+    // Who is to be told of what was done since this was asked last.
+    pub(crate) fn news(&mut self) -> News
+        ensures news { result ≡ news_between self.old.told (outlook_of self.old) }
+        ensures told { self.new ≡ record self.old { told = outlook_of self.old } }
+    {
+        let now = self.outlook();
+        let news = now.since(self.told);
+        self.told = now;
+        news
+    }
+
+    // One more call of `worker` waits.
+    pub(crate) fn worker_sleeps(&mut self)
+        ensures { self.new ≡ self.old }
+    {
+        self.sleepers.workers = self.sleepers.workers.saturating_add(1);
+    }
+
+    // And one less.
+    pub(crate) fn worker_wakes(&mut self)
+        ensures { self.new ≡ self.old }
+    {
+        self.sleepers.workers = self.sleepers.workers.saturating_sub(1);
+    }
+
+    // One more call of `wait_for` waits.
+    pub(crate) fn reader_sleeps(&mut self)
+        ensures { self.new ≡ self.old }
+    {
+        self.sleepers.readers = self.sleepers.readers.saturating_add(1);
+    }
+
+    // And one less.
+    pub(crate) fn reader_wakes(&mut self)
+        ensures { self.new ≡ self.old }
+    {
+        self.sleepers.readers = self.sleepers.readers.saturating_sub(1);
+    }
+
+    // How many wait.
+    pub(crate) fn sleepers(&self) -> Sleepers {
+        self.sleepers
+    }
+}
+
+// What is told of a piece: the fault of the wire's call, or else want of memory for what came behind it.
+fn told_of(
+    taken: Result<u64, WireFault>,
+    settled: Result<(), ReplicaFault>,
+) -> Result<u64, WireFault>
+    ensures { result ≡ told_behind taken settled }
+{
+    let count = taken?;
+    settled.map_err(WireFault::Replica)?;
+    Ok(count)
 }
 
 // The first place that has a job.
@@ -380,6 +638,20 @@ fn first_kept(kept: &[Option<Job>]) -> Option<usize>
     ensures { result ≡ position is_some kept.now }
 {
     kept.iter().position(|place| place.is_some())
+}
+
+// How many places have a job.
+fn count_kept(kept: &[Option<Job>]) -> u64
+    ensures value { result ≡ count_by is_some kept.now }
+    ensures few { result ≤ length kept.now }
+{
+    let mut count = 0;
+    for place in kept {
+        if place.is_some() {
+            count += 1;
+        }
+    }
+    count
 }
 
 // Stores how far the core is.

@@ -1,19 +1,31 @@
 //! The replica for many threads, under one lock.
 //!
 //! A `SharedReplica` keeps a core, its publisher and the words of its status. What is true each time that the lock is taken
-//! is `StandTogether` of `specs/Together.antt`: what the publisher published and has appended are the first operations of the
-//! records that the core committed, the core counts no more as published than the publisher has published, and the words
-//! that were stored last are the core's own numbers. The rest core and publisher say of themselves. A worker takes a job
-//! under the lock, executes it outside, and hands in what came of it; what it does under the lock is said of the
-//! coordinator's own call. Who has nothing to do sleeps on a condition variable until another tells of a change. It stands on
-//! `replica_core`, `executor` and `published`.
+//! is `IsWhole` of `specs/Together.antt`: what the publisher published and has appended are the first operations of the
+//! records that the core committed, the core counts no more as published than the publisher has published, the words
+//! that were stored last are the core's own numbers, each job that was dispatched was pushed into the queue (but for the last,
+//! where its push was refused), and nothing is left to commit, publish or dispatch unless the state says so. The rest core and
+//! publisher say of themselves. A worker claims a job under the lock, takes it from the queue (`Jobs`) and executes it without,
+//! and hands in what came of it; what it does under the lock is said of the coordinator's own call. Who has nothing to do sleeps
+//! on a condition variable until there is what it waits for: each call under the lock ends in `let_go`, which asks the
+//! coordinator whom the change concerns. Records come one by one (`receive`), or as the bytes of a log in pieces (`feed`), which
+//! are the wire's own call under the lock (`specs/Feeding.antt`). It stands on `replica_core`, `executor` and `published`, on
+//! `gtid_set` for the ids that are waited for (`wait_for_set`), and on the ruled queue of `crossbeam_deque`.
 #![tactic(auto)]
 
 mod coordinator;
 mod gate;
+mod hand;
 mod naming;
+mod news;
+mod outlet;
+mod queue;
+mod seats;
 mod shared;
 
 pub use gate::{NoGate, WorkerGate};
+pub use hand::Hand;
 pub use naming::ReplicaNaming;
+pub use news::Sleepers;
+pub use queue::{InLogOrder, Jobs, Pass};
 pub use shared::SharedReplica;

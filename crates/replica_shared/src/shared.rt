@@ -1,25 +1,34 @@
 //! The replica that threads share.
-ghost use Rattle.std.specs.Prelude.{◌≡◌, ◌≤◌, ◌++◌, ◌∷◌, [], IfOk, IfErr};
+ghost use Rattle.std.specs.Prelude.{◌≡◌, ◌≤◌, ◌++◌, ◌∷◌, [], true, false, All, Err, IfOk, IfErr, IfSome};
+ghost use Rattle.std.specs.Arc.{arc_value};
 ghost use mathlib.Core.List.{IsPrefix};
 ghost use Rattle.store_trait.specs.declared.Op.TheVariants.{Load};
+ghost use Rattle.gtid_set.specs.Ids.{takes_source};
 ghost use Rattle.published.specs.History.{IsHistory, commits_in};
 ghost use Rattle.published.specs.Status.{InOrder};
 ghost use Rattle.replica_core.specs.Replica.{operations};
 ghost use Rattle.replica_core.specs.Calls.{new_over};
+ghost use Rattle.replica_shared.specs.Queue.{IsPassOf};
 ghost use Rattle.replica_shared.specs.Together.{IsStop};
+ghost use Rattle.replica_shared.specs.Feeding.{Feeds, AreUpTo};
 
-use crate::coordinator::{Coordinator, Next, parts};
+use crate::coordinator::{Coordinator, parts};
 use crate::gate::WorkerGate;
 use crate::naming::ReplicaNaming;
+use crate::news::{Next, Sleepers};
+use crate::outlet::Outlet;
+use crate::queue::{Jobs, Pass};
+use crate::seats::Seats;
 use executor::{Job, JobResult, execute};
+use gtid_set::GtidSet;
 use left_right::Absorb;
-use published::{Common, Counts, Notice, Publisher, ReadSeat, Status, Step, Version, Watch};
+use published::{Common, Counts, Notice, Publisher, ReadSeat, Step, Version, Watch};
 use record_codec::Record;
 use relay::{Received, ReplicaFault};
-use replica_core::ReplicaCore;
+use replica_core::{ReplicaCore, Wire, WireFault};
 use schema::Memory;
 use std::alloc::Global;
-use std::sync::{Condvar, Mutex, MutexGuard, Wait};
+use std::sync::{Arc, Condvar, Mutex, MutexGuard, Wait};
 use store_trait::RowStore;
 use uuid::Uuid;
 
@@ -28,26 +37,30 @@ use uuid::Uuid;
 ///
 /// It is not `Drop`, since its publisher is not: end it by `end`.
 ///
-/// Who waits sleeps. Workers without a job are woken, all of them, by each record that is accepted, by each result that is
-/// handed in, by `close`, and by a worker that commits or publishes what another had no memory for; those in `wait_for` by
-/// the last three. Who is woken takes the lock once.
+/// Jobs get to the workers through a queue. Whoever accepts a record or hands in a result dispatches, under the lock, all that
+/// then may be, and pushes it; workers take jobs from the queue without the lock, once they claimed one under it.
+///
+/// Who waits sleeps, until there is what it waits for. For a worker that is a job, or something that another left undone for
+/// want of memory: one is woken, which wakes the next where more is left. Those in `wait_for` are woken by each publication. A
+/// stop and the end wake all. A record that may not run yet wakes nobody, nor does a result that is not the next.
 pub struct SharedReplica<S: RowStore + Drop, J: ReplicaNaming>
 where
     Version<S, J>: Absorb<Step<J>, State = Common>,
 {
     held: Mutex<Coordinator<S, J>>,
-    /// Told of whatever a worker may wait for.
-    moved: Condvar,
-    /// Told of whatever one in `wait_for` may wait for.
+    /// Where workers wait.
+    work: Condvar,
+    /// Where those in `wait_for` wait.
     shown: Condvar,
-    seats: Mutex<Vec<ReadSeat<S, J>>>,
+    jobs: Arc<Jobs>,
+    seats: Mutex<Seats<S, J>>,
     watch: Mutex<Watch>,
 }
 
 impl<S: RowStore + Drop, J: ReplicaNaming> SharedReplica<S, J> {
     /// Over a new core, and a publisher that has published the load of the same rows alone, with the seats that it has.
-    /// It takes the memory of 64 places for jobs, and of the status. Where that is refused the publisher is closed, and it
-    /// waits for the readers.
+    /// It takes the memory of 64 places for jobs, of the queue, and of the status. Where that is refused the publisher is closed,
+    /// and it waits for the readers.
     pub fn new(
         rt: &impl Wait,
         alloc: Global,
@@ -57,25 +70,33 @@ impl<S: RowStore + Drop, J: ReplicaNaming> SharedReplica<S, J> {
     ) -> Result<SharedReplica<S, J>, Memory>
         requires core { core ≡ new_over core.tables core.source core.base core.workers }
         requires publisher { publisher ≡ record { published = Load core.base ∷ []; waiting = []; history = Load core.base ∷ [] } }
+        requires seats { All (λ seat. seat ≡ Load core.base ∷ []) seats.items }
 
         // The name is that of this core.
+        requires tables { core.tables ≡ J.tables }
+        requires source { core.source ≡ J.source }
         requires base { core.base ≡ J.base }
     {
         let Ok((places, status, watch)) = parts(alloc) else {
             drop(publisher.close(rt));
             return Err(Memory);
         };
+        let Ok((jobs, outlet)) = Outlet::new(alloc) else {
+            drop(publisher.close(rt));
+            return Err(Memory);
+        };
         Ok(SharedReplica {
-            held: Mutex::new(Coordinator::new(core, publisher, status, places)),
-            moved: Condvar::new(),
+            held: Mutex::new(Coordinator::new(core, publisher, status, places, outlet)),
+            work: Condvar::new(),
             shown: Condvar::new(),
-            seats: Mutex::new(seats),
+            jobs,
+            seats: Mutex::new(Seats::new(seats)),
             watch: Mutex::new(watch),
         })
     }
 
-    /// Accepts a copy of the record where it is the next, as the core's `receive` does; then the workers that wait are woken.
-    /// The time and the memory are the core's.
+    /// Accepts a copy of the record where it is the next, as the core's `receive` does; then what may be dispatched is. The time
+    /// and the memory are the core's. Behind `P9` the record may have been accepted: `receive` called again then skips it.
     pub fn receive(
         &self,
         rt: &impl Wait,
@@ -84,30 +105,44 @@ impl<S: RowStore + Drop, J: ReplicaNaming> SharedReplica<S, J> {
     ) -> Result<Received, ReplicaFault> {
         let mut held = self.held.lock(rt);
         let answer = held.receive(rt, from, new);
-        MutexGuard::unlock(held);
-        if answer == Ok(Received::Accepted) {
-            self.moved.notify_all();
-        }
+        self.let_go(held);
         answer
     }
 
-    /// Executes jobs until `close` was called and all accepted records are committed and published. It takes a job under the
-    /// lock, executes it outside, and hands in what came of it; in the same holding it commits what it can, in log
-    /// order, and publishes that. It ends with `P5` once the replica is stopped, also by this worker's own job, and
-    /// with `P9` where memory ran out. A job for which it ran out is kept in one of 64 places, and the next worker takes it
-    /// first; what was committed stays, and is published by the next one.
+    /// Takes a piece of a log's bytes, as the wire's `take` does over the core: each record that is whole then is one `receive`, in
+    /// order, behind those that waited. Then what may be dispatched is. Answers how many records were taken, also those that
+    /// were skipped. The time and the memory are those of `take`.
+    ///
+    /// A fault is `take`'s own: behind `Codec` and `Waiting` nothing of the piece is taken, and it may be sent again; behind
+    /// `Replica` it is taken, and may not. Where all records were taken and memory ran out for what comes behind them, `Replica` tells
+    /// `P9`: no record waits then, and what is left is done by the next call that accepts a record, or by a worker.
+    pub fn feed(&self, rt: &impl Wait, wire: &mut Wire, piece: &[u8]) -> Result<u64, WireFault>
+        ensures { Feeds J.tables J.source J.base wire.old piece.now result wire.new }
+    {
+        let mut held = self.held.lock(rt);
+        let answer = held.take(rt, wire, piece);
+        self.let_go(held);
+        answer
+    }
+
+    /// Executes jobs until `close` was called and all accepted records are committed and published. It claims a job under the
+    /// lock, takes it from the queue and executes it without, and hands in what came of it; in the same holding it commits what it
+    /// can, in log order, publishes that at once, and dispatches what then may run. It ends with `P5` once the replica is stopped,
+    /// also by this worker's own job, and with `P9` where memory ran out. A job for which it ran out in its execution is kept in one
+    /// of 64 places, and the next worker takes it first; a job whose push was refused waits in a place of its own, and is pushed
+    /// first. What was committed stays, and is published by the next one.
     ///
     /// No more jobs are out than the core has workers: a further worker waits, as one does for which there is no job. A job
-    /// costs what `execute` does, and under the lock two copies of it, and the commit and the publication of what it
-    /// leaves.
+    /// costs what `execute` does, and under the lock its copying, and the commit and the publication of what it leaves.
     pub fn worker<G: WorkerGate>(
         &self,
         rt: &impl Wait,
         alloc: Global,
         gate: &G,
     ) -> Result<(), ReplicaFault> {
+        let mut pass = self.jobs.pass();
         for _ in rt.forever() {
-            let Some(job) = self.next_job(rt)? else {
+            let Some(job) = self.next_job(rt, &mut pass)? else {
                 return Ok(());
             };
             let gno = job.gno;
@@ -120,72 +155,124 @@ impl<S: RowStore + Drop, J: ReplicaNaming> SharedReplica<S, J> {
     }
 
     // A job, once there is one. `None` where no more come.
-    fn next_job(&self, rt: &impl Wait) -> Result<Option<Job>, ReplicaFault> {
+    fn next_job(&self, rt: &impl Wait, pass: &mut Pass) -> Result<Option<Job>, ReplicaFault>
+        requires { IsPassOf (arc_value self.now.jobs) pass.old }
+        ensures { IsPassOf (arc_value self.now.jobs) pass.new }
+    {
         for _ in rt.forever() {
-            let (next, seen) = self.next(rt);
-            match next? {
-                Next::Job(job) => return Ok(Some(job)),
+            match self.next(rt)? {
+                Next::Kept(job) => return Ok(Some(job)),
+                Next::Claim => return Ok(Some(self.steal(rt, pass))),
                 Next::Ended => return Ok(None),
-                Next::Nothing => self.wait_past(rt, seen),
+                Next::Nothing => {}
             }
         }
         unreachable!()
     }
 
-    // What there is for a worker, and the coordinator's moves.
-    fn next(&self, rt: &impl Wait) -> (Result<Next, ReplicaFault>, u64) {
+    // Waits until there is something for a worker, and answers what.
+    fn next(&self, rt: &impl Wait) -> Result<Next, ReplicaFault> {
         let mut held = self.held.lock(rt);
-        let before = held.moves();
+        held.worker_sleeps();
+        let mut held = self.work.wait_while(rt, held, |held| held.is_idle());
         let next = held.next(rt);
-        let seen = held.moves();
-        MutexGuard::unlock(held);
-        if seen != before {
-            self.tell();
-        }
-        (next, seen)
+        held.worker_wakes();
+        self.let_go(held);
+        next
     }
 
-    // Waits for a move past these.
-    fn wait_past(&self, rt: &impl Wait, seen: u64) {
-        let held = self
-            .moved
-            .wait_while(rt, self.held.lock(rt), |held| held.moves() == seen);
-        MutexGuard::unlock(held);
+    // The job that was claimed: one for each claim lies in the queue.
+    fn steal(&self, rt: &impl Wait, pass: &mut Pass) -> Job
+        requires { IsPassOf (arc_value self.now.jobs) pass.old }
+        ensures { IsPassOf (arc_value self.now.jobs) pass.new }
+    {
+        for _ in rt.forever() {
+            if let Some(job) = self.jobs.steal(rt, pass) {
+                return job;
+            }
+        }
+        unreachable!()
     }
 
     fn hand_in(&self, rt: &impl Wait, done: JobResult) -> Result<(), ReplicaFault> {
         let mut held = self.held.lock(rt);
         let handed = held.hand_in(rt, done);
-        MutexGuard::unlock(held);
-        self.tell();
+        self.let_go(held);
         handed
     }
 
-    // Wakes all that wait.
-    fn tell(&self) {
-        self.moved.notify_all();
-        self.shown.notify_all();
+    // Lets go of the lock, and wakes those whom it concerns what was done under it.
+    fn let_go(&self, mut held: MutexGuard<'_, Coordinator<S, J>>) {
+        let news = held.news();
+        MutexGuard::unlock(held);
+        if news.over {
+            self.work.notify_all();
+        } else if news.work {
+            self.work.notify_one();
+        }
+        if news.over || news.published {
+            self.shown.notify_all();
+        }
     }
 
     /// Waits until the commit of this gno is published, and answers what is published then. `P5` where the replica is
-    /// stopped and that commit is not published. It waits for ever where the record of this gno never comes, or no worker
-    /// runs. It takes no memory.
+    /// stopped and that commit is not published, with the number of the record that did not apply. It waits for ever where the
+    /// record of this gno never comes, or no worker runs. It takes no memory.
     pub fn wait_for(&self, rt: &impl Wait, gno: u64) -> Result<Notice<J>, ReplicaFault>
         ensures upto { IfOk result (λ notice. gno ≤ commits_in notice) }
         ensures history { IfOk result (λ notice. IsHistory notice) }
+        ensures begins { IfOk result (λ notice. IsPrefix (Load J.base ∷ []) notice) }
         ensures stop { IfErr result IsStop }
     {
-        let held = self
-            .shown
-            .wait_while(rt, self.held.lock(rt), |held| held.is_awaited(gno));
+        let mut held = self.held.lock(rt);
+        held.reader_sleeps();
+        let mut held = self.shown.wait_while(rt, held, |held| held.is_awaited(gno));
         let notice = held.notice(gno);
+        held.reader_wakes();
         MutexGuard::unlock(held);
         notice
     }
 
-    /// One of the seats. `None` exactly where all are out. It takes no memory.
-    pub fn seat(&self, rt: &impl Wait) -> Option<ReadSeat<S, J>> {
-        self.seats.lock(rt).pop()
+    /// Waits until the commit of each id of the set is published, as MySQL's `WAIT_FOR_EXECUTED_GTID_SET` without a timeout, and
+    /// answers what is published then. `P2` at once where the set has ids, and these are of another source than the replica's. Else
+    /// it is `wait_for` of the set's greatest number, since no commit is published before those in front of it; the empty set waits
+    /// for nothing. It takes no memory.
+    pub fn wait_for_set(&self, rt: &impl Wait, set: &GtidSet) -> Result<Notice<J>, ReplicaFault>
+        ensures foreign { takes_source set.now.source J.source ≡ false → result ≡ Err ReplicaFault.ForeignSource }
+        ensures upto { IfOk result (λ notice. AreUpTo (commits_in notice) set.now) }
+        ensures history { IfOk result (λ notice. IsHistory notice) }
+        ensures begins { IfOk result (λ notice. IsPrefix (Load J.base ∷ []) notice) }
+        ensures stop { takes_source set.now.source J.source ≡ true → IfErr result IsStop }
+    {
+        match set.source() {
+            Some(source) if source != self.source(rt) => Err(ReplicaFault::ForeignSource),
+            _ => self.wait_for(rt, set.greatest().unwrap_or(0)),
+        }
+    }
+
+    // Whose records it takes.
+    fn source(&self, rt: &impl Wait) -> Uuid
+        ensures { result ≡ J.source }
+    {
+        let held = self.held.lock(rt);
+        let source = held.source();
+        MutexGuard::unlock(held);
+        source
+    }
+
+    /// One of the seats: it has seen the rows before the first commit. `None` exactly where all are out. It takes no memory.
+    pub fn seat(&self, rt: &impl Wait) -> Option<ReadSeat<S, J>>
+        ensures { IfSome result (λ seat. seat ≡ Load J.base ∷ []) }
+    {
+        self.seats.lock(rt).take()
+    }
+
+    /// How many calls wait now: those of `worker` that have no job, and those of `wait_for`. It takes the lock.
+    pub fn sleepers(&self, rt: &impl Wait) -> Sleepers {
+        let held = self.held.lock(rt);
+        let sleepers = held.sleepers();
+        MutexGuard::unlock(held);
+        sleepers
     }
 
     /// How many records were accepted, and how many of these are committed and published. It does not wait for a worker that
@@ -196,18 +283,19 @@ impl<S: RowStore + Drop, J: ReplicaNaming> SharedReplica<S, J> {
         self.watch.lock(rt).load(rt)
     }
 
-    /// No more records come: workers end once all that were accepted are committed. All that wait are woken.
+    /// No more records come: workers end once all that were accepted are committed and published.
     pub fn close(&self, rt: &impl Wait) {
         let mut held = self.held.lock(rt);
         held.close();
-        MutexGuard::unlock(held);
-        self.tell();
+        self.let_go(held);
     }
 
-    /// The core and the publisher, over the rows that they were made with. What is published are the operations of the first
-    /// records that the core committed; what was committed and not published, as behind want of memory, may wait in the
-    /// publisher. The seats that are not out are dropped. It takes no memory, and waits for nobody.
+    /// The core and the publisher, over the tables and the rows that they were made with. What is published are the operations of
+    /// the first records that the core committed; what was committed and not published, as behind want of memory, may wait in
+    /// the publisher. The seats that are not out are dropped. It takes no memory, and waits for nobody.
     pub fn end(self) -> (ReplicaCore<S>, Publisher<S, J>)
+        ensures tables { result.0.tables ≡ J.tables }
+        ensures source { result.0.source ≡ J.source }
         ensures base { result.0.base ≡ J.base }
         ensures published { result.1.published ≡ operations result.0.tables result.0.base result.0.accepted (commits_in result.1.published) }
         ensures within { commits_in result.1.published ≤ result.0.committed }
@@ -216,8 +304,9 @@ impl<S: RowStore + Drop, J: ReplicaNaming> SharedReplica<S, J> {
     {
         let SharedReplica {
             held,
-            moved: _,
+            work: _,
             shown: _,
+            jobs: _,
             seats: _,
             watch: _,
         } = self;

@@ -5,3 +5,4 @@ pub mod Assigned
 pub mod Apply
 pub mod Effect
 pub mod Frame
+pub mod Parents

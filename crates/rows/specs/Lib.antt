@@ -6,3 +6,4 @@ pub mod Database
 pub mod Shape
 pub mod Frame
 pub mod Effect
+pub mod Parents

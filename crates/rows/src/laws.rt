@@ -3,6 +3,7 @@
 ghost use Rattle.rows.specs.Effect.{AppliesByRow, FitsWhereItApplies, ParentStandsWhereItApplies, HasParentWhereItApplies, AppliesWhereItFits, WritesOfJoined, EffectOfJoined, KinOfJoined, RowAfterJoined, EachRowIsLeft, EffectIsItsRows, ChildrenKeepParents, FlatLeavesNoOrphan};
 ghost use Rattle.rows.specs.Naming.{AssignsWhatIsThere, KeepsWidth, OthersStay, NamedTakeTheirs};
 ghost use Rattle.rows.specs.Frame.{ChangesOnlyWrites, LooksOnlyAtWritesAndKin, AppliesBehind};
+ghost use Rattle.rows.specs.Parents.{NoOrphanOfJoined, NoOrphanBehind, KinAreFew, NoKinOfOthers, NoKinUnrelated};
 
 /// The frame law: a list of changes changes only the rows that it writes, and looks only at these and at
 /// their kin.
@@ -54,4 +55,19 @@ pub fn row_by_row()
 pub fn parents()
     ensures keep { ChildrenKeepParents }
     ensures flat { FlatLeavesNoOrphan }
+{}
+
+/// Which changes leave no orphan behind others: of one list, where each part leaves none in its place; of two transactions
+/// that do not conflict, where each leaves none alone.
+pub fn one_after_another()
+    ensures joined { NoOrphanOfJoined }
+    ensures behind { NoOrphanBehind }
+{}
+
+/// How many kin changes have: at most two each, and none where they write no child table, as those of a transaction that
+/// is not foreign-key related.
+pub fn kin()
+    ensures few { KinAreFew }
+    ensures of_others { NoKinOfOthers }
+    ensures unrelated { NoKinUnrelated }
 {}

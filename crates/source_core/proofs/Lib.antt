@@ -1,3 +1,5 @@
+pub mod RisingRows
+pub mod Orphans
 pub mod Legal
 pub mod Shapes
 pub mod Stand
@@ -14,6 +16,7 @@ pub mod Ready
 pub mod Preparing
 pub mod Queueing
 pub mod Causes
+pub mod StepFacts
 pub mod Writing
 pub mod Waiting
 pub mod Syncing

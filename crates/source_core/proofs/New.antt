@@ -8,7 +8,6 @@ use Rattle.log_index.specs.declared.Entry.{Entry as Seen}
 use Rattle.record_codec.specs.declared.records.Record.{Record}
 use Rattle.tracker_trait.specs.Kind.{Kind}
 use Rattle.schema.specs.declared.Table.{Table}
-use Rattle.schema.specs.Flags.{IsFlat}
 use Rattle.rows.specs.Database.{Database}
 use Rattle.store_trait.specs.Batch.{Entry, put_batch}
 use Rattle.store_trait.specs.Fits.{Fits}
@@ -59,11 +58,10 @@ none_twice : IsDistinct eqb []
 unfolding IsDistinct
 none_twice = tt
 
-new_core : (ts : List Table) (rows : Database) (base : List Entry) (limit : ℕ) (locks : Locks) → IsFlat ts → limit < 2 ^ 63 → put_batch base empty ≡ rows → Fits ts rows → locks ≡ no_locks → NoClash locks →
+new_core : (ts : List Table) (rows : Database) (base : List Entry) (limit : ℕ) (locks : Locks) → limit < 2 ^ 63 → put_batch base empty ≡ rows → Fits ts rows → locks ≡ no_locks → NoClash locks →
     IsCore (parts_over ts rows base limit [] [] (replicate 256 None) [] locks)
 unfolding no_locks
-new_core ts rows base limit locks flat bound loaded_is fits none clear = record {
-  flat = flat;
+new_core ts rows base limit locks bound loaded_is fits none clear = record {
   legal = empty_is_legal ts (put_batch base empty);
   shaped = λ n made is. absurd (cc is);
   few = omega arith;
@@ -78,17 +76,18 @@ new_core ts rows base limit locks flat bound loaded_is fits none clear = record 
   locks = none ∙ sym (ap (map (held_for ts rows)) views_none ∙ mapped (held_for ts rows) 256 None);
   no_clash = clear;
   applies = λ i t at. absurd (absent i t at);
+  refers = λ i t at. absurd (absent i t at);
   stands = λ i t at. absurd (absent i t at);
   flushed = tt;
   queued = tt;
   distinct = none_twice;
 }
 
-pub new_holds : (ts : List Table) (rows : Database) (base : List Entry) (limit : ℕ) (locks : Locks) → IsFlat ts → limit < 2 ^ 63 → put_batch base empty ≡ rows → Fits ts rows → locks ≡ no_locks → NoClash locks →
+pub new_holds : (ts : List Table) (rows : Database) (base : List Entry) (limit : ℕ) (locks : Locks) → limit < 2 ^ 63 → put_batch base empty ≡ rows → Fits ts rows → locks ≡ no_locks → NoClash locks →
     (log : List Record) (entries : List Seen) (places : List (Option Transaction)) (stages : Queues) → log ≡ [] → entries ≡ [] → places ≡ replicate 256 None → stages ≡ no_queues →
     (IsSo : List Seen → Type 0) → IsSo [] → Holds (parts_over ts rows base limit log entries places stages.flush locks) stages (IsSo entries)
-new_holds ts rows base limit locks flat bound loaded_is fits none clear log entries places stages no_log no_entries no_places no_stages IsSo so =
-    rw (no_log, no_entries, no_places, no_stages) (record { core = new_core ts rows base limit locks flat bound loaded_is fits none clear; syncing = refl; committing = refl; tracked = so })
+new_holds ts rows base limit locks bound loaded_is fits none clear log entries places stages no_log no_entries no_places no_stages IsSo so =
+    rw (no_log, no_entries, no_places, no_stages) (record { core = new_core ts rows base limit locks bound loaded_is fits none clear; syncing = refl; committing = refl; tracked = so })
 
 pub new_view : (ts : List Table) (rows : Database) (base : List Entry) (limit : ℕ) (locks : Locks) (kind : Kind) → (log : List Record) (entries : List Seen) (places : List (Option Transaction)) (stages : Queues) →
     log ≡ [] → entries ≡ [] → places ≡ replicate 256 None → stages ≡ no_queues → source_of (parts_over ts rows base limit log entries places stages.flush locks) kind false ≡ new_source ts base limit kind

@@ -18,7 +18,7 @@ use Rattle.source_core.specs.Source.{held_for, locks_over}
 use Rattle.source_core.specs.Calls.{with_open}
 use Rattle.source_core.proofs.Stand.{held_at}
 use Rattle.commit_stages.specs.Queues.{Queues}
-use Rattle.source_core.specs.Core.{Parts, IsCore, Applies, IsReady, StandsAs, AreFlushed, AreQueued, Holds, open_view, sessions_view, source_of, placed}
+use Rattle.source_core.specs.Core.{Parts, IsCore, Applies, RefersTo, IsReady, StandsAs, AreFlushed, AreQueued, Holds, open_view, sessions_view, source_of, placed}
 
 -- the transaction, if there is one, is neither queued nor flushed
 abbrev pub IsFreePhase : Phase → Type 0
@@ -109,12 +109,11 @@ locks_set ts rows places i now =
 pub place_set : (p : Parts) → IsCore p → (i : ℕ) → i < 256 → (now : Option Transaction) → IsFree (placed p.places i) → (queue : List ℕ) → (locks : Locks) →
     length p.log + length queue ≤ p.limit → AreQueued (set p.places i now) queue → IsDistinct eqb queue → Grows p.queue queue →
     locks ≡ set p.locks i (held_for p.tables p.rows (option_map open_view now)) → NoClash locks →
-    ((t : Transaction) → now ≡ Some t → Applies p.tables p.rows t.overlay × StandsAs (placing p i now queue locks) (i + 1) t.overlay.changes t.phase) →
+    ((t : Transaction) → now ≡ Some t → Applies p.tables p.rows t.overlay × StandsAs (placing p i now queue locks) (i + 1) t.overlay.changes t.phase × RefersTo p.tables p.rows t) →
     IsCore (placing p i now queue locks)
 place_set p core i within now free queue locks few queued distinct grows are clear here =
     let there : i < length p.places = omega (arith, within, core.sessions) in
     record {
-      flat = core.flat;
       legal = core.legal;
       shaped = core.shaped;
       few = few;
@@ -129,6 +128,7 @@ place_set p core i within now free queue locks few queued distinct grows are cle
       locks = are ∙ ap (λ l. set l i (held_for p.tables p.rows (option_map open_view now))) core.locks ∙ sym (locks_set p.tables p.rows p.places i now);
       no_clash = clear;
       applies = each_placed (λ j t. Applies p.tables p.rows t.overlay) p.places i now there (λ t is. (here t is).0) core.applies;
+      refers = each_placed (λ j t. RefersTo p.tables p.rows t) p.places i now there (λ t is. (here t is).2) core.refers;
       stands = each_placed (λ j t. StandsAs (placing p i now queue locks) (j + 1) t.overlay.changes t.phase) p.places i now there
           (λ t is. (here t is).1)
           (λ j t at. stands_stays p i now queue locks (j + 1) t.overlay.changes t.phase grows (core.stands j t at));
@@ -140,7 +140,7 @@ place_set p core i within now free queue locks few queued distinct grows are cle
 -- the same, with the queue as it is
 pub place_changed : (p : Parts) → IsCore p → (i : ℕ) → i < 256 → (now : Option Transaction) → IsFree (placed p.places i) → (locks : Locks) →
     locks ≡ set p.locks i (held_for p.tables p.rows (option_map open_view now)) → NoClash locks →
-    ((t : Transaction) → now ≡ Some t → Applies p.tables p.rows t.overlay × StandsAs (placing p i now p.queue locks) (i + 1) t.overlay.changes t.phase) →
+    ((t : Transaction) → now ≡ Some t → Applies p.tables p.rows t.overlay × StandsAs (placing p i now p.queue locks) (i + 1) t.overlay.changes t.phase × RefersTo p.tables p.rows t) →
     IsCore (placing p i now p.queue locks)
 place_changed p core i within now free locks are clear here =
     place_set p core i within now free p.queue locks core.few (queued_stay p.places i now free p.queue core.queued) core.distinct (λ session is. is) are clear here

@@ -16,7 +16,7 @@ use Rattle.source_core.specs.declared.transaction.Phase.TheVariants.{Active, Pre
 use Rattle.source_core.specs.declared.transaction.Transaction.{Transaction}
 use Rattle.source_core.specs.Source.{Source, Open}
 use Rattle.source_core.specs.Calls.{queued, queued_phase, with_open}
-use Rattle.source_core.specs.Core.{Parts, IsCore, Applies, StandsAs, IsReady, IsQueued, AreQueued, source_of, open_view, sessions_view, placed, prepared_order, with_phase}
+use Rattle.source_core.specs.Core.{Parts, IsCore, Applies, RefersTo, StandsAs, IsReady, IsQueued, AreQueued, source_of, open_view, sessions_view, placed, prepared_order, with_phase}
 use Rattle.source_core.proofs.Stand.{open_at}
 use Rattle.source_core.proofs.Place.{placing, place_set, queued_stay, ready_stays, locks_stay, not_queued, placed_is, view_set, IsFree, IsFreePhase, Grows}
 
@@ -41,7 +41,7 @@ pub record IsPrepared (o : Option Transaction) (order : ℕ) : Type 0 where
   pub is : o ≡ Some t
   pub phase : t.phase ≡ Prepared order
 
-prepared_phase : (t : Transaction) (phase : Phase) (order : ℕ) → t.phase ≡ phase → prepared_order (record { overlay = t.overlay; phase = phase }) ≡ Some order → t.phase ≡ Prepared order
+prepared_phase : (t : Transaction) (phase : Phase) (order : ℕ) → t.phase ≡ phase → prepared_order (record { overlay = t.overlay; refs = t.refs; phase = phase }) ≡ Some order → t.phase ≡ Prepared order
 prepared_phase t Active order e h = cc
 prepared_phase t (Prepared parent) order e h = e ∙ ap Prepared (same_Some parent order h)
 prepared_phase t (Queued parent) order e h = cc
@@ -76,7 +76,7 @@ module _ (p : Parts) (core : IsCore p) (i session : ℕ) (within : i < 256) (is 
   free = prepared_is_free (placed p.places i) order w
 
   abbrev pub its : Transaction
-  its = record { overlay = w.t.overlay; phase = Queued order }
+  its = record { overlay = w.t.overlay; refs = w.t.refs; phase = Queued order }
 
   abbrev pub now : Option Transaction
   now = Some its
@@ -99,10 +99,10 @@ module _ (p : Parts) (core : IsCore p) (i session : ℕ) (within : i < 256) (is 
     phase = refl;
   }
 
-  stands : (t : Transaction) → its ≡ t → Applies p.tables p.rows t.overlay × StandsAs (placing p i now (behind p session) p.locks) (i + 1) t.overlay.changes t.phase
+  stands : (t : Transaction) → its ≡ t → Applies p.tables p.rows t.overlay × StandsAs (placing p i now (behind p session) p.locks) (i + 1) t.overlay.changes t.phase × RefersTo p.tables p.rows t
   stands t same =
-      subst (λ (x : Transaction). Applies p.tables p.rows x.overlay × StandsAs (placing p i now (behind p session) p.locks) (i + 1) x.overlay.changes x.phase) same
-      (core.applies i w.t w.is, (ready_stays p i now (behind p session) p.locks (i + 1) w.t.overlay.changes order ready, subst (λ k. IsTrue (list_any (eqb k) (behind p session))) (sym is) (in_queue p.queue session)))
+      subst (λ (x : Transaction). Applies p.tables p.rows x.overlay × StandsAs (placing p i now (behind p session) p.locks) (i + 1) x.overlay.changes x.phase × RefersTo p.tables p.rows x) same
+      (core.applies i w.t w.is, (ready_stays p i now (behind p session) p.locks (i + 1) w.t.overlay.changes order ready, subst (λ k. IsTrue (list_any (eqb k) (behind p session))) (sym is) (in_queue p.queue session)), core.refers i w.t w.is)
 
   pub queued_core : length p.log + length p.queue < p.limit → IsCore (placing p i now (behind p session) p.locks)
   queued_core few =
@@ -135,7 +135,7 @@ at_place p core i within read read_is order told =
     is_prepared_at (placed p.places i) order (ap (option_and_then prepared_order) (placed_is p.places i read (omega (arith, within, core.sessions)) read_is) ∙ told)
 
 next_is : (p : Parts) (core : IsCore p) (i : ℕ) (within : i < 256) (order : ℕ) (w : IsPrepared (placed p.places i) order) (found next : Option Transaction) → found ≡ get_or p.places i found → next ≡ option_map (with_phase (Queued order)) found →
-    Some (record { overlay = w.t.overlay; phase = Queued order }) ≡ next
+    Some (record { overlay = w.t.overlay; refs = w.t.refs; phase = Queued order }) ≡ next
 next_is p core i within order w found next found_is is =
     sym (is ∙ ap (option_map (with_phase (Queued order))) (sym (placed_is p.places i found (omega (arith, within, core.sessions)) found_is) ∙ w.is))
 

@@ -1,11 +1,10 @@
 -- What each call of a source answers: its first cause of refusal, in order, and what it leaves.
-use Rattle.std.specs.Prelude.{◌≡◌, ℕ, ℤ, ◌+◌, ◌-◌, Bool, true, false, not, ◌&&◌, ◌==◌, nat_le, if◌then◌else◌, List, [], ◌∷◌, ◌++◌, length, map, take, drop, slice_set, Option, Some, None, is_some, is_none}
+use Rattle.std.specs.Prelude.{◌≡◌, ℕ, ◌+◌, ◌-◌, Bool, true, false, not, ◌&&◌, ◌==◌, nat_le, if◌then◌else◌, List, [], ◌∷◌, ◌++◌, length, map, take, drop, slice_set, Option, Some, None, is_some, is_none}
 use Rattle.std.specs.Option.{option_map, option_map_or}
 use Rattle.schema.specs.declared.Table.{Table}
 use Rattle.schema.specs.declared.RowId.{RowId}
 use Rattle.schema.specs.Schema.{table_at}
 use Rattle.rows.specs.declared.Change.{Change}
-use Rattle.rows.specs.declared.Change.TheVariants.{Insert, Update, Delete}
 use Rattle.rows.specs.Database.{target, writes}
 use Rattle.rows.specs.Shape.{has_columns}
 use Rattle.record_codec.specs.declared.records.Record.{Record}
@@ -14,19 +13,17 @@ use Rattle.record_codec.specs.Group.{GroupValue}
 use Rattle.source_core.specs.declared.transaction.Phase.{Phase}
 use Rattle.source_core.specs.declared.transaction.Phase.TheVariants.{Active, Prepared, Queued, Flushed}
 use Rattle.source_core.specs.declared.fault.SourceFault.{SourceFault}
-use Rattle.source_core.specs.declared.fault.SourceFault.TheVariants.{NoSession, AlreadyOpen, NotActive, NoTable, WrongColumns, RowLocked, RowExists, NoRow, TooManyChanges, Halted, NotPrepared, Exhausted}
+use Rattle.source_core.specs.declared.fault.SourceFault.TheVariants.{NoSession, AlreadyOpen, NotActive, NoTable, WrongColumns, RowLocked, TooManyChanges, Halted, NotPrepared, Exhausted}
 use Rattle.source_core.specs.declared.transaction.Prepared.{Prepared as Answer}
 use Rattle.source_core.specs.declared.transaction.Prepared.TheVariants as answers
 use Rattle.source_core.specs.declared.transaction.Receipt.{Receipt}
 use Rattle.log_index.specs.declared.Entry.{Entry as Seen}
 use Rattle.log_index.specs.Footprint.{footprint_of}
-use Rattle.row_locks.specs.declared.Mode.TheVariants.{Exclusive}
-use Rattle.tracker_trait.specs.Parent.{parent_of}
-use Rattle.source_core.specs.Source.{Source, Open, is_session, open_of, changes_of, seen_row, is_locked, entry_of, entries_of}
-
--- the first cause that stands
-abbrev pub cause : Bool → SourceFault → Option SourceFault → Option SourceFault
-cause stands fault later = if stands then Some fault else later
+use Rattle.row_locks.specs.declared.Mode.TheVariants.{Share, Exclusive}
+use Rattle.tracker_trait.specs.Parent.{dependency_of}
+use Rattle.source_core.specs.Source.{Source, Open, is_session, open_of, changes_of, session_rows, is_locked, entry_of, entries_of}
+pub use Rattle.source_core.specs.Steps.{cause}
+use Rattle.source_core.specs.Steps.{rows_fault}
 
 -- the causes that come before all others of a session's call
 abbrev pub session_fault : Source → ℕ → Option SourceFault → Option SourceFault
@@ -59,26 +56,18 @@ abbrev pub shape_fault : List Table → Change → Option SourceFault → Option
 shape_fault ts change later =
     option_map_or (λ table. cause (not (has_columns table change)) WrongColumns later) (table_at ts (target change).table) (Some NoTable)
 
--- why a change is refused whose row, so before it, does not allow it
-abbrev pub row_fault : Change → Option (List ℤ) → Option SourceFault
-row_fault (Insert row columns) there = cause (is_some there) RowExists None
-row_fault (Update row named) there = cause (is_none there) NoRow None
-row_fault (Delete row) there = cause (is_none there) NoRow None
-
--- a change that the row that the session sees does not allow
-abbrev pub rows_fault : Source → ℕ → Change → Option SourceFault
-rows_fault s session change = row_fault change (seen_row s session (target change))
-
 -- the causes that come before those that the rows have
 abbrev pub change_fault : Source → ℕ → Change → Option SourceFault → Option SourceFault
 change_fault s session change later =
     session_fault s session (cause (not (is_active (open_of s session))) NotActive
     (shape_fault s.tables change (cause (nat_le 1024 (length (changes_of s session))) TooManyChanges later)))
 
--- a row that another session holds is refused before the rows are looked at
+-- A row that another session holds is refused before the rows are looked at; then the rows are those that the session
+-- sees: the committed ones with its own changes.
 abbrev pub write_fault : Source → ℕ → Change → Option SourceFault
 write_fault s session change =
-    change_fault s session change (cause (is_locked s session (target change) Exclusive) RowLocked (rows_fault s session change))
+    change_fault s session change (cause (is_locked s session (target change) Exclusive) RowLocked
+    (option_map_or (λ db. rows_fault s.tables db (λ row. is_locked s session row Share) change) (session_rows s session) None))
 
 abbrev pub written : Source → ℕ → Change → Source
 written s session change = with_open s session (Some (record { changes = changes_of s session ++ change ∷ []; phase = Active }))
@@ -170,7 +159,7 @@ pub record IsRecordOf (s : Source) (before : List Seen) (session : ℕ) (made : 
   pub gno : made.gno ≡ length before + 1
   pub sequence : made.sequence ≡ length before + 1
   pub changes : made.changes ≡ t.changes
-  pub parent : made.parent ≡ parent_of s.kind s.tables before (footprint_of s.tables (writes made.changes) made.refs) session (parent_of_phase t.phase)
+  pub parent : made.parent ≡ dependency_of s.kind s.tables before (footprint_of s.tables (writes made.changes) made.refs) session (parent_of_phase t.phase)
 
 -- one record for each of these sessions, in their order, the first behind this log and each of the others behind the one
 -- before it

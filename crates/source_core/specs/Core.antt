@@ -1,16 +1,15 @@
 -- How a source's parts stand together.
-use Rattle.std.specs.Prelude.{◌≡◌, ℕ, ℤ, ◌+◌, ◌-◌, ◌<◌, ◌≤◌, ◌^◌, IsTrue, true, if◌then◌else◌, Bool, List, [], ◌∷◌, length, map, take, drop, slice_get, slice_index_or, Option, Some, None}
+use Rattle.std.specs.Prelude.{◌≡◌, ℕ, ℤ, ◌+◌, ◌-◌, ◌<◌, ◌≤◌, ◌^◌, IsTrue, true, if◌then◌else◌, Bool, List, [], ◌∷◌, ◌++◌, length, map, take, drop, slice_get, slice_index_or, Option, Some, None}
 use Rattle.std.specs.FinMap.{empty}
 use Rattle.std.specs.List.{list_any, IsDistinct}
 use Rattle.std.specs.Option.{option_map}
 use Rattle.std.proofs.Common.{reverse, eqb}
 use Rattle.schema.specs.declared.Table.{Table}
-use Rattle.schema.specs.Flags.{IsFlat}
+use Rattle.schema.specs.declared.RowId.{RowId}
 use Rattle.schema.specs.Rows.{Touched, SameRows}
 use Rattle.schema.specs.Covering.{Covers}
 use Rattle.rows.specs.declared.Change.{Change}
-use Rattle.rows.specs.declared.Change.TheVariants.{Insert, Update, Delete}
-use Rattle.rows.specs.Database.{Database, writes, kin}
+use Rattle.rows.specs.Database.{Database, writes, kin, LeavesNoOrphan}
 use Rattle.store_trait.specs.Batch.{Entry, put_batch}
 use Rattle.store_trait.specs.Fits.{Fits}
 use Rattle.overlay.specs.Pending.{Pending, pushed}
@@ -25,8 +24,6 @@ use Rattle.tracker_trait.specs.Kind.{Kind}
 use Rattle.source_core.specs.declared.transaction.Phase.{Phase}
 use Rattle.source_core.specs.declared.transaction.Phase.TheVariants.{Active, Prepared, Queued, Flushed}
 use Rattle.source_core.specs.declared.transaction.Transaction.{Transaction}
-use Rattle.source_core.specs.declared.fault.SourceFault.{SourceFault}
-use Rattle.source_core.specs.declared.fault.SourceFault.TheVariants.{RowExists, NoRow}
 use Rattle.source_core.specs.declared.transaction.Prepared.{Prepared as Answer}
 use Rattle.source_core.specs.declared.transaction.Prepared.TheVariants as answers
 use Rattle.source_core.specs.Calls.{is_empty_list}
@@ -75,24 +72,23 @@ source_of p kind halted = record {
 abbrev pub placed : List (Option Transaction) → ℕ → Option Transaction
 placed places i = slice_index_or places i None
 
--- the fault of a change that its row does not allow
-abbrev pub refusal : Change → SourceFault
-refusal (Insert row columns) = RowExists
-refusal (Update row named) = NoRow
-refusal (Delete row) = NoRow
-
 -- the rows that a transaction of these changes touches, over this database
 abbrev pub touched_over : List Table → Database → List Change → Touched
 touched_over ts rows changes = record { writes = writes changes; refs = kin ts changes rows }
 
--- a transaction's changes are such as the schema allows, and apply to the committed rows, and its overlay is what
--- they leave: rows that the schema allows
+-- a transaction's changes are such as the schema allows, and apply to the committed rows, where they delete no row that
+-- has a child then, and its overlay is what they leave: rows that the schema allows
 pub record Applies (ts : List Table) (rows : Database) (pending : Pending) : Type 0 where
   pub leaves : Database
   pub follows : Follows ts rows pending leaves
   pub fits : Fits ts leaves
   pub shaped : are_shaped ts pending.changes ≡ true
   pub few : length pending.changes ≤ 1024
+  pub no_orphan : LeavesNoOrphan ts pending.changes rows
+
+-- the transaction has the kin of its changes, as they are applied to the committed rows
+abbrev pub RefersTo : List Table → Database → Transaction → Type 0
+RefersTo ts rows t = t.refs ≡ kin ts t.overlay.changes rows
 
 -- A transaction of this session is prepared: its order parent was committed then and covers it in the whole log, and
 -- is not before the session's last record.
@@ -144,11 +140,10 @@ AreQueued places [] = Unit {0}
 AreQueued places (session ∷ queue) = IsQueued places session × AreQueued places queue
 
 -- The log is legal, and its changes are such as the schema allows; the store has the rows after the committed records,
--- which the schema allows. Each open transaction applies to these rows, and holds its rows and their kin; no two
--- sessions clash. The records that are not committed are those of the flushed transactions, and the queue those that are
+-- which the schema allows. Each open transaction applies to these rows, refers to the kin of its changes there, and holds
+-- its rows and their kin; no two sessions clash. The records that are not committed are those of the flushed transactions, and the queue those that are
 -- queued, each once.
 pub record IsCore (p : Parts) : Type 0 where
-  pub flat : IsFlat p.tables
   pub legal : IsLegalLog p.tables (put_batch p.base empty) p.log
   pub shaped : HasShape p.tables p.log
   pub few : length p.log + length p.queue ≤ p.limit
@@ -163,15 +158,11 @@ pub record IsCore (p : Parts) : Type 0 where
   pub locks : p.locks ≡ locks_over p.tables p.rows (sessions_view p.places)
   pub no_clash : NoClash p.locks
   pub applies : (i : ℕ) (t : Transaction) → placed p.places i ≡ Some t → Applies p.tables p.rows t.overlay
+  pub refers : (i : ℕ) (t : Transaction) → placed p.places i ≡ Some t → RefersTo p.tables p.rows t
   pub stands : (i : ℕ) (t : Transaction) → placed p.places i ≡ Some t → StandsAs p (i + 1) t.overlay.changes t.phase
   pub flushed : AreFlushed p (p.committed + 1) (drop p.committed p.log) (drop p.committed p.owners)
   pub queued : AreQueued p.places p.queue
   pub distinct : IsDistinct eqb p.queue
-
--- What a source keeps of its tracker: it has seen just these entries, and the law of its kind speaks of each log whole.
-pub record IsTracked {T : Type 0} (agrees_ : T → List Table → List Seen → Type 0) (begins_ : T → List Table → List Seen → ℕ) (tracker : T) (ts : List Table) (entries : List Seen) : Type 0 where
-  pub agrees : agrees_ tracker ts entries
-  pub whole : (t : T) (tables : List Table) (log : List Seen) → begins_ t tables log ≡ 0
 
 -- What is true of a source with these stages, and whose tracker is so: the sessions that wait for their sync own the records
 -- that are flushed and not synced, and those that wait for their commit the records that are synced and not committed,
@@ -184,12 +175,12 @@ pub record Holds (p : Parts) (stages : Queues) (IsSo : Type 0) : Type 0 where
 
 -- the transaction in another phase
 abbrev pub with_phase : Phase → Transaction → Transaction
-with_phase phase t = record { overlay = t.overlay; phase = phase }
+with_phase phase t = record { overlay = t.overlay; refs = t.refs; phase = phase }
 
--- the transaction with one more change, and what it leaves of its row
-abbrev pub with_change : Option Transaction → Change → Option (List ℤ) → Option Transaction
-with_change None change left = None
-with_change (Some t) change left = Some (record { overlay = pushed t.overlay change left; phase = t.phase })
+-- the transaction with one more change, what it leaves of its row, and the parents of that
+abbrev pub with_change : Option Transaction → Change → Option (List ℤ) → List RowId → Option Transaction
+with_change None change left more = None
+with_change (Some t) change left more = Some (record { overlay = pushed t.overlay change left; refs = t.refs ++ more; phase = t.phase })
 
 -- the order parent of a prepared transaction
 abbrev pub prepared_order : Transaction → Option ℕ
@@ -200,4 +191,4 @@ abbrev pub ready : Option Transaction → ℕ → Option Transaction × Answer
 ready None parent = (None, answers.Empty)
 ready (Some t) parent =
     if is_empty_list t.overlay.changes then (None, answers.Empty)
-    else (Some (record { overlay = t.overlay; phase = Prepared parent }), answers.Parent parent)
+    else (Some (record { overlay = t.overlay; refs = t.refs; phase = Prepared parent }), answers.Parent parent)

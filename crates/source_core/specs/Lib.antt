@@ -1,3 +1,5 @@
+pub mod Refs
+pub mod Steps
 pub mod Source
 pub mod Calls
 pub mod Core

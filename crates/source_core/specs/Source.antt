@@ -1,12 +1,12 @@
 -- What a source is seen as.
 use Rattle.std.specs.Prelude.{◌≡◌, ℕ, ℤ, ◌-◌, ◌<◌, ◌≤◌, ◌^◌, Bool, true, false, ◌&&◌, nat_le, List, [], ◌∷◌, map, take, length, replicate, slice_get, slice_index_or, Option, Some, None, IsSome, option_and_then}
-use Rattle.std.specs.Option.{option_map, option_map_or}
+use Rattle.std.specs.Option.{option_map_or}
 use Rattle.std.specs.List.{list_all}
 use Rattle.std.specs.FinMap.{empty, get}
 use Rattle.schema.specs.declared.Table.{Table}
 use Rattle.schema.specs.declared.RowId.{RowId}
 use Rattle.rows.specs.declared.Change.{Change}
-use Rattle.rows.specs.Database.{Database, target, writes, kin, apply, effect}
+use Rattle.rows.specs.Database.{Database, writes, kin, effect}
 use Rattle.rows.specs.Shape.{is_shaped}
 use Rattle.store_trait.specs.Batch.{Entry}
 use Rattle.record_codec.specs.declared.records.Record.{Record}
@@ -61,11 +61,6 @@ changes_of s session = option_map_or (λ t. t.changes) (open_of s session) []
 -- the committed database with the session's own changes
 abbrev pub session_rows : Source → ℕ → Option Database
 session_rows s session = option_and_then (effect s.tables (changes_of s session)) (committed_rows s)
-
--- what a change leaves of its row, where it applies to what the session sees
-abbrev pub left_in : Source → ℕ → Change → Option (Option (List ℤ))
-left_in s session change =
-    option_map (λ after. get after (target change)) (option_and_then (apply s.tables change) (session_rows s session))
 
 -- each session's own changes apply to the committed database, so what it sees is defined
 abbrev pub EachApplies : Source → Type 0

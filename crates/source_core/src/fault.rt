@@ -22,7 +22,7 @@ pub enum SourceFault {
     /// The number of columns is not the table's, or a column is named that the table lacks.
     #[error("S5 WrongColumns")]
     WrongColumns,
-    /// Another session holds the row.
+    /// Another session holds the row, or its parent row, in a way that clashes.
     #[error("S6 RowLocked")]
     RowLocked,
     /// The row is there.
@@ -31,6 +31,12 @@ pub enum SourceFault {
     /// The row is not there.
     #[error("S8 NoRow")]
     NoRow,
+    /// The row that the change gives its own as parent is not there.
+    #[error("S9 NoParent")]
+    NoParent,
+    /// The row has a child, and so is not deleted.
+    #[error("S10 HasChild")]
+    HasChild,
     /// The transaction has 1024 changes.
     #[error("S11 TooManyChanges")]
     TooManyChanges,

@@ -1,5 +1,6 @@
 //! An open transaction, and the receipt that its session gets.
 
+use crate::parents::Parents;
 use overlay::Overlay;
 use record_codec::Changes;
 
@@ -25,10 +26,11 @@ pub enum Prepared {
     Empty,
 }
 
-/// A transaction, with what its changes leave.
+/// A transaction, with what its changes leave, and the parent rows that they refer to.
 #[derive(Debug, Drop)]
 pub struct Transaction {
     pub overlay: Overlay,
+    pub refs: Parents,
     pub phase: Phase,
 }
 

@@ -1,32 +1,53 @@
 -- What lies under the engine lock, and what is true of it each time that the lock is taken.
-use Rattle.std.specs.Prelude.{◌≡◌, ◌⊎◌, ℕ, ◌+◌, ◌-◌, ◌≤◌, Bool, true, false, List, [], ◌∷◌, length, take, drop, replicate, slice_get, slice_set, slice_index_or, Option, Some, None, IfSome, MatchOption}
+use Rattle.std.specs.Prelude.{◌≡◌, ◌≢◌, ◌⊎◌, ℕ, ◌+◌, ◌-◌, ◌≤◌, nat_le, nat_lt, count_by, find, ◌==◌, ◌&&◌, ◌||◌, not, if◌then◌else◌, Bool, true, false, List, [], ◌∷◌, ◌++◌, length, take, drop, replicate, slice_get, slice_set, slice_index_or, Option, Some, None, is_some, is_none, IfSome, IsSome, Result, Ok, Err, OnOk, OnErr, IsErrOf}
+use Rattle.schema.specs.declared.Table.{Table}
 use Rattle.store_trait.specs.Batch.{Entry}
 use Rattle.record_codec.specs.declared.records.Record.{Record}
-use Rattle.record_codec.specs.Group.{GroupValue, AreRecordsOf}
-use Rattle.log_file.specs.Log.{Log}
+use Rattle.record_codec.specs.Group.{GroupValue, Hold}
+use Rattle.record_codec.specs.Spelling.{spelling, HasSpelling}
+use Rattle.log_file.specs.Log.{Log, Kept, Tail, log_of}
+use Rattle.log_file.specs.declared.fault.LogFault.{LogFault}
+use Rattle.log_file.specs.declared.fault.LogFault.TheVariants as logs
 use Rattle.source_core.specs.declared.fault.SourceFault.{SourceFault}
 use Rattle.source_core.specs.declared.fault.SourceFault.TheVariants.{AlreadyOpen, Halted, Memory}
 use Rattle.source_core.specs.declared.transaction.Receipt.{Receipt}
 use Rattle.source_core.specs.Source.{Source}
-use Rattle.source_core.specs.Calls.{session_fault, cause, receipts_for, receipt_as, begun, with_synced, all_committed, halted, Flushes}
+use Rattle.source_core.specs.Calls.{session_fault, queue_fault, queued, cause, receipts_for, receipts, receipt_as, begun, with_synced, all_committed, halted, Flushes}
+use Rattle.source_shared.specs.declared.engine.Due.{Due}
+use Rattle.source_shared.specs.declared.engine.Due.TheVariants.{Ended, Lead, Wait}
+use Rattle.source_shared.specs.Seat.{Seat}
+
+-- those who wait
+pub record Watch : Type 0 where
+  -- whether each session's thread sleeps until it is due, session 1 first; and how many do
+  pub sleeping : List Bool
+  pub asleep : ℕ
+  -- no more transactions come
+  pub closed : Bool
+  -- what those were told last who wait for records: how many are synced, and whether no more come
+  pub told : ℕ × Bool
 
 pub record State : Type 0 where
   pub core : Source
-  pub file : Log
-  -- the group that is flushed and not on the log yet
-  pub pending : Option GroupValue
+  -- what is synced, and the group that is prepared
+  pub kept : Kept
+  -- what writes the log file, unless a thread has it
+  pub home : Option Tail
+  -- the groups that are flushed and not synced, the oldest first; the one that a thread writes is that
+  pub ring : List GroupValue
   -- the receipts that were not taken yet, session 1 first
   pub places : List (Option Receipt)
   -- whether each seat was given out, session 1 first
   pub out : List Bool
   -- the receipts of all commits, in log order
   pub history : List Receipt
+  -- who waits, and for what
+  pub watch : Watch
 
--- the group has all records that are flushed and not synced
-pub record IsPending (s : Source) (group : GroupValue) : Type 0 where
-  pub first : group.first ≡ s.synced + 1
-  pub last : group.last ≡ length s.log
-  pub are : AreRecordsOf group (drop s.synced s.log)
+-- it waits for no group, and is behind so many records
+pub record IsReady (synced_ : ℕ) (t : Tail) : Type 0 where
+  pub waiting : t.waiting ≡ None
+  pub last : t.last ≡ synced_
 
 -- the receipt is one of these, at its number
 pub record IsKnown (history : List Receipt) (r : Receipt) : Type 0 where
@@ -43,20 +64,31 @@ ArePlaced history session (place ∷ places) =
 abbrev pub committed_receipts : Source → List Receipt
 committed_receipts s = receipts_for (take s.committed s.owners) (take s.committed s.log)
 
+-- how many of these are so
+abbrev pub count : List Bool → ℕ
+count flags = count_by (λ flag. flag) flags
+
+pub record IsWatch (w : Watch) : Type 0 where
+  pub sessions : length w.sleeping ≡ 256
+  pub asleep : w.asleep ≡ count w.sleeping
+
 -- The core keeps of itself that its log is legal over its base, that its rows are those after the committed records, and
 -- that no more are committed than synced, and synced than flushed.
-pub record IsSettled (base : List Entry) (s : State) : Type 0 where
+pub record IsSettled (base : List Entry) (tables : List Table) (s : State) : Type 0 where
   pub base_is : s.core.base ≡ base
-  -- the log file has just the records that are synced
-  pub records : s.file.records ≡ take s.core.synced s.core.log
-  -- what is flushed and not synced waits
-  pub pending : MatchOption s.pending (s.core.synced ≡ length s.core.log) (IsPending s.core)
-  -- and the log file takes it
-  pub waiting : s.core.halted ≡ false → s.file.waiting ≡ None
+  pub tables_is : s.core.tables ≡ tables
+  -- readers see just the records that are synced
+  pub records : s.kept.records ≡ take s.core.synced s.core.log
+  -- the groups that wait hold what is flushed and not synced
+  pub waiting : Hold s.ring (drop s.core.synced s.core.log)
+  -- the oldest of them is the one that is prepared, if one is
+  pub prepared : IfSome s.kept.prepared (λ group. slice_get s.ring 0 ≡ Some group)
+  pub ready : IfSome s.home (λ t. s.core.halted ≡ false → IsReady s.core.synced t)
   pub placed : ArePlaced s.history 1 s.places
   pub places : length s.places ≡ 256
   pub seats : length s.out ≡ 256
   pub history_is : s.history ≡ committed_receipts s.core
+  pub watch : IsWatch s.watch
 
 -- the session has no seat yet
 abbrev pub seat_fault : State → ℕ → Option SourceFault
@@ -73,9 +105,21 @@ pub record IsCommitted (s : Source) (r : Receipt) : Type 0 where
 
 -- ---- what each step leaves
 
--- a source without receipts, over this core and this file
-abbrev pub new_state : Source → Log → State
-new_state core file = record { core = core; file = file; pending = None; places = replicate 256 None; out = replicate 256 false; history = [] }
+-- nobody waits, and nobody was told anything
+abbrev pub nobody : Watch
+nobody = record { sleeping = replicate 256 false; asleep = 0; closed = false; told = (0, false) }
+
+-- a source without receipts, over this core and this log
+pub record IsNewState (core : Source) (log : Log) (s : State) : Type 0 where
+  pub core_is : s.core ≡ core
+  pub kept : s.kept.records ≡ []
+  pub home : IfSome s.home (λ t. log_of s.kept t ≡ log)
+  pub here : IsSome s.home
+  pub ring : s.ring ≡ []
+  pub places : s.places ≡ replicate 256 None
+  pub out : s.out ≡ replicate 256 false
+  pub history : s.history ≡ []
+  pub watch : s.watch ≡ nobody
 
 -- the session's seat was given out
 abbrev pub seated : State → ℕ → State
@@ -85,29 +129,199 @@ seated s session = record s { out = slice_set s.out (session - 1) true }
 abbrev pub begun_by : State → ℕ → State
 begun_by s session = record s { core = begun s.core session; places = slice_set s.places (session - 1) None }
 
--- the group that waited, if one did, is on the log
-abbrev pub all_synced : State → Log → State
-all_synced s file = record s { core = with_synced s.core (length s.core.log); file = file; pending = None }
+-- why a seat's transaction is not queued; one that is queued already is not asked about
+abbrev pub enqueue_fault : State → Seat → Option SourceFault
+enqueue_fault s seat = if seat.underway then session_fault s.core seat.session None else queue_fault s.core seat.session
 
--- the device failed
-abbrev pub failed : State → Log → State
-failed s file = record s { core = halted s.core; file = file }
+abbrev pub enqueued : State → Seat → State
+enqueued s seat = if seat.underway then s else record s { core = queued s.core seat.session }
 
--- what was queued is a group that waits; where nothing was, all is as before
-abbrev pub IsFlushed : State → State → Type 0
-IsFlushed old new =
-    MatchOption new.pending (new ≡ old) (λ group. Flushes old.core group new.core × (new ≡ record old { core = new.core; pending = new.pending }))
+-- What the session of a place, counted from 0, finds that waits for its receipt: that, or that the source is halted; else the
+-- writer, if that is here.
+abbrev pub due_of : State → ℕ → Due
+due_of s place =
+    if s.core.halted || is_some (slice_index_or s.places place None) then Ended
+    else if is_some s.home then Lead
+    else Wait
+
+-- a group may be flushed beside the one that a thread writes: something is queued, and no other group waits
+abbrev pub may_flush : State → Bool
+may_flush s = not s.core.halted && is_none s.home && nat_le (length s.ring) 1 && nat_lt 0 (length s.core.queue)
+
+-- ---- who waits
+
+-- the session of a place sleeps from now on, or no more
+abbrev pub set_asleep : State → ℕ → Bool → State
+set_asleep s place sleeps =
+    let flags = slice_set s.watch.sleeping place sleeps in record s { watch = record s.watch { sleeping = flags; asleep = count flags } }
+
+-- what the session of a place is due, if it sleeps
+abbrev pub called : State → ℕ → Option Due
+called s place = if slice_index_or s.watch.sleeping place false then Some (due_of s place) else None
+
+-- no more transactions come
+abbrev pub closed_now : State → State
+closed_now s = record s { watch = record s.watch { closed = true } }
+
+-- no more records come
+abbrev pub is_over : State → Bool
+is_over s = s.watch.closed || s.core.halted
+
+-- the record behind this gno is not synced, and may still come
+abbrev pub is_awaited : State → ℕ → Bool
+is_awaited s gno = nat_le (length s.kept.records) gno && not (is_over s)
+
+-- what those are to know who wait for records
+abbrev pub outlook : State → ℕ × Bool
+outlook s = (length s.kept.records, is_over s)
+
+-- they were told of another number of records, or not that no more come
+abbrev pub has_news : State → Bool
+has_news s = not (s.watch.told.0 == length s.kept.records) || (is_over s && not s.watch.told.1)
+
+abbrev pub with_told : State → State
+with_told s = record s { watch = record s.watch { told = outlook s } }
+
+-- ---- what is read of the log
+
+-- the synced record of this gno
+abbrev pub synced_record : State → ℕ → Option Record
+synced_record s gno = find (λ r. r.gno == gno) s.kept.records
+
+-- the bytes are followed by those of the record, if there is one
+abbrev pub IsAppended : Option Record → List ℕ → Bool → List ℕ → Type 0
+IsAppended None old there new = (there ≡ false) × (new ≡ old)
+IsAppended (Some r) old there new = (there ≡ true) × HasSpelling r × (new ≡ old ++ spelling r)
+
+-- the bytes are followed by those of a record of this gno
+pub record AppendsOne (gno : ℕ) (old new : List ℕ) : Type 0 where
+  pub made : Record
+  pub number : made.gno ≡ gno
+  pub has : HasSpelling made
+  pub bytes : new ≡ old ++ spelling made
+
+-- ---- what receipts, groups and the writer leave
+
+-- the receipt of a place was taken
+abbrev pub emptied : State → ℕ → State
+emptied s place = record s { places = slice_set s.places place None }
+
+-- the source is halted
+abbrev pub failed : State → State
+failed s = record s { core = halted s.core }
+
+-- the writer is here
+abbrev pub with_home : Tail → State → State
+with_home t s = record s { home = Some t }
+
+-- the oldest group, this one, is synced
+abbrev pub landed : GroupValue → State → State
+landed group s = record s {
+  core = with_synced s.core group.last;
+  kept = record s.kept { records = take group.last s.core.log; groups = s.kept.groups ++ group ∷ []; prepared = None };
+  ring = drop 1 s.ring;
+}
+
+-- a receipt lies in its session's place, and nothing else changed
+abbrev pub laid_one : Receipt → List (Option Receipt) → List (Option Receipt)
+laid_one r places = if nat_lt 0 r.session then slice_set places (r.session - 1) (Some r) else places
+
+-- one after the other
+abbrev pub laid : List Receipt → List (Option Receipt) → List (Option Receipt)
+laid [] places = places
+laid (r ∷ rs) places = laid rs (laid_one r places)
 
 -- the synced records are committed, and their receipts given
-abbrev pub given : State → List (Option Receipt) → State
-given s places = record s { core = all_committed s.core; places = places; history = committed_receipts (all_committed s.core) }
+abbrev pub given : State → State
+given s = record s { core = all_committed s.core; places = laid (receipts s.core) s.places; history = committed_receipts (all_committed s.core) }
 
--- all that is flushed is committed
-pub record IsAllCommitted (s : State) : Type 0 where
-  pub none : s.pending ≡ None
-  pub synced : s.core.synced ≡ length s.core.log
-  pub committed : s.core.committed ≡ s.core.synced
+-- what was queued is the last of the groups that wait
+pub record FlushesLast (old : State) (group : GroupValue) (new : State) : Type 0 where
+  pub flushes : Flushes old.core group new.core
+  pub leaves : new ≡ record old { core = new.core; ring = old.ring ++ group ∷ [] }
 
--- the answers of a step that the log takes part in, by whether the source is halted then
-abbrev pub IsStopped : SourceFault → Bool → Type 0
-IsStopped fault stopped = ((fault ≡ Halted) × (stopped ≡ true)) ⊎ ((fault ≡ Memory) × (stopped ≡ false))
+-- where nothing was queued, all is as before
+abbrev pub IsFlushed : State → State → Type 0
+IsFlushed old new = ((old.core.queue ≡ []) × (new ≡ old)) ⊎ ((group : GroupValue) × FlushesLast old group new)
+
+-- what is queued is flushed, unless a group waits
+abbrev pub IsGathered : State → State → Type 0
+IsGathered old new = ((old.ring ≡ []) × IsFlushed old new) ⊎ ((old.ring ≢ []) × (new ≡ old))
+
+-- the writer is still here, and the source not halted
+pub record IsHome (old new : State) : Type 0 where
+  pub home : new.home ≡ old.home
+  pub running : new.core.halted ≡ false
+
+-- What is synced is committed, and nothing is to be written for the session of this place: its receipt is there, or nothing is
+-- queued and nothing waits.
+pub record IsIdle (place : ℕ) (old new : State) : Type 0 where
+  pub home : IsHome old new
+  pub leaves : new ≡ given old
+  pub idle : IsSome (slice_index_or new.places place None) ⊎ ((new.ring ≡ []) × (new.core.queue ≡ []))
+
+-- ---- a group that is written outside the lock
+
+-- the writer, and the group that it writes
+pub record Trip : Type 0 where
+  pub tail : Tail
+  pub group : GroupValue
+
+-- the group is the next
+pub record IsErrand (e : Trip) : Type 0 where
+  pub waiting : e.tail.waiting ≡ None
+  pub next : e.group.first ≡ e.tail.last + 1
+
+-- It was written, and the writer is behind it; or memory lacked, and all is as it was.
+pub record IsBack (e : Trip) (done : Result (Unit {0}) LogFault) : Type 0 where
+  pub written : OnOk done ((e.tail.waiting ≡ None) × (e.tail.last ≡ e.group.last))
+  pub lacked : IsErrOf done logs.Memory → IsErrand e
+
+-- the writer leaves with the oldest group, which is prepared
+pub record Departs (old : State) (e : Trip) (new : State) : Type 0 where
+  pub errand : IsErrand e
+  pub writer : old.home ≡ Some e.tail
+  pub oldest : slice_get old.ring 0 ≡ Some e.group
+  pub leaves : new ≡ record old { kept = record old.kept { prepared = Some e.group }; home = None }
+
+-- What is synced is committed, and the place has no receipt of that; then, where no group waits, what is queued is flushed; then
+-- the writer leaves.
+pub record Leads (place : ℕ) (old : State) (e : Trip) (new : State) : Type 0 where
+  pub none : slice_index_or (given old).places place None ≡ None
+  pub between : State
+  pub gathered : IsGathered (given old) between
+  pub departs : Departs between e new
+
+-- Memory lacked: for what is committed, or behind that for what is flushed, or for the group that was to leave.
+pub record LeadsInVain (old new : State) : Type 0 where
+  pub home : IsHome old new
+  pub leaves : (new ≡ old) ⊎ (new ≡ given old) ⊎ IsGathered (given old) new
+
+-- why the writer's return is refused: the source is halted; the group is another one than was prepared; or what the log file
+-- answered
+abbrev pub told : Result (Unit {0}) LogFault → Option SourceFault
+told (Ok done) = None
+told (Err logs.Memory) = Some Memory
+told (Err fault) = Some Halted
+
+abbrev pub is_other : Option GroupValue → GroupValue → Bool
+is_other None group = true
+is_other (Some prepared_) group = not (prepared_.first == group.first && prepared_.last == group.last)
+
+-- the group is the prepared one, and the source is not halted
+abbrev pub expects : State → GroupValue → Bool
+expects s group = not s.core.halted && not (is_other s.kept.prepared group)
+
+abbrev pub back_fault : State → GroupValue → Result (Unit {0}) LogFault → Option SourceFault
+back_fault s group done = cause s.core.halted Halted (cause (is_other s.kept.prepared group) Halted (told done))
+
+-- the prepared group is synced, and its transactions are committed, unless memory lacks for that
+pub record Lands (old : State) (t : Tail) (result : Result (Unit {0}) SourceFault) (new : State) : Type 0 where
+  pub group : GroupValue
+  pub prepared : old.kept.prepared ≡ Some group
+  pub committed : OnOk result (new ≡ given (landed group (with_home t old)))
+  pub lacked : OnErr result (new ≡ landed group (with_home t old))
+
+-- why a transaction does not come to its end; it stays where it is then, or the source is halted
+abbrev pub IsOnTheWay : SourceFault → Type 0
+IsOnTheWay fault = (fault ≡ Memory) ⊎ (fault ≡ Halted)

@@ -106,11 +106,12 @@ impl Play<Part, u64> for Check {
 
 /// Which source a shared source, its seats and its receipts are of: a type stands for it, so that those of two sources
 /// can't be mixed. Write a function over `J: Naming` that takes a `Beginning` and the core, and requires
-/// `beginning ≡ J.book` and `core.base ≡ J.base`. Its caller passes the marker `Brand` for `J`, and says in its
-/// `Invariants.antt` that these are those of the arguments.
+/// `beginning ≡ J.book`, `core.base ≡ J.base` and `core.tables ≡ J.tables`. Its caller passes the marker `Brand` for `J`, and
+/// says in its `Invariants.antt` that these are those of the arguments.
 pub trait Naming {
     ghost use Rattle.std.specs.Prelude.{List};
     ghost use Rattle.logbook.specs.Pages.{Book};
+    ghost use Rattle.schema.specs.declared.Table.{Table};
     ghost use Rattle.store_trait.specs.Batch.{Entry};
 
     /// The history of its receipts.
@@ -118,6 +119,9 @@ pub trait Naming {
 
     /// The rows before its first transaction.
     ghost base: { List Entry };
+
+    /// The tables of its schema.
+    ghost tables: { List Table };
 }
 
 impl Naming for Brand {
@@ -126,6 +130,8 @@ impl Naming for Brand {
     ghost book = { record { number = 0; log_name = 0; cells_name = 0 } };
 
     ghost base = { [] };
+
+    ghost tables = { [] };
 }
 
 /// A history that has not begun. `SharedSource::new` takes it. Contracts see which one it is.
@@ -270,6 +276,18 @@ impl<J: Naming> Receipt<J> {
         ensures { result.now ≡ self.now }
     {
         &self.given
+    }
+
+    /// The same, moved out. It takes no memory.
+    pub fn into_given(self) -> Given
+        ensures { result ≡ self }
+    {
+        let Receipt {
+            given,
+            seen: _,
+            of: _,
+        } = self;
+        given
     }
 }
 

@@ -1,9 +1,16 @@
 //! The source for many threads, under one lock.
 //!
-//! A `SharedSource` keeps a core, its log file and the receipts that were not taken yet. What is true each time that the
-//! lock is taken is `IsSettled` of `specs/Engine.antt`: the log file has just the records that are synced, what is flushed
-//! and not synced waits, and each receipt in a place is one of that session's. The rest the core says of itself. A shared
-//! call states what it does to its seat; what it does under the lock is said of the engine's own call.
+//! A `SharedSource` keeps a core, what is synced of its log, the groups that are flushed and not synced, and the receipts that
+//! were not taken yet. What is true each time that the lock is taken is `IsSettled` of `specs/Engine.antt`: readers see just the
+//! records that are synced, the groups hold what is flushed and not synced, the oldest of them is the prepared one, and each
+//! receipt in a place is one of that session's. The rest the core says of itself. A shared call states what it does to its
+//! seat; what it does under the lock is said of the engine's own call.
+//!
+//! A thread that commits queues its transaction and sleeps until its receipt lies in its place, or until it has to lead: then
+//! it takes the writer of the log file and the oldest group out of the lock, puts the group on the log, and brings the writer
+//! back; under the lock the group is then synced and committed, and the receipts are laid into their places. So one group is
+//! written while the next is flushed, and readers of the log wait for no device. Each holding of the lock ends by waking
+//! those who are due: each whose receipt has come, and one who has to lead.
 //!
 //! What is known of a receipt once the lock is let go rides on a history, which exists in proofs alone (`logbook`): the
 //! receipts that all commits gave, in log order. A `Receipt` is a beginning of it with its own place there, and who adds to
@@ -13,6 +20,7 @@
 
 mod book;
 mod engine;
+mod errand;
 mod leading;
 mod seat;
 mod shared;

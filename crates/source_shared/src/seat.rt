@@ -1,10 +1,10 @@
 //! Seats: what a session calls by.
-ghost use Rattle.std.specs.Prelude.{◌≡◌, ◌≤◌, ◌-◌, true, length, take, OnOk, OnErr, MatchBool};
-ghost use Rattle.std.specs.Bool.{OnTrue};
+ghost use Rattle.std.specs.Prelude.{◌≡◌, ◌↔◌, ◌≤◌, ◌-◌, IsTrue, true, length, take, OnOk, OnErr, MatchBool};
 ghost use Rattle.source_shared.specs.Seat.{new_seat, begun_seat, wrote, aborted_seat, given_to, IsFor};
 
 use crate::book::{Naming, Receipt};
-use rows::{Change, Named};
+use record_codec::same_changes;
+use rows::Change;
 use schema::Memory;
 use source_core::Receipt as Given;
 use std::alloc::Global;
@@ -103,7 +103,7 @@ impl<J: Naming> SessionSeat<J> {
 
     // Whether the receipt is one that it may be given. If so, it is given.
     pub(crate) fn takes(&mut self, receipt: &Receipt<J>) -> bool
-        ensures { MatchBool result (IsFor self.old receipt.now × (self.new ≡ given_to self.old receipt.now)) (self.new ≡ self.old) }
+        ensures { MatchBool result (IsFor self.old receipt.now × (self.new ≡ given_to self.old receipt.now)) ((¬ IsFor self.old receipt.now) × (self.new ≡ self.old)) }
     {
         let fits = self.fits(receipt.given());
         if fits {
@@ -115,63 +115,10 @@ impl<J: Naming> SessionSeat<J> {
 
     // Whether the receipt is of its session and of its changes, and its gno above those of its earlier ones.
     fn fits(&self, given: &Given) -> bool
-        ensures { OnTrue result (IsFor self.now given.now) }
+        ensures { IsTrue result ↔ IsFor self.now given.now }
     {
         given.session == self.session
             && given.gno > self.last
-            && are_same(given.changes.list(), &self.changes)
+            && same_changes(given.changes.list(), &self.changes)
     }
-}
-
-// Whether the changes are the same, in the same order.
-fn are_same(one: &[Change], other: &[Change]) -> bool
-    ensures { OnTrue result (one.now ≡ other.now) }
-{
-    if one.len() != other.len() {
-        return false;
-    }
-    for i in 0..one.len() {
-        if !is_same(&one[i], &other[i]) {
-            return false;
-        }
-    }
-    true
-}
-
-// Whether the two are one change.
-fn is_same(one: &Change, other: &Change) -> bool
-    ensures { OnTrue result (one.now ≡ other.now) }
-{
-    match (one, other) {
-        (
-            Change::Insert { row, values },
-            Change::Insert {
-                row: id,
-                values: columns,
-            },
-        ) => { row == id && is_same_list(values.columns(), columns.columns()) }
-        (
-            Change::Update { row, columns },
-            Change::Update {
-                row: id,
-                columns: named,
-            },
-        ) => { row == id && is_same_naming(columns, named) }
-        (Change::Delete { row }, Change::Delete { row: id }) => row == id,
-        _ => false,
-    }
-}
-
-// Whether both name the same columns, with the same values.
-fn is_same_naming(one: &Named, other: &Named) -> bool
-    ensures { OnTrue result (one.now ≡ other.now) }
-{
-    one.mask() == other.mask() && is_same_list(one.values(), other.values())
-}
-
-// Whether the numbers are the same.
-fn is_same_list(one: &[i64], other: &[i64]) -> bool
-    ensures { OnTrue result (one.now ≡ other.now) }
-{
-    one == other
 }

@@ -88,8 +88,9 @@ fn write(session: u16, change: Change) -> Event {
 }
 
 /// What happens: two sessions whose transactions are one group, one that is aborted, and one that deletes a row; and the
-/// records at the replica, of which the last comes too early once, and two are published as one.
-fn events() -> [Event; 38] {
+/// records at the replica, of which the last comes too early once, and two are published as one. The replica tells its ids
+/// while it has none, and behind its commits.
+fn events() -> [Event; 40] {
     let see = |session: u16| Event::See {
         session,
         row: row(10),
@@ -119,6 +120,7 @@ fn events() -> [Event; 38] {
         Event::Flush,
         Event::Sync,
         Event::Commit,
+        Event::Executed,
         Event::Deliver { gno: 3 },
         Event::Deliver { gno: 1 },
         Event::Deliver { gno: 2 },
@@ -128,6 +130,7 @@ fn events() -> [Event; 38] {
         Event::Finish { gno: 1 },
         Event::Next,
         Event::Next,
+        Event::Executed,
         Event::Publish,
         Event::Deliver { gno: 3 },
         Event::Dispatch,

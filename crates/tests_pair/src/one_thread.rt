@@ -56,7 +56,10 @@ fn story<J: Naming, K: ReplicaNaming, R: Wait + Abort>(
     requires log { IsNew sides.log }
     requires replica { sides.replica ≡ new_over sides.replica.tables sides.replica.source sides.replica.base sides.replica.workers }
     requires source_base { sides.source.base ≡ J.base }
+    requires source_tables { sides.source.tables ≡ J.tables }
     requires receipts { receipts ≡ J.book }
+    requires replica_tables { sides.replica.tables ≡ K.tables }
+    requires replica_source { sides.replica.source ≡ K.source }
     requires replica_base { sides.replica.base ≡ K.base }
     requires publication { publication.book ≡ K.book }
     requires published { publication.base ≡ sides.replica.base }

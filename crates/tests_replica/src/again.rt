@@ -1,6 +1,6 @@
 //! Calls that were refused memory, and are made once more.
 
-use crate::makers::{Replica, id, insert, record_of, referring, replica, row};
+use crate::makers::{Replica, id, insert, record_of, replica, row};
 use crate::steps::{
     accepts, commit_next, commits, dispatch, executed, finish, finishes, job, receive, stored,
     waiting,
@@ -13,13 +13,13 @@ use std::alloc::Global;
 use std::process::Abort;
 use std::test::Fail;
 
-/// The record 1 that inserts the rows 1 to 40 and refers to one of them.
+/// The record 1 that inserts the rows 1 to 40.
 fn new_record(alloc: Global) -> Result<Record, Memory> {
     let mut list = Vec::new(alloc);
     for key in 1..41 {
         list.push(insert(key)?)?;
     }
-    referring(alloc, record_of(alloc, 1, 0, list)?)
+    record_of(alloc, 1, 0, list)
 }
 
 /// Receives the record, once more where it is refused, which leaves the replica as it was.

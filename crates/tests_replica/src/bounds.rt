@@ -8,7 +8,7 @@ use crate::steps::{
 };
 use btree_store::BTreeStore;
 use executor::JobResult;
-use record_codec::{Record, Refs, decode};
+use record_codec::Record;
 use rows::Row;
 use schema::Memory;
 use std::alloc::Global;
@@ -85,38 +85,16 @@ fn three_hundred_commits_are_published_in_parts(rt: HostRuntime) -> Result<(), F
     Ok(())
 }
 
-/// The bytes of a record of 2048 refs, to the rows 0 to 2047, and one delete.
-fn bytes_of_refs(alloc: Global) -> Result<Vec<u8>, Memory> {
-    let mut bytes = Vec::new(alloc);
-    bytes.extend_from_slice(&20_520u32.to_be_bytes())?;
-    bytes.extend_from_slice(&[0; 25])?;
-    bytes.extend_from_slice(&2048u16.to_be_bytes())?;
-    for key in 0i64..2048 {
-        bytes.extend_from_slice(&[0, 1])?;
-        bytes.extend_from_slice(&key.to_be_bytes())?;
-    }
-    bytes.extend_from_slice(&[0, 1, 3, 0, 1, 0, 0, 0, 0, 0, 0, 0, 0])?;
-    Ok(bytes)
-}
-
-/// As many refs as a record may have.
-fn all_refs(alloc: Global) -> Result<Refs, Memory> {
-    let (read, _) = decode(alloc, &bytes_of_refs(alloc)?).map_err(|_| Memory)?;
-    read.refs.copy()
-}
-
-/// The record 1 of 1024 updates of all sixteen columns, and 2048 refs.
+/// The record 1 of 1024 updates of all sixteen columns.
 fn greatest(alloc: Global) -> Result<Record, Memory> {
     let mut list = Vec::new(alloc);
     for key in 0..1024 {
         list.push(update_all(key)?)?;
     }
-    let wide = record_of(alloc, 1, 0, list)?;
-    let refs = all_refs(alloc)?;
-    Ok(Record { refs, ..wide })
+    record_of(alloc, 1, 0, list)
 }
 
-/// All 3072 rows that this record looks at.
+/// The 1024 rows that this record writes, and 2048 others.
 fn rows_of_greatest(alloc: Global) -> Result<Batch, Memory> {
     let mut entries = Vec::new(alloc);
     for key in 0..2048 {
@@ -155,7 +133,6 @@ fn leaves_all_wide(replica: &Replica) -> bool {
 fn pass_greatest(rt: &(impl Abort + AllocGlobal), replica: &mut Replica) -> Result<(), Fail> {
     let new = greatest(rt.alloc())?;
     assert_eq!(rt; new.changes.list().len(), 1024);
-    assert_eq!(rt; new.refs.rows().len(), 2048);
     passes(rt, replica, &new)
 }
 
@@ -165,7 +142,7 @@ fn has_greatest(rt: &impl Abort, replica: &Replica) {
     assert_eq!(rt; stored(replica, 2047), (row(2047, 2047), 3072));
 }
 
-/// Memory told at 1024 changes, 2048 refs or a job of 3072 rows, by the relay, the dispatch, the execution or the commit.
+/// Memory told at 1024 changes, by the relay, the dispatch, the execution or the commit.
 #[test]
 fn the_greatest_record_is_committed(rt: HostRuntime) -> Result<(), Fail> {
     let mut replica = large_replica(rt.alloc())?;

@@ -1,6 +1,6 @@
 //! What a relay answers to records that are delivered, and the text of each fault.
 
-use crate::makers::{id, insert, record, referring, schema, source, update};
+use crate::makers::{family, id, insert, record, referring, source, update};
 use record_codec::Record;
 use relay::{Received, Relay, ReplicaFault};
 use rows::{Change, Row};
@@ -81,7 +81,8 @@ fn change_of(does: Does) -> Result<Change, Memory> {
 }
 
 fn delivered(alloc: Global, gno: u64, parent: u64, does: Does) -> Result<Record, Memory> {
-    let new = record(alloc, gno, parent, change_of(does)?)?;
+    let mut new = record(alloc, gno, parent, change_of(does)?)?;
+    new.flags.fk = true;
     match does {
         Does::Refers(_) => referring(alloc, new),
         _ => Ok(new),
@@ -114,7 +115,7 @@ fn receives_others(rt: &(impl Abort + AllocGlobal), relay: &mut Relay) -> Result
 /// Another order of the refusals, or a parent that is compared with the wrong records, in the definition itself.
 #[test]
 fn worked_deliveries_are_answered(rt: HostRuntime) -> Result<(), Memory> {
-    let mut relay = Relay::new(rt.alloc(), schema(rt.alloc())?, source());
+    let mut relay = Relay::new(rt.alloc(), family(rt.alloc())?, source());
     receives_all(&rt, &mut relay)?;
     receives_others(&rt, &mut relay)?;
     assert_eq!(rt; relay.accepted().len(), 7);

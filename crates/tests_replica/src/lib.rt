@@ -8,9 +8,13 @@ mod bounds;
 #[cfg(test)]
 mod deliveries;
 #[cfg(test)]
+mod greatest;
+#[cfg(test)]
 mod makers;
 #[cfg(test)]
 mod marks;
+#[cfg(test)]
+mod parents;
 #[cfg(test)]
 mod results;
 #[cfg(test)]

@@ -36,6 +36,15 @@ pub fn schema(alloc: Global) -> Result<Schema, Memory> {
     Schema::new(tables).map_err(|_| Memory)
 }
 
+/// The same tables, the one of sixteen columns being the child of the other: its column 0 names the parent row.
+pub fn family(alloc: Global) -> Result<Schema, Memory> {
+    let child = Table {
+        parent: Some((0, 1)),
+        ..table(2, 16)
+    };
+    Schema::new(vec![in alloc; table(1, 2), child]?).map_err(|_| Memory)
+}
+
 /// The row of this key in the table of two columns.
 pub fn id(key: i64) -> RowId {
     RowId { table: 1, key }

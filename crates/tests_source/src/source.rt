@@ -27,6 +27,8 @@ fn texts_of_source_faults(rt: HostRuntime) -> Result<(), Fail> {
         (SourceFault::RowLocked, "S6 RowLocked"),
         (SourceFault::RowExists, "S7 RowExists"),
         (SourceFault::NoRow, "S8 NoRow"),
+        (SourceFault::NoParent, "S9 NoParent"),
+        (SourceFault::HasChild, "S10 HasChild"),
         (SourceFault::TooManyChanges, "S11 TooManyChanges"),
         (SourceFault::Halted, "S12 Halted"),
         (SourceFault::Memory, "S13 Memory"),
@@ -45,7 +47,7 @@ type Source = SourceCore<BTreeStore, CommitOrder>;
 fn source(alloc: Global) -> Result<Source, Memory> {
     let schema = schema(alloc, None)?;
     let store = BTreeStore::new(alloc);
-    if !schema.is_flat() || !fits(&schema, &store) {
+    if !fits(&schema, &store) {
         return Err(Memory);
     }
     SourceCore::new(alloc, schema, store, CommitOrder, 256)

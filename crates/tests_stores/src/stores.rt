@@ -1,15 +1,23 @@
-//! Batches, operations and stores of rows.
+//! Batches, operations and stores of rows. What is tested of a store is tested of each.
 
-use crate::makers::{Entry, again, batch, four_tables, many_rows, removed, same_rows, set, store};
+use crate::makers::{Entry, again, batch, four_tables, many_rows, removed, same_rows, set};
 use btree_store::BTreeStore;
 use rows::Row;
 use schema::{Memory, RowId, Schema};
 use std::alloc::Global;
 use std::test::Fail;
 use store_trait::{Batch, Op, RowStore, fits, run, snapshot};
+use vector_store::VectorStore;
 
-fn rows_fit(alloc: Global, schema: &Schema, entries: &[Entry]) -> Result<bool, Memory> {
-    Ok(fits(schema, &store(alloc, entries)?))
+/// Whether these rows, put into a store of none, fit the schema.
+fn rows_fit<S: RowStore + Drop>(
+    alloc: Global,
+    schema: &Schema,
+    mut store: S,
+    entries: &[Entry],
+) -> Result<bool, Memory> {
+    store.put_all(&batch(alloc, entries)?)?;
+    Ok(fits(schema, &store))
 }
 
 /// A rule of rows that is not the one meant: a parent in another table or of another key, a column too few, no table.
@@ -24,16 +32,21 @@ fn rows_fit_their_schema(rt: HostRuntime) -> Result<(), Fail> {
         (&[(RowId { table: 3, key: 1 }, Row::new(&[0; 15]))], false),
     ];
     for (entries, want) in cases {
-        let fit = rows_fit(rt.alloc(), &schema, entries);
-        assert_eq!(rt; fit, Ok(want), "{entries:?}");
+        let in_tree = rows_fit(rt.alloc(), &schema, BTreeStore::new(rt.alloc()), entries);
+        assert_eq!(rt; in_tree, Ok(want), "{entries:?}");
+        let in_vector = rows_fit(rt.alloc(), &schema, VectorStore::new(rt.alloc()), entries);
+        assert_eq!(rt; in_vector, Ok(want), "{entries:?}");
     }
     Ok(())
 }
 
-/// Whether all batches are put, where a run that stops at a refusal goes on once.
-fn run_again(store: &mut BTreeStore, batches: &[Batch]) -> bool {
-    let put = run(store, batches);
-    put == batches.len() || run(store, &batches[put..]) == batches.len() - put
+/// Whether all batches are put into a store of no rows, where a run that stops at a refusal goes on once, and leave so many rows.
+fn run_again<S: RowStore + Drop>(mut store: S, batches: &[Batch], left: usize) -> bool {
+    let mut put = run(&mut store, batches);
+    if put < batches.len() {
+        put += run(&mut store, &batches[put..]);
+    }
+    put == batches.len() && store.len() == left
 }
 
 /// For each key five batches: two rows that are new, no row, one of the two removed, the same removed again, and the
@@ -55,26 +68,24 @@ fn many_batches(alloc: Global, keys: i64) -> Result<Vec<Batch>, Memory> {
 fn three_hundred_batches_are_put_again(rt: HostRuntime) -> Result<(), Fail> {
     let alloc = rt.alloc();
     let batches = again!(many_batches(alloc, 60));
-    let mut store = BTreeStore::new(alloc);
-    assert!(rt; run_again(&mut store, &batches));
-    assert_eq!(rt; store.len(), 60);
+    assert!(rt; run_again(BTreeStore::new(alloc), &batches, 60));
+    assert!(rt; run_again(VectorStore::new(alloc), &batches, 60));
     Ok(())
 }
 
-/// The rows are put, and once more over themselves, each again where memory lacked.
-fn stored_again(alloc: Global, rows: &Batch) -> Result<BTreeStore, Memory> {
-    let mut store = BTreeStore::new(alloc);
-    again!(store.put_all(rows));
-    again!(store.put_all(rows));
-    Ok(store)
-}
-
-fn read_again(alloc: Global, store: &BTreeStore) -> Result<Batch, Memory> {
+/// What is read of a store of no rows into which the rows are put, and once more over themselves, each again where memory lacked.
+fn stored_again<S: RowStore + Drop>(
+    alloc: Global,
+    mut store: S,
+    rows: &Batch,
+) -> Result<Batch, Memory> {
     let schema = again!(four_tables(alloc));
-    if !fits(&schema, store) {
+    again!(store.put_all(rows));
+    again!(store.put_all(rows));
+    if !fits(&schema, &store) {
         return Err(Memory);
     }
-    Ok(again!(snapshot(alloc, store, &schema)))
+    Ok(again!(snapshot(alloc, &store, &schema)))
 }
 
 /// A copy of each kind of operation.
@@ -92,7 +103,9 @@ fn two_thousand_rows_are_put_again(rt: HostRuntime) -> Result<(), Fail> {
     let alloc = rt.alloc();
     let tables = [1, 2, 3, 256];
     let rows = again!(many_rows(alloc, &tables, 500));
-    let copy = copied_again(read_again(alloc, &stored_again(alloc, &rows)?)?)?;
-    assert!(rt; same_rows(copy.batch(), &rows));
+    let in_tree = copied_again(stored_again(alloc, BTreeStore::new(alloc), &rows)?)?;
+    assert!(rt; same_rows(in_tree.batch(), &rows));
+    let in_vector = stored_again(alloc, VectorStore::new(alloc), &rows)?;
+    assert!(rt; same_rows(&in_vector, &rows));
     Ok(())
 }

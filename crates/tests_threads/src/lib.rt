@@ -4,6 +4,16 @@
 #[cfg(test)]
 mod desk;
 #[cfg(test)]
+mod device;
+#[cfg(test)]
+mod followed;
+#[cfg(test)]
+mod grouped;
+#[cfg(test)]
+mod held;
+#[cfg(test)]
+mod lacking;
+#[cfg(test)]
 mod makers;
 #[cfg(test)]
 mod publishing;
@@ -11,3 +21,7 @@ mod publishing;
 mod replicas;
 #[cfg(test)]
 mod sources;
+#[cfg(test)]
+mod watched;
+#[cfg(test)]
+mod wires;

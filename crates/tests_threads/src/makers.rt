@@ -4,6 +4,7 @@ ghost use Rattle.published.specs.History.{IsCommit};
 ghost use Rattle.replica_core.specs.Calls.{new_over};
 ghost use Rattle.source_core.specs.Source.{new_source};
 
+use crate::lacking::Lacking;
 use btree_store::BTreeStore;
 use commit_order_tracker::CommitOrder;
 use published::Answer;
@@ -35,7 +36,7 @@ fn schema(alloc: Global) -> Result<Schema, Memory> {
     Schema::new(tables).map_err(|_| Memory)
 }
 
-/// A source of no rows, for 256 records.
+/// A source of no rows, for 512 records.
 pub fn source(alloc: Global) -> Result<SourceCore<BTreeStore, CommitOrder>, Memory>
     ensures { IfOk result (λ core. core ≡ new_source core.tables core.base core.limit core.kind) }
 {
@@ -44,16 +45,16 @@ pub fn source(alloc: Global) -> Result<SourceCore<BTreeStore, CommitOrder>, Memo
     if !schema.is_flat() || !fits(&schema, &store) {
         return Err(Memory);
     }
-    let core = SourceCore::new(alloc, schema, store, CommitOrder, 256)?;
+    let core = SourceCore::new(alloc, schema, store, CommitOrder, 512)?;
     Ok(core)
 }
 
 /// A replica of no rows, with three workers.
-pub fn replica(alloc: Global) -> Result<ReplicaCore<BTreeStore>, Memory>
+pub fn replica(alloc: Global) -> Result<ReplicaCore<Lacking<BTreeStore>>, Memory>
     ensures { IfOk result (λ core. core ≡ new_over core.tables core.source core.base core.workers) }
 {
     let schema = schema(alloc)?;
-    let store = BTreeStore::new(alloc);
+    let store = Lacking::new(BTreeStore::new(alloc), 0);
     if !schema.is_flat() || !fits(&schema, &store) {
         return Err(Memory);
     }

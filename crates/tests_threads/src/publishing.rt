@@ -173,8 +173,8 @@ fn read_on<J: Naming>(
     found.upto
 }
 
-/// Catches an answer that falls, one below what was learnt, a row that is not that of its number, and a commit that is lost or
-/// a publisher that gives up where two have it in turn.
+/// Catches an answer that falls, one below what was learnt, a row that is not that of its number, a commit that is lost or
+/// a publisher that gives up where two have it in turn, and a seat that shows what it read a thousand commits before.
 #[test]
 fn two_publish_beside_two_seats(rt: HostRuntime) -> Result<(), Fail> {
     let beginning = Beginning::of(set_to(rt.alloc(), 0)?);
@@ -188,11 +188,12 @@ fn run_beside<J: Naming + Send + Sync, R: Threads + Wait + Abort + Sync>(
 ) -> Result<(), Fail>
     requires { beginning.book ≡ J.book }
 {
-    let (desk, mut seats) = Desk::<J, R>::open(rt, alloc, beginning, 2)?;
-    let (Some(one), Some(two)) = (seats.pop(), seats.pop()) else {
-        return Err("two seats")?;
+    let (desk, mut seats) = Desk::<J, R>::open(rt, alloc, beginning, 3)?;
+    let (Some(one), Some(two), Some(mut idle)) = (seats.pop(), seats.pop(), seats.pop()) else {
+        return Err("three seats")?;
     };
     let desk = Mutex::new(desk);
+    assert_eq!(rt; idle.read(ONE), Some(answer(0)));
     // (Where no thread can be made, those who read come last.)
     join(
         rt,
@@ -203,6 +204,7 @@ fn run_beside<J: Naming + Send + Sync, R: Threads + Wait + Abort + Sync>(
             || publish_all(rt, alloc, &desk),
         ),
     );
+    assert_eq!(rt; idle.read(ONE), Some(answer(LAST)));
     Ok(())
 }
 

@@ -2,13 +2,17 @@
 ghost use Rattle.std.specs.Prelude.{◌≡◌, IfOk};
 ghost use Rattle.replica_core.specs.Calls.{new_over};
 
+use crate::device::{PATIENCE, comes};
+use crate::lacking::Lacking;
 use crate::makers::{ONE, SOURCE, insert, record, replica, set};
+use crate::watched::{Order, is_crowded, is_empty, is_handed_in_late, is_refused, is_watched};
+use crate::wires::{come_in_pieces, is_damaged, is_kept_waiting, sets_are_shown};
 use btree_store::BTreeStore;
 use published::{Answer, Beginning, Counts, LeftRight, OpenError, open};
 use record_codec::Record;
 use relay::{Received, ReplicaFault};
 use replica_core::ReplicaCore;
-use replica_shared::{NoGate, ReplicaNaming, SharedReplica, WorkerGate};
+use replica_shared::{NoGate, ReplicaNaming, SharedReplica, Sleepers, WorkerGate};
 use rows::Row;
 use schema::Memory;
 use std::alloc::Global;
@@ -17,26 +21,54 @@ use std::process::Abort;
 use std::sync::Wait;
 use std::sync::atomic::{AtomicBool, Ordering};
 use std::test::Fail;
-use std::thread;
-use std::thread::{Threads, join};
+use std::thread::{Threads, join, sleep};
+use std::time::{Clock, Duration};
 use uuid::Uuid;
 
-type Core = ReplicaCore<BTreeStore>;
+type Core = ReplicaCore<Lacking<BTreeStore>>;
 
-type Shared<J> = SharedReplica<BTreeStore, J>;
+/// A shared replica of three workers.
+pub type Shared<J> = SharedReplica<Lacking<BTreeStore>, J>;
 
 /// What is done with a shared replica of three workers and one seat.
 #[derive(Clone, Copy, Drop)]
-enum Course {
+pub enum Course {
     /// One worker does all.
     Alone,
     /// One worker does all up to the second record, which does not apply.
     Stopping,
     /// Three workers and one who waits are there before the records.
     Beside,
+    /// They sleep when a record comes that does not apply.
+    AsleepAtStop,
+    /// Two of the workers and the one who waits sleep when no more records come, before the only result.
+    AsleepAtEnd,
+    /// No record comes.
+    Empty,
+    /// A gate notes the status at each job.
+    Watched,
+    /// The same, where the second record does not apply.
+    WatchedStop,
+    /// More calls of `worker` than workers.
+    Crowded,
+    /// The first commit's publication finds no memory.
+    Refused,
+    /// A result is handed in once another has stopped the replica.
+    Late,
+    /// The records come as bytes, seven at a time.
+    Sevens,
+    /// One at a time.
+    Singles,
+    /// One of the bytes is another.
+    Damaged,
+    /// They come before the record in front of them.
+    Waiting,
+    /// Sets of ids are waited for.
+    Sets,
 }
 
-/// Catches a shared call that gives up where memory is there, also once it was refused.
+/// Catches a shared call that gives up where memory is there, also once it was refused, and a job that was kept then and is
+/// not the next to be executed.
 #[test]
 fn one_worker_does_all_again(rt: HostRuntime) -> Result<(), Fail> {
     runs(&rt, rt.alloc(), Course::Alone)
@@ -54,7 +86,57 @@ fn three_workers_execute_side_by_side(rt: HostRuntime) -> Result<(), Fail> {
     runs(&rt, rt.alloc(), Course::Beside)
 }
 
-fn runs<R: Threads + Wait + Abort + Sync>(
+/// Catches a stop that leaves a worker asleep, or one who waits for a commit, and one that tells another number than that of the
+/// record that did not apply.
+#[test]
+fn a_stop_wakes_all_who_sleep(rt: HostRuntime) -> Result<(), Fail> {
+    runs(&rt, rt.alloc(), Course::AsleepAtStop)
+}
+
+/// Catches an end that leaves a worker asleep: the last result comes behind `close`.
+#[test]
+fn the_last_result_wakes_all_who_sleep(rt: HostRuntime) -> Result<(), Fail> {
+    runs(&rt, rt.alloc(), Course::AsleepAtEnd)
+}
+
+/// Catches a closed replica without records whose worker does not end, or a wait for the rows of the start.
+#[test]
+fn no_record_is_waited_for_again(rt: HostRuntime) -> Result<(), Fail> {
+    runs(&rt, rt.alloc(), Course::Empty)
+}
+
+/// Catches a gate that is entered behind the execution, left before the result is in, or called with another number.
+#[test]
+fn a_gate_sees_each_job(rt: HostRuntime) -> Result<(), Fail> {
+    runs(&rt, rt.alloc(), Course::Watched)
+}
+
+/// Catches a gate that is not left where the result is refused.
+#[test]
+fn a_gate_sees_the_stop(rt: HostRuntime) -> Result<(), Fail> {
+    runs(&rt, rt.alloc(), Course::WatchedStop)
+}
+
+/// Catches a call of `worker` that fails where there is no job for it, or sleeps on when `close` is called.
+#[test]
+fn more_calls_than_workers_end(rt: HostRuntime) -> Result<(), Fail> {
+    runs(&rt, rt.alloc(), Course::Crowded)
+}
+
+/// Catches a status that shows as published what is committed alone.
+#[test]
+fn a_refused_publication_is_made_up_for(rt: HostRuntime) -> Result<(), Fail> {
+    runs(&rt, rt.alloc(), Course::Refused)
+}
+
+/// Catches a stop that is told with the number of the result that is handed in.
+#[test]
+fn a_late_result_is_told_of_the_stop(rt: HostRuntime) -> Result<(), Fail> {
+    runs(&rt, rt.alloc(), Course::Late)
+}
+
+/// Makes a replica and its records, and does with them what the course says.
+pub fn runs<R: Threads + Wait + Abort + Clock + Sync>(
     rt: &R,
     alloc: Global,
     course: Course,
@@ -66,7 +148,7 @@ fn runs<R: Threads + Wait + Abort + Sync>(
 }
 
 /// Whether there was memory for the records and the replica.
-fn has_run<R: Threads + Wait + Abort + Sync>(
+fn has_run<R: Threads + Wait + Abort + Clock + Sync>(
     rt: &R,
     alloc: Global,
     course: Course,
@@ -80,16 +162,21 @@ fn has_run<R: Threads + Wait + Abort + Sync>(
     run_over::<Brand, R>(rt, alloc, core, beginning, course, &records)
 }
 
-/// Three records: a row is inserted, another one is inserted or (where that stops the replica) set, and the first is set.
+/// Three records: a row is inserted, another one is inserted or (where that stops the replica) set, and the first is set, or
+/// (the same) one that is not there.
 fn records(alloc: Global, course: Course) -> Result<[Record; 3], Memory> {
     let second = match course {
-        Course::Stopping => set(11, 1)?,
+        Course::Stopping | Course::AsleepAtStop | Course::WatchedStop => set(11, 1)?,
         _ => insert(11, [1, 1])?,
+    };
+    let (parent, third) = match course {
+        Course::Late => (0, set(12, 7)?),
+        _ => (1, set(10, 7)?),
     };
     Ok([
         record(alloc, 1, 0, insert(10, [5, 6])?)?,
         record(alloc, 2, 0, second)?,
-        record(alloc, 3, 1, set(10, 7)?)?,
+        record(alloc, 3, parent, third)?,
     ])
 }
 
@@ -103,7 +190,7 @@ fn parts(alloc: Global) -> Result<(Core, Beginning), Memory>
     Ok((core, beginning))
 }
 
-fn run_over<J: ReplicaNaming + Send + Sync, R: Threads + Wait + Abort + Sync>(
+fn run_over<J: ReplicaNaming + Send + Sync, R: Threads + Wait + Abort + Clock + Sync>(
     rt: &R,
     alloc: Global,
     core: Core,
@@ -113,10 +200,18 @@ fn run_over<J: ReplicaNaming + Send + Sync, R: Threads + Wait + Abort + Sync>(
 ) -> Result<bool, Fail>
     requires core { core ≡ new_over core.tables core.source core.base core.workers }
     requires rows { beginning.base ≡ core.base }
+    requires tables { core.tables ≡ J.tables }
+    requires source { core.source ≡ J.source }
     requires base { core.base ≡ J.base }
     requires book { beginning.book ≡ J.book }
 {
-    let shared: Shared<J> = match shared(rt, alloc, core, beginning) {
+    // (The first batch that is put into a copy is that of the rows of the start.)
+    let refused = if matches!(course, Course::Refused) {
+        2
+    } else {
+        0
+    };
+    let shared: Shared<J> = match shared(rt, alloc, core, beginning, refused) {
         Ok(shared) => shared,
         Err(cause) => {
             assert_eq!(rt; cause, OpenError::Memory);
@@ -127,6 +222,19 @@ fn run_over<J: ReplicaNaming + Send + Sync, R: Threads + Wait + Abort + Sync>(
         Course::Alone => works(rt, alloc, &shared, records),
         Course::Stopping => stops(rt, alloc, &shared, records),
         Course::Beside => beside(rt, alloc, &shared, records),
+        Course::AsleepAtStop => stops_sleepers(rt, alloc, &shared, records),
+        Course::AsleepAtEnd => ends_sleepers(rt, alloc, &shared, records),
+        Course::Empty => is_empty(rt, alloc, &shared),
+        Course::Watched => watches(rt, alloc, &shared, records),
+        Course::WatchedStop => watches_stop(rt, alloc, &shared, records),
+        Course::Crowded => crowds(rt, alloc, &shared, records),
+        Course::Refused => is_refused(rt, alloc, &shared, records),
+        Course::Late => is_handed_in_late(rt, alloc, &shared, records),
+        Course::Sevens => come_in_pieces(rt, alloc, &shared, records, 7),
+        Course::Singles => come_in_pieces(rt, alloc, &shared, records, 1),
+        Course::Damaged => is_damaged(rt, alloc, &shared, records),
+        Course::Waiting => is_kept_waiting(rt, alloc, &shared, records),
+        Course::Sets => sets_are_shown(rt, alloc, &shared, records),
     };
     let ends = ended(rt, shared);
     let published = run?;
@@ -134,24 +242,27 @@ fn run_over<J: ReplicaNaming + Send + Sync, R: Threads + Wait + Abort + Sync>(
     Ok(true)
 }
 
-/// A shared replica with one seat.
+/// A shared replica with one seat. A copy for readers refuses its batch of this number, where that is not 0.
 fn shared<J: ReplicaNaming, R: Wait>(
     rt: &R,
     alloc: Global,
     core: Core,
     beginning: Beginning,
+    refused: u64,
 ) -> Result<Shared<J>, OpenError>
     requires core { core ≡ new_over core.tables core.source core.base core.workers }
     requires rows { beginning.base ≡ core.base }
+    requires tables { core.tables ≡ J.tables }
+    requires source { core.source ≡ J.source }
     requires base { core.base ≡ J.base }
     requires book { beginning.book ≡ J.book }
 {
-    let (publisher, seats) = open::<BTreeStore, J, R, LeftRight>(
+    let (publisher, seats) = open::<Lacking<BTreeStore>, J, R, LeftRight>(
         rt,
         alloc,
         beginning,
-        BTreeStore::new(alloc),
-        BTreeStore::new(alloc),
+        Lacking::new(BTreeStore::new(alloc), refused),
+        Lacking::new(BTreeStore::new(alloc), refused),
         1,
     )?;
     Ok(SharedReplica::new(rt, alloc, core, publisher, seats)?)
@@ -173,7 +284,9 @@ fn works<J: ReplicaNaming>(
     records: &[Record],
 ) -> Result<u64, Fail> {
     send(rt, shared, records);
-    work(rt, alloc, shared)?;
+    let order = Order::new();
+    work(rt, alloc, shared, &order)?;
+    assert_eq!(rt; order.noted(), 123);
     shows(rt, shared, 3, [7, 6])
 }
 
@@ -187,10 +300,12 @@ fn stops<J: ReplicaNaming>(
     let stopped = ReplicaFault::Stopped(2);
     send(rt, shared, records);
     for record in records {
-        assert_eq!(rt; work(rt, alloc, shared), Err(stopped));
+        assert_eq!(rt; work(rt, alloc, shared, &NoGate), Err(stopped));
         assert_eq!(rt; receive(rt, shared, record), Err(stopped));
     }
-    assert_eq!(rt; shared.wait_for(rt, 2).err(), Some(stopped));
+    for gno in [2, 3] {
+        assert_eq!(rt; shared.wait_for(rt, gno).err(), Some(stopped));
+    }
     shows(rt, shared, 1, [5, 6])
 }
 
@@ -203,32 +318,152 @@ fn send<J: ReplicaNaming>(rt: &(impl Wait + Abort), shared: &Shared<J>, records:
     shared.close(rt);
 }
 
-/// Receives a record, and again where memory was refused.
-fn receive<J: ReplicaNaming>(
+/// What the gate of one worker notes of the three records.
+fn watches<J: ReplicaNaming>(
+    rt: &(impl Wait + Abort + Clock),
+    alloc: Global,
+    shared: &Shared<J>,
+    records: &[Record],
+) -> Result<u64, Fail> {
+    is_watched(rt, alloc, shared, records, 101_121_223_233)?;
+    shows(rt, shared, 3, [7, 6])
+}
+
+/// And where the second does not apply.
+fn watches_stop<J: ReplicaNaming>(
+    rt: &(impl Wait + Abort + Clock),
+    alloc: Global,
+    shared: &Shared<J>,
+    records: &[Record],
+) -> Result<u64, Fail> {
+    match is_watched(rt, alloc, shared, records, 10_112_121) {
+        Err(ReplicaFault::Memory) => Err(ReplicaFault::Memory)?,
+        ended => assert_eq!(rt; ended, Err(ReplicaFault::Stopped(2))),
+    }
+    shows(rt, shared, 1, [5, 6])
+}
+
+fn crowds<J: ReplicaNaming + Send + Sync, R: Threads + Wait + Abort + Clock + Sync>(
+    rt: &R,
+    alloc: Global,
+    shared: &Shared<J>,
+    records: &[Record],
+) -> Result<u64, Fail> {
+    is_crowded(rt, alloc, shared, records)?;
+    shows(rt, shared, 3, [7, 6])
+}
+
+/// What the one who hands over the records does next.
+#[derive(Clone, Copy, Drop)]
+pub enum Step {
+    /// Waits until so many calls of `worker` sleep, and so many of `wait_for`.
+    Sleep(u64, u64),
+    /// Hands over the records from this number to that.
+    Take(u64, u64),
+    /// Waits for the commit of this number, unless some did not sleep in time.
+    Show(u64),
+}
+
+/// Goes through the steps, and closes, however they end. It lacks memory where so many do not sleep in time: then there was
+/// none for a thread, or a worker ended for want of it.
+pub fn feed<J: ReplicaNaming>(
+    rt: &(impl Wait + Clock),
+    shared: &Shared<J>,
+    records: &[Record],
+    steps: &[Step],
+) -> Result<(), ReplicaFault> {
+    let fed = feed_each(rt, shared, records, steps);
+    shared.close(rt);
+    if fed? {
+        Ok(())
+    } else {
+        Err(ReplicaFault::Memory)
+    }
+}
+
+/// Whether all slept in time. Records are handed over also where they do not, so that nobody waits for ever.
+fn feed_each<J: ReplicaNaming>(
+    rt: &(impl Wait + Clock),
+    shared: &Shared<J>,
+    records: &[Record],
+    steps: &[Step],
+) -> Result<bool, ReplicaFault> {
+    let mut in_time = true;
+    for step in steps {
+        match *step {
+            Step::Sleep(workers, readers) => {
+                in_time = in_time && sleep_all(rt, shared, Sleepers { workers, readers });
+            }
+            Step::Take(first, last) => receive_each(rt, shared, records, first, last)?,
+            Step::Show(gno) => {
+                if in_time {
+                    shared.wait_for(rt, gno)?;
+                }
+            }
+        }
+    }
+    Ok(in_time)
+}
+
+fn receive_each<J: ReplicaNaming>(
+    rt: &impl Wait,
+    shared: &Shared<J>,
+    records: &[Record],
+    first: u64,
+    last: u64,
+) -> Result<(), ReplicaFault> {
+    for record in records {
+        if first <= record.gno && record.gno <= last {
+            receive(rt, shared, record)?;
+        }
+    }
+    Ok(())
+}
+
+/// Whether so many sleep before the patience ends.
+fn sleep_all<J: ReplicaNaming>(
+    rt: &(impl Wait + Clock),
+    shared: &Shared<J>,
+    asleep: Sleepers,
+) -> bool {
+    for _ in 0..PATIENCE {
+        if shared.sleepers(rt) == asleep {
+            return true;
+        }
+        sleep(rt, Duration::from_millis(1));
+    }
+    false
+}
+
+/// Receives a record, and again where memory was refused: it may have been accepted by then.
+pub fn receive<J: ReplicaNaming>(
     rt: &impl Wait,
     shared: &Shared<J>,
     new: &Record,
 ) -> Result<Received, ReplicaFault> {
     match shared.receive(rt, Uuid::from_u128(SOURCE), new) {
-        Err(ReplicaFault::Memory) => shared.receive(rt, Uuid::from_u128(SOURCE), new),
+        Err(ReplicaFault::Memory) => shared
+            .receive(rt, Uuid::from_u128(SOURCE), new)
+            .and(Ok(Received::Accepted)),
         answer => answer,
     }
 }
 
 /// A worker, and another where memory was refused.
-fn work<J: ReplicaNaming>(
+pub fn work<J: ReplicaNaming, G: WorkerGate>(
     rt: &impl Wait,
     alloc: Global,
     shared: &Shared<J>,
+    gate: &G,
 ) -> Result<(), ReplicaFault> {
-    match shared.worker(rt, alloc, &NoGate) {
-        Err(ReplicaFault::Memory) => shared.worker(rt, alloc, &NoGate),
+    match shared.worker(rt, alloc, gate) {
+        Err(ReplicaFault::Memory) => shared.worker(rt, alloc, gate),
         answer => answer,
     }
 }
 
 /// So many of the three records are published, and the one seat reads the row as these columns once it has learnt that.
-fn shows<J: ReplicaNaming>(
+pub fn shows<J: ReplicaNaming>(
     rt: &(impl Wait + Abort),
     shared: &Shared<J>,
     published: u64,
@@ -242,38 +477,48 @@ fn shows<J: ReplicaNaming>(
         upto: published,
     };
     assert_eq!(rt; seat.read(ONE), Some(read));
-    let status = Counts {
-        received: 3,
-        committed: published,
-        published,
-    };
-    assert_eq!(rt; shared.status(rt), status);
+    assert_eq!(rt; shared.status(rt), counts(published, published));
     Ok(published)
 }
 
-/// How often a job looks whether another was entered.
-const TURNS: u32 = 1_000_000;
+/// All three records are received, and so many committed and published.
+pub fn counts(committed: u64, published: u64) -> Counts {
+    Counts {
+        received: 3,
+        committed,
+        published,
+    }
+}
 
-/// It holds a job until another is entered, for so many turns at most.
+/// It holds each job until it is opened, for a while at most. A job that is entered while another is held opens it.
 #[derive(Drop)]
-struct HeldGate {
+struct Held<'a, R: Clock> {
+    rt: &'a R,
+    open: AtomicBool,
     /// A job is held, or goes on.
     entered: AtomicBool,
     /// Another was entered meanwhile.
     met: AtomicBool,
 }
 
-impl WorkerGate for HeldGate {
+impl<'a, R: Clock> Held<'a, R> {
+    fn new(rt: &'a R, open: bool) -> Held<'a, R> {
+        Held {
+            rt,
+            open: AtomicBool::new(open),
+            entered: AtomicBool::new(false),
+            met: AtomicBool::new(false),
+        }
+    }
+}
+
+impl<'a, R: Clock> WorkerGate for Held<'a, R> {
     fn entered(&self, _gno: u64) {
         if self.entered.swap(true, Ordering::SeqCst) {
             self.met.store(true, Ordering::SeqCst);
+            self.open.store(true, Ordering::SeqCst);
         }
-        for _ in 0..TURNS {
-            if self.met.load(Ordering::SeqCst) {
-                return;
-            }
-            thread::yield_now();
-        }
+        comes(self.rt, &self.open);
     }
 
     fn left(&self, _gno: u64) {
@@ -281,33 +526,20 @@ impl WorkerGate for HeldGate {
     }
 }
 
-/// Three workers, the first two jobs of which are executed at one time, and one who waits for the last commit.
-fn beside<J: ReplicaNaming + Send + Sync, R: Threads + Wait + Abort + Sync>(
-    rt: &R,
-    alloc: Global,
-    shared: &Shared<J>,
-    records: &[Record],
-) -> Result<u64, Fail> {
-    let gate = HeldGate {
-        entered: AtomicBool::new(false),
-        met: AtomicBool::new(false),
-    };
-    run_threads(rt, alloc, shared, records, &gate)?;
-    // (Where there is no memory for a thread, the workers run one after another.)
-    if !gate.met.load(Ordering::SeqCst) {
-        Err(Memory)?;
-    }
-    assert!(rt; !gate.entered.load(Ordering::SeqCst), "a job was not left");
-    shows(rt, shared, 3, [7, 6])
-}
+/// How three workers ended, and what one who waited for a commit was told.
+type Met = ([Result<(), ReplicaFault>; 3], Result<u64, ReplicaFault>);
 
-fn run_threads<J: ReplicaNaming + Send + Sync, R: Threads + Wait + Abort + Sync>(
+/// Three workers with this gate, and one who waits for this commit, beside the one who hands over the records, and opens the
+/// gate then.
+fn run_threads<J: ReplicaNaming + Send + Sync, R: Threads + Wait + Clock + Sync>(
     rt: &R,
     alloc: Global,
     shared: &Shared<J>,
     records: &[Record],
-    gate: &HeldGate,
-) -> Result<(), ReplicaFault> {
+    gate: &Held<'_, R>,
+    gno: u64,
+    steps: &[Step],
+) -> Result<Met, ReplicaFault> {
     let ((one, two), (three, (waited, fed))) = join(
         rt,
         || join(
@@ -320,47 +552,85 @@ fn run_threads<J: ReplicaNaming + Send + Sync, R: Threads + Wait + Abort + Sync>
             || shared.worker(rt, alloc, gate),
             || join(
                 rt,
-                || shared.wait_for(rt, 3).map(|notice| notice.upto()),
-                || feed(rt, shared, records),
+                || shared.wait_for(rt, gno).map(|notice| notice.upto()),
+                || feed_and_open(rt, shared, records, gate, steps),
             ),
         ),
     );
     fed?;
-    one.and(two).and(three)?;
-    assert_eq!(rt; waited, Ok(3));
-    Ok(())
+    Ok(([one, two, three], waited))
 }
 
-/// Hands over the records, and closes.
-fn feed<J: ReplicaNaming>(
-    rt: &impl Wait,
+fn feed_and_open<J: ReplicaNaming, R: Wait + Clock>(
+    rt: &R,
     shared: &Shared<J>,
     records: &[Record],
+    gate: &Held<'_, R>,
+    steps: &[Step],
 ) -> Result<(), ReplicaFault> {
-    let fed = feed_each(rt, shared, records);
-    shared.close(rt);
+    let fed = feed(rt, shared, records, steps);
+    gate.open.store(true, Ordering::SeqCst);
     fed
 }
 
-/// Hands over the first two records, and the third once those are published and the workers sleep again.
-fn feed_each<J: ReplicaNaming>(
-    rt: &impl Wait,
+/// The first two jobs are executed at one time. All sleep before the first record, before the last and at the end.
+fn beside<J: ReplicaNaming + Send + Sync, R: Threads + Wait + Abort + Clock + Sync>(
+    rt: &R,
+    alloc: Global,
     shared: &Shared<J>,
     records: &[Record],
-) -> Result<(), ReplicaFault> {
-    for record in records {
-        receive(rt, shared, record)?;
-        if record.gno > 1 {
-            shared.wait_for(rt, record.gno)?;
-            pause();
-        }
+) -> Result<u64, Fail> {
+    let gate = Held::new(rt, false);
+    let steps = [
+        Step::Sleep(3, 1),
+        Step::Take(1, 2),
+        Step::Show(2),
+        Step::Sleep(3, 1),
+        Step::Take(3, 3),
+        Step::Show(3),
+        Step::Sleep(3, 0),
+    ];
+    let met = run_threads(rt, alloc, shared, records, &gate, 3, &steps)?;
+    assert_eq!(rt; met, ([Ok(()); 3], Ok(3)));
+    // (Where there is no memory for a thread, the workers run one after another.)
+    if !gate.met.load(Ordering::SeqCst) {
+        Err(Memory)?;
     }
-    Ok(())
+    assert!(rt; !gate.entered.load(Ordering::SeqCst), "a job was not left");
+    shows(rt, shared, 3, [7, 6])
 }
 
-/// Long enough for workers that have nothing left to do, so that they sleep.
-fn pause() {
-    for _ in 0..1000 {
-        thread::yield_now();
-    }
+/// Three workers and one who waits for a commit sleep when the second record comes, which does not apply.
+fn stops_sleepers<J: ReplicaNaming + Send + Sync, R: Threads + Wait + Abort + Clock + Sync>(
+    rt: &R,
+    alloc: Global,
+    shared: &Shared<J>,
+    records: &[Record],
+) -> Result<u64, Fail> {
+    let steps = [
+        Step::Sleep(3, 1),
+        Step::Take(1, 1),
+        Step::Show(1),
+        Step::Sleep(3, 1),
+        Step::Take(2, 2),
+    ];
+    let gate = Held::new(rt, true);
+    let met = run_threads(rt, alloc, shared, records, &gate, 2, &steps)?;
+    let stopped = ReplicaFault::Stopped(2);
+    assert_eq!(rt; met, ([Err(stopped); 3], Err(stopped)));
+    Ok(1)
+}
+
+/// Two workers and one who waits for a commit sleep, and a third executes the only record, when no more come.
+fn ends_sleepers<J: ReplicaNaming + Send + Sync, R: Threads + Wait + Abort + Clock + Sync>(
+    rt: &R,
+    alloc: Global,
+    shared: &Shared<J>,
+    records: &[Record],
+) -> Result<u64, Fail> {
+    let steps = [Step::Take(1, 1), Step::Sleep(2, 1)];
+    let gate = Held::new(rt, false);
+    let met = run_threads(rt, alloc, shared, records, &gate, 1, &steps)?;
+    assert_eq!(rt; met, ([Ok(()); 3], Ok(1)));
+    Ok(1)
 }

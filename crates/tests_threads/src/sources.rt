@@ -1,7 +1,11 @@
-//! The shared source: its calls made again, a device that fails, and threads that commit.
+//! The shared source: its calls made again, a device that fails or finds no memory, and threads that commit.
 ghost use Rattle.std.specs.Prelude.{◌≡◌, [], None};
 ghost use Rattle.source_core.specs.Source.{new_source};
 
+use crate::device::{InMemory, Ordered, Orders};
+use crate::followed::{are_bytes, follow, is_followed};
+use crate::grouped::{is_refused, is_shared};
+use crate::held::{are_told, is_held};
 use crate::makers::{ONE, SOURCE, insert, set, source};
 use btree_store::BTreeStore;
 use commit_order_tracker::CommitOrder;
@@ -15,24 +19,36 @@ use std::marker::Brand;
 use std::process::Abort;
 use std::sync::{Mutex, Wait};
 use std::test::Fail;
-use std::thread::{Threads, join};
+use std::thread::{Threads, map_indices};
+use std::time::Clock;
 use uuid::Uuid;
 
 type Core = SourceCore<BTreeStore, CommitOrder>;
 
-type Disk = FaultyDevice<MemoryDevice>;
+type Disk<'a, R> = FaultyDevice<InMemory<'a, R>>;
 
-type Shared<J> = SharedSource<BTreeStore, CommitOrder, Disk, J>;
+/// A shared source on a device that does as it is told.
+pub type Shared<'a, J, R> = SharedSource<BTreeStore, CommitOrder, Disk<'a, R>, J>;
 
-/// What is done with a shared source, and so many records are flushed then.
+/// What is done with a shared source.
 #[derive(Clone, Copy, Drop)]
 enum Course {
     /// Two sessions commit in turn.
-    InTurn = 2,
+    InTurn,
     /// The first sync of a group fails.
-    Failing = 1,
+    Failing,
     /// Four threads commit ten times each.
-    Beside = 40,
+    Beside,
+    /// The first group's writes find no memory twice.
+    Refused,
+    /// The second group's sync is held.
+    Held,
+    /// A sync takes a millisecond.
+    Slow,
+    /// Two threads follow the log while a session commits three times.
+    Followed,
+    /// The first group's sync is held, and the write behind it fails.
+    Told,
 }
 
 /// Catches a shared call that gives up where memory is there, also once it was refused.
@@ -53,7 +69,39 @@ fn four_threads_get_each_number_once(rt: HostRuntime) -> Result<(), Fail> {
     runs(&rt, rt.alloc(), Course::Beside)
 }
 
-fn runs<R: Threads + Wait + Abort + Sync>(
+/// Catches a group that is lost, or committed out of turn, behind one for which the device found no memory, and two sessions
+/// that are queued meanwhile and do not become one group.
+#[test]
+fn a_group_of_two_waits_behind_a_refused_one(rt: HostRuntime) -> Result<(), Fail> {
+    runs(&rt, rt.alloc(), Course::Refused)
+}
+
+/// Catches a group that is flushed only once the one before it is synced, a reader of the log who waits for the device, a
+/// record that is shown before it is synced, and sessions that sleep on though one has to lead.
+#[test]
+fn flushes_beside_a_sync(rt: HostRuntime) -> Result<(), Fail> {
+    runs(&rt, rt.alloc(), Course::Held)
+}
+
+/// Catches sessions that sync one by one where a sync is slow.
+#[test]
+fn sixteen_sessions_share_syncs(rt: HostRuntime) -> Result<(), Fail> {
+    runs(&rt, rt.alloc(), Course::Slow)
+}
+
+/// Catches one who follows the log and sleeps on where a record came, or where no more come.
+#[test]
+fn follows_a_log_of_three_records(rt: HostRuntime) -> Result<(), Fail> {
+    runs(&rt, rt.alloc(), Course::Followed)
+}
+
+/// Catches one who sleeps on where the source is halted.
+#[test]
+fn who_sleeps_is_told_of_a_failure(rt: HostRuntime) -> Result<(), Fail> {
+    runs(&rt, rt.alloc(), Course::Told)
+}
+
+fn runs<R: Threads + Wait + Abort + Clock + Sync>(
     rt: &R,
     alloc: Global,
     course: Course,
@@ -65,56 +113,70 @@ fn runs<R: Threads + Wait + Abort + Sync>(
 }
 
 /// Whether there was memory for the source.
-fn has_run<R: Threads + Wait + Abort + Sync>(
+fn has_run<R: Threads + Wait + Abort + Clock + Sync>(
     rt: &R,
     alloc: Global,
     course: Course,
 ) -> Result<bool, Fail> {
-    // (The log file calls its device four times before it syncs the first group.)
-    let nth = if matches!(course, Course::Failing) {
-        5
-    } else {
-        0
+    // (The log file calls its device four times before it syncs the first group, and syncs it once.)
+    let (nth, millis, held) = match course {
+        Course::Failing => (5, 0, 0),
+        Course::Held => (0, 0, 4),
+        Course::Slow => (0, 1, 0),
+        Course::Told => (6, 0, 2),
+        _ => (0, 0, 0),
     };
-    let device = FaultyDevice::new(MemoryDevice::new(alloc), nth);
+    let orders = Orders::new(rt, millis, held);
+    let device = Ordered {
+        inner: MemoryDevice::new(alloc),
+        orders: &orders,
+    };
+    let device = FaultyDevice::new(device, nth);
     let Ok(log) = LogFile::create(alloc, device, Uuid::from_u128(SOURCE)) else {
         return Ok(false);
     };
     let Ok(core) = source(alloc) else {
         return Ok(false);
     };
-    run_over::<Brand, R>(rt, alloc, core, log, Beginning::new(), course)
+    run_over::<Brand, R>(rt, alloc, core, log, Beginning::new(), course, &orders)
 }
 
-fn run_over<J: Naming + Send + Sync, R: Threads + Wait + Abort + Sync>(
+fn run_over<'a, J: Naming + Send + Sync, R: Threads + Wait + Abort + Clock + Sync>(
     rt: &R,
     alloc: Global,
     core: Core,
-    log: LogFile<Disk>,
+    log: LogFile<Disk<'a, R>>,
     beginning: Beginning,
     course: Course,
+    orders: &Orders<'a, R>,
 ) -> Result<bool, Fail>
     requires core { core ≡ new_source core.tables core.base core.limit core.kind }
     requires records { log.records ≡ [] }
     requires waiting { log.waiting ≡ None }
     requires base { core.base ≡ J.base }
+    requires tables { core.tables ≡ J.tables }
     requires named { beginning ≡ J.book }
 {
-    let Ok(source) = Shared::<J>::new(alloc, core, log, beginning) else {
+    let Ok(source) = Shared::<J, R>::new(alloc, core, log, beginning) else {
         return Ok(false);
     };
-    let Ok(room) = Vec::with_capacity(alloc, 40) else {
+    let Ok(room) = Vec::with_capacity(alloc, 400) else {
         return Ok(false);
     };
     let receipts: Mutex<Vec<Receipt<J>>> = Mutex::new(room);
-    match course {
-        Course::InTurn => in_turn(rt, &source, &receipts)?,
-        Course::Failing => halts(rt, &source, &receipts)?,
-        Course::Beside => beside(rt, &source, &receipts)?,
-    }
+    let flushed = match course {
+        Course::InTurn => in_turn(rt, alloc, &source, &receipts),
+        Course::Failing => halts(rt, &source, &receipts),
+        Course::Beside => beside(rt, alloc, &source, &receipts, 4, 10),
+        Course::Refused => is_refused(rt, &source, &receipts, orders),
+        Course::Held => is_held(rt, &source, &receipts, orders),
+        Course::Slow => is_shared(rt, alloc, &source, &receipts, orders),
+        Course::Followed => is_followed(rt, alloc, &source, &receipts),
+        Course::Told => are_told(rt, alloc, &source, &receipts, orders),
+    }?;
     let receipts = receipts.into_inner();
     are_numbered(rt, &receipts);
-    assert_eq!(rt; source.end(&receipts).log().len(), course as usize);
+    assert_eq!(rt; source.end(&receipts).log().len(), flushed);
     Ok(true)
 }
 
@@ -129,25 +191,26 @@ fn are_numbered<J: Naming>(rt: &impl Abort, receipts: &[Receipt<J>]) {
     }
 }
 
-/// A transaction of one change, from its begin to its receipt.
-fn transact<J: Naming, R: Wait>(
+/// A transaction of one change, from its begin to its receipt. It answers what was prepared, and the number.
+pub fn transact<J: Naming, R: Wait + Clock>(
     rt: &R,
-    source: &Shared<J>,
+    source: &Shared<'_, J, R>,
     seat: &mut SessionSeat<J>,
     change: &Change,
     receipts: &Mutex<Vec<Receipt<J>>>,
-) -> Result<Prepared, SourceFault> {
+) -> Result<(Prepared, u64), SourceFault> {
     write(rt, source, seat, change)?;
     let prepared = source.prepare(rt, seat)?;
     let receipt = commit(rt, source, seat)?;
+    let gno = receipt.given().gno;
     receipts.lock(rt).push(receipt)?;
-    Ok(prepared)
+    Ok((prepared, gno))
 }
 
 /// Commits, and once more where it lacked memory.
-fn commit<J: Naming, R: Wait>(
+fn commit<J: Naming, R: Wait + Clock>(
     rt: &R,
-    source: &Shared<J>,
+    source: &Shared<'_, J, R>,
     seat: &mut SessionSeat<J>,
 ) -> Result<Receipt<J>, SourceFault> {
     match source.commit(rt, seat) {
@@ -157,9 +220,9 @@ fn commit<J: Naming, R: Wait>(
 }
 
 /// Begins and writes, and writes once more where it lacked memory.
-fn write<J: Naming, R: Wait>(
+pub fn write<J: Naming, R: Wait + Clock>(
     rt: &R,
-    source: &Shared<J>,
+    source: &Shared<'_, J, R>,
     seat: &mut SessionSeat<J>,
     change: &Change,
 ) -> Result<(), SourceFault> {
@@ -170,12 +233,14 @@ fn write<J: Naming, R: Wait>(
     }
 }
 
-/// The first session and the last: one aborts, the other inserts the row in its place, and then the first sets it.
-fn in_turn<J: Naming, R: Wait + Abort>(
+/// The first session and the last: one aborts, the other inserts the row in its place, and then the first sets it. Then the
+/// source is closed, and its log followed.
+fn in_turn<J: Naming, R: Wait + Abort + Clock>(
     rt: &R,
-    source: &Shared<J>,
+    alloc: Global,
+    source: &Shared<'_, J, R>,
     receipts: &Mutex<Vec<Receipt<J>>>,
-) -> Result<(), Fail> {
+) -> Result<usize, Fail> {
     let mut one = source.session(rt, 1)?;
     let mut last = source.session(rt, 256)?;
     let change = insert(10, [5, 6])?;
@@ -185,67 +250,77 @@ fn in_turn<J: Naming, R: Wait + Abort>(
     let second = transact(rt, source, &mut one, &set(10, 7)?, receipts);
     assert_eq!(rt;
         [first, second],
-        [Ok(Prepared::Parent(0)), Ok(Prepared::Parent(1))]
+        [Ok((Prepared::Parent(0), 1)), Ok((Prepared::Parent(1), 2))]
     );
     source.begin(rt, &mut one)?;
     assert_eq!(rt; source.read(rt, &mut one, ONE), Ok(Row::new(&[7, 6])));
-    let found = match source.record(rt, 2) {
-        Err(SourceFault::Memory) => source.record(rt, 2)?,
-        answer => answer?,
-    };
-    assert!(rt; found.is_some(), "the record is not there");
-    Ok(())
+    source.close(rt);
+    let followed = follow(rt, alloc, source)?;
+    are_bytes(rt, alloc, source, followed, 2)?;
+    Ok(2)
 }
 
 /// A session commits in vain, and all is refused from then on.
-fn halts<J: Naming, R: Wait + Abort>(
+fn halts<J: Naming, R: Wait + Abort + Clock>(
     rt: &R,
-    source: &Shared<J>,
+    source: &Shared<'_, J, R>,
     receipts: &Mutex<Vec<Receipt<J>>>,
-) -> Result<(), Fail> {
+) -> Result<usize, Fail> {
     let change = insert(10, [5, 6])?;
     let mut seat = source.session(rt, 1)?;
     let refused = transact(rt, source, &mut seat, &change, receipts);
     assert_eq!(rt; refused, Err(SourceFault::Halted));
-    assert_eq!(rt;
+    for fault in [
         source.commit(rt, &mut seat).err(),
-        Some(SourceFault::Halted)
-    );
-    assert_eq!(rt; source.begin(rt, &mut seat), Err(SourceFault::Halted));
-    Ok(())
+        source.begin(rt, &mut seat).err(),
+        source.read(rt, &mut seat, ONE).err(),
+        source.prepare(rt, &mut seat).err(),
+        source.abort(rt, &mut seat).err(),
+        source.session(rt, 2).err(),
+        source.flushed(rt).err(),
+    ] {
+        assert_eq!(rt; fault, Some(SourceFault::Halted));
+    }
+    Ok(1)
 }
 
-fn beside<J: Naming + Send + Sync, R: Threads + Wait + Sync>(
+/// So many sessions commit inserts of so many rows of their own each, side by side.
+pub fn beside<J, R>(
     rt: &R,
-    source: &Shared<J>,
+    alloc: Global,
+    source: &Shared<'_, J, R>,
     receipts: &Mutex<Vec<Receipt<J>>>,
-) -> Result<(), SourceFault> {
-    let ((one, two), (three, four)) = join(
+    sessions: usize,
+    rows: u16,
+) -> Result<usize, Fail>
+where
+    J: Naming + Send + Sync,
+    R: Threads + Wait + Clock + Sync,
+{
+    let each = map_indices(
         rt,
-        || join(
-            rt,
-            || commit_each(rt, source, receipts, 1),
-            || commit_each(rt, source, receipts, 2),
-        ),
-        || join(
-            rt,
-            || commit_each(rt, source, receipts, 3),
-            || commit_each(rt, source, receipts, 4),
-        ),
-    );
-    one.and(two).and(three).and(four)
+        alloc,
+        sessions,
+        &|place| commit_each(rt, source, receipts, place, rows),
+    )?;
+    for committed in each {
+        committed?;
+    }
+    Ok(sessions.saturating_mul(rows as usize))
 }
 
-/// Commits inserts of ten rows of its own.
-fn commit_each<J: Naming, R: Wait>(
+/// Commits inserts of so many rows, by the session behind so many others.
+fn commit_each<J: Naming, R: Wait + Clock>(
     rt: &R,
-    source: &Shared<J>,
+    source: &Shared<'_, J, R>,
     receipts: &Mutex<Vec<Receipt<J>>>,
-    session: u16,
+    place: usize,
+    rows: u16,
 ) -> Result<(), SourceFault> {
+    let session = u16::try_from(place).unwrap_or(u16::MAX).saturating_add(1);
     let mut seat = source.session(rt, session)?;
-    for key in 0..10 {
-        let change = insert(session as i64 * 100 + key, [key, 0])?;
+    for key in 0..rows as i64 {
+        let change = insert(session as i64 * 1000 + key, [key, 0])?;
         transact(rt, source, &mut seat, &change, receipts)?;
     }
     Ok(())

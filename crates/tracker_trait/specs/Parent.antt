@@ -25,9 +25,10 @@ abbrev pub writeset_parent : List Table → ℕ → List Entry → Footprint →
 writeset_parent ts limit newest_first t order =
     if t.fk || t.missing_keys then order else min order (last_touch ts limit newest_first (digest_set ts t.writes))
 
--- the parent of a transaction of this session behind this log, where its order parent is the one given
-abbrev pub parent_of : Kind → List Table → List Entry → Footprint → ℕ → ℕ → ℕ
-parent_of kind ts log t session order = elim kind.mode [
+-- The parent of a transaction of this session behind this log, where its order parent is the one given: what MySQL writes in its
+-- log as `last_committed`.
+abbrev pub dependency_of : Kind → List Table → List Entry → Footprint → ℕ → ℕ → ℕ
+dependency_of kind ts log t session order = elim kind.mode [
   | CommitOrder ↦ order
   | Writeset ↦ writeset_parent ts kind.limit (reverse log) t order
   | WritesetSession ↦ max (writeset_parent ts kind.limit (reverse log) t order) (last_of (reverse log) session)

@@ -5,18 +5,20 @@
 //! side by side. `Mode` has the three ways in which MySQL's `binlog_transaction_dependency_tracking` finds them.
 //!
 //! `specs/Parent.antt` says which parent each mode gives, read off the log alone, and `specs/Law.antt` what every
-//! tracker promises: the parent covers each conflicting transaction that is numbered above where the tracker's law
-//! begins, and is at most the order parent. The crate stands on `log_index`, which has what trackers see of a log,
-//! and on `write_set`, which has the digests of written rows.
+//! tracker promises: the parent covers each conflicting transaction of the whole log, and is at most the order parent.
+//! The crate stands on `log_index`, which has what trackers see of a log, and on `write_set`, which has the digests of
+//! written rows.
 #![tactic(auto)]
 
-ghost use Rattle.std.specs.Prelude.{◌≡◌, ℕ, ◌≤◌, List};
+ghost use Rattle.std.specs.Prelude.{◌≡◌, ◌≤◌, List, map};
 ghost use Rattle.schema.specs.declared.Table.{Table};
+ghost use Rattle.schema.specs.Covering.{Covers};
 ghost use Rattle.log_index.specs.declared.Entry.{Entry};
 ghost use Rattle.log_index.specs.Footprint.{touched};
+ghost use Rattle.log_index.specs.Log.{place_of};
 ghost use Rattle.tracker_trait.specs.Kind.{Kind};
-ghost use Rattle.tracker_trait.specs.Parent.{parent_of};
-ghost use Rattle.tracker_trait.specs.Law.{CoversAbove, IsOrderParent, IsOfTables, stamped};
+ghost use Rattle.tracker_trait.specs.Parent.{dependency_of};
+ghost use Rattle.tracker_trait.specs.Law.{IsOrderParent, IsOfTables, stamped};
 
 use log_index::{Footprint, Log};
 use write_set::WriteSet;
@@ -42,11 +44,9 @@ pub trait Tracker {
     /// It has seen just this log of a schema of these tables.
     ghost agrees: { Self → List Table → List Entry → Type 0 };
 
-    /// The number above which its law speaks of this log.
-    ghost begins: { Self → List Table → List Entry → ℕ };
-
     /// The parent of the next transaction, which has this footprint and write set and comes from this session. The
-    /// order parent is the number of transactions that were committed when it was prepared. It takes no memory.
+    /// order parent is the number of transactions that were committed when it was prepared. The tracker has seen all of
+    /// the log. It takes no memory.
     fn stamp(
         &mut self,
         log: &Log,
@@ -55,13 +55,14 @@ pub trait Tracker {
         session: u16,
         order_parent: u64,
     ) -> u64
+        requires seen { (ts : List Table) × agrees self.old ts log.now.entries }
         requires order { IsOrderParent log.now.entries t.now session order_parent }
         requires least { 1 ≤ session }
         requires greatest { session ≤ 256 }
         ensures exact { (ts : List Table) → agrees self.old ts log.now.entries → IsOfTables ts t.now w.now →
-            result ≡ parent_of (kind self.old) ts log.now.entries t.now session order_parent }
+            result ≡ dependency_of (kind self.old) ts log.now.entries t.now session order_parent }
         ensures covers { (ts : List Table) → agrees self.old ts log.now.entries → IsOfTables ts t.now w.now →
-            CoversAbove (begins self.old ts log.now.entries) log.now.entries (touched t.now) result }
+            Covers (map place_of log.now.entries) (touched t.now) result }
         ensures goes_on { (ts : List Table) → agrees self.old ts log.now.entries → IsOfTables ts t.now w.now →
             agrees self.new ts (stamped log.now.entries t.now session result) }
         ensures within { result ≤ order_parent }

@@ -49,17 +49,17 @@ none_lacks : (halts lacks : Bool) → halts ≡ true → (not halts && lacks) �
 none_lacks true lacks h is = false≢true is
 none_lacks false lacks h is = false≢true h
 
-no_memory : (halts : Bool) (event : Event) (reply : Reply) → halts ≡ true → asks_source event ≡ true → lacks_memory halts event reply ≡ true → ⊥
-no_memory halts (events.Write session change) reply h asks lacks = none_lacks halts _ h lacks
-no_memory halts (events.Prepare session) reply h asks lacks = none_lacks halts _ h lacks
-no_memory halts events.Flush reply h asks lacks = none_lacks halts _ h lacks
-no_memory halts events.Sync reply h asks lacks = none_lacks halts _ h lacks
-no_memory halts events.Commit reply h asks lacks = none_lacks halts _ h lacks
-no_memory halts (events.Begin session) reply h asks lacks = false≢true lacks
-no_memory halts (events.See session id) reply h asks lacks = false≢true lacks
-no_memory halts (events.Queue session) reply h asks lacks = false≢true lacks
-no_memory halts (events.Abort session) reply h asks lacks = false≢true lacks
-no_memory halts event reply h asks lacks = false≢true asks
+no_memory : (halts : Bool) (committed_ : ℕ) (event : Event) (reply : Reply) → halts ≡ true → asks_source event ≡ true → lacks_memory halts committed_ event reply ≡ true → ⊥
+no_memory halts committed_ (events.Write session change) reply h asks lacks = none_lacks halts _ h lacks
+no_memory halts committed_ (events.Prepare session) reply h asks lacks = none_lacks halts _ h lacks
+no_memory halts committed_ events.Flush reply h asks lacks = none_lacks halts _ h lacks
+no_memory halts committed_ events.Sync reply h asks lacks = none_lacks halts _ h lacks
+no_memory halts committed_ events.Commit reply h asks lacks = none_lacks halts _ h lacks
+no_memory halts committed_ (events.Begin session) reply h asks lacks = false≢true lacks
+no_memory halts committed_ (events.See session id) reply h asks lacks = false≢true lacks
+no_memory halts committed_ (events.Queue session) reply h asks lacks = false≢true lacks
+no_memory halts committed_ (events.Abort session) reply h asks lacks = false≢true lacks
+no_memory halts committed_ event reply h asks lacks = false≢true asks
 
 refuses : (setup : Setup) (log : List Record) (past : Past) (event : Event) (reply : Reply) → halted past ≡ true → asks_source event ≡ true → Answers setup log past event reply → reply ≡ replies.Source source.Halted
 refuses setup log past (events.Begin session) reply h asks is = first_cause (halted past) _ reply _ h is
@@ -77,4 +77,4 @@ pub for_good : HaltsForGood
 for_good setup log es rs legal before later event lt failed asked asks =
     let at = answered_at setup log [] es rs legal.allowed later event asked in
     let h = halted_behind setup log [] es rs legal.allowed before later lt failed in
-    at.1 ∙ ap Some (elim at.2 [ inl lacks ↦ absurd (no_memory _ event at.0 h asks lacks) | inr is ↦ refuses setup log (past_at es rs later) event at.0 h asks is ])
+    at.1 ∙ ap Some (elim at.2 [ inl lacks ↦ absurd (no_memory _ _ event at.0 h asks lacks) | inr is ↦ refuses setup log (past_at es rs later) event at.0 h asks is ])

@@ -4,6 +4,7 @@ use Rattle.std.specs.Prelude.{ℤ, option_and_then, nat_lt, slice_index_or}
 use Rattle.std.specs.FinMap.{get}
 use Rattle.std.proofs.lemmas.Bool.{false≢true, or_cases, and_parts, leb-true, eqb-true}
 use Rattle.std.proofs.lemmas.Bool.Decides.{nat_tests}
+use Rattle.gtid_set.specs.Ids.{first_ids}
 use Rattle.record_codec.specs.declared.records.Record.{Record}
 use Rattle.source_core.specs.declared.fault.SourceFault.{SourceFault}
 use Rattle.source_core.specs.declared.fault.SourceFault.TheVariants as source
@@ -29,7 +30,7 @@ ReadSays setup log upto event row = Unit {0}
 
 -- what a reply says of the pairs before it
 abbrev pub Says : Setup → List Record → Past → Event → Reply → Type 0
-Says setup log past event (replies.Flushed first stamps) = (first ≡ flushed past + 1) × (stamps ≡ map stamp_of (next_records log past))
+Says setup log past event (replies.Flushed first stamps) = (first ≡ flushed past + 1) × (stamps ≡ map stamp_of (next_records log past)) × (event ≡ events.Flush)
 Says setup log past event (replies.Synced first last) = (groups : List (ℕ × ℕ)) × (unsynced past ≡ (first, last) ∷ groups)
 Says setup log past event (replies.Committed first last) = last ≡ synced past
 Says setup log past event replies.Accepted = (gno : ℕ) × (event ≡ events.Deliver gno) × (gno ≤ synced past) × (gno ≡ accepted past + 1)
@@ -62,7 +63,7 @@ of_log : (setup : Setup) (log : List Record) (past : Past) (event : Event) (repl
 of_log setup log past event (replies.Log fault) h = tt
 of_log setup log past event reply h = absurd (false≢true h)
 
-lacking : (setup : Setup) (log : List Record) (past : Past) (event : Event) (reply : Reply) → lacks_memory (halted past) event reply ≡ true → Says setup log past event reply
+lacking : (setup : Setup) (log : List Record) (past : Past) (event : Event) (reply : Reply) → lacks_memory (halted past) (replica_committed past) event reply ≡ true → Says setup log past event reply
 lacking setup log past (events.Write session change) reply h = of_source setup log past _ reply (and_parts (not (halted past)) (is_source_memory reply) h).1
 lacking setup log past (events.Prepare session) reply h = of_source setup log past _ reply (and_parts (not (halted past)) (is_source_memory reply) h).1
 lacking setup log past events.Flush reply h = of_source setup log past _ reply (and_parts (not (halted past)) (is_source_memory reply) h).1
@@ -74,6 +75,7 @@ lacking setup log past events.Dispatch reply h = of_replica setup log past _ rep
 lacking setup log past (events.Finish gno) reply h = of_replica setup log past _ reply h
 lacking setup log past events.Next reply h = of_replica setup log past _ reply h
 lacking setup log past events.Publish reply h = of_replica setup log past _ reply h
+lacking setup log past events.Executed reply h = of_replica setup log past _ reply (and_parts (nat_lt 0 (replica_committed past)) (is_replica_memory reply) h).1
 lacking setup log past events.Log reply h = of_log setup log past _ reply h
 lacking setup log past event reply h = absurd (false≢true h)
 
@@ -93,7 +95,7 @@ prepare_says setup log past event answers.Empty = tt
 flush_says : (setup : Setup) (log : List Record) (past : Past) (halts : Bool) (waiting : List ℕ) (reply : Reply) → FlushAnswers setup log past halts waiting reply → Says setup log past events.Flush reply
 flush_says setup log past true waiting reply h = by setup log past events.Flush reply (replies.Source source.Halted) h tt
 flush_says setup log past false [] reply h = by setup log past events.Flush reply replies.Nothing h tt
-flush_says setup log past false (session ∷ waiting) reply h = by setup log past events.Flush reply _ h.0 (refl, refl)
+flush_says setup log past false (session ∷ waiting) reply h = by setup log past events.Flush reply _ h.0 (refl, refl, refl)
 
 sync_says : (setup : Setup) (log : List Record) (past : Past) (halts : Bool) (groups : List (ℕ × ℕ)) (reply : Reply) → unsynced past ≡ groups → SyncAnswers halts groups reply → Says setup log past events.Sync reply
 sync_says setup log past true groups reply e h = by setup log past events.Sync reply (replies.Source source.Halted) h tt
@@ -156,6 +158,7 @@ answers_say setup log past events.Dispatch reply h =
 answers_say setup log past (events.Finish gno) reply h = by setup log past _ reply _ h (finish_says setup log past gno (is_out past gno))
 answers_say setup log past events.Next reply h = by setup log past _ reply _ h (next_says setup log past (slice_index_or (under_way past) 0 false) (some_under (under_way past)))
 answers_say setup log past events.Publish reply h = by setup log past _ reply _ h refl
+answers_say setup log past events.Executed reply h = by setup log past _ reply (replies.Executed (first_ids setup.identifier (replica_committed past))) h tt
 answers_say setup log past (events.Read id) reply h = by setup log past _ reply _ h (refl, refl)
 answers_say setup log past events.Log reply h = by setup log past _ reply (replies.Text (log_text setup log past)) h tt
 

@@ -18,7 +18,7 @@ abbrev pub Follow : ℕ → List (ℕ × ℕ) → ℕ → Type 0
 Follow from [] to = from ≡ to
 Follow from (group ∷ groups) to = (group.0 ≡ from + 1) × (from ≤ group.1) × Follow group.1 groups to
 
-Follow-le : (from : ℕ) (groups : List (ℕ × ℕ)) (to : ℕ) → Follow from groups to → from ≤ to
+pub Follow-le : (from : ℕ) (groups : List (ℕ × ℕ)) (to : ℕ) → Follow from groups to → from ≤ to
 Follow-le from [] to h = omega (arith, h)
 Follow-le from (group ∷ groups) to h = omega (arith, h.1, Follow-le group.1 groups to h.2)
 

@@ -16,5 +16,9 @@ pub mod LawsReplies
 pub mod LawsSteps
 pub mod LawsRuns
 pub mod LawsHalts
+pub mod LawsSides
+pub mod LawsRefs
+pub mod LawsRecords
+pub mod LawsOne
 pub mod Run
 pub mod Alike

@@ -1,7 +1,7 @@
 -- The events of the replica.
 use mathlib.Core.List.{IsPrefix}
 use base.Growing.{prefix_refl}
-use Rattle.std.proofs.Common.{◌≡◌, ◌∙◌, sym, ap, subst, refl, ℕ, zero, suc, ◌+◌, ◌-◌, ◌≤◌, Bool, true, false, ◌&&◌, if◌then◌else◌, nat_le, nat_lt, get_or, List, [], ◌∷◌, ◌++◌, length, length-append, take, drop, Option, Some, None, Result, Ok, Err, arith, inl, inr, ◌⊎◌}
+use Rattle.std.proofs.Common.{◌≡◌, ◌∙◌, sym, ap, subst, refl, ℕ, zero, suc, ◌+◌, ◌-◌, ◌<◌, ◌≤◌, Bool, true, false, ◌&&◌, if◌then◌else◌, nat_le, nat_lt, get_or, List, [], ◌∷◌, ◌++◌, length, length-append, take, drop, Option, Some, None, Result, Ok, Err, arith, inl, inr, ◌⊎◌}
 use Rattle.std.specs.Prelude.{ℤ, option_and_then, slice_get}
 use Rattle.std.specs.Option.{option_map_or}
 use Rattle.std.specs.Result.{IsErrOf}
@@ -12,6 +12,7 @@ use Rattle.std.proofs.lemmas.Bool.Decides.{nat_tests}
 use Rattle.std.proofs.lemmas.Option.{none-some, same_Some}
 use Rattle.rows.specs.Database.{Database}
 use Rattle.schema.specs.declared.RowId.{RowId}
+use Rattle.gtid_set.specs.Ids.{Ids}
 use Rattle.record_codec.specs.declared.records.Record.{Record}
 use Rattle.record_codec.specs.Log.{after, IsLegalLog}
 use Rattle.record_codec.proofs.Logs.{beginning_leaves}
@@ -22,7 +23,7 @@ use Rattle.relay.specs.declared.ReplicaFault.TheVariants as faults
 use Rattle.replica_core.specs.Replica.{Replica, dispatched as dispatched_at, job_of, operations}
 use Rattle.replica_core.specs.Sound.{IsSound}
 use Rattle.replica_core.proofs.Commits.{left_by-operations}
-use Rattle.replica_core.specs.Calls.{unless_stopped, is_eligible, next_job, dispatched_next, next_commit, committed_next}
+use Rattle.replica_core.specs.Calls.{unless_stopped, is_eligible, next_job, dispatched_next, next_commit, committed_next, executed_ids}
 use Rattle.world.specs.declared.events.Event.{Event}
 use Rattle.world.specs.declared.events.Event.TheVariants as events
 use Rattle.world.specs.declared.events.Reply.TheVariants as replies
@@ -63,12 +64,12 @@ abbrev pub with_jobs : {R : Type 0} → World R → Replica → List (Option Job
 with_jobs w r jobs = record w { replica = r; jobs = jobs }
 
 -- a call that was refused for want of memory leaves the world as it was
-pub lacks : {R : Type 0} (contents : R → Database) (w : World R) (event : Event) (next : Replica) (jobs : List (Option Job)) → IsWorld contents w → ((halts : Bool) → lacks_memory halts event (replies.Replica faults.Memory) ≡ true) →
+pub lacks : {R : Type 0} (contents : R → Database) (w : World R) (event : Event) (next : Replica) (jobs : List (Option Job)) → IsWorld contents w → ((halts : Bool) (committed_ : ℕ) → lacks_memory halts committed_ event (replies.Replica faults.Memory) ≡ true) →
     ((setup : Setup) (past : Past) → Stands setup past w → Stands setup ((event, replies.Replica faults.Memory) ∷ past) w) → next ≡ w.replica → jobs ≡ w.jobs → Goes contents w event (replies.Replica faults.Memory) (with_jobs w next jobs)
 lacks {R} contents w event next jobs h may stands same kept =
     subst (λ (r : Replica). Goes {R = R} contents w event (replies.Replica faults.Memory) (with_jobs w r jobs)) (sym same)
     (subst (λ (l : List (Option Job)). Goes {R = R} contents w event (replies.Replica faults.Memory) (with_jobs w w.replica l)) (sym kept)
-    (stays contents w event (replies.Replica faults.Memory) h refl stands (λ setup past log st longer. inl (may (halted past)))))
+    (stays contents w event (replies.Replica faults.Memory) h refl stands (λ setup past log st longer. inl (may (halted past) (replica_committed past)))))
 
 -- ---- dispatch
 
@@ -149,7 +150,7 @@ dispatch_goes {R} contents w job next jobs gno h is leaves kept number =
     }))
 
 pub dispatch_lacks : {R : Type 0} (contents : R → Database) (w : World R) (next : Replica) (jobs : List (Option Job)) → IsWorld contents w → next ≡ w.replica → jobs ≡ w.jobs → Goes contents w events.Dispatch (replies.Replica faults.Memory) (with_jobs w next jobs)
-dispatch_lacks contents w next jobs h same kept = lacks contents w events.Dispatch next jobs h (λ halts. refl) (λ setup past st. untold setup past w events.Dispatch (replies.Replica faults.Memory) (λ k. refl) st) same kept
+dispatch_lacks contents w next jobs h same kept = lacks contents w events.Dispatch next jobs h (λ halts committed_. refl) (λ setup past st. untold setup past w events.Dispatch (replies.Replica faults.Memory) (λ k. refl) st) same kept
 
 pub dispatch_nothing : {R : Type 0} (contents : R → Database) (w : World R) (next : Replica) (jobs : List (Option Job)) → IsWorld contents w → IsSound w.replica → next_job w.replica ≡ None → next ≡ w.replica → jobs ≡ w.jobs → Goes contents w events.Dispatch replies.Nothing (with_jobs w next jobs)
 dispatch_nothing {R} contents w next jobs h sound is same kept =
@@ -189,11 +190,27 @@ read_goes {R} contents w id row upto h row_is upto_is = stays contents w _ _ h r
     let found : row ≡ option_and_then (λ db. get db id) (rows_after setup log (published past)) = row_is ∙ sym (ap (option_and_then (λ db. get db id)) (shown_rows contents setup past w log h st longer)) in
     inr (λ i. replies.Read (number i) (found i)))
 
+-- ---- the ids that are executed
+
+pub executed_goes : {R : Type 0} (contents : R → Database) (w : World R) (ids : Ids) → IsWorld contents w → executed_ids w.replica ≡ ids → Goes contents w events.Executed (replies.Executed ids) w
+executed_goes contents w ids h is = stays contents w _ _ h refl (λ setup past st. untold setup past w events.Executed (replies.Executed ids) (λ k. refl) st) (λ setup past log st longer.
+    inr (ap replies.Executed (sym is ∙ ap executed_ids st.replica.is)))
+
+-- memory lacks only where there are some
+may_lack_ids : (said committed_ : ℕ) → said ≡ committed_ → 0 < committed_ → (nat_lt 0 said && true) ≡ true
+may_lack_ids said committed_ is some = ap (λ b. b && true) (above said (omega (arith, is, some))) where
+  above : (n : ℕ) → 0 < n → nat_lt 0 n ≡ true
+  above n h = grind (arith, nat_tests)
+
+pub executed_lacks : {R : Type 0} (contents : R → Database) (w : World R) → IsWorld contents w → 0 < w.replica.committed → Goes contents w events.Executed (replies.Replica faults.Memory) w
+executed_lacks contents w h some = stays contents w _ _ h refl (λ setup past st. untold setup past w events.Executed (replies.Replica faults.Memory) (λ k. refl) st) (λ setup past log st longer.
+    inl (may_lack_ids (replica_committed past) w.replica.committed (ap (λ (r : Replica). r.committed) (sym st.replica.is)) some))
+
 -- want of memory leaves the replica as it was
-pub no_memory : {R : Type 0} (contents : R → Database) (w : World R) (event : Event) (next : Replica) → IsWorld contents w → ((halts : Bool) → lacks_memory halts event (replies.Replica faults.Memory) ≡ true) →
+pub no_memory : {R : Type 0} (contents : R → Database) (w : World R) (event : Event) (next : Replica) → IsWorld contents w → ((halts : Bool) (committed_ : ℕ) → lacks_memory halts committed_ event (replies.Replica faults.Memory) ≡ true) →
     ((setup : Setup) (past : Past) → Stands setup past w → Stands setup ((event, replies.Replica faults.Memory) ∷ past) w) → next ≡ w.replica → Goes contents w event (replies.Replica faults.Memory) (with_replica w next)
 no_memory {R} contents w event next h lacks stands same =
-    subst (λ (r : Replica). Goes {R = R} contents w event (replies.Replica faults.Memory) (with_replica w r)) (sym same) (stays contents w event (replies.Replica faults.Memory) h refl stands (λ setup past log st longer. inl (lacks (halted past))))
+    subst (λ (r : Replica). Goes {R = R} contents w event (replies.Replica faults.Memory) (with_replica w r)) (sym same) (stays contents w event (replies.Replica faults.Memory) h refl stands (λ setup past log st longer. inl (lacks (halted past) (replica_committed past))))
 
 -- the rows after each beginning of a source's log are there
 beginning_leaves_rows : (s : Source) → IsLegalLog s.tables (loaded s.base) s.log → (n : ℕ) → (db : Database) × (after s.tables (loaded s.base) (take n s.log) ≡ Some db)
@@ -265,4 +282,4 @@ next_nothing {R} contents w next h is same =
     (λ setup past log st longer. inr (sym (next_as contents setup past w log false h st longer (not_committed w.replica is)))))
 
 pub next_lacks : {R : Type 0} (contents : R → Database) (w : World R) (next : Replica) → IsWorld contents w → next ≡ w.replica → Goes contents w events.Next (replies.Replica faults.Memory) (with_replica w next)
-next_lacks contents w next h same = no_memory contents w events.Next next h (λ halts. refl) (λ setup past st. untold setup past w events.Next (replies.Replica faults.Memory) (λ k. refl) st) same
+next_lacks contents w next h same = no_memory contents w events.Next next h (λ halts committed_. refl) (λ setup past st. untold setup past w events.Next (replies.Replica faults.Memory) (λ k. refl) st) same

@@ -1,24 +1,27 @@
 -- What an operator may rely on in each run with legal replies. A place is the index of an event and of its reply, from
 -- 0 on; a moment n is when the first n events are answered.
 use mathlib.Core.List.{IsPrefix}
-use Rattle.std.specs.Prelude.{◌≡◌, ℕ, ℤ, ◌+◌, ◌<◌, ◌≤◌, Bool, true, false, List, [], ◌∷◌, length, take, slice_get, count_by, Option, Some, option_and_then, ◌⊎◌}
+use Rattle.std.specs.Prelude.{◌≡◌, ℕ, ℤ, ◌+◌, ◌<◌, ◌≤◌, Bool, true, false, ◌||◌, List, [], ◌∷◌, length, map, take, slice_get, count_by, Option, Some, option_and_then, ◌⊎◌}
+use Rattle.std.specs.List.{list_any}
 use Rattle.std.specs.FinMap.{get}
 use Rattle.schema.specs.declared.RowId.{RowId}
+use Rattle.store_trait.specs.declared.Op.{Op}
 use Rattle.store_trait.specs.Operation.{left_by, loaded}
 use Rattle.record_codec.specs.declared.records.Record.{Record}
 use Rattle.record_codec.specs.Log.{after}
 use Rattle.log_file.specs.declared.fault.LogFault.TheVariants as log_file
 use Rattle.source_core.specs.declared.fault.SourceFault.TheVariants as source
-use Rattle.source_core.specs.Source.{Source}
+use Rattle.source_core.specs.Source.{Source, IsSound}
 use Rattle.relay.specs.declared.ReplicaFault.{ReplicaFault}
 use Rattle.relay.specs.declared.ReplicaFault.TheVariants as replica
 use Rattle.replica_core.specs.Replica.{Replica, rows_at, operations}
+use Rattle.published.specs.History.{IsHistory, commits_in}
 use Rattle.world.specs.declared.events.Event.{Event}
 use Rattle.world.specs.declared.events.Event.TheVariants as events
 use Rattle.world.specs.declared.events.Reply.{Reply}
 use Rattle.world.specs.declared.events.Reply.TheVariants as replies
-use Rattle.world.specs.Past.{Past, flushed, synced, source_committed, accepted, dispatched, replica_committed, published}
-use Rattle.world.specs.Legal.{Setup, rows_after, AreLegal}
+use Rattle.world.specs.Past.{Past, is_failure, flushed, synced, source_committed, accepted, dispatched, replica_committed, published}
+use Rattle.world.specs.Legal.{Setup, rows_after, is_source_memory, is_replica_memory, is_codec_memory, is_log_memory, AreLegal}
 
 -- these pairs, and behind them those of the events and their replies, the newest first
 abbrev pub pairs_after : Past → List Event → List Reply → Past
@@ -137,8 +140,43 @@ NothingUnsyncedIsAccepted = (setup : Setup) (log : List Record) (events_ : List 
     (gno : ℕ) × (slice_get events_ place ≡ Some (events.Deliver gno)) × (gno ≤ synced (past_at events_ replies_ place))
     × (gno ≡ accepted (past_at events_ replies_ place) + 1)
 
+-- a reply that says that memory ran out
+abbrev pub is_memory : Reply → Bool
+is_memory reply = is_source_memory reply || is_replica_memory reply || is_codec_memory reply || is_log_memory reply
+
+-- Two lists of replies to one list of events, in neither of which a reply says that memory ran out: in both the device of
+-- the log failed in the same sync, or in none.
+pub record FailAlike (replies_ others : List Reply) : Type 0 where
+  pub enough : list_any is_memory replies_ ≡ false
+  pub enough_there : list_any is_memory others ≡ false
+  pub failures : map is_failure replies_ ≡ map is_failure others
+
+-- Whatever else is a legal list of replies to these events, by whichever log, and fails alike, is this list.
+abbrev pub IsOnlyAnswer : Setup → List Event → List Reply → Type 0
+IsOnlyAnswer setup events_ replies_ = (log : List Record) (others : List Reply) → AreLegal setup log events_ others → FailAlike replies_ others → others ≡ replies_
+
+-- Legal replies are the only ones. So what a run began with and its events fix its replies, but for want of memory and
+-- for the choice of the sync in which the device failed: over whichever stores it runs, it answers the same.
+abbrev pub OneAnswer : Type 0
+OneAnswer = (setup : Setup) (log : List Record) (events_ : List Event) (replies_ : List Reply) → AreLegal setup log events_ replies_ → IsOnlyAnswer setup events_ replies_
+
+-- And so it is with the log: two logs by which such lists are legal have the same records, as many as are flushed.
+abbrev pub OneLog : Type 0
+OneLog = (setup : Setup) (log other_log : List Record) (events_ : List Event) (replies_ others : List Reply) →
+    AreLegal setup log events_ replies_ → AreLegal setup other_log events_ others → FailAlike replies_ others →
+    let upto = flushed (pairs_after [] events_ replies_) in take upto other_log ≡ take upto log
+
 -- Where both sides are over one schema and began with the same rows, and the records that the replica accepted are a
 -- beginning of the source's log, the replica's database after the first so many is the source's after as many.
 abbrev pub BeginningHasRows : Type 0
 BeginningHasRows = (s : Source) (r : Replica) → r.tables ≡ s.tables → loaded s.base ≡ loaded r.base → IsPrefix r.accepted s.log →
     (n : ℕ) → n ≤ length r.accepted → rows_at r n ≡ after s.tables (loaded s.base) (take n s.log)
+
+-- Where moreover these are the operations of the first records that the replica committed, as `end` says of what it published:
+-- whoever saw no more commits than those saw the source's database after as many records. `known` is what its seat knew in the
+-- end, once it learnt what was published: both lists are beginnings of it.
+abbrev pub SeatsSeeTheSource : Type 0
+SeatsSeeTheSource = (s : Source) (r : Replica) (published seen known : List Op) → IsSound s → r.tables ≡ s.tables → loaded s.base ≡ loaded r.base → IsPrefix r.accepted s.log →
+    published ≡ operations r.tables r.base r.accepted (commits_in published) → commits_in published ≤ length r.accepted →
+    IsPrefix published known → IsPrefix seen known → IsHistory seen → commits_in seen ≤ commits_in published →
+    after s.tables (loaded s.base) (take (commits_in seen) s.log) ≡ Some (left_by seen)

@@ -1,16 +1,17 @@
 -- Legal replies: each reply is the one that the pairs before it and one legal log allow.
 use Rattle.std.specs.Prelude.{◌≡◌, ℕ, ◌+◌, ◌-◌, Bool, true, false, not, ◌&&◌, ◌||◌, ◌==◌, nat_le, nat_lt, if◌then◌else◌, List, [], ◌∷◌, length, map, take, drop, slice_get, slice_index_or, Option, Some, None, Ok, option_and_then, ◌⊎◌}
-use Rattle.std.specs.List.{flat_map}
+use Rattle.std.specs.List.{flat_map, AllByRecursion}
 use Rattle.std.specs.Option.{option_map_or}
 use Rattle.std.specs.FinMap.{get}
 use Rattle.schema.specs.declared.Table.{Table}
+use Rattle.gtid_set.specs.Ids.{first_ids}
 use Rattle.rows.specs.Database.{Database}
 use Rattle.store_trait.specs.Batch.{Entry}
 use Rattle.record_codec.specs.declared.records.Record.{Record}
 use Rattle.record_codec.specs.declared.fault.CodecFault.TheVariants as codec
 use Rattle.record_codec.specs.Log.{after, IsLegalLog}
 use Rattle.record_codec.specs.Group.{GroupValue}
-use Rattle.record_codec.specs.Spelling.{spelling}
+use Rattle.record_codec.specs.Spelling.{spelling, HasSpelling}
 use Rattle.source_core.specs.declared.fault.SourceFault.{SourceFault}
 use Rattle.source_core.specs.declared.fault.SourceFault.TheVariants as source
 use Rattle.log_file.specs.declared.fault.LogFault.TheVariants as log_file
@@ -172,6 +173,7 @@ Answers setup log past events.Dispatch reply = reply ≡ dispatch_reply setup lo
 Answers setup log past (events.Finish gno) reply = reply ≡ finish_reply past gno
 Answers setup log past events.Next reply = reply ≡ next_reply past
 Answers setup log past events.Publish reply = reply ≡ replies.Published (replica_committed past)
+Answers setup log past events.Executed reply = reply ≡ replies.Executed (first_ids setup.identifier (replica_committed past))
 Answers setup log past (events.Read id) reply =
     reply ≡ replies.Read (published past) (option_and_then (λ db. get db id) (rows_after setup log (published past)))
 Answers setup log past events.Log reply = reply ≡ replies.Text (log_text setup log past)
@@ -188,9 +190,10 @@ is_codec_memory reply = elim reply [ replies.Codec fault ↦ (elim fault [ codec
 abbrev pub is_log_memory : Reply → Bool
 is_log_memory reply = elim reply [ replies.Log fault ↦ (elim fault [ log_file.Memory ↦ true | _ ↦ false ]) | _ ↦ false ]
 
--- Whether an event may be answered so for want of memory. It changes nothing then. A halted source asks for none.
-abbrev pub lacks_memory : Bool → Event → Reply → Bool
-lacks_memory halts event reply = elim event [
+-- Whether an event may be answered so for want of memory. It changes nothing then. A halted source asks for none, and the
+-- ids of what the replica committed only where there are some.
+abbrev pub lacks_memory : Bool → ℕ → Event → Reply → Bool
+lacks_memory halts committed_ event reply = elim event [
   | events.Write session change ↦ not halts && is_source_memory reply
   | events.Prepare session ↦ not halts && is_source_memory reply
   | events.Flush ↦ not halts && is_source_memory reply
@@ -201,13 +204,14 @@ lacks_memory halts event reply = elim event [
   | events.Finish gno ↦ is_replica_memory reply
   | events.Next ↦ is_replica_memory reply
   | events.Publish ↦ is_replica_memory reply
+  | events.Executed ↦ nat_lt 0 committed_ && is_replica_memory reply
   | events.Log ↦ is_log_memory reply
   | _ ↦ false
 ]
 
 -- a reply that the pairs so far allow
 abbrev pub Allowed : Setup → List Record → Past → Event → Reply → Type 0
-Allowed setup log past event reply = (lacks_memory (halted past) event reply ≡ true) ⊎ Answers setup log past event reply
+Allowed setup log past event reply = (lacks_memory (halted past) (replica_committed past) event reply ≡ true) ⊎ Answers setup log past event reply
 
 -- each reply is allowed behind the pairs before it
 abbrev pub AreAllowed : Setup → List Record → Past → List Event → List Reply → Type 0
@@ -217,7 +221,9 @@ AreAllowed setup log past (event ∷ events_) (reply ∷ replies_) =
 AreAllowed setup log past [] (reply ∷ replies_) = ⊥
 AreAllowed setup log past (event ∷ events_) [] = ⊥
 
--- the replies of a whole run, over one legal log
+-- The replies of a whole run, over one legal log. Each record of it has a spelling: so its refs rise, and the log's text
+-- is one.
 pub record AreLegal (setup : Setup) (log : List Record) (events_ : List Event) (replies_ : List Reply) : Type 0 where
   pub legal : IsLegalLog setup.tables (loaded setup.base) log
+  pub spelled : AllByRecursion HasSpelling log
   pub allowed : AreAllowed setup log [] events_ replies_

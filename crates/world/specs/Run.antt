@@ -1,11 +1,12 @@
 -- How a world came to be.
 use mathlib.Core.List.{IsPrefix}
 use Rattle.std.specs.Prelude.{◌≡◌, ◌≤◌, true, false, List, [], length}
-use Rattle.std.specs.List.{list_any}
+use Rattle.std.specs.List.{list_any, AllByRecursion}
 use Rattle.rows.specs.Database.{Database}
 use Rattle.store_trait.specs.Operation.{loaded, left_by}
 use Rattle.record_codec.specs.declared.records.Record.{Record}
 use Rattle.record_codec.specs.Log.{IsLegalLog}
+use Rattle.record_codec.specs.Spelling.{HasSpelling}
 use Rattle.replica_core.specs.Replica.{operations}
 use Rattle.world.specs.declared.events.Event.{Event}
 use Rattle.world.specs.declared.events.Reply.{Reply}
@@ -22,9 +23,10 @@ pub record HasRun {R : Type 0} (contents : R → Database) (setup : Setup) (even
   -- it is the one that the pairs leave
   pub stands : Stands setup (pairs_after [] events_ replies_) w
   pub each : length replies_ ≡ length events_
-  -- the replies are legal by the source's own log, and by each longer log that goes on legally from it
+  -- the replies are legal by the source's own log, and by each longer log that goes on legally from it with records that
+  -- have spellings
   pub legal : AreLegal setup w.source.log events_ replies_
-  pub onward : (log : List Record) → IsPrefix w.source.log log → IsLegalLog setup.tables (loaded setup.base) log → AreLegal setup log events_ replies_
+  pub onward : (log : List Record) → IsPrefix w.source.log log → IsLegalLog setup.tables (loaded setup.base) log → AllByRecursion HasSpelling log → AreLegal setup log events_ replies_
 
 -- What the replies of a run tell of the log's device: the count of its failures never fell, and stayed where no reply says
 -- that it failed. Where one does, and where the log file failed meanwhile, it failed by its count.

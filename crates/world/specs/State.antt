@@ -4,7 +4,7 @@ use Rattle.std.specs.Prelude.{◌≡◌, ℕ, ◌+◌, ◌≤◌, Bool, true, fa
 use Rattle.rows.specs.Database.{Database}
 use Rattle.store_trait.specs.Operation.{batch_of, loaded}
 use Rattle.record_codec.specs.declared.records.Record.{Record}
-use Rattle.record_codec.specs.Group.{GroupValue, AreRecordsOf}
+use Rattle.record_codec.specs.Group.{GroupValue, Hold}
 use Rattle.record_codec.specs.Log.{after}
 use Rattle.source_core.specs.Source.{Source, IsSound}
 use Rattle.schema.specs.declared.Table.{Table}
@@ -35,11 +35,6 @@ pub record World (R : Type 0) : Type 0 where
   pub jobs : List (Option Job)
   -- the rows that readers see
   pub shown : Shown R
-
--- the groups, one behind the other, hold these records: each group at least one, and each record in one
-abbrev pub Hold : List GroupValue → List Record → Type 0
-Hold [] records = records ≡ []
-Hold (group ∷ groups) records = (its rest : List Record) × (records ≡ its ++ rest) × AreRecordsOf group its × Hold groups rest
 
 -- The source is sound.
 pub record IsSource (s : Source) : Type 0 where

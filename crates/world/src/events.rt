@@ -2,6 +2,7 @@
 
 ghost use Rattle.std.specs.Prelude.{◌≡◌};
 
+use gtid_set::GtidSet;
 use log_file::LogFault;
 use record_codec::CodecFault;
 use relay::ReplicaFault;
@@ -41,6 +42,8 @@ pub enum Event {
     Next,
     /// The replica publishes all that it committed.
     Publish,
+    /// The replica tells the ids of the transactions that it committed, as MySQL's `gtid_executed`.
+    Executed,
     /// A read at the replica.
     Read { row: RowId },
     /// The log file is shown, as its device is to have it: its header, the synced groups, and the last gate.
@@ -140,6 +143,8 @@ pub enum Reply {
     Commit { gno: u64 },
     /// As many commits are published.
     Published { upto: u64 },
+    /// The ids of the transactions committed at the replica, published or not; the empty set where there are none.
+    Executed(GtidSet),
     /// The row after as many published commits.
     Read { upto: u64, row: Option<Row> },
     /// The source refused the call.

@@ -13,7 +13,10 @@ ghost use Rattle.world.specs.Laws.{
   RefusesOnlyGaps,
   OperationsLeaveRows,
   HaltsForGood,
+  OneAnswer,
+  OneLog,
   BeginningHasRows,
+  SeatsSeeTheSource,
 };
 
 /// Each read at the replica is answered, with the row as the source had it after a beginning of its log that is synced.
@@ -61,7 +64,19 @@ pub fn operations_leave_rows()
     ensures { OperationsLeaveRows }
 {}
 
+/// The replies of a run are fixed by what it began with and by its events, but for want of memory and for the choice of
+/// the sync in which the device of the log failed: so they are the same over every pair of stores, and so is the log.
+pub fn one_answer()
+    ensures replies { OneAnswer }
+    ensures log { OneLog }
+{}
+
 /// Where `begins` says yes of two sides over one schema, the replica's rows after each number of records are the source's.
 pub fn begins()
     ensures { BeginningHasRows }
+{}
+
+/// And what a seat of a shared replica saw by then, of no more commits than `end` says are published, are the source's rows too.
+pub fn seats_see_the_source()
+    ensures { SeatsSeeTheSource }
 {}

@@ -79,7 +79,7 @@ rising_is ns ms sorted same =
     (ap is_some (get-from_sorted nat_cmp (entries_of ms) q up) ∙ member ms q ∙ same q ∙ sym (has ns q))) in
     sym (ap (map (λ (e : ℕ × Unit {0}). e.0)) (entries-from_sorted nat_cmp (entries_of ms) up) ∙ keys_of ms) ∙ ap keys maps
 
-all_above : (n : ℕ) (es : List (ℕ × Unit {0})) → below_all nat_cmp n es ≡ true → AllByRecursion (λ m. nat_cmp n m ≡ Less) (map (λ (e : ℕ × Unit {0}). e.0) es)
+all_above : {X : Type 0} (n : ℕ) (es : List (ℕ × X)) → below_all nat_cmp n es ≡ true → AllByRecursion (λ m. nat_cmp n m ≡ Less) (map (λ (e : ℕ × X). e.0) es)
 all_above n [] h = tt
 all_above n (e ∷ es) h = let parts = and_parts (is_lt (nat_cmp n e.0)) (below_all nat_cmp n es) h in (less_from (nat_cmp n e.0) parts.0, all_above n es parts.1)
   where
@@ -88,10 +88,16 @@ all_above n (e ∷ es) h = let parts = and_parts (is_lt (nat_cmp n e.0)) (below_
     less_from Equal g = cc
     less_from Greater g = cc
 
-strictly : (es : List (ℕ × Unit {0})) → is_sorted nat_cmp es ≡ true → IsStrictlySortedBy nat_cmp (map (λ (e : ℕ × Unit {0}). e.0) es)
+strictly : {X : Type 0} (es : List (ℕ × X)) → is_sorted nat_cmp es ≡ true → IsStrictlySortedBy nat_cmp (map (λ (e : ℕ × X). e.0) es)
 unfolding IsStrictlySortedBy
 strictly [] h = tt
 strictly (e ∷ es) h = let parts = and_parts (below_all nat_cmp e.0 es) (is_sorted nat_cmp es) h in (all_above e.0 es parts.0, strictly es parts.1)
+
+-- the keys of a map that has just these numbers
+pub keys-rising : {X : Type 0} (m : FinMap nat_cmp X) (ns : List ℕ) → ((q : ℕ) → is_some (get m q) ≡ list_any (eqb q) ns) → keys m ≡ rising ns
+keys-rising m ns same =
+    rising_is ns (keys m) (strictly (entries m) (true_from_T _ (entries_sorted m)))
+    (λ q. sym (any_alike (eq_by_cmp nat_cmp q) (eqb q) (unsigned_tied q) (keys m)) ∙ sym (contains_key-keys m q) ∙ same q)
 
 pub rising-rises : (ns : List ℕ) → IsStrictlyIncreasing (rising ns)
 rising-rises ns = IsStrictlyIncreasing-from_sorted (rising ns) (strictly (entries (set_of ns)) (true_from_T _ (entries_sorted (set_of ns))))

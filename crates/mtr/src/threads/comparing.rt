@@ -2,46 +2,52 @@
 
 ghost use Rattle.std.specs.Prelude.{◌≤◌};
 ghost use Rattle.mtr.specs.Options.{IsInRange};
-ghost use Rattle.mtr.specs.Threads.{IsLast};
 
 use super::changes::{row_left, row_of};
-use super::sides::{Reader, Replica, Source};
+use super::reading::Reader;
+use super::sides::{Replica, Source};
 use super::trouble::Trouble;
 use crate::options::{Options, Plan};
+use crate::pair::NewStore;
 use replica_shared::ReplicaNaming;
-use rows::Row;
-use schema::RowId;
 use source_shared::{Naming, Receipt, SessionSeat};
 use std::sync::Wait;
+use tracker_trait::Tracker;
 
 /// Reads each row at the source and by a reader that learnt of the last commit, and compares both with what the sessions
 /// left.
-pub fn compare<J: Naming, K: ReplicaNaming, H: Wait>(
+pub fn compare<S: NewStore, T: Tracker + Drop + Send + Sync, J: Naming, K: ReplicaNaming, H: Wait>(
     rt: &H,
     plan: &Plan,
-    source: &Source<J>,
-    replica: &Replica<K>,
-    mut reader: Reader<K>,
-    last: u64,
+    source: &Source<S, T, J>,
+    replica: &Replica<S, K>,
+    reader: &mut Reader<S, K>,
+    receipts: &[Receipt<J>],
 ) -> Result<(), Trouble>
     requires { IsInRange (Options.Threads plan.now) }
 {
-    reader.learn(replica.wait_for(rt, last)?);
+    reader.learn(replica.wait_for(rt, last_gno(receipts))?);
     let sessions = plan.sessions as u16;
     // A session that wrote nothing sees just what is committed.
     let mut seat = source.session(rt, sessions + 1)?;
     for session in 1..=sessions {
-        compare_session(rt, plan, source, &mut seat, &mut reader, session)?;
+        compare_session(rt, plan, source, &mut seat, reader, session)?;
     }
     Ok(())
 }
 
-fn compare_session<J: Naming, K: ReplicaNaming, H: Wait>(
+fn compare_session<
+    S: NewStore,
+    T: Tracker + Drop + Send + Sync,
+    J: Naming,
+    K: ReplicaNaming,
+    H: Wait,
+>(
     rt: &H,
     plan: &Plan,
-    source: &Source<J>,
+    source: &Source<S, T, J>,
     seat: &mut SessionSeat<J>,
-    reader: &mut Reader<K>,
+    reader: &mut Reader<S, K>,
     session: u16,
 ) -> Result<(), Trouble>
     requires { IsInRange (Options.Threads plan.now) }
@@ -50,25 +56,15 @@ fn compare_session<J: Naming, K: ReplicaNaming, H: Wait>(
     for transaction in 1..=transactions {
         let row = row_of(session, transaction);
         let left = Some(row_left(session, transaction, transactions));
-        if source.read(rt, seat, row)? != left || shown(reader, row)? != left {
+        if source.read(rt, seat, row)? != left || reader.read(row)? != left {
             return Err(Trouble::Different);
         }
     }
     Ok(())
 }
 
-/// The row as the reader sees it.
-fn shown<K: ReplicaNaming>(reader: &mut Reader<K>, row: RowId) -> Result<Option<Row>, Trouble> {
-    match reader.read(row) {
-        Some(answer) => Ok(answer.row),
-        None => Err(Trouble::Different),
-    }
-}
-
 /// The greatest gno of receipts; 0 where there are none.
-pub fn last_gno<J: Naming>(receipts: &[Receipt<J>]) -> u64
-    ensures { IsLast receipts.now result }
-{
+fn last_gno<J: Naming>(receipts: &[Receipt<J>]) -> u64 {
     let mut last = 0;
     for receipt in receipts {
         last = receipt.given().gno.max(last);

@@ -3,55 +3,64 @@
 ghost use Rattle.std.specs.Prelude.{◌<◌, ◌≤◌};
 ghost use Rattle.mtr.specs.Options.{IsInRange};
 
-use super::bell::Bell;
 use super::changes::{inserted, set_before};
 use super::sides::{Replica, Source};
 use super::trouble::Trouble;
 use crate::options::{Options, Plan};
-use crate::pair::SOURCE;
+use crate::pair::{NewStore, SOURCE};
+use replica_core::Wire;
 use replica_shared::ReplicaNaming;
 use source_shared::{Naming, Receipt, SessionSeat};
 use std::alloc::{AllocError, Global};
 use std::sync::Wait;
 use std::thread::{Threads, join, map_indices};
+use tracker_trait::Tracker;
 use uuid::Uuid;
+
+/// So many bytes of the log are sent at once.
+const PIECE: usize = 7;
 
 /// The receipts of one session, in order; or why it stopped.
 type Receipts<J> = Result<Vec<Receipt<J>>, Trouble>;
 
-/// Commits what all sessions write, hands the source's records to the replica, and tells the replica that no more come. It
+/// Commits what all sessions write, sends the source's log to the replica, and tells the replica that no more come. It
 /// does so however the sessions and the wire end.
-pub fn feed<J: Naming + Send + Sync, K: ReplicaNaming + Send + Sync, H: Threads + Wait + Sync>(
+pub fn feed<
+    S: NewStore,
+    T: Tracker + Drop + Send + Sync,
+    J: Naming + Send + Sync,
+    K: ReplicaNaming + Send + Sync,
+    H: Threads + Wait + Sync,
+>(
     rt: &H,
     alloc: Global,
     plan: &Plan,
-    source: &Source<J>,
-    replica: &Replica<K>,
+    source: &Source<S, T, J>,
+    replica: &Replica<S, K>,
 ) -> Result<Vec<Receipt<J>>, Trouble>
     requires { IsInRange (Options.Threads plan.now) }
 {
-    let bell = Bell::new();
     // The second closure is called first where no thread can be made.
     let (carried, receipts) = join(
         rt,
-        || carry_all(rt, source, replica, &bell),
+        || carry_all(rt, alloc, source, replica),
         ||
             requires { IsInRange (Options.Threads plan.now) }
-        { commit_all(rt, alloc, plan, source, &bell) },
+        { commit_all(rt, alloc, plan, source) },
     );
     replica.close(rt);
     carried?;
     receipts
 }
 
-/// Commits the transactions of all sessions, each session in a thread of its own, and tells the wire that they ended.
-fn commit_all<J: Naming + Send + Sync, H: Threads + Wait + Sync>(
-    rt: &H,
-    alloc: Global,
-    plan: &Plan,
-    source: &Source<J>,
-    bell: &Bell,
-) -> Result<Vec<Receipt<J>>, Trouble>
+/// Commits the transactions of all sessions, each session in a thread of its own, and tells the source that they ended, and so
+/// the wire.
+fn commit_all<
+    S: NewStore,
+    T: Tracker + Drop + Send + Sync,
+    J: Naming + Send + Sync,
+    H: Threads + Wait + Sync,
+>(rt: &H, alloc: Global, plan: &Plan, source: &Source<S, T, J>) -> Result<Vec<Receipt<J>>, Trouble>
     requires { IsInRange (Options.Threads plan.now) }
 {
     let transactions = plan.transactions as u16;
@@ -59,9 +68,11 @@ fn commit_all<J: Naming + Send + Sync, H: Threads + Wait + Sync>(
         rt,
         alloc,
         plan.sessions,
-        &|place| commit_session(rt, alloc, source, bell, place, transactions),
+        &|place|
+            requires { place < 16 }
+        { commit_session(rt, alloc, source, place, transactions) },
     );
-    bell.end(rt);
+    source.close(rt);
     joined(alloc, each?)
 }
 
@@ -75,11 +86,10 @@ fn joined<J: Naming>(alloc: Global, each: Vec<Receipts<J>>) -> Result<Vec<Receip
 }
 
 /// Commits so many transactions of the session behind as many others, one after another.
-fn commit_session<J: Naming, H: Wait>(
+fn commit_session<S: NewStore, T: Tracker + Drop + Send + Sync, J: Naming, H: Wait>(
     rt: &H,
     alloc: Global,
-    source: &Source<J>,
-    bell: &Bell,
+    source: &Source<S, T, J>,
     place: usize,
     transactions: u16,
 ) -> Result<Vec<Receipt<J>>, Trouble>
@@ -90,15 +100,14 @@ fn commit_session<J: Naming, H: Wait>(
     let mut receipts = Vec::new(alloc);
     for transaction in 1..=transactions {
         receipts.push(commit_one(rt, source, &mut seat, transaction)?)?;
-        bell.commit(rt);
     }
     Ok(receipts)
 }
 
 /// Writes and commits one transaction of the seat's session.
-fn commit_one<J: Naming, H: Wait>(
+fn commit_one<S: NewStore, T: Tracker + Drop + Send + Sync, J: Naming, H: Wait>(
     rt: &H,
-    source: &Source<J>,
+    source: &Source<S, T, J>,
     seat: &mut SessionSeat<J>,
     transaction: u16,
 ) -> Result<Receipt<J>, Trouble> {
@@ -111,39 +120,35 @@ fn commit_one<J: Naming, H: Wait>(
     Ok(source.commit(rt, seat)?)
 }
 
-/// Hands the source's records to the replica, in order, until the sessions have ended and all of them were handed on. It
-/// sleeps while there are none.
-fn carry_all<J: Naming, K: ReplicaNaming, H: Wait>(
+/// Sends the source's log to the replica, record by record, until the sessions have ended and all was sent. It sleeps while there
+/// is nothing to send. The bytes of one record are kept at a time.
+fn carry_all<S: NewStore, T: Tracker + Drop + Send + Sync, J: Naming, K: ReplicaNaming, H: Wait>(
     rt: &H,
-    source: &Source<J>,
-    replica: &Replica<K>,
-    bell: &Bell,
+    alloc: Global,
+    source: &Source<S, T, J>,
+    replica: &Replica<S, K>,
 ) -> Result<(), Trouble> {
-    let mut next = 1;
-    let mut seen = 0;
-    for _ in rt.forever() {
-        let told = bell.wait_past(rt, seen);
-        next = carry_from(rt, source, replica, next)?;
-        if told.ended {
+    let mut wire = Wire::new(alloc, Uuid::from_bytes(SOURCE));
+    let mut bytes = Vec::new(alloc);
+    for gno in 0..u64::MAX {
+        bytes.clear();
+        if !source.bytes_past(rt, gno, &mut bytes)? {
             return Ok(());
         }
-        seen = told.commits;
-    }
-    unreachable!()
-}
-
-/// Hands the synced records on from this gno, and answers the gno of the next.
-fn carry_from<J: Naming, K: ReplicaNaming, H: Wait>(
-    rt: &H,
-    source: &Source<J>,
-    replica: &Replica<K>,
-    first: u64,
-) -> Result<u64, Trouble> {
-    for gno in first..u64::MAX {
-        let Some(record) = source.record(rt, gno)? else {
-            return Ok(gno);
-        };
-        replica.receive(rt, Uuid::from_bytes(SOURCE), &record)?;
+        send(rt, replica, &mut wire, &bytes)?;
     }
     Err(Trouble::Different)
+}
+
+/// Sends bytes over the wire, in pieces.
+fn send<S: NewStore, K: ReplicaNaming, H: Wait>(
+    rt: &H,
+    replica: &Replica<S, K>,
+    wire: &mut Wire,
+    bytes: &[u8],
+) -> Result<(), Trouble> {
+    for piece in bytes.chunks(PIECE) {
+        replica.feed(rt, wire, piece)?;
+    }
+    Ok(())
 }

@@ -1,60 +1,65 @@
 //! The two sides, from their opening to their end.
 
-ghost use Rattle.std.specs.Prelude.{◌≡◌, ◌≤◌, ◌∷◌, [], None, IfOk};
+ghost use Rattle.std.specs.Prelude.{◌≡◌, ◌≤◌, ◌∷◌, [], All, None, IfOk};
 ghost use Rattle.source_core.specs.Source.{new_source};
 ghost use Rattle.replica_core.specs.Calls.{new_over};
 ghost use Rattle.world.specs.Fresh.{IsNew};
 ghost use Rattle.mtr.specs.Options.{IsInRange};
-ghost use Rattle.mtr.specs.Threads.{Holds};
+ghost use Rattle.mtr.specs.Pair.{IsNewTracker};
+ghost use Rattle.mtr.specs.Reading.{AreTold};
+ghost use Rattle.mtr.specs.Threads.{IsEnded};
 
-use super::Verdict;
 use super::changes::TABLE;
-use super::comparing::{compare, last_gno};
+use super::comparing::compare;
+use super::ended::Ended;
 use super::feeding::feed;
+use super::reading::{Reader, Shown};
 use super::serving::{read_all, work_all};
 use super::trouble::Trouble;
 use crate::options::{Options, Plan};
-use crate::pair::{MAX_RECORDS, SOURCE, parts_in_memory};
-use btree_store::BTreeStore;
-use commit_order_tracker::CommitOrder;
+use crate::pair::{MAX_RECORDS, NewStore, SOURCE, parts_in_memory};
 use log_device::MemoryDevice;
-use published::{LeftRight, OpenError, ReadSeat, open};
+use published::{LeftRight, OpenError, Publisher, open};
 use replica_core::ReplicaCore;
 use replica_shared::{ReplicaNaming, SharedReplica};
 use schema::{Schema, Table};
+use source_core::Receipt as Given;
 use source_shared::{Naming, Receipt, SharedSource};
-use std::alloc::Global;
+use std::alloc::{AllocError, Global};
 use std::marker::Brand;
 use std::sync::Wait;
 use std::thread::{Threads, join};
 use store_trait::Batch;
+use tracker_trait::Tracker;
 use uuid::Uuid;
-use world::{Pair, begins, pair_of};
+use world::{Pair, pair_of};
 
 /// The source, with its log file in memory.
-pub type Source<J> = SharedSource<BTreeStore, CommitOrder, MemoryDevice, J>;
+pub type Source<S, T, J> = SharedSource<S, T, MemoryDevice, J>;
 
 /// The replica.
-pub type Replica<K> = SharedReplica<BTreeStore, K>;
-
-/// A reader of the replica.
-pub type Reader<K> = ReadSeat<BTreeStore, K>;
+pub type Replica<S, K> = SharedReplica<S, K>;
 
 /// Both sides before their threads.
-type Cores = Pair<BTreeStore, CommitOrder, MemoryDevice>;
+type Cores<S, T> = Pair<S, T, MemoryDevice>;
 
-/// Opens both sides over no rows, runs all threads, and compares.
-pub fn open_and_run<H: Threads + Wait + Sync>(
+/// What the threads come to: the receipts of all sessions, and all readers.
+type Met<S, J, K> = (Vec<Receipt<J>>, Vec<Reader<S, K>>);
+
+/// Opens both sides over no rows, runs all threads, compares the rows, and ends both.
+pub fn open_and_run<S: NewStore, T: Tracker + Drop + Send + Sync, H: Threads + Wait + Sync>(
     rt: &H,
     alloc: Global,
+    tracker: T,
     plan: &Plan,
-) -> Result<Verdict, Trouble>
-    requires { IsInRange (Options.Threads plan.now) }
-    ensures { IfOk result Holds }
+) -> Result<Ended<S, T>, Trouble>
+    requires tracker { IsNewTracker T.agrees tracker }
+    requires plan { IsInRange (Options.Threads plan.now) }
+    ensures { IfOk result IsEnded }
 {
-    let cores = new_cores(alloc, plan.workers)?;
+    let cores = new_cores::<S, T>(alloc, tracker, plan.sides.workers)?;
     let base = cores.replica.base().copy()?;
-    run_named::<Brand, Brand, H>(
+    run_named::<S, T, Brand, Brand, H>(
         rt,
         alloc,
         plan,
@@ -79,87 +84,149 @@ fn schema(alloc: Global) -> Result<Schema, Trouble> {
 }
 
 /// A new source, a new log file and a new replica of so many workers, over no rows.
-fn new_cores(alloc: Global, workers: usize) -> Result<Cores, Trouble>
+fn new_cores<S: NewStore, T: Tracker + Drop>(
+    alloc: Global,
+    tracker: T,
+    workers: usize,
+) -> Result<Cores<S, T>, Trouble>
+    requires tracker { IsNewTracker T.agrees tracker }
     requires some { 1 ≤ workers }
     requires few { workers ≤ 64 }
     ensures source { IfOk result (λ made. made.source ≡ new_source made.source.tables made.source.base made.source.limit made.source.kind) }
     ensures log { IfOk result (λ made. IsNew made.log) }
     ensures replica { IfOk result (λ made. made.replica ≡ new_over made.replica.tables made.replica.source made.replica.base made.replica.workers) }
+    ensures tables { IfOk result (λ made. made.replica.tables ≡ made.source.tables) }
 {
     let (schema, from) = (schema(alloc)?, Uuid::from_bytes(SOURCE));
-    let (base, parts) = (Batch::new(alloc), parts_in_memory(alloc));
+    let (base, parts) = (Batch::new(alloc), parts_in_memory::<S, T>(alloc, tracker));
     match pair_of(alloc, schema, from, &base, MAX_RECORDS, workers, parts)? {
         Some(cores) => Ok(cores),
         None => Err(Trouble::Different),
     }
 }
 
-/// Runs both sides, under the names of their histories.
-fn run_named<J: Naming + Send + Sync, K: ReplicaNaming + Send + Sync, H: Threads + Wait + Sync>(
+/// Runs both sides, under the names of their histories. They end as that source and that replica, over the rows and tables that
+/// they began with.
+fn run_named<
+    S: NewStore,
+    T: Tracker + Drop + Send + Sync,
+    J: Naming + Send + Sync,
+    K: ReplicaNaming + Send + Sync,
+    H: Threads + Wait + Sync,
+>(
     rt: &H,
     alloc: Global,
     plan: &Plan,
-    cores: Cores,
+    cores: Cores<S, T>,
     receipts: source_shared::Beginning,
     publication: published::Beginning,
-) -> Result<Verdict, Trouble>
+) -> Result<Ended<S, T>, Trouble>
     requires plan { IsInRange (Options.Threads plan.now) }
     requires source { cores.source ≡ new_source cores.source.tables cores.source.base cores.source.limit cores.source.kind }
     requires log { IsNew cores.log }
     requires replica { cores.replica ≡ new_over cores.replica.tables cores.replica.source cores.replica.base cores.replica.workers }
+    requires tables { cores.replica.tables ≡ cores.source.tables }
     requires source_base { cores.source.base ≡ J.base }
+    requires source_tables { cores.source.tables ≡ J.tables }
     requires receipts { receipts ≡ J.book }
+    requires replica_tables { cores.replica.tables ≡ K.tables }
+    requires replica_source { cores.replica.source ≡ K.source }
     requires replica_base { cores.replica.base ≡ K.base }
     requires publication { publication.book ≡ K.book }
     requires published { publication.base ≡ cores.replica.base }
-    ensures { IfOk result Holds }
+    ensures ended { IfOk result IsEnded }
+    ensures source { IfOk result (λ ended. (ended.source.tables ≡ J.tables) × (ended.source.base ≡ J.base)) }
+    ensures replica { IfOk result (λ ended. (ended.replica.tables ≡ K.tables) × (ended.replica.base ≡ K.base)) }
 {
     let Pair {
         source,
         log,
         replica,
     } = cores;
-    let source: Source<J> = SharedSource::new(alloc, source, log, receipts)?;
-    let replica: Replica<K> = new_replica(rt, alloc, plan.seats, replica, publication)?;
+    let source: Source<S, T, J> = SharedSource::new(alloc, source, log, receipts)?;
+    let replica: Replica<S, K> = new_replica(rt, alloc, plan.seats, replica, publication)?;
     let met = meet(rt, alloc, plan, &source, &replica);
     let published = replica.status(rt).published;
-    let (core, publisher) = replica.end();
+    let (replica, publisher) = replica.end();
+    let told = tell_all(alloc, met, &publisher);
     drop(publisher.close(rt));
-    Ok(judge(source, &core, &met?, published))
+    let (receipts, readings) = told?;
+    Ok(Ended {
+        source: source.end(&receipts),
+        replica,
+        receipts: given_all(alloc, receipts)?,
+        readings,
+        published,
+    })
+}
+
+/// What all readers saw, once they learnt all that was published; and the receipts.
+fn tell_all<S: NewStore, J: Naming, K: ReplicaNaming>(
+    alloc: Global,
+    met: Result<Met<S, J, K>, Trouble>,
+    publisher: &Publisher<S, K>,
+) -> Result<(Vec<Receipt<J>>, Vec<Vec<Shown>>), Trouble>
+    ensures { IfOk result (λ told. All (λ v. AreTold publisher.now.published v.items) told.1.items) }
+{
+    let (receipts, readers) = met?;
+    let mut readings = Vec::with_capacity(alloc, readers.len())?;
+    for reader in readers {
+        readings.push(reader.into_shown(publisher.tell()))?;
+    }
+    Ok((receipts, readings))
+}
+
+/// The receipts, as the core gave them.
+fn given_all<J: Naming>(alloc: Global, receipts: Vec<Receipt<J>>) -> Result<Vec<Given>, AllocError>
+    ensures { IfOk result (λ all. all.items ≡ receipts.items) }
+{
+    let mut all = Vec::with_capacity(alloc, receipts.len())?;
+    for receipt in receipts {
+        all.push(receipt.into_given())?;
+    }
+    Ok(all)
 }
 
 /// The replica for many threads, with so many seats.
-fn new_replica<K: ReplicaNaming, H: Wait>(
+fn new_replica<S: NewStore, K: ReplicaNaming, H: Wait>(
     rt: &H,
     alloc: Global,
     seats: usize,
-    core: ReplicaCore<BTreeStore>,
+    core: ReplicaCore<S>,
     publication: published::Beginning,
-) -> Result<Replica<K>, Trouble>
+) -> Result<Replica<S, K>, Trouble>
     requires some { 1 ≤ seats }
     requires few { seats ≤ 32 }
     requires core { core ≡ new_over core.tables core.source core.base core.workers }
+    requires tables { core.tables ≡ K.tables }
+    requires source { core.source ≡ K.source }
     requires base { core.base ≡ K.base }
     requires publication { publication.book ≡ K.book }
     requires published { publication.base ≡ core.base }
 {
-    let first = BTreeStore::new(alloc);
-    let second = BTreeStore::new(alloc);
-    match open::<BTreeStore, K, H, LeftRight>(rt, alloc, publication, first, second, seats) {
+    let first = S::without_rows(alloc);
+    let second = S::without_rows(alloc);
+    match open::<S, K, H, LeftRight>(rt, alloc, publication, first, second, seats) {
         Ok((publisher, seats)) => Ok(SharedReplica::new(rt, alloc, core, publisher, seats)?),
         Err(OpenError::Memory) => Err(Trouble::Memory),
         Err(OpenError::SeatRefused) => Err(Trouble::Different),
     }
 }
 
-/// Runs all threads, and compares both sides once they have ended. It answers the receipts of all sessions.
-fn meet<J: Naming + Send + Sync, K: ReplicaNaming + Send + Sync, H: Threads + Wait + Sync>(
+/// Runs all threads, and compares the rows of both sides once they have ended.
+fn meet<
+    S: NewStore,
+    T: Tracker + Drop + Send + Sync,
+    J: Naming + Send + Sync,
+    K: ReplicaNaming + Send + Sync,
+    H: Threads + Wait + Sync,
+>(
     rt: &H,
     alloc: Global,
     plan: &Plan,
-    source: &Source<J>,
-    replica: &Replica<K>,
-) -> Result<Vec<Receipt<J>>, Trouble>
+    source: &Source<S, T, J>,
+    replica: &Replica<S, K>,
+) -> Result<Met<S, J, K>, Trouble>
     requires { IsInRange (Options.Threads plan.now) }
 {
     // Of two closures the second is called first where no thread can be made.
@@ -172,45 +239,33 @@ fn meet<J: Naming + Send + Sync, K: ReplicaNaming + Send + Sync, H: Threads + Wa
     );
     let receipts = receipts?;
     worked?;
-    let reader = readers?.pop().ok_or(Trouble::Different)?;
-    compare(rt, plan, source, replica, reader, last_gno(&receipts))?;
-    Ok(receipts)
+    let mut readers = readers?;
+    let reader = readers.last_mut().ok_or(Trouble::Different)?;
+    compare(rt, plan, source, replica, reader, &receipts)?;
+    Ok((receipts, readers))
 }
 
 /// Runs the workers beside those who feed the replica.
-fn apply<J: Naming + Send + Sync, K: ReplicaNaming + Send + Sync, H: Threads + Wait + Sync>(
+fn apply<
+    S: NewStore,
+    T: Tracker + Drop + Send + Sync,
+    J: Naming + Send + Sync,
+    K: ReplicaNaming + Send + Sync,
+    H: Threads + Wait + Sync,
+>(
     rt: &H,
     alloc: Global,
     plan: &Plan,
-    source: &Source<J>,
-    replica: &Replica<K>,
+    source: &Source<S, T, J>,
+    replica: &Replica<S, K>,
 ) -> (Result<(), Trouble>, Result<Vec<Receipt<J>>, Trouble>)
     requires { IsInRange (Options.Threads plan.now) }
 {
     join(
         rt,
-        || work_all(rt, alloc, plan.workers, replica),
+        || work_all(rt, alloc, plan.sides.workers, replica),
         ||
             requires { IsInRange (Options.Threads plan.now) }
         { feed(rt, alloc, plan, source, replica) },
     )
-}
-
-/// Ends the source, and asks whether the replica has what its log says, and published as many commits as were told.
-fn judge<J: Naming>(
-    source: Source<J>,
-    replica: &ReplicaCore<BTreeStore>,
-    receipts: &[Receipt<J>],
-    published: u64,
-) -> Verdict
-    ensures { Holds result }
-{
-    let log = last_gno(receipts);
-    let source = source.end(receipts);
-    let _legal = source.log();
-    if replica.published() == published && begins(&source, replica) {
-        Verdict::Equal { log, published }
-    } else {
-        Verdict::Different
-    }
 }

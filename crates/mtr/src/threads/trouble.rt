@@ -1,7 +1,9 @@
 //! Why the work of the threads stops.
 
 use log_file::LogFault;
+use record_codec::CodecFault;
 use relay::ReplicaFault;
+use replica_core::WireFault;
 use schema::Memory;
 use source_core::SourceFault;
 use std::alloc::{AllocError, AllocFailed};
@@ -71,6 +73,16 @@ impl From<ReplicaFault> for Trouble {
         match fault {
             ReplicaFault::Memory => Trouble::Memory,
             _ => Trouble::Different,
+        }
+    }
+}
+
+impl From<WireFault> for Trouble {
+    fn from(fault: WireFault) -> Trouble {
+        match fault {
+            WireFault::Codec(CodecFault::Memory) => Trouble::Memory,
+            WireFault::Codec(_) => Trouble::Different,
+            WireFault::Replica(fault) | WireFault::Waiting(fault) => Trouble::from(fault),
         }
     }
 }

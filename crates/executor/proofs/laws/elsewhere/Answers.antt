@@ -1,11 +1,8 @@
-use Rattle.executor.proofs.Elsewhere.{flat_has_no_kin, output_holds, refusal_holds}
+use Rattle.executor.proofs.Elsewhere.{good_does_the_same, good_elsewhere}
 use Rattle.executor.proofs.laws.elsewhere.Goals as goal
 
-pub returns-clause-no_kin : goal.returns-clause-no_kin
-returns-clause-no_kin c = flat_has_no_kin
+pub returns-clause-same : goal.returns-clause-same
+returns-clause-same c = good_does_the_same
 
-pub returns-clause-output : goal.returns-clause-output
-returns-clause-output c = output_holds
-
-pub returns-clause-refusal : goal.returns-clause-refusal
-returns-clause-refusal c = refusal_holds
+pub returns-clause-good : goal.returns-clause-good
+returns-clause-good c = good_elsewhere

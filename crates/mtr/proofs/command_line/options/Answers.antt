@@ -9,50 +9,64 @@ use Rattle.clap.specs.Words.{App, Row, Text, takes, subcommand_of, subcommand_ro
 use Rattle.clap.proofs.OnLiterals.{clap_on_literals}
 use Rattle.mtr.specs.declared.options.Options.{Options}
 use Rattle.mtr.specs.declared.options.Options.TheVariants.{Run, Threads, Decode}
-use Rattle.mtr.specs.Options.{program, options_for, options_of, is_asked, is_mistake, IsByDefault, IsOfKind, IsOfWords}
+use Rattle.mtr.specs.declared.command_line.Names.{Names}
+use Rattle.mtr.specs.Options.{AreNames, program, options_for, options_of, is_asked, is_mistake, default_sides, IsByDefault, IsOfKind, IsOfWords}
+use Rattle.mtr.proofs.Choices.{Place, at, lies_there}
 use Rattle.mtr.proofs.command_line.options.Goals as goal
 
-run_taken : takes program (codes "run" ∷ []) ≡ true
+run_taken : (p q r s t u v : Place) → takes (program (at p q r s t u v)) (codes "run" ∷ []) ≡ true
 unfolding clap_on_literals
-run_taken = refl
+run_taken p q r s t u v = refl
 
-threads_taken : takes program (codes "threads" ∷ []) ≡ true
+threads_taken : (p q r s t u v : Place) → takes (program (at p q r s t u v)) (codes "threads" ∷ []) ≡ true
 unfolding clap_on_literals
-threads_taken = refl
+threads_taken p q r s t u v = refl
 
-decode_taken : takes program (codes "decode" ∷ []) ≡ true
+decode_taken : (p q r s t u v : Place) → takes (program (at p q r s t u v)) (codes "decode" ∷ []) ≡ true
 unfolding clap_on_literals
-decode_taken = refl
+decode_taken p q r s t u v = refl
 
-is_taken : (name : Text) (asked : Options) → IsByDefault name asked → takes program (name ∷ []) ≡ true
-is_taken name (Run workers) h = ap (λ n. takes program (n ∷ [])) h.0 ∙ run_taken
-is_taken name (Threads plan) h = ap (λ n. takes program (n ∷ [])) h.0 ∙ threads_taken
-is_taken name Decode h = ap (λ n. takes program (n ∷ [])) h ∙ decode_taken
+is_taken_at : (p q r s t u v : Place) (name : Text) (asked : Options) → IsByDefault name asked → takes (program (at p q r s t u v)) (name ∷ []) ≡ true
+is_taken_at p q r s t u v name (Run sides) h = ap (λ n. takes (program (at p q r s t u v)) (n ∷ [])) h.0 ∙ run_taken p q r s t u v
+is_taken_at p q r s t u v name (Threads plan) h = ap (λ n. takes (program (at p q r s t u v)) (n ∷ [])) h.0 ∙ threads_taken p q r s t u v
+is_taken_at p q r s t u v name Decode h = ap (λ n. takes (program (at p q r s t u v)) (n ∷ [])) h ∙ decode_taken p q r s t u v
 
-run_alone : options_of (codes "run" ∷ []) ≡ Some (Run 4)
+is_taken : (names : Names) (name : Text) (asked : Options) → AreNames names → IsByDefault name asked → takes (program names) (name ∷ []) ≡ true
+is_taken names name asked are h = lies_there (λ it. takes (program it) (name ∷ []) ≡ true) names are (λ p q r s t u v. is_taken_at p q r s t u v name asked h)
+
+run_alone : (p q r s t u v : Place) → options_of (at p q r s t u v) (codes "run" ∷ []) ≡ Some (Run default_sides)
 unfolding clap_on_literals
-run_alone = refl
+run_alone p q r s t u v = refl
 
-threads_alone : options_of (codes "threads" ∷ []) ≡ Some (Threads (record { workers = 4; sessions = 4; transactions = 10; seats = 2 }))
+threads_alone : (p q r s t u v : Place) → options_of (at p q r s t u v) (codes "threads" ∷ []) ≡ Some (Threads (record { sides = default_sides; sessions = 4; transactions = 10; seats = 2 }))
 unfolding clap_on_literals
-threads_alone = refl
+threads_alone p q r s t u v = refl
 
-decode_alone : options_of (codes "decode" ∷ []) ≡ Some Decode
+decode_alone : (p q r s t u v : Place) → options_of (at p q r s t u v) (codes "decode" ∷ []) ≡ Some Decode
 unfolding clap_on_literals
-decode_alone = refl
+decode_alone p q r s t u v = refl
 
-by_default : (name : Text) (asked : Options) → IsByDefault name asked → options_of (name ∷ []) ≡ Some asked
-by_default name (Run workers) h = ap (λ n. options_of (n ∷ [])) h.0 ∙ run_alone ∙ ap (λ n. Some (Run n)) (sym h.1)
-by_default name (Threads plan) h = ap (λ n. options_of (n ∷ [])) h.0 ∙ threads_alone ∙ ap (λ p. Some (Threads p)) (sym h.1)
-by_default name Decode h = ap (λ n. options_of (n ∷ [])) h ∙ decode_alone
+by_default_at : (p q r s t u v : Place) (name : Text) (asked : Options) → IsByDefault name asked → options_of (at p q r s t u v) (name ∷ []) ≡ Some asked
+by_default_at p q r s t u v name (Run sides) h = ap (λ n. options_of (at p q r s t u v) (n ∷ [])) h.0 ∙ run_alone p q r s t u v ∙ ap (λ sides. Some (Run sides)) (sym h.1)
+by_default_at p q r s t u v name (Threads plan) h = ap (λ n. options_of (at p q r s t u v) (n ∷ [])) h.0 ∙ threads_alone p q r s t u v ∙ ap (λ plan. Some (Threads plan)) (sym h.1)
+by_default_at p q r s t u v name Decode h = ap (λ n. options_of (at p q r s t u v) (n ∷ [])) h ∙ decode_alone p q r s t u v
 
-is_free_program : is_simple_and_free program ≡ true
+by_default : (names : Names) (name : Text) (asked : Options) → AreNames names → IsByDefault name asked → options_of names (name ∷ []) ≡ Some asked
+by_default names name asked are h = lies_there (λ it. options_of it (name ∷ []) ≡ Some asked) names are (λ p q r s t u v. by_default_at p q r s t u v name asked h)
+
+free_at : (p q r s t u v : Place) → is_simple_and_free (program (at p q r s t u v)) ≡ true
 unfolding clap_on_literals
-is_free_program = refl
+free_at p q r s t u v = refl
 
-is_simple_program : is_simple program ≡ true
+simple_at : (p q r s t u v : Place) → is_simple (program (at p q r s t u v)) ≡ true
 unfolding clap_on_literals
-is_simple_program = refl
+simple_at p q r s t u v = refl
+
+is_free_program : (names : Names) → AreNames names → is_simple_and_free (program names) ≡ true
+is_free_program names are = lies_there (λ it. is_simple_and_free (program it) ≡ true) names are free_at
+
+is_simple_program : (names : Names) → AreNames names → is_simple (program names) ≡ true
+is_simple_program names are = lies_there (λ it. is_simple (program it) ≡ true) names are simple_at
 
 or_true : (b : Bool) → (b || true) ≡ true
 or_true true = refl
@@ -63,63 +77,91 @@ is_among p kind [] h e = absurd h
 is_among p kind (k ∷ ks) (inl same) e = ap (λ b. b || list_any p ks) (ap p (sym same) ∙ e)
 is_among p kind (k ∷ ks) (inr rest) e = ap (λ b. p k || b) (is_among p kind ks rest e) ∙ or_true (p k)
 
-fault_told : (words : List Text) (kind : ErrorKind) (fault : LineFault) → IsOfKind kind fault → (kind ≡ kinds.OutOfMemory → fault ≡ faults.Memory) → (kind ≡ kinds.OutOfMemory) ⊎ IsAmong kind (fault_of program words) → IsOfWords words fault
-fault_told words kind (faults.Line text) of memory (inl none) = let bad : faults.Line text ≡ faults.Memory = memory none in cc
-fault_told words kind (faults.Line text) of memory (inr among) = inr (is_among is_mistake kind (fault_of program words) among (ap not of))
-fault_told words kind (faults.Asked text) of memory (inl none) = let bad : faults.Asked text ≡ faults.Memory = memory none in cc
-fault_told words kind (faults.Asked text) of memory (inr among) = is_among is_asked kind (fault_of program words) among of
-fault_told words kind faults.Memory of memory h = tt
+fault_told : (names : Names) (words : List Text) (kind : ErrorKind) (fault : LineFault) → IsOfKind kind fault → (kind ≡ kinds.OutOfMemory → fault ≡ faults.Memory) → (kind ≡ kinds.OutOfMemory) ⊎ IsAmong kind (fault_of (program names) words) → IsOfWords names words fault
+fault_told names words kind (faults.Line text) of memory (inl none) = let bad : faults.Line text ≡ faults.Memory = memory none in cc
+fault_told names words kind (faults.Line text) of memory (inr among) = inr (is_among is_mistake kind (fault_of (program names) words) among (ap not of))
+fault_told names words kind (faults.Asked text) of memory (inl none) = let bad : faults.Asked text ≡ faults.Memory = memory none in cc
+fault_told names words kind (faults.Asked text) of memory (inr among) = is_among is_asked kind (fault_of (program names) words) among of
+fault_told names words kind faults.Memory of memory h = tt
 
 among_along : (kind : ErrorKind) (ks ls : List ErrorKind) → ks ≡ ls → (kind ≡ kinds.OutOfMemory) ⊎ IsAmong kind ks → (kind ≡ kinds.OutOfMemory) ⊎ IsAmong kind ls
 among_along kind ks ls e h = let P : List ErrorKind → Type 0 = λ l. (kind ≡ kinds.OutOfMemory) ⊎ IsAmong kind l in subst P e h
 
 -- what was found is what the words name
-asks : (app : App) (words : List Text) (found : Option (Text × List Row)) → app ≡ program → found ≡ subcommand_of app words → option_and_then options_for found ≡ options_of words
-asks app words found is h = ap (option_and_then options_for) (h ∙ ap (λ a. subcommand_of a words) is)
+asks : (names : Names) (app : App) (words : List Text) (found : Option (Text × List Row)) → app ≡ program names → found ≡ subcommand_of app words → option_and_then options_for found ≡ options_of names words
+asks names app words found is h = ap (option_and_then options_for) (h ∙ ap (λ a. subcommand_of a words) is)
 
 -- the options found are those by default
-same_default : (asked given : Options) (words : List Text) (name : Text) → Some given ≡ options_of words → words ≡ name ∷ [] → IsByDefault name asked → given ≡ asked
-same_default asked given words name is alone default =
-    let same : Some given ≡ Some asked = is ∙ ap options_of alone ∙ by_default name asked default in
+same_default : (names : Names) (asked given : Options) (words : List Text) (name : Text) → AreNames names → Some given ≡ options_of names words → words ≡ name ∷ [] → IsByDefault name asked → given ≡ asked
+same_default names asked given words name are is alone default =
+    let same : Some given ≡ Some asked = is ∙ ap (options_of names) alone ∙ by_default names name asked are default in
     cc
 
-none_by_default : (asked : Options) (words : List Text) (name : Text) → None ≡ options_of words → words ≡ name ∷ [] → IsByDefault name asked → ⊥
-none_by_default asked words name is alone default =
-    let same : None ≡ Some asked = is ∙ ap options_of alone ∙ by_default name asked default in
+none_by_default : (names : Names) (asked : Options) (words : List Text) (name : Text) → AreNames names → None ≡ options_of names words → words ≡ name ∷ [] → IsByDefault name asked → ⊥
+none_by_default names asked words name are is alone default =
+    let same : None ≡ Some asked = is ∙ ap (options_of names) alone ∙ by_default names name asked are default in
     cc
 
 pub returns-in-Err-clause-alone : goal.returns-in-Err-clause-alone
-returns-in-Err-clause-alone c = λ name asked default alone. c.fault_of.ensures.memory (c.in-Err.ensures.passes (ap₂ takes c.in_ok-command.ensures alone ∙ is_taken name asked default))
+returns-in-Err-clause-alone c = λ name asked default alone. c.fault_of.ensures.memory (c.in-Err.ensures.passes (ap₂ takes c.in_ok-command.ensures alone ∙ is_taken c.choices.result name asked c.choices.ensures default))
 
 pub returns-in-Err-clause-told : goal.returns-in-Err-clause-told
 returns-in-Err-clause-told c =
     let words = map (λ w. w.now) c.args.words.now in
-    let of = c.in-Err.ensures.kinds (ap is_simple_and_free c.in_ok-command.ensures ∙ is_free_program) in
-    fault_told words (kind_of c.in-Err.error) c.fault_of.result c.fault_of.ensures.stream c.fault_of.ensures.memory
-    (among_along (kind_of c.in-Err.error) (fault_of (app_of c.in_ok-command.field-0) words) (fault_of program words) (ap (λ app. fault_of app words) c.in_ok-command.ensures) of)
+    let names = c.choices.result in
+    let of = c.in-Err.ensures.kinds (ap is_simple_and_free c.in_ok-command.ensures ∙ is_free_program names c.choices.ensures) in
+    record {
+      names = names;
+      are = c.choices.ensures;
+      told = fault_told names words (kind_of c.in-Err.error) c.fault_of.result c.fault_of.ensures.stream c.fault_of.ensures.memory
+          (among_along (kind_of c.in-Err.error) (fault_of (app_of c.in_ok-command.field-0) words) (fault_of (program names) words) (ap (λ app. fault_of app words) c.in_ok-command.ensures) of);
+    }
+
+pub returns-in-Some-clause-named : goal.returns-in-Some-clause-named
+returns-in-Some-clause-named c =
+    let words = map (λ w. w.now) c.args.words.now in
+    let names = c.choices.result in
+    let found = c.in-Ok.ensures.matches (ap is_simple c.in_ok-command.ensures ∙ is_simple_program names c.choices.ensures) in
+    record {
+      names = names;
+      are = c.choices.ensures;
+      named = sym (sym c.in-Some.is ∙ c.options_in.ensures.named ∙ asks names (app_of c.in_ok-command.field-0) words (subcommand_rows_of c.in-Ok.matches) c.in_ok-command.ensures found.1);
+    }
 
 pub returns-in-Some-clause-told : goal.returns-in-Some-clause-told
 returns-in-Some-clause-told c =
     let words = map (λ w. w.now) c.args.words.now in
-    ap (λ app. fault_of app words) (sym c.in_ok-command.ensures) ∙ c.in-Ok.ensures.kinds (ap is_simple_and_free c.in_ok-command.ensures ∙ is_free_program)
+    let names = c.choices.result in
+    record {
+      names = names;
+      are = c.choices.ensures;
+      told = ap (λ app. fault_of app words) (sym c.in_ok-command.ensures) ∙ c.in-Ok.ensures.kinds (ap is_simple_and_free c.in_ok-command.ensures ∙ is_free_program names c.choices.ensures);
+    }
 
 pub returns-in-Some-clause-alone : goal.returns-in-Some-clause-alone
 returns-in-Some-clause-alone c = λ name asked default alone.
     let words = map (λ w. w.now) c.args.words.now in
-    let found = c.in-Ok.ensures.matches (ap is_simple c.in_ok-command.ensures ∙ is_simple_program) in
-    same_default asked c.in-Some.asked words name (sym c.in-Some.is ∙ c.options_in.ensures.named ∙ asks (app_of c.in_ok-command.field-0) words (subcommand_rows_of c.in-Ok.matches) c.in_ok-command.ensures found.1) alone default
+    let names = c.choices.result in
+    let found = c.in-Ok.ensures.matches (ap is_simple c.in_ok-command.ensures ∙ is_simple_program names c.choices.ensures) in
+    same_default names asked c.in-Some.asked words name c.choices.ensures (sym c.in-Some.is ∙ c.options_in.ensures.named ∙ asks names (app_of c.in_ok-command.field-0) words (subcommand_rows_of c.in-Ok.matches) c.in_ok-command.ensures found.1) alone default
 
 pub returns-clause-told : goal.returns-clause-told
 returns-clause-told c =
     let words = map (λ w. w.now) c.args.words.now in
-    let found = c.in-Ok.ensures.matches (ap is_simple c.in_ok-command.ensures ∙ is_simple_program) in
-    inl (
-      ap (λ app. fault_of app words) (sym c.in_ok-command.ensures) ∙ c.in-Ok.ensures.kinds (ap is_simple_and_free c.in_ok-command.ensures ∙ is_free_program),
-      sym (sym c.in-None.is ∙ c.options_in.ensures.named ∙ asks (app_of c.in_ok-command.field-0) words (subcommand_rows_of c.in-Ok.matches) c.in_ok-command.ensures found.1),
-    )
+    let names = c.choices.result in
+    let found = c.in-Ok.ensures.matches (ap is_simple c.in_ok-command.ensures ∙ is_simple_program names c.choices.ensures) in
+    record {
+      names = names;
+      are = c.choices.ensures;
+      told = inl (
+        ap (λ app. fault_of app words) (sym c.in_ok-command.ensures) ∙ c.in-Ok.ensures.kinds (ap is_simple_and_free c.in_ok-command.ensures ∙ is_free_program names c.choices.ensures),
+        sym (sym c.in-None.is ∙ c.options_in.ensures.named ∙ asks names (app_of c.in_ok-command.field-0) words (subcommand_rows_of c.in-Ok.matches) c.in_ok-command.ensures found.1),
+      );
+    }
 
 pub returns-clause-alone : goal.returns-clause-alone
 returns-clause-alone c = λ name asked default alone.
     let words = map (λ w. w.now) c.args.words.now in
-    let found = c.in-Ok.ensures.matches (ap is_simple c.in_ok-command.ensures ∙ is_simple_program) in
-    absurd (none_by_default asked words name (sym c.in-None.is ∙ c.options_in.ensures.named ∙ asks (app_of c.in_ok-command.field-0) words (subcommand_rows_of c.in-Ok.matches) c.in_ok-command.ensures found.1) alone default)
+    let names = c.choices.result in
+    let found = c.in-Ok.ensures.matches (ap is_simple c.in_ok-command.ensures ∙ is_simple_program names c.choices.ensures) in
+    absurd (none_by_default names asked words name c.choices.ensures (sym c.in-None.is ∙ c.options_in.ensures.named ∙ asks names (app_of c.in_ok-command.field-0) words (subcommand_rows_of c.in-Ok.matches) c.in_ok-command.ensures found.1) alone default)

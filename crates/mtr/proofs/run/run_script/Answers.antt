@@ -6,6 +6,6 @@ use Rattle.mtr.proofs.run.run_script.Goals as goal
 
 pub returns : goal.returns
 returns g c =
-    prints c.run_pieces.result (said c.args.script) c.args.workers c.deref.result.now (joined c.into_pieces.result.items) (seen c.in_ok-world.world) (seen c.run_pieces.new.world)
+    prints g.S.RowStore.contents c.run_pieces.result (said c.args.script) (g.T.Tracker.kind c.args.tracker) c.args.workers c.deref.result.now (joined c.into_pieces.result.items) (seen c.in_ok-world.world) (seen c.run_pieces.new.world)
     (g.W.Write.contents c.args.output.now) (g.W.Write.contents c.run_pieces.new.output)
     c.deref.ensures.value c.into_pieces.ensures c.in_ok-world.ensures c.run_pieces.ensures

@@ -18,4 +18,4 @@ invariant_of-self g c =
     let published : was.published ≡ c.args.self.now.published = ap (λ (r : Replica). r.published) c.self.view_is in
     let later = c.requires.later in
     let done = c.requires.done in
-    published_kept was.relay was.base was.scheduler was.published was.turns was.workers was.stopped was.jobs.items _ was.waiting.items c.args.upto c.drop_first.new.list.items c.self.invariant (omega arith) (omega arith) c.drop_first.ensures
+    published_kept was.relay was.base was.scheduler was.published was.turns was.workers was.stopped was.inputs.items _ was.waiting.items c.args.upto c.drop_first.new.list.items c.self.invariant (omega arith) (omega arith) c.drop_first.ensures

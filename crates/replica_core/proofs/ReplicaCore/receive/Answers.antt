@@ -4,5 +4,5 @@ use Rattle.replica_core.proofs.ReplicaCore.receive.Goals as goal
 pub invariant_of-self : goal.invariant_of-self
 invariant_of-self g c =
     let was = c.self.inside in
-    received_kept was.relay was.base was.scheduler was.published was.turns was.workers was.stopped was.jobs.items _ was.waiting.items _ _ c.receive.result c.receive.new.self
+    received_kept was.relay was.base was.scheduler was.published was.turns was.workers was.stopped was.inputs.items _ was.waiting.items _ _ c.receive.result c.receive.new.self
     c.self.invariant c.receive.ensures.answer c.receive.ensures.ok c.receive.ensures.err

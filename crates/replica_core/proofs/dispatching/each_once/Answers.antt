@@ -1,6 +1,5 @@
 use Rattle.std.proofs.Common.{◌∙◌, ap, map}
 use Rattle.std.specs.FinMap.{get}
-use Rattle.std.specs.List.{dedup}
 use Rattle.std.proofs.lemmas.List.Filters.{dedup_is}
 use Rattle.replica_core.proofs.Copies.{row_eq, copied_once}
 use Rattle.replica_core.proofs.dispatching.each_once.Goals as goal

@@ -1,8 +1,8 @@
 use Rattle.tests_threads.proofs.replicas.has_run.Given as goal
 
--- the rows of the core
+-- the tables, the source and the rows of the core
 abbrev pub ghosts-run_over-J-ReplicaNaming : goal.ghosts-run_over-J-ReplicaNaming
-ghosts-run_over-J-ReplicaNaming g a = record { base = a.core.base }
+ghosts-run_over-J-ReplicaNaming g a = record { tables = a.core.tables; source = a.core.source; base = a.core.base }
 
 -- the publication that just began
 abbrev pub ghosts-run_over-J-Naming : goal.ghosts-run_over-J-Naming

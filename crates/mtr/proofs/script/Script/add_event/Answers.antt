@@ -1,4 +1,4 @@
-use Rattle.std.proofs.Common.{◌≡◌, ◌∙◌, ◌++◌, ◌∷◌, [], sym, ap, length, Some}
+use Rattle.std.proofs.Common.{◌∙◌, ◌++◌, ap, length}
 use Rattle.mtr.specs.Script.{said}
 use Rattle.mtr.proofs.EventLists.{one_event}
 use Rattle.mtr.proofs.ScriptLines.{event_added}

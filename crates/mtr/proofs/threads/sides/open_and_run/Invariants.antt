@@ -1,12 +1,12 @@
 use Rattle.mtr.proofs.threads.sides.open_and_run.Given as goal
 
--- the history of receipts that was just made, and the rows of the source
+-- the history of receipts that was just made, and the rows and the tables of the source
 abbrev pub ghosts-run_named-J-Naming : goal.ghosts-run_named-J-Naming
-ghosts-run_named-J-Naming g a = record { book = a.receipts; base = a.cores.source.base }
+ghosts-run_named-J-Naming g a = record { book = a.receipts; base = a.cores.source.base; tables = a.cores.source.tables }
 
--- the rows of the replica
+-- the tables, the source and the rows of the replica
 abbrev pub ghosts-run_named-K-ReplicaNaming : goal.ghosts-run_named-K-ReplicaNaming
-ghosts-run_named-K-ReplicaNaming g a = record { base = a.cores.replica.base }
+ghosts-run_named-K-ReplicaNaming g a = record { tables = a.cores.replica.tables; source = a.cores.replica.source; base = a.cores.replica.base }
 
 -- the publication that just began
 abbrev pub ghosts-run_named-K-Naming : goal.ghosts-run_named-K-Naming

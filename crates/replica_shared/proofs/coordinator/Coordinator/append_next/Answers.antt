@@ -6,20 +6,24 @@ use Rattle.replica_shared.proofs.coordinator.Coordinator.append_next.Goals as go
 pub returns-then-self-committed-clause-all : goal.returns-then-self-committed-clause-all
 returns-then-self-committed-clause-all g c _ =
     subst IsAppended c.self.view_is
-    (all_appended _ _ _ c.self.inside.closed _ _ _ c.committed-committed.ensures.sound (rw (← c.committed-committed.ensures.value) c.if-self-committed.true) c.self.invariant.0)
+    (all_appended _ _ _ _ _ _ c.committed-committed.ensures.sound (rw (← c.committed-committed.ensures.value) c.if-self-committed.true) c.self.invariant.stand)
 
 pub append-requires : goal.append-requires
 append-requires g c =
     let more = rw c.committed-committed.ensures.value at c.if-self-committed.false in
     let is = rw c.published-published.ensures.value at c.index-pending-self.is in
-    next_commit_of _ _ _ _ _ _ c.self.invariant.0
-    (next_operation c.commits.ensures.one_each _ _ _ _ _ _ c.index-pending-self.result c.committed-committed.ensures.sound more c.self.invariant.0 c.pending.ensures is)
+    next_commit_of _ _ _ _ _ _ _ _ c.self.invariant.stand
+    (next_operation c.commits.ensures.one_each _ _ _ _ _ _ _ _ c.index-pending-self.result c.committed-committed.ensures.sound more c.self.invariant.stand c.pending.ensures is)
 
 pub invariant_of-self-2 : goal.invariant_of-self-2
 invariant_of-self-2 g c =
     let more = rw c.committed-committed.ensures.value at c.if-self-committed.false in
     let is = rw c.published-published.ensures.value at c.index-pending-self.is in
-    let at = next_operation c.commits.ensures.one_each _ _ _ _ _ _ c.index-pending-self.result c.committed-committed.ensures.sound more c.self.invariant.0 c.pending.ensures is in (
-      rw c.in_ok-append.ensures.ok (stand_appended _ _ _ _ _ _ c.self.invariant.0 at),
-      c.self.invariant.1,
-    )
+    let at = next_operation c.commits.ensures.one_each _ _ _ _ _ _ _ _ c.index-pending-self.result c.committed-committed.ensures.sound more c.self.invariant.stand c.pending.ensures is in
+    rw c.in_ok-append.ensures.ok record {
+      stand = stand_appended _ _ _ _ _ _ _ _ c.self.invariant.stand at;
+      kept = c.self.invariant.kept;
+      line = c.self.invariant.line;
+      claims = c.self.invariant.claims;
+      rest = λ running not. let is = c.self.invariant.rest running not in record { committed = is.committed; published = is.published; dispatched = is.dispatched; pushed = is.pushed };
+    }

@@ -2,16 +2,17 @@ use Rattle.std.proofs.Common.{sym, subst}
 use Rattle.replica_core.specs.Sound.{IsUnderWay}
 use Rattle.replica_shared.specs.Together.{State, NoneLost, laid}
 use Rattle.replica_shared.proofs.Places.{kept_laid, none_lost}
+use Rattle.replica_shared.proofs.Whole.{whole_beside}
 use Rattle.replica_shared.proofs.coordinator.Coordinator.keep.Goals as goal
 
 pub invariant_of-self : goal.invariant_of-self
 invariant_of-self g c =
     let under = subst (λ (s : State). IsUnderWay s.core c.args.job.gno) (sym c.self.view_is) c.requires in
-    (c.self.invariant.0, kept_laid _ _ _ under.1 c.self.invariant.1)
+    whole_beside _ _ _ _ _ _ _ _ _ _ (kept_laid _ _ _ under.1 c.self.invariant.kept) c.self.invariant.claims c.self.invariant
 
 pub returns-clause-none_lost : goal.returns-clause-none_lost
 returns-clause-none_lost g c =
     let was = c.self.inside in
     let under = subst (λ (s : State). IsUnderWay s.core c.args.job.gno) (sym c.self.view_is) c.requires in
     subst (λ (s : State). NoneLost s.core s.kept (laid c.args.job was.kept.items)) c.self.view_is
-    (none_lost was.core c.args.job was.kept.items c.committed-sound.ensures.sound under c.self.invariant.1)
+    (none_lost was.core c.args.job was.kept.items c.committed-sound.ensures.sound under c.self.invariant.kept)

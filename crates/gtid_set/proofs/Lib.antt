@@ -1,0 +1,10 @@
+pub mod Rising
+pub mod Places
+pub mod Joining
+pub mod NumberTexts
+pub mod Heads
+pub mod Listing
+pub mod Grammar
+pub mod Sets
+pub mod OneForm
+pub mod Firsts

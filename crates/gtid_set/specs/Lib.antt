@@ -1,0 +1,5 @@
+pub mod Numbers
+pub mod Ids
+pub mod Text
+pub mod Reading
+pub mod Laws

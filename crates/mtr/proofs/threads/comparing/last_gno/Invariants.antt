@@ -1,6 +1,0 @@
-use Rattle.std.proofs.Common.{take}
-use Rattle.mtr.specs.Threads.{IsLast}
-use Rattle.mtr.proofs.threads.comparing.last_gno.Given as goal
-
-abbrev pub invariant-loop-receipt : goal.invariant-loop-receipt
-invariant-loop-receipt g l = IsLast (take l.receipt-index l.receipts) l.last

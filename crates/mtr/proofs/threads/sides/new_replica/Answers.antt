@@ -1,0 +1,13 @@
+use Rattle.std.proofs.Common.{◌≡◌, ◌∷◌, [], List, sym, ap, subst}
+use Rattle.std.specs.List.{All}
+use Rattle.std.proofs.lemmas.List.Elements.{All-replicate}
+use Rattle.store_trait.specs.Batch.{Entry}
+use Rattle.store_trait.specs.declared.Op.{Op}
+use Rattle.store_trait.specs.declared.Op.TheVariants.{Load}
+use Rattle.mtr.proofs.threads.sides.new_replica.Goals as goal
+
+pub new-requires-clause-seats : goal.new-requires-clause-seats
+new-requires-clause-seats g c =
+    let base = c.args.core.base in
+    let same : Load c.args.publication.base ∷ [] ≡ Load base ∷ [] = ap (λ (b : List Entry). Load b ∷ []) c.requires.published in
+    subst (All (λ (seat : List Op). seat ≡ Load base ∷ [])) (sym c.in-Ok.ensures.seats) (All-replicate (λ (seat : List Op). seat ≡ Load base ∷ []) c.args.seats (Load c.args.publication.base ∷ []) same)

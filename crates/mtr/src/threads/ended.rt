@@ -1,0 +1,73 @@
+//! Both sides as they ended, and whether they came to the same.
+
+ghost use Rattle.std.specs.Prelude.{◌≡◌};
+ghost use Rattle.std.specs.List.{list_all};
+ghost use Rattle.mtr.specs.Threads.{IsLast, IsEnded, Holds, are_within};
+
+use super::Verdict;
+use super::reading::Shown;
+use replica_core::ReplicaCore;
+use source_core::{Receipt, SourceCore};
+use store_trait::RowStore;
+use tracker_trait::Tracker;
+use world::begins;
+
+/// Both sides as they ended, what the sessions were given, and what the readers saw.
+#[derive(Drop)]
+pub struct Ended<S: RowStore, T: Tracker> {
+    /// The source.
+    pub source: SourceCore<S, T>,
+    /// The replica.
+    pub replica: ReplicaCore<S>,
+    /// The receipts of all sessions, in no order.
+    pub receipts: Vec<Receipt>,
+    /// What each reader saw, in order.
+    pub readings: Vec<Vec<Shown>>,
+    /// How many commits the replica told that it has published.
+    pub published: u64,
+}
+
+impl<S: RowStore, T: Tracker> Ended<S, T> {
+    /// Whether both sides came to the same: the replica published as many commits as it told, what it accepted is a beginning
+    /// of the source's log, and no reader saw more commits. The time is that of the records, the receipts and the answers.
+    pub fn verdict(&self) -> Verdict
+        requires { IsEnded self.now }
+        ensures { Holds result self.now }
+    {
+        let published = self.published;
+        let _legal = self.source.log();
+        if self.replica.published() == published
+            && begins(&self.source, &self.replica)
+            && are_all_within(&self.readings, published)
+        {
+            let log = last_gno(&self.receipts);
+            Verdict::Equal { log, published }
+        } else {
+            Verdict::Different
+        }
+    }
+}
+
+/// Whether none of these readers saw more commits.
+fn are_all_within(readings: &[Vec<Shown>], most: u64) -> bool
+    ensures { result ≡ list_all (λ v. are_within most v.items) readings.now }
+{
+    readings.iter().all(|shown| are_within(shown, most))
+}
+
+fn are_within(shown: &[Shown], most: u64) -> bool
+    ensures { result ≡ are_within most shown.now }
+{
+    shown.iter().all(|one| one.answer.upto <= most)
+}
+
+/// The greatest gno of receipts; 0 where there are none.
+fn last_gno(receipts: &[Receipt]) -> u64
+    ensures { IsLast receipts.now result }
+{
+    let mut last = 0;
+    for receipt in receipts {
+        last = receipt.gno.max(last);
+    }
+    last
+}

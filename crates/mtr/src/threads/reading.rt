@@ -1,0 +1,84 @@
+//! What one reader of the replica saw.
+
+ghost use Rattle.std.specs.Prelude.{◌≡◌, ◌∷◌, ◌++◌, [], ℕ, IfOk, OnErr};
+ghost use Rattle.mtr.specs.Reading.{AreTold};
+
+use super::trouble::Trouble;
+use published::{Answer, Notice, ReadSeat};
+use replica_shared::ReplicaNaming;
+use rows::Row;
+use schema::RowId;
+use std::alloc::Global;
+use std::marker::Model;
+use store_trait::RowStore;
+
+/// A row, as it was answered.
+#[derive(Clone, Copy, Debug, PartialEq, Eq)]
+pub struct Shown {
+    /// The row that was asked for.
+    pub id: RowId,
+    /// What the seat answered.
+    pub answer: Answer,
+}
+
+/// A reader, with all that its seat answered, in order. Each answer is of a beginning of what the seat knows, and none is
+/// of fewer commits than one before it.
+#[derive(Drop)]
+pub struct Reader<S: RowStore + Drop, K: ReplicaNaming> {
+    seat: ReadSeat<S, K>,
+    shown: Vec<Shown>,
+}
+
+impl<S: RowStore + Drop, K: ReplicaNaming> Model for Reader<S, K> {
+    ghost use Rattle.mtr.specs.Reading.{Reading, AreSeen};
+
+    ghost Value = { Reading };
+
+    ghost view = { λ r. record { known = r.seat; shown = r.shown.items } };
+
+    ghost invariant = { λ r. AreSeen r.seat r.shown.items };
+}
+
+impl<S: RowStore + Drop, K: ReplicaNaming> Reader<S, K> {
+    /// Nothing was read by the seat yet.
+    pub fn new(alloc: Global, seat: ReadSeat<S, K>) -> Reader<S, K>
+        ensures { result.shown ≡ [] }
+    {
+        Reader {
+            seat,
+            shown: Vec::new(alloc),
+        }
+    }
+
+    /// Reads the row. The answer is kept.
+    pub fn read(&mut self, id: RowId) -> Result<Option<Row>, Trouble>
+        ensures kept { IfOk result (λ row. (upto : ℕ) × (self.new.shown ≡ self.old.shown ++ record { id = id; answer = record { row = row; upto = upto } } ∷ [])) }
+        ensures err { OnErr result (self.new.shown ≡ self.old.shown) }
+    {
+        match self.seat.read(id) {
+            Some(answer) => {
+                let row = answer.row;
+                self.shown.push(Shown { id, answer })?;
+                Ok(row)
+            }
+            None => Err(Trouble::Different),
+        }
+    }
+
+    /// From now on no answer is below the notice.
+    pub fn learn(&mut self, notice: Notice<K>)
+        ensures { self.new.shown ≡ self.old.shown }
+    {
+        self.seat.learn(notice);
+    }
+
+    /// All that was answered, once the seat learnt the last of all notices.
+    pub fn into_shown(mut self, last: Notice<K>) -> Vec<Shown>
+        ensures all { result.items ≡ self.shown }
+        ensures told { AreTold last result.items }
+    {
+        self.seat.learn(last);
+        let Reader { seat: _, shown } = self;
+        shown
+    }
+}

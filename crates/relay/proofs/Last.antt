@@ -1,0 +1,191 @@
+-- The last touches of a log, as a record is added, and as a parent is judged by them.
+use Rattle.std.proofs.Common.{◌≡◌, ◌∙◌, sym, ap, refl, subst, ℕ, suc, ◌+◌, ◌≤◌, Bool, true, false, ◌||◌, cond, nat_le, max, List, [], ◌∷◌, ◌++◌, length, map, unwrap_or, arith, is_eq}
+use Rattle.std.specs.List.{list_all}
+use Rattle.std.specs.Cmp.{tied_itself}
+use Rattle.std.specs.FinMap.{empty, get-empty}
+use Rattle.std.proofs.lemmas.List.{length_push}
+use Rattle.std.proofs.lemmas.Bool.{or_left, or_right, and_parts, and_from}
+use Rattle.gtid_set.specs.Ids.{Ids, first_ids, no_ids}
+use Rattle.schema.specs.declared.Table.{Table}
+use Rattle.schema.specs.declared.RowId.{RowId}
+use Rattle.schema.specs.RowId.{row_cmp, row_total, same_row}
+use Rattle.schema.specs.Rows.{has_row, meets, conflicts}
+use Rattle.schema.specs.Covering.{Covers}
+use Rattle.rows.specs.Database.{writes}
+use Rattle.rows.proofs.Apply.{row_is}
+use Rattle.record_codec.specs.declared.records.Record.{Record}
+use Rattle.record_codec.specs.Log.{touched, place_of}
+use Rattle.relay.specs.declared.touches.Touch.{Touch}
+use Rattle.relay.specs.Relay.{is_covered, IsAcceptable}
+use Rattle.relay.specs.Touches.{Marks, last_of, writes_row, touches_row, written_at, touched_at, touch_at, untouched, AreLastTouches, Notes, is_behind}
+use Rattle.relay.specs.Kept.{IsKept}
+use Rattle.relay.proofs.Numbers.{le_from, le_to}
+use Rattle.relay.proofs.Covered.{AreBehind, passed_covers, covers_passes}
+use Rattle.relay.proofs.Acceptable.{next_is_acceptable, empty_is_acceptable, are_behind}
+
+-- ---- one more record
+
+last_of-push : (passes : Record → Bool) (log : List Record) (r : Record) → last_of passes (log ++ r ∷ []) ≡ max (last_of passes log) (cond (passes r) r.sequence 0)
+last_of-push passes [] r = omega arith
+last_of-push passes (x ∷ log) r =
+    ap (max (cond (passes x) x.sequence 0)) (last_of-push passes log r) ∙ regrouped (cond (passes x) x.sequence 0) (last_of passes log) (cond (passes r) r.sequence 0)
+  where
+    regrouped : (a b c : ℕ) → max a (max b c) ≡ max (max a b) c
+    regrouped a b c = omega arith
+
+last_up_to : (passes : Record → Bool) (log : List Record) (n : ℕ) → AreBehind n log → last_of passes log ≤ n + length log
+last_up_to passes [] n are = omega arith
+last_up_to passes (r ∷ log) n are =
+    let here : r.sequence ≡ n + 0 + 1 = are 0 r refl in
+    let rest = last_up_to passes log (n + 1) (λ i q is. let at = are (suc i) q is in omega arith) in
+    at_most (passes r) r.sequence (last_of passes log) (n + suc (length log)) (omega arith) (omega arith)
+  where
+    at_most : (b : Bool) (s l m : ℕ) → s ≤ m → l ≤ m → max (cond b s 0) l ≤ m
+    at_most true s l m h k = omega arith
+    at_most false s l m h k = omega arith
+
+newest : (b : Bool) (gno sequence last : ℕ) → gno ≡ sequence → last ≤ sequence → cond b gno last ≡ max last (cond b sequence 0)
+newest true gno sequence last same le = omega arith
+newest false gno sequence last same le = omega arith
+
+pub none_kept : (ts : List Table) (source : List ℕ) (ids : Ids) (marks : Marks) → ids ≡ no_ids → marks ≡ empty → IsKept ts source [] ids marks
+none_kept ts source ids marks no_id none = record {
+  acceptable = empty_is_acceptable ts;
+  ids_are = no_id;
+  last = record { written = λ q. ap (λ (t : Touch). t.written) (nothing q); touched = λ q. ap (λ (t : Touch). t.touched) (nothing q) };
+}
+  where
+    nothing : (q : RowId) → touch_at marks q ≡ untouched
+    nothing q = ap (λ m. touch_at m q) none ∙ ap (λ o. unwrap_or o untouched) (get-empty row_cmp q)
+
+pub one_more_kept : (ts : List Table) (source : List ℕ) (log left : List Record) (ids with_next : Ids) (marks now : Marks) (r : Record) → IsKept ts source log ids marks → IsAcceptable ts log r → left ≡ log ++ r ∷ []
+    → with_next ≡ first_ids source r.gno → Notes marks r now → IsKept ts source left with_next now
+one_more_kept ts source log left ids with_next marks now r kept next is put notes = subst (λ (l : List Record). IsKept ts source l with_next now) (sym is) (record {
+  acceptable = next_is_acceptable ts log r kept.acceptable next;
+  ids_are = put ∙ ap (first_ids source) (next.gno ∙ sym (length_push log r));
+  last = record {
+    written = λ q. notes.written q ∙ ap (cond (writes_row q r) r.gno) (kept.last.written q) ∙ last_is (writes_row q);
+    touched = λ q. notes.touched q ∙ ap (cond (touches_row q r) r.gno) (kept.last.touched q) ∙ last_is (touches_row q);
+  };
+})
+  where
+    last_is : (passes : Record → Bool) → cond (passes r) r.gno (last_of passes log) ≡ last_of passes (log ++ r ∷ [])
+    last_is passes =
+        newest (passes r) r.gno r.sequence (last_of passes log) (next.gno ∙ sym next.sequence) (let last = last_up_to passes log 0 (are_behind ts log kept.acceptable) in omega (arith, next.sequence))
+        ∙ sym (last_of-push passes log r)
+
+-- ---- a parent is judged
+
+same_itself : (q : RowId) → same_row q q ≡ true
+same_itself q = ap is_eq (tied_itself row_total q)
+
+-- a row that two sets have in common
+common : (xs ys : List RowId) → meets xs ys ≡ true → (q : RowId) × (has_row xs q ≡ true) × (has_row ys q ≡ true)
+common [] ys h = absurd cc
+common (x ∷ xs) ys h = at (has_row ys x) refl h (λ k. common xs ys k)
+  where
+    at : (b : Bool) → has_row ys x ≡ b → (b || meets xs ys) ≡ true → (meets xs ys ≡ true → (q : RowId) × (has_row xs q ≡ true) × (has_row ys q ≡ true)) →
+        (q : RowId) × (has_row (x ∷ xs) q ≡ true) × (has_row ys q ≡ true)
+    at true is h rest = (x, or_left (same_row x x) (has_row xs x) (same_itself x), is)
+    at false is h rest = let r = rest h in (r.0, or_right (same_row r.0 x) (has_row xs r.0) r.1, r.2)
+
+in_common : (xs ys : List RowId) (q : RowId) → has_row xs q ≡ true → has_row ys q ≡ true → meets xs ys ≡ true
+in_common [] ys q h k = absurd cc
+in_common (x ∷ xs) ys q h k = at (same_row q x) refl h (λ there. in_common xs ys q there k)
+  where
+    at : (b : Bool) → same_row q x ≡ b → (b || has_row xs q) ≡ true → (has_row xs q ≡ true → meets xs ys ≡ true) → meets (x ∷ xs) ys ≡ true
+    at true same h rest = or_left (has_row ys x) (meets xs ys) (ap (has_row ys) (sym (row_is q x same)) ∙ k)
+    at false other h rest = or_right (has_row ys x) (meets xs ys) (rest h)
+
+-- no touch of the record's rows is above the number
+record Under (writes_ refs : List RowId) (parent : ℕ) (log : List Record) : Type 0 where
+  written : (q : RowId) → has_row writes_ q ≡ true → last_of (touches_row q) log ≤ parent
+  referred : (q : RowId) → has_row refs q ≡ true → last_of (writes_row q) log ≤ parent
+
+first_under : (passes : Record → Bool) (r : Record) (log : List Record) (p : ℕ) → last_of passes (r ∷ log) ≤ p → passes r ≡ true → r.sequence ≤ p
+first_under passes r log p le is = let here : cond (passes r) r.sequence 0 ≡ r.sequence = ap (λ b. cond b r.sequence 0) is in omega arith
+
+rest_under : (passes : Record → Bool) (r : Record) (log : List Record) (p : ℕ) → last_of passes (r ∷ log) ≤ p → last_of passes log ≤ p
+rest_under passes r log p le = omega arith
+
+both_under : (b : Bool) (s l p : ℕ) → (b ≡ true → s ≤ p) → l ≤ p → max (cond b s 0) l ≤ p
+both_under true s l p h k = let here = h refl in omega arith
+both_under false s l p h k = omega arith
+
+conflict_under : (r new : Record) (log : List Record) → Under (writes new.changes) new.refs new.parent (r ∷ log) → conflicts (touched r) (touched new) ≡ true → r.sequence ≤ new.parent
+conflict_under r new log h conflict =
+    by_kind (meets (writes r.changes) (writes new.changes)) (meets (writes r.changes) new.refs) (meets (writes new.changes) r.refs) refl refl refl conflict
+  where
+    by_kind : (ww wr rw : Bool) → meets (writes r.changes) (writes new.changes) ≡ ww → meets (writes r.changes) new.refs ≡ wr → meets (writes new.changes) r.refs ≡ rw → ((ww || wr) || rw) ≡ true → r.sequence ≤ new.parent
+    by_kind true wr rw is _ _ _ =
+        let q = common (writes r.changes) (writes new.changes) is in
+        first_under (touches_row q.0) r log new.parent (h.written q.0 q.2) (or_left (writes_row q.0 r) (has_row r.refs q.0) q.1)
+    by_kind false true rw _ is _ _ =
+        let q = common (writes r.changes) new.refs is in
+        first_under (writes_row q.0) r log new.parent (h.referred q.0 q.2) q.1
+    by_kind false false true _ _ is _ =
+        let q = common (writes new.changes) r.refs is in
+        first_under (touches_row q.0) r log new.parent (h.written q.0 q.1) (or_right (writes_row q.0 r) (has_row r.refs q.0) q.2)
+    by_kind false false false _ _ _ e = absurd cc
+
+under_covers : (log : List Record) (new : Record) → Under (writes new.changes) new.refs new.parent log → Covers (map place_of log) (touched new) new.parent
+under_covers [] new h = tt
+under_covers (r ∷ log) new h = (
+  conflict_under r new log h,
+  under_covers log new (record {
+    written = λ q is. rest_under (touches_row q) r log new.parent (h.written q is);
+    referred = λ q is. rest_under (writes_row q) r log new.parent (h.referred q is);
+  }),
+)
+
+covers_under : (log : List Record) (new : Record) → Covers (map place_of log) (touched new) new.parent → Under (writes new.changes) new.refs new.parent log
+covers_under [] new h = record { written = λ q is. omega arith; referred = λ q is. omega arith }
+covers_under (r ∷ log) new h =
+    let rest = covers_under log new h.1 in
+    record {
+      written = λ q is. both_under (touches_row q r) r.sequence (last_of (touches_row q) log) new.parent (λ t. h.0 (touch q is (writes_row q r) refl t)) (rest.written q is);
+      referred = λ q is. both_under (writes_row q r) r.sequence (last_of (writes_row q) log) new.parent
+          (λ t. h.0 (or_left _ (meets (writes new.changes) r.refs) (or_right (meets (writes r.changes) (writes new.changes)) (meets (writes r.changes) new.refs) (in_common (writes r.changes) new.refs q t is)))) (rest.referred q is);
+    }
+  where
+    touch : (q : RowId) → has_row (writes new.changes) q ≡ true → (b : Bool) → writes_row q r ≡ b → (b || has_row r.refs q) ≡ true → conflicts (touched r) (touched new) ≡ true
+    touch q is true wrote t =
+        or_left _ (meets (writes new.changes) r.refs) (or_left (meets (writes r.changes) (writes new.changes)) (meets (writes r.changes) new.refs) (in_common (writes r.changes) (writes new.changes) q wrote is))
+    touch q is false wrote t =
+        or_right (meets (writes r.changes) (writes new.changes) || meets (writes r.changes) new.refs) (meets (writes new.changes) r.refs) (in_common (writes new.changes) r.refs q is t)
+
+-- what the test of all rows of a list says
+all_le : (f : RowId → ℕ) (p : ℕ) (rows : List RowId) → list_all (λ row. nat_le (f row) p) rows ≡ true → (q : RowId) → has_row rows q ≡ true → f q ≤ p
+all_le f p [] h q is = absurd cc
+all_le f p (x ∷ rows) h q is =
+    let parts = and_parts (nat_le (f x) p) (list_all (λ row. nat_le (f row) p) rows) h in
+    at (same_row q x) refl is (le_from (f x) p parts.0) (λ k. all_le f p rows parts.1 q k)
+  where
+    at : (b : Bool) → same_row q x ≡ b → (b || has_row rows q) ≡ true → f x ≤ p → (has_row rows q ≡ true → f q ≤ p) → f q ≤ p
+    at true same k first rest = subst (λ r. f r ≤ p) (sym (row_is q x same)) first
+    at false other k first rest = rest k
+
+le_all : (f : RowId → ℕ) (p : ℕ) (rows : List RowId) → ((q : RowId) → has_row rows q ≡ true → f q ≤ p) → list_all (λ row. nat_le (f row) p) rows ≡ true
+le_all f p [] h = refl
+le_all f p (x ∷ rows) h =
+    and_from (nat_le (f x) p) (list_all (λ row. nat_le (f row) p) rows) (le_to (f x) p (h x (or_left (same_row x x) (has_row rows x) (same_itself x))))
+    (le_all f p rows (λ q is. h q (or_right (same_row q x) (has_row rows q) is)))
+
+alike : (a b : Bool) → (a ≡ true → b ≡ true) → (b ≡ true → a ≡ true) → a ≡ b
+alike true b f g = sym (f refl)
+alike false true f g = g refl
+alike false false f g = refl
+
+-- a parent that is no lower than the last touches covers the log
+pub behind_covers : (log : List Record) (marks : Marks) (new : Record) → AreLastTouches log marks → is_behind marks new ≡ is_covered log new
+behind_covers log marks new last = alike (is_behind marks new) (is_covered log new) (λ h.
+    let parts = and_parts (list_all (λ row. nat_le (touched_at marks row) new.parent) (writes new.changes)) (list_all (λ row. nat_le (written_at marks row) new.parent) new.refs) h in
+    covers_passes log (touched new) new.parent (under_covers log new (record {
+      written = λ q is. subst (λ n. n ≤ new.parent) (last.touched q) (all_le (touched_at marks) new.parent (writes new.changes) parts.0 q is);
+      referred = λ q is. subst (λ n. n ≤ new.parent) (last.written q) (all_le (written_at marks) new.parent new.refs parts.1 q is);
+    })))
+    (λ h.
+    let under = covers_under log new (passed_covers log (touched new) new.parent h) in
+    and_from (list_all (λ row. nat_le (touched_at marks row) new.parent) (writes new.changes)) (list_all (λ row. nat_le (written_at marks row) new.parent) new.refs)
+    (le_all (touched_at marks) new.parent (writes new.changes) (λ q is. subst (λ n. n ≤ new.parent) (sym (last.touched q)) (under.written q is)))
+    (le_all (written_at marks) new.parent new.refs (λ q is. subst (λ n. n ≤ new.parent) (sym (last.written q)) (under.referred q is))))

@@ -1,0 +1,120 @@
+-- The map of last touches as a finite map, and as rows are noted in it.
+use Rattle.std.proofs.Common.{◌≡◌, ◌∙◌, sym, ap, refl, ℕ, ◌+◌, ◌<◌, Bool, true, false, true≢false, ◌&&◌, ◌||◌, cond, eqb, int_eq, List, [], ◌∷◌, ◌++◌, length, take, get_or, Option, Some, Result, Ok, Err, IsOk, OnOk, unwrap_or, nat_cmp, int_cmp}
+use Rattle.std.specs.Cmp.{unsigned_tied, tied_then, eq_by_cmp_equiv}
+use Rattle.std.specs.Map.{lookup}
+use Rattle.std.specs.FinMap.{get, find, insert, from_entries, get-from_entries, get-insert, same_map}
+use Rattle.std.proofs.lemmas.List.{take_more, map_push}
+use Rattle.indexmap.specs.IndexMap.{IndexMap, Updates}
+use Rattle.schema.specs.declared.RowId.{RowId}
+use Rattle.schema.specs.RowId.{row_cmp, same_row, row_total, exact_row}
+use Rattle.schema.specs.Rows.{has_row}
+use Rattle.rows.specs.declared.Change.{Change}
+use Rattle.rows.specs.Database.{target, writes}
+use Rattle.rows.proofs.Apply.{row_is}
+use Rattle.relay.specs.declared.touches.Touch.{Touch}
+use Rattle.relay.specs.Touches.{Marks, untouched, touch_at, written_at, touched_at, NotesWrites, NotesRefs}
+
+-- ---- the map
+
+-- what `==` answers of two row ids
+abbrev pub row_eq : RowId → RowId → Bool
+row_eq a b = eqb a.table b.table && int_eq a.key b.key
+
+row_eq-same_row : (a b : RowId) → row_eq a b ≡ same_row a b
+row_eq-same_row a b = ap (λ t. t && int_eq a.key b.key) (sym (unsigned_tied a.table b.table)) ∙ tied_then (nat_cmp a.table b.table) (int_cmp a.key b.key)
+
+turned : (a b : RowId) → row_eq a b ≡ same_row b a
+turned a b = row_eq-same_row a b ∙ (eq_by_cmp_equiv row_total).symm a b
+
+abbrev pub marks_of : List (RowId × Touch) → Marks
+marks_of es = from_entries {R = row_cmp} es
+
+lookup-find : (es : List (RowId × Touch)) (q : RowId) → lookup (row_eq q) es ≡ find row_cmp q es
+lookup-find [] q = refl
+lookup-find (e ∷ es) q = λ i. cond (row_eq-same_row q e.0 i) (Some e.1) (lookup-find es q i)
+
+-- what the map has at a row
+pub get_row : (es : List (RowId × Touch)) (q : RowId) → get (marks_of es) q ≡ lookup (row_eq q) es
+get_row es q = get-from_entries row_total es q ∙ sym (lookup-find es q)
+
+marks-set : (es fs : List (RowId × Touch)) (k : RowId) (v : Touch) → ((q : RowId) → lookup (row_eq q) fs ≡ cond (row_eq k q) (Some v) (lookup (row_eq q) es)) → marks_of fs ≡ insert (marks_of es) k v
+marks-set es fs k v is = same_map row_total exact_row (marks_of fs) (insert (marks_of es) k v) (λ q.
+    get_row fs q ∙ is q ∙ (λ i. cond (turned k q i) (Some v) (sym (get_row es q) i)) ∙ sym (get-insert row_total (marks_of es) k v q))
+
+-- where the insert could not fail, the row is set
+pub marks-inserted : {S T E : Type 0} (m n : IndexMap RowId Touch S) (r : Result T E) (k : RowId) (v : Touch) → IsOk r → OnOk r (Updates row_eq m n k (Some v)) → marks_of n.entries ≡ insert (marks_of m.entries) k v
+marks-inserted m n (Ok x) k v h is = marks-set m.entries n.entries k v is.0
+marks-inserted m n (Err e) k v h is = absurd (true≢false (sym h))
+
+-- ---- a row is noted
+
+touch_at-insert : (marks : Marks) (row : RowId) (touch : Touch) (q : RowId) → touch_at (insert marks row touch) q ≡ cond (same_row q row) touch (touch_at marks q)
+touch_at-insert marks row touch q = ap (λ o. unwrap_or o untouched) (get-insert row_total marks row touch q) ∙ over (same_row q row) (get marks q)
+  where
+    over : (b : Bool) (o : Option Touch) → unwrap_or (cond b (Some touch) o) untouched ≡ cond b touch (unwrap_or o untouched)
+    over true o = refl
+    over false o = refl
+
+has_row-push : (rows : List RowId) (row q : RowId) → has_row (rows ++ row ∷ []) q ≡ (same_row q row || has_row rows q)
+has_row-push [] row q = refl
+has_row-push (x ∷ rows) row q = ap (λ b. same_row q x || b) (has_row-push rows row q) ∙ swapped (same_row q x) (same_row q row) (has_row rows q)
+  where
+    swapped : (a b c : Bool) → (a || (b || c)) ≡ (b || (a || c))
+    swapped true true c = refl
+    swapped true false c = refl
+    swapped false b c = refl
+
+joined : (a b : Bool) (new old : ℕ) → cond a new (cond b new old) ≡ cond (a || b) new old
+joined true b new old = refl
+joined false b new old = refl
+
+written_cond : (b : Bool) (s t : Touch) → (let c = cond b s t in c.written) ≡ cond b s.written t.written
+written_cond true s t = refl
+written_cond false s t = refl
+
+touched_cond : (b : Bool) (s t : Touch) → (let c = cond b s t in c.touched) ≡ cond b s.touched t.touched
+touched_cond true s t = refl
+touched_cond false s t = refl
+
+module _ (gno : ℕ) (old now : Marks) (rows : List RowId) (row : RowId) where
+  pub notes_write : NotesWrites gno old rows now → NotesWrites gno old (rows ++ row ∷ []) (insert now row (record { written = gno; touched = gno }))
+  notes_write h =
+      let touch : Touch = record { written = gno; touched = gno } in
+      record {
+        written = λ q.
+            ap (λ (t : Touch). t.written) (touch_at-insert now row touch q) ∙ written_cond (same_row q row) touch (touch_at now q)
+            ∙ ap (cond (same_row q row) gno) (h.written q) ∙ joined (same_row q row) (has_row rows q) gno (written_at old q)
+            ∙ ap (λ b. cond b gno (written_at old q)) (sym (has_row-push rows row q));
+        touched = λ q.
+            ap (λ (t : Touch). t.touched) (touch_at-insert now row touch q) ∙ touched_cond (same_row q row) touch (touch_at now q)
+            ∙ ap (cond (same_row q row) gno) (h.touched q) ∙ joined (same_row q row) (has_row rows q) gno (touched_at old q)
+            ∙ ap (λ b. cond b gno (touched_at old q)) (sym (has_row-push rows row q));
+      }
+
+  pub notes_ref : NotesRefs gno old rows now → NotesRefs gno old (rows ++ row ∷ []) (insert now row (record { written = written_at now row; touched = gno }))
+  notes_ref h =
+      let touch : Touch = record { written = written_at now row; touched = gno } in
+      record {
+        written = λ q.
+            ap (λ (t : Touch). t.written) (touch_at-insert now row touch q) ∙ written_cond (same_row q row) touch (touch_at now q)
+            ∙ same q (same_row q row) refl ∙ h.written q;
+        touched = λ q.
+            ap (λ (t : Touch). t.touched) (touch_at-insert now row touch q) ∙ touched_cond (same_row q row) touch (touch_at now q)
+            ∙ ap (cond (same_row q row) gno) (h.touched q) ∙ joined (same_row q row) (has_row rows q) gno (touched_at old q)
+            ∙ ap (λ b. cond b gno (touched_at old q)) (sym (has_row-push rows row q));
+      }
+    where
+      same : (q : RowId) (b : Bool) → same_row q row ≡ b → cond b (written_at now row) (written_at now q) ≡ written_at now q
+      same q true is = ap (written_at now) (sym (row_is q row is))
+      same q false is = refl
+
+-- the next change of a list, and the next row
+module _ (gno : ℕ) (old now : Marks) (i : ℕ) where
+  pub next_write : (changes : List Change) (change : Change) → NotesWrites gno old (writes (take i changes)) now → i < length changes → change ≡ get_or changes i change →
+      NotesWrites gno old (writes (take (i + 1) changes)) (insert now (target change) (record { written = gno; touched = gno }))
+  next_write changes change h within is =
+      rw (take_more changes i change within, ← is, map_push target (take i changes) change) (notes_write gno old now (writes (take i changes)) (target change) h)
+
+  pub next_ref : (rows : List RowId) (d : RowId) → NotesRefs gno old (take i rows) now → i < length rows →
+      NotesRefs gno old (take (i + 1) rows) (insert now (get_or rows i d) (record { written = written_at now (get_or rows i d); touched = gno }))
+  next_ref rows d h within = rw (take_more rows i d within) (notes_ref gno old now (take i rows) (get_or rows i d) h)

@@ -1,0 +1,9 @@
+use Rattle.std.proofs.Common.{sym, subst, List}
+use Rattle.record_codec.specs.declared.records.Record.{Record}
+use Rattle.relay.specs.Kept.{IsKept}
+use Rattle.relay.proofs.Last.{none_kept}
+use Rattle.relay.proofs.Relay.new.Goals as goal
+
+pub invariant_of-result : goal.invariant_of-result
+invariant_of-result c =
+    subst (λ (l : List Record). IsKept c.args.schema c.args.source l c.new-2.result c.new-3.result.rows) (sym c.new.ensures.items) (none_kept c.args.schema c.args.source c.new-2.result c.new-3.result.rows c.new-2.ensures c.new-3.ensures)

@@ -1,0 +1,155 @@
+//! Whether a record's flags and refs are such as its source's tables give for its changes. None of it takes memory.
+
+ghost use Rattle.std.specs.Prelude.{◌≡◌, ◌==◌, ◌||◌, ◌%◌, ◌^◌, ◌<◌, false, is_some, count_ones, slice_get, if◌then◌else◌, None};
+ghost use Rattle.std.specs.List.{list_all};
+ghost use Rattle.std.specs.Option.{option_map_or};
+ghost use Rattle.schema.specs.Schema.{link_of};
+ghost use Rattle.schema.specs.Flags.{is_parent as is_the_parent, is_fk, misses_keys as misses};
+ghost use Rattle.schema.specs.Rows.{has_row};
+ghost use Rattle.rows.specs.Database.{writes};
+ghost use Rattle.rows.specs.Naming.{names_column};
+ghost use Rattle.relay.specs.Form.{has_flags as flags_fit, are_parents as all_are_parents, given_value as value_given, given_parent as parent_given, has_ref as refers};
+
+use record_codec::{Record, Refs};
+use rows::{Change, Named};
+use schema::{RowId, Schema, Table};
+
+/// Whether the record's flags are those of the tables that its changes write. The time is that of two walks over the tables
+/// for each change.
+pub(crate) fn has_flags(schema: &Schema, new: &Record) -> bool
+    ensures { result ≡ flags_fit schema.now new.now }
+{
+    new.flags.fk == writes_related(schema, new.changes.list())
+        && new.flags.missing_keys == misses_keys(schema, new.changes.list())
+}
+
+/// Whether a change is of a table that has a parent or is one.
+fn writes_related(schema: &Schema, changes: &[Change]) -> bool
+    ensures { result ≡ is_fk schema.now (writes changes.now) }
+{
+    changes
+        .iter()
+        .map(|change| change.target())
+        .any(|row| is_related(schema, row.table))
+}
+
+fn is_related(schema: &Schema, table: u16) -> bool
+    ensures { result ≡ (is_some (link_of schema.now table) || is_the_parent schema.now table) }
+{
+    link_of(schema, table).is_some() || is_parent(schema, table)
+}
+
+/// Whether a change is of a keyless table.
+fn misses_keys(schema: &Schema, changes: &[Change]) -> bool
+    ensures { result ≡ misses schema.now (writes changes.now) }
+{
+    changes.iter().map(|change| change.target()).any(|row| schema
+        .table(row.table)
+        .is_some_and(|table| !table.keyed))
+}
+
+/// The column of a table whose value names a parent row, and the parent's table.
+fn link_of(schema: &Schema, table: u16) -> Option<(u8, u16)>
+    ensures { result ≡ link_of schema.now table }
+{
+    schema.table(table)?.parent
+}
+
+/// Whether the table is the parent of another.
+fn is_parent(schema: &Schema, table: u16) -> bool
+    ensures { result ≡ is_the_parent schema.now table }
+{
+    schema
+        .tables()
+        .iter()
+        .any(|child| is_child_of(child, table))
+}
+
+fn is_child_of(child: &Table, table: u16) -> bool
+    ensures { result ≡ option_map_or (λ link. link.1 == table) child.now.parent false }
+{
+    child.parent.is_some_and(|link| link.1 == table)
+}
+
+/// Whether each of the refs is of a table that is a parent. The time is that of a walk over the tables for each.
+pub(crate) fn are_parents(schema: &Schema, refs: &Refs) -> bool
+    ensures { result ≡ all_are_parents schema.now refs.now }
+{
+    refs.rows().iter().all(|row| is_parent(schema, row.table))
+}
+
+/// Whether each parent row that the changes give their rows is among the refs. The time is that of a walk over the tables for
+/// each change, and of a search in the refs.
+pub(crate) fn have_refs(schema: &Schema, changes: &[Change], refs: &Refs) -> bool
+    ensures { result ≡ list_all (refers schema.now refs.now) changes.now }
+{
+    changes.iter().all(|change| has_ref(schema, change, refs))
+}
+
+fn has_ref(schema: &Schema, change: &Change, refs: &Refs) -> bool
+    ensures { result ≡ refers schema.now refs.now change.now }
+{
+    match given_parent(schema, change) {
+        Some(parent) => is_among(refs, parent),
+        None => true,
+    }
+}
+
+/// The parent row that the change gives its row, if any.
+fn given_parent(schema: &Schema, change: &Change) -> Option<RowId>
+    ensures { result ≡ parent_given schema.now change.now }
+{
+    let (column, table) = link_of(schema, change.target().table)?;
+    let key = given_value(change, column)?;
+    Some(RowId { table, key })
+}
+
+/// The value that the change gives this column of its row, if any.
+fn given_value(change: &Change, column: u8) -> Option<i64>
+    ensures { result ≡ value_given change.now column }
+{
+    match change {
+        Change::Insert { values, .. } => values.columns().get(column as usize).copied(),
+        Change::Update { columns, .. } => named_value(columns, column),
+        Change::Delete { .. } => None,
+    }
+}
+
+/// The value of this column, if it is named.
+fn named_value(columns: &Named, column: u8) -> Option<i64>
+    ensures { result ≡ (if names_column columns.now.mask column then slice_get columns.now.values (count_ones (columns.now.mask % 2 ^ column)) else None) }
+{
+    let bits = columns.mask();
+    if column >= 16 {
+        return None;
+    }
+    if columns.names(column) {
+        value_behind(bits, columns.values(), column)
+    } else {
+        None
+    }
+}
+
+/// The value that stands behind those of the columns of the mask below this one.
+fn value_behind(mask: u16, values: &[i64], column: u8) -> Option<i64>
+    requires { column < 16 }
+    ensures { result ≡ slice_get values.now (count_ones (mask % 2 ^ column)) }
+{
+    let lower = mask % power_of(column);
+    values.get(lower.count_ones() as usize).copied()
+}
+
+/// The bit of the column in a mask.
+fn power_of(column: u8) -> u16
+    requires { column < 16 }
+    ensures { result ≡ 2 ^ column }
+{
+    1 << column
+}
+
+/// Whether the row is among the refs.
+fn is_among(refs: &Refs, row: RowId) -> bool
+    ensures { result ≡ has_row refs.now row }
+{
+    refs.rows().binary_search(&row).is_ok()
+}

@@ -1,0 +1,169 @@
+-- What is true under the lock, as each step leaves its parts.
+use Rattle.std.proofs.Common.{◌≡◌, ◌∙◌, sym, ap, subst, refl, ℕ, ◌+◌, ◌-◌, ◌<◌, ◌≤◌, ◌⊎◌, ◌^◌, inl, inr, Bool, true, false, true≢false, List, [], ◌∷◌, ◌++◌, length, drop, Option, Some, None, is_some, Ok, Err, IsErrOf, arith, slice_get, get_or, if◌then◌else◌}
+use Rattle.std.specs.Option.{option_map_or, option_map, option_and_then}
+use Rattle.std.proofs.lemmas.Option.{none-some}
+use Rattle.std.proofs.lemmas.List.{length_push}
+use Rattle.schema.specs.declared.Table.{Table}
+use Rattle.store_trait.specs.Batch.{Entry}
+use Rattle.executor.specs.declared.Job.{Job}
+use Rattle.published.specs.declared.counts.Counts.{Counts}
+use Rattle.relay.specs.declared.ReplicaFault.TheVariants as faults
+use Rattle.replica_core.specs.Replica.{Replica, dispatched, job_of, job_over}
+use Rattle.replica_core.specs.Calls.{new_over, next_commit, next_job, is_eligible, unless_stopped, committed_next, dispatched_next}
+use Rattle.replica_core.specs.Laws.{JobIsOfItsRecord}
+use Rattle.replica_core.specs.Sound.{IsSound}
+use Rattle.replica_core.proofs.Steps.{few_accepted, eligible_next}
+use Rattle.replica_shared.specs.declared.news.Outlook.{Outlook}
+use Rattle.replica_shared.specs.Outlet.{Queued, AreInLine, IsLastOut, pushed_aside, empty_outlet}
+use Rattle.replica_shared.specs.Together.{State, AreKept, IsWhole, IsSettled, IsBehindOrSettled}
+use Rattle.replica_shared.proofs.Places.{kept_later, dispatched_more}
+
+-- ---- what is left to do
+
+-- where the state says that something is, nothing is promised
+pub unsettled : (s : State) → s.behind ≡ true → IsBehindOrSettled s
+unsettled s is running not = absurd (true≢false (sym is ∙ not))
+
+-- what a new replica has to do
+pub new_settled : (s : State) (ts : List Table) (source : List ℕ) (b : List Entry) (workers : ℕ) → s.core ≡ new_over ts source b workers → s.outlet ≡ empty_outlet → IsSettled s
+new_settled s ts source b workers core outlet = record {
+  committed = subst (λ (r : Replica). next_commit r ≡ None) (sym core) refl;
+  published = subst (λ (r : Replica). r.published ≡ r.committed) (sym core) refl;
+  dispatched = subst (λ (r : Replica). is_eligible r ≡ false) (sym core) refl;
+  pushed = ap (λ (q : Queued). q.aside) outlet;
+}
+
+pub new_line : (r : Replica) (q : Queued) (ts : List Table) (source : List ℕ) (b : List Entry) (workers : ℕ) → r ≡ new_over ts source b workers → q ≡ empty_outlet → AreInLine (dispatched r) q
+new_line r q ts source b workers core outlet =
+    subst (λ (x : Replica). AreInLine (dispatched x) q) (sym core) (subst (λ (x : Queued). AreInLine 0 x) (sym outlet) refl)
+
+module _ (tables : List Table) (source : List ℕ) (base : List Entry) where
+  -- what is beside core, publisher and queue changes
+  pub whole_beside : (s : State) (closed : Bool) (kept : List (Option Job)) (claimed : ℕ) (told : Outlook) (appended : ℕ) (stored : List Counts) → AreKept (dispatched s.core) kept → claimed ≤ s.outlet.pushed → IsWhole tables source base s appended stored
+      → IsWhole tables source base (record s { closed = closed; kept = kept; claimed = claimed; told = told }) appended stored
+  whole_beside s closed kept claimed told appended stored places claims h = record {
+    stand = h.stand;
+    kept = places;
+    line = h.line;
+    claims = claims;
+    rest = λ running not. let is = h.rest running not in record { committed = is.committed; published = is.published; dispatched = is.dispatched; pushed = is.pushed };
+  }
+
+-- ---- the next commit
+
+turn_had : (stopped : Option ℕ) (turn : Bool) (n : ℕ) (gno : Option ℕ) → Ok gno ≡ option_map_or (λ at. Err (faults.Stopped at)) stopped (Ok (if turn then Some n else None)) → true ≡ is_some gno → turn ≡ true
+turn_had None true n gno is some = refl
+turn_had None false n None is some = absurd (true≢false some)
+turn_had None false n (Some g) is some = cc
+turn_had (Some at) turn n gno is some = cc
+
+-- the record that was committed was dispatched
+pub commit_had : (r : Replica) (gno : Option ℕ) → IsErrOf (Ok gno) faults.Memory ⊎ (Ok gno ≡ unless_stopped r (next_commit r)) → true ≡ is_some gno → get_or r.under_way 0 false ≡ true
+commit_had r gno (inl lacks) some = cc
+commit_had r gno (inr is) some = turn_had r.stopped (get_or r.under_way 0 false) (r.committed + 1) gno is some
+
+had_some : (flags : List Bool) → get_or flags 0 false ≡ true → length (drop 1 flags) + 1 ≡ length flags
+had_some [] is = absurd (true≢false (sym is))
+had_some (flag ∷ flags) is = omega arith
+
+pub dispatched_stays : (r : Replica) → get_or r.under_way 0 false ≡ true → dispatched (committed_next r) ≡ dispatched r
+dispatched_stays r is = omega (arith, had_some r.under_way is)
+
+-- ---- dispatching
+
+dispatched_next_is : (r : Replica) → dispatched (dispatched_next r) ≡ dispatched r + 1
+dispatched_next_is r = omega (arith, length_push r.under_way false)
+
+first_stays : (flags : List Bool) → get_or (flags ++ false ∷ []) 0 false ≡ get_or flags 0 false
+first_stays [] = refl
+first_stays (flag ∷ flags) = refl
+
+-- the next commit is the same where more is dispatched
+pub commit_stays : (r : Replica) → next_commit (dispatched_next r) ≡ next_commit r
+commit_stays r = ap (λ (b : Bool). if b then Some (r.committed + 1) else None) (first_stays r.under_way)
+
+-- the job that is dispatched may be pushed
+pub number_of_next : JobIsOfItsRecord → (r : Replica) (job : Job) → next_job r ≡ Some job → job.gno ≡ dispatched r + 1
+number_of_next law r job is = of_eligible (is_eligible r) is
+  where
+    of_eligible : (b : Bool) → (if b then job_of r (dispatched r + 1) else None) ≡ Some job → job.gno ≡ dispatched r + 1
+    of_eligible true made = (law r (dispatched r + 1) job made).gno
+    of_eligible false made = absurd (none-some job made)
+
+pub next_above : JobIsOfItsRecord → (r : Replica) (q : Queued) (job : Job) → next_job r ≡ Some job → AreInLine (dispatched r) q → q.aside ≡ None → q.pushed < job.gno
+next_above law r q job is line free =
+    let number = number_of_next law r job is in
+    let all : q.pushed ≡ dispatched r = subst (IsLastOut (dispatched r) q.pushed) free line in
+    omega arith
+
+pub next_in_line : JobIsOfItsRecord → (r : Replica) (q : Queued) (job : Job) → next_job r ≡ Some job → AreInLine (dispatched r) q → q.aside ≡ None → AreInLine (dispatched (dispatched_next r)) (record q { aside = Some job })
+next_in_line law r q job is line free =
+    let number = number_of_next law r job is in
+    let more = dispatched_next_is r in
+    let all : q.pushed ≡ dispatched r = subst (IsLastOut (dispatched r) q.pushed) free line in
+    (omega arith, omega arith)
+
+-- what the core's `dispatch` answers is the next job
+pub told_next : (r : Replica) (told : Option Job) → (IsErrOf (Ok told) faults.Memory ⊎ (Ok told ≡ unless_stopped r (next_job r))) → next_job r ≡ told
+told_next r told (inl lacks) = cc
+told_next r told (inr is) = of_stop r.stopped (next_job r) is
+  where
+    of_stop : (stopped : Option ℕ) (next : Option Job) → Ok told ≡ option_map_or (λ at. Err (faults.Stopped at)) stopped (Ok next) → next ≡ told
+    of_stop None next is = cc
+    of_stop (Some at) next is = cc
+
+-- one more is dispatched, and its job waits for its push
+pub whole_dispatched : JobIsOfItsRecord → (tables : List Table) (source : List ℕ) (base : List Entry) (s : State) (r : Replica) (q : Queued) (told : Option Job) (job : Job) (appended : ℕ) (stored : List Counts) → s.behind ≡ true → s.outlet.aside ≡ None → next_job s.core ≡ told → told ≡ Some job
+    → r ≡ (if is_some told then dispatched_next s.core else s.core) → q ≡ record s.outlet { aside = Some job } → IsWhole tables source base s appended stored → IsWhole tables source base (record s { core = r; outlet = q }) appended stored
+whole_dispatched law tables source base s r q told job appended stored behind free is some left put h =
+    let next : r ≡ dispatched_next s.core = left ∙ ap (λ (o : Option Job). if is_some o then dispatched_next s.core else s.core) some in
+    let t = h.stand in
+    rw (next, put) record {
+      stand = record { tables_are = t.tables_are; source_is = t.source_is; base_is = t.base_is; history = t.history; begins = t.begins; shown = t.shown; words = t.words; number = t.number };
+      kept = kept_later (dispatched s.core) (dispatched (dispatched_next s.core)) s.kept (dispatched_more s.core) h.kept;
+      line = next_in_line law s.core s.outlet job (is ∙ some) h.line free;
+      claims = h.claims;
+      rest = unsettled (record s { core = dispatched_next s.core; outlet = record s.outlet { aside = Some job } }) behind;
+    }
+
+-- nothing was dispatched where there was no job
+pub none_eligible : (r : Replica) → IsSound r → next_job r ≡ None → is_eligible r ≡ false
+none_eligible r sound is = of_eligible (is_eligible r) refl
+  where
+    some_job : is_eligible r ≡ true → (job : Job) × (job_of r (dispatched r + 1) ≡ Some job)
+    some_job may =
+        let next = eligible_next r may in
+        let place : dispatched r + 1 - 1 ≡ dispatched r = omega arith in
+        let got : slice_get r.accepted (dispatched r + 1 - 1) ≡ Some next.0 = ap (slice_get r.accepted) place ∙ next.1.got in
+        (job_over r.tables (dispatched r + 1) next.0 sound.rows, (λ i. option_and_then (λ rec. option_map (job_over r.tables (dispatched r + 1) rec) (sound.rows_are i)) (got i)))
+
+    of_eligible : (b : Bool) → is_eligible r ≡ b → is_eligible r ≡ false
+    of_eligible false at = at
+    of_eligible true at = absurd (none-some (some_job at).0 (sym is ∙ ap (λ (b : Bool). if b then job_of r (dispatched r + 1) else None) at ∙ (some_job at).1))
+
+-- the job that waited is pushed
+pub pushed_in_line : (n : ℕ) (q : Queued) → AreInLine n q → AreInLine n (pushed_aside q)
+pushed_in_line n q line = of_aside q.pushed q.aside line
+  where
+    of_aside : (pushed : ℕ) (aside : Option Job) → IsLastOut n pushed aside → AreInLine n (pushed_aside (record { pushed = pushed; aside = aside }))
+    of_aside pushed None line = line
+    of_aside pushed (Some job) line = line.1
+
+pub pushed_more : (n : ℕ) (q : Queued) → AreInLine n q → q.pushed ≤ (pushed_aside q).pushed
+pushed_more n q line = of_aside q.pushed q.aside line
+  where
+    of_aside : (pushed : ℕ) (aside : Option Job) → IsLastOut n pushed aside → pushed ≤ (pushed_aside (record { pushed = pushed; aside = aside })).pushed
+    of_aside pushed None line = omega arith
+    of_aside pushed (Some job) line = let last = line.0 in let number = line.1 in omega arith
+
+-- so few are pushed
+pub few_pushed : (tables : List Table) (source : List ℕ) (base : List Entry) (s : State) (appended : ℕ) (stored : List Counts) → IsSound s.core → IsWhole tables source base s appended stored → s.outlet.pushed < 2 ^ 63
+few_pushed tables source base s appended stored sound h =
+    let few = few_accepted s.core.tables s.core.accepted sound.accepted in
+    let all = sound.dispatched in
+    let last = pushed_within (dispatched s.core) s.outlet.pushed s.outlet.aside h.line in
+    omega arith
+  where
+    pushed_within : (n pushed : ℕ) (aside : Option Job) → IsLastOut n pushed aside → pushed ≤ n
+    pushed_within n pushed None line = omega arith
+    pushed_within n pushed (Some job) line = let last = line.0 in omega arith

@@ -1,0 +1,10 @@
+use Rattle.replica_shared.proofs.Feeding.{still_running, takes_and_settles}
+use Rattle.replica_shared.proofs.coordinator.Coordinator.take.Goals as goal
+
+pub settle_past-settled-requires : goal.settle_past-settled-requires
+settle_past-settled-requires g c = record { runs = λ more. still_running _ _ _ _ _ _ _ c.take_piece-taken.ensures.takes c.accepted-before.ensures more }
+
+pub returns-clause-takes : goal.returns-clause-takes
+returns-clause-takes g c =
+    takes_and_settles _ _ _ _ _ _ _ _ _ _ c.take_piece-taken.ensures.takes c.take_piece-taken.ensures.left c.accepted-before.ensures c.settle_past-settled.ensures.none
+    c.settle_past-settled.ensures.some c.told_of.ensures

@@ -1,0 +1,60 @@
+-- What a piece of a wire's bytes does to what lies under the lock, and to the wire; and sets of ids.
+use Rattle.std.specs.Prelude.{◌≡◌, ◌⊎◌, ℕ, ◌<◌, ◌≤◌, ◌||◌, nat_lt, true, List, length, Result, Ok, Err, IsOk, MatchResult}
+use Rattle.schema.specs.declared.Table.{Table}
+use Rattle.store_trait.specs.Batch.{Entry}
+use Rattle.gtid_set.specs.Ids.{Ids}
+use Rattle.gtid_set.specs.Numbers.{has_number}
+use Rattle.relay.specs.declared.ReplicaFault.{ReplicaFault}
+use Rattle.relay.specs.declared.ReplicaFault.TheVariants as faults
+use Rattle.replica_core.specs.Replica.{Replica}
+use Rattle.replica_core.specs.Wire.{Wire, Takes, piece_taken}
+use Rattle.replica_core.specs.declared.wire.WireFault.{WireFault}
+use Rattle.replica_core.specs.declared.wire.WireFault.TheVariants as wire
+use Rattle.replica_shared.specs.Together.{State, Settles, IsSettled}
+
+-- a core of this replica
+abbrev pub IsNamed : List Table → List ℕ → List Entry → Replica → Type 0
+IsNamed tables source base r = (r.tables ≡ tables) × (r.source ≡ source) × (r.base ≡ base)
+
+-- what a wire's `take` over the core leaves: where more is accepted, something may be left to do
+abbrev pub left_by_take : State → Replica → State
+left_by_take s core = record s { core = core; behind = s.behind || nat_lt (length s.core.accepted) (length core.accepted) }
+
+-- all is done that can be, or memory ran out
+abbrev pub SettlesOrLacks : State → Result (Unit {0}) ReplicaFault → State → Type 0
+SettlesOrLacks s result then = Settles s then × MatchResult result (λ done. IsSettled then) (λ fault. (fault ≡ faults.Memory) × (then.behind ≡ true))
+
+-- What is told of a piece: what the wire's `take` answers, and, where that is Ok, the fault of what was to be done behind it. That
+-- is told as one of the piece's records, since the piece is taken.
+abbrev pub told_behind : Result ℕ WireFault → Result (Unit {0}) ReplicaFault → Result ℕ WireFault
+told_behind (Err fault) settled = Err fault
+told_behind (Ok count) (Ok done) = Ok count
+told_behind (Ok count) (Err fault) = Err (wire.Replica fault)
+
+-- The wire and the core are as the wire's `take` leaves them. Where it accepted records, all is done then that can be; where it
+-- accepted none, nothing more.
+pub record TakesAndSettles (s : State) (old : Wire) (piece : List ℕ) (answer : Result ℕ WireFault) (new : Wire) (then : State) : Type 0 where
+  pub core : Replica
+  pub taken : Result ℕ WireFault
+  pub takes : Takes old s.core piece taken new core
+  pub settled : Result (Unit {0}) ReplicaFault
+  pub some : length s.core.accepted < length core.accepted → SettlesOrLacks (left_by_take s core) settled then
+  pub none : length core.accepted ≤ length s.core.accepted → (settled ≡ Ok tt) × (then ≡ s)
+  pub told : answer ≡ told_behind taken settled
+
+-- What a piece does to the wire: what the wire's `take` does over a core of this replica. Its own answer is told, or, where that
+-- is Ok, that memory ran out. Either way so much of the piece is taken as the answer says.
+pub record Feeds (tables : List Table) (source : List ℕ) (base : List Entry) (old : Wire) (piece : List ℕ) (answer : Result ℕ WireFault) (new : Wire) : Type 0 where
+  pub before : Replica
+  pub named : IsNamed tables source base before
+  pub core : Replica
+  pub taken : Result ℕ WireFault
+  pub takes : Takes old before piece taken new core
+  pub told : (answer ≡ taken) ⊎ (IsOk taken × (answer ≡ Err (wire.Replica faults.Memory)))
+  pub bytes : piece_taken answer piece ≡ piece_taken taken piece
+
+-- ---- sets of ids
+
+-- all numbers of the set are at most this one
+abbrev pub AreUpTo : ℕ → Ids → Type 0
+AreUpTo n ids = (gno : ℕ) → has_number ids.numbers gno ≡ true → gno ≤ n

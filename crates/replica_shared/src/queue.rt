@@ -1,0 +1,99 @@
+//! The queue through which jobs get to the workers, who take them without the lock.
+//!
+//! One pass pushes, and any may steal. The rule: the gnos in the queue rise, and are above every gno that any pass stole; none
+//! of either is above the greatest that was pushed. So no job is pushed twice and none is given twice, whatever the threads do.
+//! What a job has in it the core says, which keeps a copy of its rows.
+ghost use Rattle.std.specs.Prelude.{◌≡◌, ◌<◌, ◌∷◌, IfOk, IfErr, IfSome, OnOk, IfNone};
+ghost use Rattle.replica_shared.specs.Queue.{IsPassOf, hand_of, empty_hand, with_pushed, with_stolen, AllBelow};
+
+use crate::hand::Hand;
+use crossbeam_deque::protocol::{Outcome, Protocol};
+use crossbeam_deque::{Injector, InjectorPass, Steal};
+use executor::Job;
+use schema::Memory;
+use std::alloc::Global;
+use std::sync::Wait;
+
+/// The rule.
+pub struct InLogOrder;
+
+impl Protocol<Job, Hand> for InLogOrder {
+    ghost use Rattle.replica_shared.specs.Queue.{LieInOrder, empty_hand};
+
+    ghost holds = { LieInOrder };
+
+    ghost first = { empty_hand };
+
+    ghost guest = { empty_hand };
+}
+
+/// A job came.
+struct Pushed;
+
+impl Outcome<Job, Hand> for Pushed {
+    ghost use Rattle.replica_shared.specs.Queue.{Pushes};
+
+    ghost then = { Pushes };
+}
+
+/// A job left.
+struct Stolen;
+
+impl Outcome<Job, Hand> for Stolen {
+    ghost use Rattle.replica_shared.specs.Queue.{Steals};
+
+    ghost then = { Steals };
+}
+
+/// What one caller knows of a queue of jobs: what it pushed and stole. It has no bytes.
+pub type Pass = InjectorPass<Job, Hand>;
+
+/// The jobs that were dispatched and that no worker took yet, in log order.
+#[derive(Drop)]
+pub struct Jobs {
+    queue: Injector<Job, Global, Hand, InLogOrder>,
+}
+
+impl Jobs {
+    /// An empty queue, and the one pass that may push.
+    pub fn new(alloc: Global) -> Result<(Jobs, Pass), Memory>
+        ensures { IfOk result (λ made. IsPassOf made.0 made.1 × (made.1.id ≡ 0) × (hand_of made.1 ≡ empty_hand)) }
+    {
+        let (queue, pass) = Injector::new_as(alloc)?;
+        Ok((Jobs { queue }, pass))
+    }
+
+    /// A pass for one who steals. It takes no memory.
+    pub fn pass(&self) -> Pass
+        ensures { IsPassOf self.now result × (hand_of result ≡ empty_hand) }
+    {
+        self.queue.pass()
+    }
+
+    /// Puts a job behind the others. Its gno is above every gno that was pushed before. A job for which there is no memory comes
+    /// back. The time does not grow with the queue; a job in 31 takes memory.
+    pub fn push(&self, rt: &impl Wait, pass: &mut Pass, job: Job) -> Result<(), Job>
+        requires queue { IsPassOf self.now pass.old }
+        requires pushes { pass.old.id ≡ 0 }
+        requires rises { (hand_of pass.old).pushed < job.gno }
+        ensures same { IsPassOf self.now pass.new × (pass.new.id ≡ pass.old.id) }
+        ensures ok { OnOk result (hand_of pass.new ≡ with_pushed (hand_of pass.old) job.gno) }
+        ensures err { IfErr result (λ back. (back ≡ job) × (hand_of pass.new ≡ hand_of pass.old)) }
+    {
+        self.queue.push_as::<Pushed, _>(rt, pass, job)
+    }
+
+    /// Takes the first job, which no pass stole before. `None` where there is none, or another takes one meanwhile.
+    pub fn steal(&self, rt: &impl Wait, pass: &mut Pass) -> Option<Job>
+        requires queue { IsPassOf self.now pass.old }
+        ensures same { IsPassOf self.now pass.new × (pass.new.id ≡ pass.old.id) }
+        ensures job { IfSome result (λ job. hand_of pass.new ≡ with_stolen (hand_of pass.old) job.gno) }
+        ensures new { IfSome result (λ job. AllBelow job.gno (hand_of pass.old).stolen) }
+        ensures none { IfNone result (hand_of pass.new ≡ hand_of pass.old) }
+    {
+        match self.queue.steal_as::<Stolen, _>(rt, pass) {
+            Steal::Success(job) => Some(job),
+            Steal::Empty | Steal::Retry => None,
+        }
+    }
+}

@@ -1,0 +1,42 @@
+//! The seats that are not out.
+ghost use Rattle.std.specs.Prelude.{◌≡◌, ◌++◌, ◌∷◌, [], All, IfSome, option_to_list};
+ghost use Rattle.store_trait.specs.declared.Op.TheVariants.{Load};
+
+use crate::naming::ReplicaNaming;
+use published::ReadSeat;
+use std::marker::Model;
+use store_trait::RowStore;
+
+/// Seats that have seen the load of this replica's rows alone. Contracts see them as what each has seen.
+#[derive(Drop)]
+pub struct Seats<S: RowStore + Drop, J: ReplicaNaming> {
+    free: Vec<ReadSeat<S, J>>,
+}
+
+impl<S: RowStore + Drop, J: ReplicaNaming> Model for Seats<S, J> {
+    ghost use Rattle.std.specs.Prelude.{◌≡◌, ◌∷◌, [], All, List};
+    ghost use Rattle.store_trait.specs.declared.Op.{Op};
+    ghost use Rattle.store_trait.specs.declared.Op.TheVariants.{Load};
+
+    ghost Value = { List (List Op) };
+
+    ghost view = { λ s. s.free.items };
+
+    ghost invariant = { λ s. All (λ seat. seat ≡ Load J.base ∷ []) s.free.items };
+}
+
+impl<S: RowStore + Drop, J: ReplicaNaming> Seats<S, J> {
+    pub(crate) fn new(free: Vec<ReadSeat<S, J>>) -> Seats<S, J>
+        requires { All (λ seat. seat ≡ Load J.base ∷ []) free.items }
+    {
+        Seats { free }
+    }
+
+    /// One of them, where any is left.
+    pub(crate) fn take(&mut self) -> Option<ReadSeat<S, J>>
+        ensures seat { IfSome result (λ seat. seat ≡ Load J.base ∷ []) }
+        ensures taken { self.old ≡ self.new ++ option_to_list result }
+    {
+        self.free.pop()
+    }
+}

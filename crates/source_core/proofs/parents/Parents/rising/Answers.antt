@@ -1,0 +1,12 @@
+use Rattle.std.proofs.Common.{◌∙◌, ap}
+use Rattle.std.proofs.lemmas.List.Filters.{dedup_is}
+use Rattle.overlay.proofs.Order.{row_eq}
+use Rattle.source_core.specs.Refs.{rising}
+use Rattle.source_core.proofs.RisingRows.{sorted_once}
+use Rattle.source_core.proofs.parents.Parents.rising.Goals as goal
+
+pub returns-clause-rows : goal.returns-clause-rows
+returns-clause-rows c =
+    dedup_is row_eq c.sort_unstable.new.self.items c.dedup.new.self.items c.dedup.ensures.filtered
+    ∙ sorted_once c.in_ok-rows.rows.items c.sort_unstable.new.self.items c.sort_unstable.ensures.permutation c.sort_unstable.ensures.sorted
+    ∙ ap rising (c.in_ok-rows.ensures ∙ c.self.view_is)

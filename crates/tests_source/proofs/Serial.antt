@@ -1,0 +1,42 @@
+-- Where all of a log is committed, its length is an order parent.
+use Rattle.std.proofs.Common.{◌≡◌, ◌∙◌, sym, ap, subst, ℕ, zero, suc, ◌+◌, ◌≤◌, List, [], ◌∷◌, ◌++◌, length, reverse, Some, eqb, refl, arith}
+use Rattle.std.specs.List.{AllByRecursion, slice_get}
+use Rattle.std.proofs.lemmas.List.{reverse-reverse}
+use Rattle.std.proofs.lemmas.Option.{slice_get_within}
+use Rattle.schema.specs.declared.Table.{Table}
+use Rattle.log_index.specs.declared.Entry.{Entry}
+use Rattle.log_index.specs.declared.Footprint.{Footprint}
+use Rattle.log_index.specs.Footprint.{touched}
+use Rattle.log_index.specs.Log.{IsNumbered}
+use Rattle.log_index.proofs.Places.{length_covers}
+use Rattle.tracker_trait.specs.History.{last_of}
+use Rattle.tracker_trait.specs.Law.{IsOrderParent, stamped}
+use Rattle.writeset_trackers.proofs.Lists.{either_within, of_reverse}
+
+abbrev IsWithin : ℕ → Entry → Type 0
+IsWithin n e = e.sequence ≤ n
+
+each_within : (n : ℕ) (log : List Entry) → ((i : ℕ) (e : Entry) → slice_get log i ≡ Some e → e.sequence ≤ n) → AllByRecursion (IsWithin n) log
+each_within n [] at = tt
+each_within n (e ∷ log) at = (at 0 e refl, each_within n log (λ i next is. at (suc i) next is))
+
+last_within : (n : ℕ) (log : List Entry) (session : ℕ) → AllByRecursion (IsWithin n) log → last_of log session ≤ n
+last_within n [] session all = omega arith
+last_within n (last ∷ older) session all = either_within (eqb last.session session) last.sequence (last_of older session) n all.0 (last_within n older session all.1)
+
+pub serial : (log seen : List Entry) (t : Footprint) (session order : ℕ) → IsNumbered seen → seen ≡ log → order ≡ length seen → IsOrderParent log t session order
+serial log seen t session order numbered same e =
+    subst (λ (l : List Entry). IsOrderParent l t session order) same
+    (record {
+      covers = length_covers seen (touched t) order numbered (omega (arith, e));
+      within = omega (arith, e);
+      own = last_within order (reverse seen) session (of_reverse (IsWithin order) (reverse seen) (subst (AllByRecursion (IsWithin order)) (sym (reverse-reverse seen))
+          (each_within order seen (λ i next is. omega (arith, (numbered i next is).number, slice_get_within seen i next is, e)))));
+    })
+
+-- the log with the transaction behind it
+pub logged : {T : Type 0} (agrees_ : T → List Table → List Entry → Type 0) (tracker : T) (ts : List Table) (log seen new : List Entry) (t : Footprint) (session parent committed : ℕ) → seen ≡ log → committed ≡ length seen →
+    new ≡ log ++ record { sequence = committed + 1; parent = parent; session = session; footprint = t } ∷ [] → agrees_ tracker ts (stamped log t session parent) → agrees_ tracker ts new
+logged agrees_ tracker ts log seen new t session parent committed same e is agrees =
+    let at : committed ≡ length log = e ∙ ap length same in
+    subst (λ (l : List Entry). agrees_ tracker ts l) (sym (is ∙ ap (λ n. log ++ record { sequence = n + 1; parent = parent; session = session; footprint = t } ∷ []) at)) agrees

@@ -1,0 +1,123 @@
+//! A device in memory that does as it is told: its syncs take a while, one is held, and writes find no memory.
+
+use log_device::{Device, DeviceFault, MemoryDevice};
+use std::sync::atomic::{AtomicBool, AtomicU64, Ordering};
+use std::thread::sleep;
+use std::time::{Clock, Duration};
+
+/// How many milliseconds a thread waits for another to come so far.
+pub const PATIENCE: u32 = 3000;
+
+/// What the device is told, and what it tells.
+#[derive(Drop)]
+pub struct Orders<'r, R: Clock> {
+    rt: &'r R,
+    /// So many more writes past the end find no memory.
+    pub refusals: AtomicU64,
+    /// How many milliseconds a sync takes.
+    pub millis: u64,
+    /// The sync of this number is held until it is freed, for a while at most.
+    pub held: u64,
+    /// How often it was synced.
+    syncs: AtomicU64,
+    /// It is in the sync that is held.
+    pub entered: AtomicBool,
+    /// That may go on.
+    pub freed: AtomicBool,
+}
+
+impl<'r, R: Clock> Orders<'r, R> {
+    pub fn new(rt: &'r R, millis: u64, held: u64) -> Orders<'r, R> {
+        Orders {
+            rt,
+            refusals: AtomicU64::new(0),
+            millis,
+            held,
+            syncs: AtomicU64::new(0),
+            entered: AtomicBool::new(false),
+            freed: AtomicBool::new(false),
+        }
+    }
+
+    /// How many groups were synced: each twice, and a new log once.
+    pub fn groups(&self) -> u64 {
+        self.syncs.load(Ordering::SeqCst) / 2
+    }
+
+    /// Whether the next write finds no memory.
+    fn refuses(&self) -> bool {
+        let left = self.refusals.load(Ordering::SeqCst);
+        self.refusals
+            .store(left.saturating_sub(1), Ordering::SeqCst);
+        left > 0
+    }
+
+    /// A sync.
+    fn syncs(&self) {
+        let before = self.syncs.fetch_add(1, Ordering::SeqCst);
+        if self.millis > 0 {
+            sleep(self.rt, Duration::from_millis(self.millis));
+        }
+        if before.wrapping_add(1) == self.held {
+            self.entered.store(true, Ordering::SeqCst);
+            comes(self.rt, &self.freed);
+        }
+    }
+}
+
+/// Whether the flag is set before the patience ends.
+pub fn comes(clock: &impl Clock, flag: &AtomicBool) -> bool {
+    for _ in 0..PATIENCE {
+        if flag.load(Ordering::SeqCst) {
+            return true;
+        }
+        sleep(clock, Duration::from_millis(1));
+    }
+    false
+}
+
+/// The device.
+#[derive(Drop)]
+pub struct Ordered<'a, D: Device, R: Clock> {
+    pub inner: D,
+    pub orders: &'a Orders<'a, R>,
+}
+
+impl<'a, D: Device, R: Clock> Device for Ordered<'a, D, R> {
+    ghost seen = { λ d. D.seen d.inner };
+
+    ghost faults = { λ d. D.faults d.inner };
+
+    fn len(&self) -> u64 {
+        self.inner.len()
+    }
+
+    fn failures(&self) -> u64 {
+        self.inner.failures()
+    }
+
+    fn read(&mut self, at: u64, out: &mut [u8]) -> Result<usize, DeviceFault> {
+        self.inner.read(at, out)
+    }
+
+    fn write_at(&mut self, at: u64, bytes: &[u8]) -> Result<(), DeviceFault> {
+        let end = at.saturating_add(bytes.len() as u64);
+        let may_lack = self.inner.len() < end && self.inner.failures() < u64::MAX;
+        if may_lack && self.orders.refuses() {
+            return Err(DeviceFault::Memory);
+        }
+        self.inner.write_at(at, bytes)
+    }
+
+    fn cut(&mut self, len: u64) -> Result<(), DeviceFault> {
+        self.inner.cut(len)
+    }
+
+    fn sync(&mut self) -> Result<(), DeviceFault> {
+        self.orders.syncs();
+        self.inner.sync()
+    }
+}
+
+/// The same in memory.
+pub type InMemory<'a, R> = Ordered<'a, MemoryDevice, R>;

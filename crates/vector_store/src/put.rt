@@ -1,0 +1,200 @@
+//! A batch is put whole or not at all.
+//!
+//! The rows that are new are counted, and so many free places made behind all rows: only that may be refused. They are a gap
+//! among the rows. For each row of the batch, the last first, the gap is moved down to where the row is or would stand, by
+//! moving the rows between to its other end. A row that is there falls into it, and one that is set is written at its end. So
+//! what is behind the gap is done, what is before it is as it was, and the gap is as wide as the new rows that are still to come
+//! and the removed ones. At the end it is closed, where rows were removed.
+
+ghost use Rattle.std.specs.Prelude.{◌≡◌, ◌+◌, ◌-◌, ◌<◌, ◌≤◌, [], ◌∷◌, ◌++◌, ◌&&◌, length, take, drop, count_by, is_some, is_none, IsSome, IsNone, IfOk, OnOk, OnErr};
+ghost use Rattle.std.specs.declared.cmp.Ordering.TheVariants.{Less};
+ghost use Rattle.std.specs.FinMap.{get as row_of};
+ghost use Rattle.schema.specs.declared.RowId.{RowId};
+ghost use Rattle.schema.specs.RowId.{row_cmp};
+ghost use Rattle.store_trait.specs.Batch.{IsRising, put_row, put_batch};
+ghost use Rattle.vector_store.specs.Contents.{contents_of, AreBehind, AreInOrder};
+ghost use Rattle.vector_store.specs.Gap.{IsGap, around, room_of, IsParted, is_new, count_of};
+
+use crate::Stored;
+use crate::search::place_near_end;
+use rows::Row;
+use schema::{Memory, RowId};
+
+/// A row by its id, or that there is none.
+type Entry = (RowId, Option<Row>);
+
+/// The places from `start` up to `end`, which are free.
+#[derive(Clone, Copy)]
+struct Gap {
+    start: usize,
+    end: usize,
+}
+
+/// Puts all of these entries, or, where memory runs out, none.
+pub(crate) fn put_whole(rows: &mut Vec<Stored>, entries: &[Entry]) -> Result<(), Memory>
+    requires rising { IsRising entries.now }
+    requires order { AreInOrder rows.old.items }
+    ensures ok { OnOk result (contents_of rows.new.items ≡ put_batch entries.now (contents_of rows.old.items)) }
+    ensures err { OnErr result (rows.new.items ≡ rows.old.items) }
+    ensures order { AreInOrder rows.new.items }
+{
+    let count = count_new(rows, entries);
+    let gap = open(rows, count)?;
+    let left = merge(rows, entries, gap);
+    close(rows, left);
+    Ok(())
+}
+
+/// How many rows that are not there the entries set.
+fn count_new(rows: &[Stored], entries: &[Entry]) -> usize
+    requires rising { IsRising entries.now }
+    requires order { AreInOrder rows.now }
+    ensures { result ≡ count_by (is_new (contents_of rows.now)) entries.now }
+{
+    let mut count = 0;
+    let mut end = rows.len();
+    let mut left = entries;
+    while let Some((entry, before)) = left.split_last() {
+        let (id, row) = *entry;
+        let (place, adds) = look_up(&rows[..end], id, row.is_some());
+        count += usize::from(adds);
+        end = place;
+        left = before;
+    }
+    count
+}
+
+/// The place from which on all rows are behind those that are before the row, and whether it is set without being there.
+fn look_up(rows: &[Stored], id: RowId, is_set: bool) -> (usize, bool)
+    requires { AreInOrder rows.now }
+    ensures within { result.0 ≤ length rows.now }
+    ensures behind { (q : RowId) → row_cmp q id ≡ Less → AreBehind q (drop result.0 rows.now) }
+    ensures adds { result.1 ≡ (is_set && is_none (row_of (contents_of rows.now) id)) }
+{
+    match place_near_end(rows, id) {
+        Ok(place) => (place, false),
+        Err(place) => (place, is_set),
+    }
+}
+
+/// Makes so many free places behind the rows, or, where memory runs out, none.
+fn open(rows: &mut Vec<Stored>, count: usize) -> Result<Gap, Memory>
+    ensures gap { IfOk result (λ gap. IsGap gap rows.new.items) }
+    ensures ok { IfOk result (λ gap. around gap rows.new.items ≡ rows.old.items) }
+    ensures last { IfOk result (λ gap. drop gap.end rows.new.items ≡ []) }
+    ensures room { IfOk result (λ gap. room_of gap ≡ count) }
+    ensures err { OnErr result (rows.new.items ≡ rows.old.items) }
+{
+    rows.reserve(count)?;
+    let start = rows.len();
+    let end = start + count;
+    rows.resize(end, filler())?;
+    Ok(Gap { start, end })
+}
+
+/// What stands in a free place.
+fn filler() -> Stored {
+    (RowId { table: 0, key: 0 }, Row::new(&[0]).unwrap())
+}
+
+/// Puts the entries, the last of them first, into the rows around the gap, which is behind all rows and has a place for each row
+/// that is new. Answers the gap that is left.
+fn merge(rows: &mut [Stored], entries: &[Entry], mut gap: Gap) -> Gap
+    requires rising { IsRising entries.now }
+    requires gap { IsGap gap rows.old }
+    requires order { AreInOrder (around gap rows.old) }
+    requires last { drop gap.end rows.old ≡ [] }
+    requires room { room_of gap ≡ count_by (is_new (contents_of (around gap rows.old))) entries.now }
+    ensures gap { IsGap result rows.new }
+    ensures order { AreInOrder (around result rows.new) }
+    ensures put { contents_of (around result rows.new) ≡ put_batch entries.now (contents_of (around gap rows.old)) }
+{
+    let mut left = entries;
+    while let Some((entry, before)) = left.split_last() {
+        let (id, row) = *entry;
+        gap = put_one(rows, gap, id, row);
+        left = before;
+    }
+    gap
+}
+
+/// Puts one row, or removes it, where all rows behind the gap are behind it. Answers the gap that is left.
+fn put_one(rows: &mut [Stored], gap: Gap, id: RowId, row: Option<Row>) -> Gap
+    requires gap { IsGap gap rows.old }
+    requires order { AreInOrder (around gap rows.old) }
+    requires behind { AreBehind id (drop gap.end rows.old) }
+    requires room { IsSome row → IsNone (row_of (contents_of (around gap rows.old)) id) → 0 < room_of gap }
+    ensures gap { IsGap result rows.new }
+    ensures order { AreInOrder (around result rows.new) }
+    ensures put { contents_of (around result rows.new) ≡ put_row (contents_of (around gap rows.old)) id row }
+    ensures behind { (q : RowId) → row_cmp q id ≡ Less → AreBehind q (drop result.end rows.new) }
+    ensures room { room_of result + count_of (is_some row)
+        ≡ room_of gap + count_of (is_some (row_of (contents_of (around gap rows.old)) id)) }
+{
+    let parted = part(rows, gap, id);
+    match row {
+        None => parted,
+        Some(row) => fill(rows, parted, id, row),
+    }
+}
+
+/// Moves the gap to where the row is or would stand. A row that is there falls into it.
+fn part(rows: &mut [Stored], gap: Gap, id: RowId) -> Gap
+    requires gap { IsGap gap rows.old }
+    requires order { AreInOrder (around gap rows.old) }
+    requires behind { AreBehind id (drop gap.end rows.old) }
+    ensures gap { IsGap result rows.new }
+    ensures parted { IsParted (around gap rows.old) id (take result.start rows.new) (drop result.end rows.new) }
+    ensures room { room_of result ≡ room_of gap + count_of (is_some (row_of (contents_of (around gap rows.old)) id)) }
+{
+    match place_near_end(&rows[..gap.start], id) {
+        Ok(place) => move_gap(rows, gap, place, place + 1),
+        Err(place) => move_gap(rows, gap, place, place),
+    }
+}
+
+/// Moves the rows from `behind` up to the gap to its other end, and lets the gap begin at `start`.
+fn move_gap(rows: &mut [Stored], gap: Gap, start: usize, behind: usize) -> Gap
+    requires gap { IsGap gap rows.old }
+    requires rises { start ≤ behind }
+    requires within { behind ≤ gap.start }
+    ensures gap { IsGap result rows.new }
+    ensures front { take result.start rows.new ≡ take start (take gap.start rows.old) }
+    ensures back { drop result.end rows.new ≡ drop behind (take gap.start rows.old) ++ drop gap.end rows.old }
+    ensures room { room_of result ≡ room_of gap + (behind - start) }
+{
+    let end = gap.end - (gap.start - behind);
+    if behind < end {
+        rows.copy_within(behind..gap.start, end);
+    }
+    Gap { start, end }
+}
+
+/// Writes the row at the end of the gap.
+fn fill(rows: &mut [Stored], gap: Gap, id: RowId, row: Row) -> Gap
+    requires gap { IsGap gap rows.old }
+    requires room { 0 < room_of gap }
+    ensures gap { IsGap result rows.new }
+    ensures front { take result.start rows.new ≡ take gap.start rows.old }
+    ensures back { drop result.end rows.new ≡ (id, row) ∷ drop gap.end rows.old }
+    ensures room { room_of result + 1 ≡ room_of gap }
+{
+    let Gap { start, end } = gap;
+    rows[end - 1] = (id, row);
+    Gap {
+        start,
+        end: end - 1,
+    }
+}
+
+/// Closes the gap.
+fn close(rows: &mut Vec<Stored>, gap: Gap)
+    requires { IsGap gap rows.old.items }
+    ensures { rows.new.items ≡ around gap rows.old.items }
+{
+    if gap.start < gap.end {
+        let len = rows.len() - (gap.end - gap.start);
+        rows.copy_within(gap.end.., gap.start);
+        rows.truncate(len);
+    }
+}

@@ -1,0 +1,291 @@
+-- What a run began with and its events fix its replies.
+use Rattle.std.proofs.Common.{◌≡◌, ◌∙◌, sym, ap, subst, refl, ℕ, zero, suc, ◌+◌, ◌-◌, ◌<◌, ◌≤◌, Bool, true, false, not, ◌&&◌, ◌||◌, nat_le, List, [], ◌∷◌, ◌++◌, length, map, take, drop, Option, slice_get, inl, inr, if◌then◌else◌, arith}
+use Rattle.std.specs.Prelude.{Ok, option_and_then, nat_lt, ◌⊎◌}
+use Rattle.std.specs.List.{AllByRecursion, list_any, flat_map}
+use Rattle.std.specs.Option.{option_map_or}
+use Rattle.std.specs.FinMap.{get}
+use Rattle.std.proofs.lemmas.Bool.{false≢true, and_parts, or_parts, or_cases}
+use Rattle.std.proofs.lemmas.Bool.Decides.{nat_tests}
+use Rattle.std.proofs.lemmas.List.{length-map, take-append-drop, take-take}
+use Rattle.std.proofs.Math.Seq.{take-add}
+use Rattle.rows.specs.Database.{Database}
+use Rattle.store_trait.specs.Operation.{loaded}
+use Rattle.record_codec.specs.declared.records.Record.{Record}
+use Rattle.record_codec.specs.Log.{after}
+use Rattle.record_codec.specs.Spelling.{spelling}
+use Rattle.source_core.specs.declared.fault.SourceFault.TheVariants as source
+use Rattle.source_core.specs.Source.{Source, seen_row}
+use Rattle.source_core.specs.Calls.{begin_fault, write_fault, read_fault, prepare_fault, prepare_answer, queue_fault, abort_fault, halted_fault, AreRecordsOf, seen_log}
+use Rattle.source_core.proofs.FlushLists.{all_push, all_by}
+use Rattle.log_file.specs.Text.{text}
+use Rattle.world.specs.declared.events.Event.{Event}
+use Rattle.world.specs.declared.events.Event.TheVariants as events
+use Rattle.world.specs.declared.events.Reply.{Reply}
+use Rattle.world.specs.declared.events.Reply.TheVariants as replies
+use Rattle.world.specs.Replies.{prepared_reply}
+use Rattle.world.specs.Past.{Past, flushed, unsynced, synced, synced_groups, is_failure, halted, queue, accepted, dispatched, replica_committed, published}
+use Rattle.world.specs.Legal.{Setup, rows_after, source_at, refused_or, stamp_of, next_records, FlushAnswers, SyncAnswers, commit_reply, group_between, log_text, may_dispatch, Answers, is_source_memory, is_replica_memory, is_codec_memory, is_log_memory, lacks_memory, Allowed, AreAllowed, AreLegal}
+use Rattle.world.specs.Laws.{pairs_after, is_memory, OneAnswer, OneLog}
+use Rattle.world.proofs.LawsReplies.{Says, says}
+use Rattle.world.proofs.LawsSteps.{Follow, Follow-le, Holds, at_first, step, in_order}
+use Rattle.world.proofs.LawsRecords.{MayStand, one_group}
+
+-- ---- lists that begin alike
+
+take_fewer : (n f : ℕ) (xs ys : List Record) → n ≤ f → take f xs ≡ take f ys → take n xs ≡ take n ys
+take_fewer n f xs ys le same = sym (take-take n f xs le) ∙ ap (take n) same ∙ take-take n f ys le
+
+get_taken : (n f : ℕ) (xs : List Record) → n < f → slice_get (take f xs) n ≡ slice_get xs n
+get_taken n zero xs lt = absurd (omega (arith, lt))
+get_taken n (suc f) [] lt = refl
+get_taken zero (suc f) (x ∷ xs) lt = refl
+get_taken (suc n) (suc f) (x ∷ xs) lt = get_taken n f xs (omega (arith, lt))
+
+get_below : (n f : ℕ) (xs ys : List Record) → n < f → take f xs ≡ take f ys → slice_get xs n ≡ slice_get ys n
+get_below n f xs ys lt same = sym (get_taken n f xs lt) ∙ ap (λ (l : List Record). slice_get l n) same ∙ get_taken n f ys lt
+
+take_own : (n : ℕ) (xs : List Record) → take (length (take n xs)) xs ≡ take n xs
+take_own zero xs = refl
+take_own (suc n) [] = refl
+take_own (suc n) (x ∷ xs) = ap (λ l. x ∷ l) (take_own n xs)
+
+-- the next records of a list, as many as there are stamps of them
+take_stamped : (f n : ℕ) (xs : List Record) → take (f + length (map stamp_of (take n (drop f xs)))) xs ≡ take f xs ++ take n (drop f xs)
+take_stamped f n xs =
+    ap (λ k. take (f + k) xs) (length-map (take n (drop f xs)) stamp_of)
+    ∙ take-add f (length (take n (drop f xs))) xs
+    ∙ ap (λ l. take f xs ++ l) (take_own n (drop f xs))
+
+in_three : (f n : ℕ) (xs : List Record) → xs ≡ take f xs ++ (take n (drop f xs) ++ drop n (drop f xs))
+in_three f n xs = sym (take-append-drop f xs) ∙ ap (λ l. take f xs ++ l) (sym (take-append-drop n (drop f xs)))
+
+-- ---- two logs behind the same pairs
+
+-- they have the same records, as many as are flushed
+abbrev pub FlushedAlike : List Record → List Record → Past → Type 0
+FlushedAlike log other past = take (flushed past) log ≡ take (flushed past) other
+
+-- the groups are of so many records
+abbrev AreWithin : ℕ → List (ℕ × ℕ) → Type 0
+AreWithin n groups = AllByRecursion (λ (group : ℕ × ℕ). group.1 ≤ n) groups
+
+pub record Agree (setup : Setup) (log other : List Record) (past : Past) : Type 0 where
+  pub stands : MayStand setup.tables (loaded setup.base) log
+  pub other_stands : MayStand setup.tables (loaded setup.base) other
+  pub holds : Holds log past
+  pub same : FlushedAlike log other past
+  pub groups : AreWithin (flushed past) (synced_groups past)
+
+module _ (setup : Setup) (log other : List Record) (past : Past) (agree : Agree setup log other past) where
+  same_source : source_at setup log past ≡ source_at setup other past
+  same_source = ap (λ (l : List Record). record (source_at setup log past) { log = l }) agree.same
+
+  -- what a source answers
+  by_source : (f : Source → Reply) (reply answer : Reply) → reply ≡ f (source_at setup log past) → answer ≡ f (source_at setup other past) → reply ≡ answer
+  by_source f reply answer a b = a ∙ ap f same_source ∙ sym b
+
+  same_rows : (n : ℕ) → n ≤ flushed past → rows_after setup log n ≡ rows_after setup other n
+  same_rows n le = ap (after setup.tables (loaded setup.base)) (take_fewer n (flushed past) log other le agree.same)
+
+  same_groups : (groups : List (ℕ × ℕ)) → AreWithin (flushed past) groups → map (group_between log) groups ≡ map (group_between other) groups
+  same_groups [] all = refl
+  same_groups (group ∷ groups) all =
+      let same = take_fewer group.1 (flushed past) log other all.0 agree.same in
+      (λ i. record { first = group.0; last = group.1; bytes = flat_map spelling (drop (group.0 - 1) (same i)) } ∷ same_groups groups all.1 i)
+
+  same_text : log_text setup log past ≡ log_text setup other past
+  same_text = ap (text setup.identifier) (same_groups (synced_groups past) agree.groups)
+
+  read_below : published past ≤ flushed past
+  read_below =
+      let now = in_order log past agree.holds in
+      omega (arith, now.published_within, now.replica_committed_within, now.dispatched_within, now.accepted_within, now.synced_within)
+
+  same_dispatch : may_dispatch setup log past ≡ may_dispatch setup other past
+  same_dispatch =
+      let now = in_order log past agree.holds in
+      let next : nat_lt (dispatched past) (accepted past) ≡ true → slice_get log (dispatched past) ≡ slice_get other (dispatched past) =
+      λ is. get_below (dispatched past) (flushed past) log other (omega (arith, below _ _ is, now.accepted_within, now.synced_within)) agree.same in
+      when (nat_lt (dispatched past) (accepted past)) (may log) (may other) (nat_lt (dispatched past - replica_committed past) setup.workers) (λ is. ap may_at (next is))
+    where
+      may_at : Option Record → Bool
+      may_at found = option_map_or (λ (r : Record). nat_le r.parent (replica_committed past)) found false
+
+      may : List Record → Bool
+      may l = may_at (slice_get l (dispatched past))
+
+      below : (a b : ℕ) → nat_lt a b ≡ true → a < b
+      below a b e = grind (arith, nat_tests)
+
+      when : (first here there last : Bool) → (first ≡ true → here ≡ there) → (first && here && last) ≡ (first && there && last)
+      when true here there last same = ap (λ b. b && last) (same refl)
+      when false here there last same = refl
+
+  -- ---- a flush
+
+  -- a reply behind which as many records are flushed
+  none_more : (reply answer : Reply) → reply ≡ answer → FlushedAlike log other ((events.Flush, answer) ∷ past) → FlushedAlike log other ((events.Flush, reply) ∷ past)
+  none_more reply answer is same = subst (λ (r : Reply). FlushedAlike log other ((events.Flush, r) ∷ past)) (sym is) same
+
+  same_group : (sessions : List ℕ) → AreRecordsOf (source_at setup log past) (seen_log (source_at setup log past)) sessions (next_records log past) →
+      AreRecordsOf (source_at setup other past) (seen_log (source_at setup other past)) sessions (next_records other past) → next_records log past ≡ next_records other past
+  same_group sessions m o =
+      let f = flushed past in
+      let n = length (queue past) in
+      let left = subst (λ (l : List Record). MayStand setup.tables (loaded setup.base) l) (in_three f n log) agree.stands in
+      let cut = subst (λ (l : List Record). MayStand setup.tables (loaded setup.base) l) (in_three f n other) agree.other_stands in
+      let right = subst (λ (l : List Record). MayStand setup.tables (loaded setup.base) (l ++ (next_records other past ++ drop n (drop f other)))) (sym agree.same) cut in
+      let theirs = subst (λ (s : Source). AreRecordsOf s (seen_log s) sessions (next_records other past)) (sym same_source) o in
+      one_group setup.tables (loaded setup.base) (source_at setup log past) (take f log) (seen_log (source_at setup log past)) sessions
+      (next_records log past) (next_records other past) (drop n (drop f log)) (drop n (drop f other)) left right m theirs
+
+  one_flush : (halts : Bool) (sessions : List ℕ) (reply answer : Reply) → FlushAnswers setup log past halts sessions reply → FlushAnswers setup other past halts sessions answer →
+      (reply ≡ answer) × FlushedAlike log other ((events.Flush, reply) ∷ past)
+  one_flush true sessions reply answer a b = (a ∙ sym b, none_more reply (replies.Source source.Halted) a agree.same)
+  one_flush false [] reply answer a b = (a ∙ sym b, none_more reply replies.Nothing a agree.same)
+  one_flush false (first ∷ rest) reply answer a b =
+      let f = flushed past in
+      let n = length (queue past) in
+      let same = same_group (first ∷ rest) a.1 b.1 in
+      let grown : take (f + length (map stamp_of (next_records log past))) log ≡ take (f + length (map stamp_of (next_records log past))) other =
+      take_stamped f n log
+      ∙ (λ i. agree.same i ++ same i)
+      ∙ sym (take_stamped f n other)
+      ∙ ap (λ (l : List Record). take (f + length (map stamp_of l)) other) (sym same) in
+      (a.0 ∙ ap (λ (l : List Record). replies.Flushed (f + 1) (map stamp_of l)) same ∙ sym b.0, none_more reply (replies.Flushed (f + 1) (map stamp_of (next_records log past))) a.0 grown)
+
+  -- ---- each event
+
+  one_sync : (halts : Bool) (groups : List (ℕ × ℕ)) (reply answer : Reply) → SyncAnswers halts groups reply → SyncAnswers halts groups answer → is_failure reply ≡ is_failure answer → reply ≡ answer
+  one_sync true groups reply answer a b alike = a ∙ sym b
+  one_sync false [] reply answer a b alike = a ∙ sym b
+  one_sync false (group ∷ groups) reply answer (inl a) (inl b) alike = a ∙ sym b
+  one_sync false (group ∷ groups) reply answer (inr a) (inr b) alike = a ∙ sym b
+  one_sync false (group ∷ groups) reply answer (inl a) (inr b) alike = absurd (false≢true (sym (ap is_failure a) ∙ alike ∙ ap is_failure b))
+  one_sync false (group ∷ groups) reply answer (inr a) (inl b) alike = absurd (false≢true (sym (ap is_failure b) ∙ sym alike ∙ ap is_failure a))
+
+  one_answer : (event : Event) (reply answer : Reply) → Answers setup log past event reply → Answers setup other past event answer → is_failure reply ≡ is_failure answer → reply ≡ answer
+  one_answer (events.Begin session) reply answer a b alike = by_source (λ s. refused_or (begin_fault s session) replies.Done) reply answer a b
+  one_answer (events.Write session change) reply answer a b alike = by_source (λ s. refused_or (write_fault s session change) replies.Done) reply answer a b
+  one_answer (events.See session id) reply answer a b alike = by_source (λ s. refused_or (read_fault s session id) (replies.Seen (seen_row s session id))) reply answer a b
+  one_answer (events.Prepare session) reply answer a b alike = by_source (λ s. refused_or (prepare_fault s session) (prepared_reply (Ok (prepare_answer s session)))) reply answer a b
+  one_answer (events.Queue session) reply answer a b alike = by_source (λ s. refused_or (queue_fault s session) replies.Done) reply answer a b
+  one_answer (events.Abort session) reply answer a b alike = by_source (λ s. refused_or (abort_fault s session) replies.Done) reply answer a b
+  one_answer events.Flush reply answer a b alike = (one_flush (halted past) (queue past) reply answer a b).0
+  one_answer events.Sync reply answer a b alike = one_sync (halted past) (unsynced past) reply answer a b alike
+  one_answer events.Commit reply answer a b alike = by_source (λ s. refused_or (halted_fault s) (commit_reply past)) reply answer a b
+  one_answer (events.Deliver gno) reply answer a b alike = a ∙ sym b
+  one_answer events.Dispatch reply answer a b alike = a ∙ ap (λ (may : Bool). if may then replies.Job (dispatched past + 1) else replies.Nothing) same_dispatch ∙ sym b
+  one_answer (events.Finish gno) reply answer a b alike = a ∙ sym b
+  one_answer events.Next reply answer a b alike = a ∙ sym b
+  one_answer events.Publish reply answer a b alike = a ∙ sym b
+  one_answer events.Executed reply answer a b alike = a ∙ sym b
+  one_answer (events.Read id) reply answer a b alike =
+      a ∙ ap (λ (rows : Option Database). replies.Read (published past) (option_and_then (λ db. get db id) rows)) (same_rows (published past) read_below) ∙ sym b
+  one_answer events.Log reply answer a b alike = a ∙ ap (λ (bytes : List ℕ). replies.Text bytes) same_text ∙ sym b
+
+  -- ---- one more pair
+
+  still_alike : (event : Event) (reply answer : Reply) → Says setup log past event reply → Answers setup log past event reply → Answers setup other past event answer → FlushedAlike log other ((event, reply) ∷ past)
+  still_alike event (replies.Flushed first stamps) answer s a b =
+      let here : Answers setup log past events.Flush (replies.Flushed first stamps) = subst (λ (e : Event). Answers setup log past e (replies.Flushed first stamps)) s.2 a in
+      let there : Answers setup other past events.Flush answer = subst (λ (e : Event). Answers setup other past e answer) s.2 b in
+      (one_flush (halted past) (queue past) (replies.Flushed first stamps) answer here there).1
+  still_alike event reply answer s a b = agree.same
+
+  more_within : (n m : ℕ) (groups : List (ℕ × ℕ)) → n ≤ m → AreWithin n groups → AreWithin m groups
+  more_within n m groups le all = all_by (λ (group : ℕ × ℕ). group.1 ≤ n) (λ (group : ℕ × ℕ). group.1 ≤ m) groups (λ group within. omega (arith, within, le)) all
+
+  still_within : (event : Event) (reply : Reply) → Says setup log past event reply → AreWithin (flushed ((event, reply) ∷ past)) (synced_groups ((event, reply) ∷ past))
+  still_within event (replies.Flushed first stamps) s = more_within (flushed past) (flushed past + length stamps) (synced_groups past) (omega arith) agree.groups
+  still_within event (replies.Synced first last) s =
+      let all : Follow (synced past) ((first, last) ∷ s.0) (flushed past) = subst (λ g. Follow (synced past) g (flushed past)) s.1 agree.holds.source.follow in
+      all_push (λ (group : ℕ × ℕ). group.1 ≤ flushed past) (synced_groups past) (first, last) agree.groups (Follow-le last s.0 (flushed past) all.2)
+  still_within event reply s = agree.groups
+
+  agree_on : (event : Event) (reply answer : Reply) → Allowed setup log past event reply → Answers setup log past event reply → Answers setup other past event answer → Agree setup log other ((event, reply) ∷ past)
+  agree_on event reply answer allowed a b =
+      let s = says setup log past event reply allowed in
+      record {
+        stands = agree.stands;
+        other_stands = agree.other_stands;
+        holds = step setup log past event reply s agree.holds;
+        same = still_alike event reply answer s a b;
+        groups = still_within event reply s;
+      }
+
+-- ---- enough memory
+
+says_memory : (reply : Reply) → (is_source_memory reply ≡ true) ⊎ (is_replica_memory reply ≡ true) ⊎ (is_codec_memory reply ≡ true) ⊎ (is_log_memory reply ≡ true) → is_memory reply ≡ true
+says_memory reply h = among (is_source_memory reply) (is_replica_memory reply) (is_codec_memory reply) (is_log_memory reply) h where
+  among : (a b c d : Bool) → (a ≡ true) ⊎ (b ≡ true) ⊎ (c ≡ true) ⊎ (d ≡ true) → (a || b || c || d) ≡ true
+  among true b c d h = refl
+  among false true c d h = refl
+  among false false true d h = refl
+  among false false false true h = refl
+  among false false false false h = absurd (elim h [ inl e ↦ false≢true e | inr k ↦ elim k [ inl e ↦ false≢true e | inr m ↦ elim m [ inl e ↦ false≢true e | inr e ↦ false≢true e ] ] ])
+
+lacking_says : (halts : Bool) (committed_ : ℕ) (event : Event) (reply : Reply) → lacks_memory halts committed_ event reply ≡ true → is_memory reply ≡ true
+lacking_says halts committed_ (events.Write session change) reply h = says_memory reply (inl (and_parts (not halts) (is_source_memory reply) h).1)
+lacking_says halts committed_ (events.Prepare session) reply h = says_memory reply (inl (and_parts (not halts) (is_source_memory reply) h).1)
+lacking_says halts committed_ events.Flush reply h = says_memory reply (inl (and_parts (not halts) (is_source_memory reply) h).1)
+lacking_says halts committed_ events.Sync reply h = says_memory reply (inr (inr (inr (and_parts (not halts) (is_log_memory reply) h).1)))
+lacking_says halts committed_ events.Commit reply h = says_memory reply (inl (and_parts (not halts) (is_source_memory reply) h).1)
+lacking_says halts committed_ (events.Deliver gno) reply h =
+    says_memory reply (elim (or_cases (is_replica_memory reply) (is_codec_memory reply) h) [ inl r ↦ inr (inl r) | inr c ↦ inr (inr (inl c)) ])
+lacking_says halts committed_ events.Dispatch reply h = says_memory reply (inr (inl h))
+lacking_says halts committed_ (events.Finish gno) reply h = says_memory reply (inr (inl h))
+lacking_says halts committed_ events.Next reply h = says_memory reply (inr (inl h))
+lacking_says halts committed_ events.Publish reply h = says_memory reply (inr (inl h))
+lacking_says halts committed_ events.Executed reply h = says_memory reply (inr (inl (and_parts (nat_lt 0 committed_) (is_replica_memory reply) h).1))
+lacking_says halts committed_ events.Log reply h = says_memory reply (inr (inr (inr h)))
+lacking_says halts committed_ event reply h = absurd (false≢true h)
+
+-- an allowed reply that does not say that memory ran out
+answers : (setup : Setup) (log : List Record) (past : Past) (event : Event) (reply : Reply) → Allowed setup log past event reply → is_memory reply ≡ false → Answers setup log past event reply
+answers setup log past event reply allowed enough =
+    elim allowed [
+      | inl lacks ↦ absurd (false≢true (sym enough ∙ lacking_says (halted past) (replica_committed past) event reply lacks))
+      | inr is ↦ is
+    ]
+
+-- ---- whole runs
+
+heads : (a b : Bool) (xs ys : List Bool) → a ∷ xs ≡ b ∷ ys → (a ≡ b) × (xs ≡ ys)
+heads a b xs ys e = (cc, cc)
+
+from : (setup : Setup) (log other : List Record) (past : Past) → Agree setup log other past → (es : List Event) (rs os : List Reply) → AreAllowed setup log past es rs → AreAllowed setup other past es os →
+    list_any is_memory rs ≡ false → list_any is_memory os ≡ false → map is_failure rs ≡ map is_failure os → (rs ≡ os) × FlushedAlike log other (pairs_after past es rs)
+from setup log other past agree [] [] [] left right enough enough_there alike = (refl, agree.same)
+from setup log other past agree [] [] (o ∷ os) left right enough enough_there alike = absurd right
+from setup log other past agree [] (r ∷ rs) os left right enough enough_there alike = absurd left
+from setup log other past agree (e ∷ es) [] os left right enough enough_there alike = absurd left
+from setup log other past agree (e ∷ es) (r ∷ rs) [] left right enough enough_there alike = absurd right
+from setup log other past agree (e ∷ es) (r ∷ rs) (o ∷ os) left right enough enough_there alike =
+    let here = or_parts (is_memory r) (list_any is_memory rs) enough in
+    let there = or_parts (is_memory o) (list_any is_memory os) enough_there in
+    let fail = heads (is_failure r) (is_failure o) (map is_failure rs) (map is_failure os) alike in
+    let a = answers setup log past e r left.0 here.0 in
+    let b = answers setup other past e o right.0 there.0 in
+    let same = one_answer setup log other past agree e r o a b fail.0 in
+    let next = agree_on setup log other past agree e r o left.0 a b in
+    let behind = subst (λ (x : Reply). AreAllowed setup other ((e, x) ∷ past) es os) (sym same) right.1 in
+    let more = from setup log other ((e, r) ∷ past) next es rs os left.1 behind here.1 there.1 fail.1 in
+    ((λ i. same i ∷ more.0 i), more.1)
+
+at_start : (setup : Setup) (log other : List Record) (es : List Event) (rs os : List Reply) → AreLegal setup log es rs → AreLegal setup other es os → Agree setup log other []
+at_start setup log other es rs os left right = record {
+  stands = record { legal = left.legal; spelled = left.spelled };
+  other_stands = record { legal = right.legal; spelled = right.spelled };
+  holds = at_first log;
+  same = refl;
+  groups = tt;
+}
+
+pub only_answer : OneAnswer
+only_answer setup log es rs left other os right alike =
+    sym (from setup log other [] (at_start setup log other es rs os left right) es rs os left.allowed right.allowed alike.enough alike.enough_there alike.failures).0
+
+pub only_log : OneLog
+only_log setup log other es rs os left right alike =
+    sym (from setup log other [] (at_start setup log other es rs os left right) es rs os left.allowed right.allowed alike.enough alike.enough_there alike.failures).1

@@ -1,0 +1,4 @@
+pub mod Ends
+pub mod Entered
+pub mod Held
+pub mod Moves

@@ -1,0 +1,4 @@
+pub mod History
+pub mod Probing
+pub mod Slots
+pub mod Laws

@@ -1,0 +1,10 @@
+pub mod Lists
+pub mod Starts
+pub mod Newest
+pub mod Counts
+pub mod Steps
+pub mod Exact
+pub mod Shared
+pub mod Cover
+pub mod Last
+pub mod Stamps

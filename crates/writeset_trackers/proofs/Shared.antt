@@ -1,0 +1,91 @@
+-- Two transactions that write one row of a keyed table both have its digest.
+use Rattle.std.proofs.Common.{◌≡◌, ◌∙◌, sym, subst, Bool, true, false, not, ◌&&◌, ◌||◌, eqb, List, [], ◌∷◌, Option, Some, None, is_some, Ordering, Less, Equal, Greater, inl, inr, refl, true≢false}
+use Rattle.std.specs.List.{list_any, list_all}
+use Rattle.std.specs.Ordering.{is_eq}
+use Rattle.std.specs.Option.{option_map_or}
+use Rattle.std.proofs.lemmas.Bool.{or_cases, or_left, or_right, and_from, and_parts, cases_Bool, eq-eqb}
+use Rattle.std.proofs.lemmas.Cmp.{eq_by_cmp_equiv}
+use Rattle.schema.specs.declared.Table.{Table}
+use Rattle.schema.specs.declared.RowId.{RowId}
+use Rattle.schema.specs.RowId.{row_cmp, same_row, exact_row, row_total}
+use Rattle.schema.specs.Rows.{Touched, has_row, meets, conflicts}
+use Rattle.schema.specs.Schema.{table_at}
+use Rattle.schema.specs.Flags.{misses_keys}
+use Rattle.write_set.specs.Digest.{digest_of, is_keyed, digest_set}
+use Rattle.write_set.proofs.Rising.{just_the_digests}
+
+-- row ids that name one row are equal
+row_is : (a b : RowId) → same_row a b ≡ true → a ≡ b
+row_is a b h = exact_row a b (equal_from (row_cmp a b) h)
+  where
+    equal_from : (o : Ordering) → is_eq o ≡ true → o ≡ Equal
+    equal_from Less h = cc
+    equal_from Equal h = refl
+    equal_from Greater h = cc
+
+-- a row that two lists have
+pub record InBoth (xs ys : List RowId) : Type 0 where
+  pub row : RowId
+  pub first : has_row xs row ≡ true
+  pub second : has_row ys row ≡ true
+
+pub in_both : (xs ys : List RowId) → meets xs ys ≡ true → InBoth xs ys
+in_both [] ys e = absurd cc
+in_both (x ∷ xs) ys e = elim (or_cases (has_row ys x) (meets xs ys) e) [
+  | inl there ↦ record { row = x; first = or_left (same_row x x) (has_row xs x) ((eq_by_cmp_equiv row_total).refl x); second = there }
+  | inr later ↦ let rest = in_both xs ys later in record { row = rest.row; first = or_right (same_row rest.row x) (has_row xs rest.row) rest.first; second = rest.second }
+]
+
+meets_none : (xs : List RowId) → meets xs [] ≡ false
+meets_none [] = refl
+meets_none (x ∷ xs) = meets_none xs
+
+no_conflict : (x y z : Bool) → x ≡ false → (y || z) ≡ false → ((x || y) || z) ≡ false
+no_conflict false y z h g = g
+no_conflict true y z h g = absurd cc
+
+-- where neither refers to rows, a conflict is of rows that both write
+pub conflict_of_writes : (a b : Touched) → a.refs ≡ [] → b.refs ≡ [] → conflicts a b ≡ true → meets a.writes b.writes ≡ true
+conflict_of_writes a b none_a none_b e = elim (cases_Bool (meets a.writes b.writes)) [
+  | inl both ↦ both
+  | inr apart ↦ absurd (true≢false (sym e ∙ no_conflict (meets a.writes b.writes) (meets a.writes b.refs) (meets b.writes a.refs) apart no_more))
+]
+  where
+    no_more : (meets a.writes b.refs || meets b.writes a.refs) ≡ false
+    no_more = (λ i. meets a.writes (none_b i) || meets b.writes (none_a i)) ∙ (λ i. meets_none a.writes i || meets_none b.writes i)
+
+-- a row of a list whose tables are known, and none of them keyless, is in a keyed table
+keyed : (o : Option Table) → is_some o ≡ true → option_map_or (λ t. not t.keyed) o false ≡ false → option_map_or (λ t. t.keyed) o false ≡ true
+keyed None some e = absurd cc
+keyed (Some table) some e = by table.keyed e
+  where
+    by : (b : Bool) → not b ≡ false → b ≡ true
+    by true e = refl
+    by false e = cc
+
+neither : (a b : Bool) → (a || b) ≡ false → (a ≡ false) × (b ≡ false)
+neither true b e = absurd cc
+neither false b e = (refl, e)
+
+pub is_keyed_in : (ts : List Table) (rows : List RowId) (row : RowId) → list_all (λ r. is_some (table_at ts r.table)) rows ≡ true → misses_keys ts rows ≡ false →
+    has_row rows row ≡ true → is_keyed ts row ≡ true
+is_keyed_in ts [] row known none e = absurd cc
+is_keyed_in ts (x ∷ rows) row known none e =
+    let all = and_parts (is_some (table_at ts x.table)) (list_all (λ r. is_some (table_at ts r.table)) rows) known in
+    let no = neither (option_map_or (λ t. not t.keyed) (table_at ts x.table) false) (misses_keys ts rows) none in
+    elim (or_cases (same_row row x) (has_row rows row) e) [
+      | inl here ↦ subst (λ r. is_keyed ts r ≡ true) (sym (row_is row x here)) (keyed (table_at ts x.table) all.0 no.0)
+      | inr later ↦ is_keyed_in ts rows row all.1 no.1 later
+    ]
+
+-- its digest is one of the list's
+pub digest_in : (ts : List Table) (rows : List RowId) (row : RowId) → is_keyed ts row ≡ true → has_row rows row ≡ true → list_any (eqb (digest_of row)) (digest_set ts rows) ≡ true
+digest_in ts rows row is e = just_the_digests ts rows (digest_of row) ∙ among rows e
+  where
+    among : (rows : List RowId) → has_row rows row ≡ true → list_any (λ r. is_keyed ts r && eqb (digest_of row) (digest_of r)) rows ≡ true
+    among [] e = absurd cc
+    among (x ∷ rows) e = elim (or_cases (same_row row x) (has_row rows row) e) [
+      | inl here ↦ or_left (is_keyed ts x && eqb (digest_of row) (digest_of x)) (list_any (λ r. is_keyed ts r && eqb (digest_of row) (digest_of r)) rows)
+          (subst (λ r. (is_keyed ts r && eqb (digest_of row) (digest_of r)) ≡ true) (row_is row x here) (and_from (is_keyed ts row) (eqb (digest_of row) (digest_of row)) is (eq-eqb (digest_of row) (digest_of row) refl)))
+      | inr later ↦ or_right (is_keyed ts x && eqb (digest_of row) (digest_of x)) (list_any (λ r. is_keyed ts r && eqb (digest_of row) (digest_of r)) rows) (among rows later)
+    ]

@@ -1,0 +1,52 @@
+//! What a history says of the next transaction, and how it goes on behind it. Both trackers do this alike.
+
+ghost use Rattle.std.specs.Prelude.{◌≡◌, ◌<◌};
+ghost use Rattle.writeset_history.specs.History.{IsUpTo};
+ghost use Rattle.writeset_trackers.specs.Noted.{last_number, parent_by, empties, noted};
+
+use log_index::Footprint;
+use write_set::WriteSet;
+use writeset_history::History;
+
+/// The transaction's parent, as far as written rows and the order parent say.
+pub(crate) fn parent_by(history: &History, t: &Footprint, w: &WriteSet, order_parent: u64) -> u64
+    ensures { result ≡ parent_by history.now t.now w.now order_parent }
+{
+    if t.fk || t.missing_keys {
+        order_parent
+    } else {
+        order_parent.min(last_number(history, w.digests()))
+    }
+}
+
+/// The last number that touched one of the digests, and at least the start.
+fn last_number(history: &History, digests: &[u64]) -> u64
+    ensures { result ≡ last_number history.now digests.now }
+{
+    let mut last = history.start();
+    for digest in digests {
+        last = last.max(history.look(*digest));
+    }
+    last
+}
+
+/// Notes the transaction, which has this number: its digests are entered, or the history is emptied. Whether there is room is
+/// asked for all digests as if each were new, before any is entered.
+pub(crate) fn note(history: &mut History, t: &Footprint, w: &WriteSet, sequence: u64)
+    requires up_to { IsUpTo history.old sequence }
+    requires above { history.old.start < sequence }
+    ensures { history.new ≡ noted history.old t.now w.now sequence }
+{
+    if empties(history, t, w) {
+        history.empty_at(sequence);
+    } else {
+        history.enter(w.digests(), sequence);
+    }
+}
+
+/// Whether the transaction empties the history.
+fn empties(history: &History, t: &Footprint, w: &WriteSet) -> bool
+    ensures { result ≡ empties history.now t.now w.now }
+{
+    t.fk || !history.has_room(w.len())
+}
