@@ -60,7 +60,7 @@ at p q r s t u v = record {
 pub lies_there : (P : Names → Type 0) (names : Names) → AreNames names → ((p q r s t u v : Place) → P (at p q r s t u v)) → P names
 lies_there P names are there =
     three_there (λ trackers. P (record { trackers = trackers; stores = names.stores })) (codes "commit-order") (codes "writeset") (codes "writeset-session") names.trackers are.0 (λ p q r s.
-        two_there (λ stores. P (record { trackers = three (codes "commit-order") (codes "writeset") (codes "writeset-session") p q r s; stores = stores })) (codes "btree") (codes "vector") names.stores are.1 (there p q r s))
+    two_there (λ stores. P (record { trackers = three (codes "commit-order") (codes "writeset") (codes "writeset-session") p q r s; stores = stores })) (codes "btree") (codes "vector") names.stores are.1 (there p q r s))
 
 -- ---- what is named by the word that was found
 

@@ -201,7 +201,7 @@ pub record TellsFaults (words : List Text) (answer : Result Options LineFault) :
 -- what a tracker is made for that these options ask for; the commit order keeps no history
 abbrev pub kind_for : Sides → Kind
 kind_for sides = elim sides.tracker [
-    modes.CommitOrder ↦ by_order
+  | modes.CommitOrder ↦ by_order
   | modes.Writeset ↦ record { mode = modes.Writeset; limit = sides.history }
   | modes.WritesetSession ↦ record { mode = modes.WritesetSession; limit = sides.history }
 ]

@@ -167,12 +167,7 @@ fn run_command<'a>(alloc: Global, names: Names<'a>) -> Result<Command<'a>, Alloc
     ensures shape { IfOk result (λ command. app_of command ≡ run_app names.entry) }
     ensures local { IfOk result (λ command. (fields_of command).has_globals ≡ false) }
 {
-    sides_command(
-        alloc,
-        "run",
-        "Runs the script on standard input",
-        names,
-    )
+    sides_command(alloc, "run", "Runs the script on standard input", names)
 }
 
 fn threads_command<'a>(alloc: Global, names: Names<'a>) -> Result<Command<'a>, AllocError>

@@ -115,12 +115,7 @@ fn threads<H: Threads + Wait + Sync, W: Write, E: Write>(
 }
 
 /// Runs both sides in many threads with this tracker, where there is memory for it, over the plan's store.
-fn threads_by<
-    T: Tracker + Drop + Send + Sync,
-    H: Threads + Wait + Sync,
-    W: Write,
-    E: Write,
->(
+fn threads_by<T: Tracker + Drop + Send + Sync, H: Threads + Wait + Sync, W: Write, E: Write>(
     rt: &H,
     alloc: Global,
     tracker: Result<T, Memory>,
