@@ -3,7 +3,9 @@ use Rattle.std.proofs.Common.{◌≡◌, ◌∙◌, sym, ap, subst, refl, ℕ, �
 use Rattle.std.specs.Prelude.{IsOk}
 use Rattle.std.proofs.lemmas.List.{take_more}
 use Rattle.record_codec.specs.declared.records.Record.{Record}
-use Rattle.record_stream.specs.Stream.{Adds, Splits}
+use Rattle.record_codec.specs.declared.fault.CodecFault.{CodecFault}
+use Rattle.record_codec.specs.declared.fault.CodecFault.TheVariants as codec
+use Rattle.record_stream.specs.Stream.{Adds, Splits, Stops}
 use Rattle.relay.specs.declared.ReplicaFault.{ReplicaFault}
 use Rattle.relay.specs.declared.ReplicaFault.TheVariants.{Memory}
 use Rattle.relay.specs.declared.Received.{Received}
@@ -12,7 +14,7 @@ use Rattle.replica_core.specs.Replica.{Replica}
 use Rattle.replica_core.specs.Calls.{received, left_by_receive}
 use Rattle.replica_core.specs.declared.wire.WireFault.{WireFault}
 use Rattle.replica_core.specs.declared.wire.WireFault.TheVariants as wire
-use Rattle.replica_core.specs.Wire.{Wire, left_by_answer, handed, AreTaken, HandsAll, HandsSome, TakesAll, TakesSome, Takes}
+use Rattle.replica_core.specs.Wire.{Wire, left_by_answer, handed, AreTaken, IsFirstRefused, HandsAll, HandsOn, Hands, Gathers, IsCodecCause, TakesAs, Takes}
 
 pub handed-append : (from : List ℕ) (r : Replica) (xs ys : List Record) → handed from r (xs ++ ys) ≡ handed from (handed from r xs) ys
 handed-append from r [] ys = refl
@@ -96,26 +98,76 @@ all_added : (bytes rest : List ℕ) (none new : List Record) → none ≡ [] →
 all_added bytes rest none new e adds =
     subst (λ (l : List Record). Splits bytes l rest) (sym (adds.new_are ∙ ap (λ (l : List Record). l ++ adds.added) e)) adds.splits
 
-pub takes_all : (old new : Wire) (r mid then : Replica) (piece : List ℕ) (none added : List Record) (a b : ℕ) → HandsAll old.source r old.waiting mid → a ≡ length old.waiting → none ≡ [] → Adds (old.rest ++ piece) none added new.rest
-    → HandsAll old.source mid added then → b ≡ length added → new.waiting ≡ [] → TakesAll old r piece (a + b) new then
-takes_all old new r mid then piece none added a b h count e adds k more left = record {
-  added = added;
-  splits = all_added (old.rest ++ piece) new.rest none added e adds;
-  hands = hands-append old.source r mid then old.waiting added h k;
-  number = omega (arith, length-append old.waiting added);
-  none = left;
-}
+-- what a piece that was gathered, and then handed on, is told as
+abbrev pub told_of_piece : ℕ → Result ℕ ReplicaFault → Result ℕ WireFault
+told_of_piece before (Ok count) = Ok (before + count)
+told_of_piece before (Err fault) = Err (wire.Replica fault)
 
-pub takes_some : (old new : Wire) (r mid then : Replica) (piece : List ℕ) (none added : List Record) (fault : ReplicaFault) → HandsAll old.source r old.waiting mid → none ≡ [] → Adds (old.rest ++ piece) none added new.rest
-    → HandsSome old.source mid added new.waiting fault then → TakesSome old r piece fault new then
-takes_some old new r mid then piece none added fault h e adds k = record {
-  added = added;
-  splits = all_added (old.rest ++ piece) new.rest none added e adds;
-  hands = record {
-    gone = old.waiting ++ k.gone;
-    split = ap (λ (l : List Record). old.waiting ++ l) k.split ∙ sym (append_assoc old.waiting k.gone new.waiting);
-    hands = hands-append old.source r mid then old.waiting k.gone h k.hands;
-    refused = k.refused;
-  };
-  behind = omega (arith, ap (λ (l : List Record). length l) k.split, length-append k.gone new.waiting);
+-- the records that waited are handed on, then the piece is gathered, then what waits is handed on
+pub takes_gathered : (old held full new : Wire) (r mid then : Replica) (piece : List ℕ) (before : ℕ) (answer : Result ℕ ReplicaFault) → Hands old r (Ok before) held mid → Gathers held piece full → Hands full mid answer new then
+    → Takes old r piece (told_of_piece before answer) new then
+takes_gathered old held full new r mid then piece before answer first g last = record {
+  source = last.source ∙ from;
+  is = of answer last.is;
 }
+  where
+    from : full.source ≡ old.source
+    from = g.source ∙ first.source
+
+    splits : Splits (old.rest ++ piece) full.waiting new.rest
+    splits =
+        subst (λ (b : List ℕ). Splits (b ++ piece) full.waiting new.rest) first.rest
+        (subst (λ (b : List ℕ). Splits (held.rest ++ piece) full.waiting b) (sym last.rest) (all_added (held.rest ++ piece) full.rest held.waiting full.waiting first.is.2 g.adds))
+
+    both : (records : List Record) (end : Replica) → HandsAll full.source mid records end → HandsAll old.source r (old.waiting ++ records) end
+    both records end h = hands-append old.source r mid end old.waiting records first.is.0 (subst (λ (s : List ℕ). HandsAll s mid records end) from h)
+
+    of : (a : Result ℕ ReplicaFault) → HandsOn full.source mid full.waiting a new.waiting then → TakesAs old r piece (told_of_piece before a) new then
+    of (Ok count) h = record {
+      added = full.waiting;
+      splits = splits;
+      hands = both full.waiting then h.0;
+      number = (let one = first.is.1 in let two = h.1 in omega (arith, length-append old.waiting full.waiting));
+      none = h.2;
+    }
+    of (Err fault) h = record {
+      added = full.waiting;
+      splits = splits;
+      hands = record {
+        gone = old.waiting ++ h.gone;
+        split = ap (λ (l : List Record). old.waiting ++ l) h.split ∙ sym (append_assoc old.waiting h.gone new.waiting);
+        hands = both h.gone then h.hands;
+        refused = subst (λ (s : List ℕ). IsFirstRefused s then new.waiting fault) from h.refused;
+      };
+      behind = omega (arith, ap (λ (l : List Record). length l) h.split, length-append h.gone new.waiting);
+    }
+
+-- where none waited there is nothing to hand on before
+pub takes_first : (old full new : Wire) (r then : Replica) (piece : List ℕ) (answer : Result ℕ ReplicaFault) → old.waiting ≡ [] → Gathers old piece full → Hands full r answer new then → Takes old r piece (told_of_piece 0 answer) new then
+takes_first old full new r then piece answer none g last =
+    takes_gathered old old full new r r then piece 0 answer
+    (record {
+      source = refl;
+      is = (subst (λ (l : List Record). HandsAll old.source r l r) (sym none) (record { taken = tt; left = refl }), ap (λ (l : List Record). length l) (sym none), none);
+      rest = refl;
+    })
+    g last
+
+-- nothing of a piece is taken behind the records that waited
+pub takes_nothing : (old held new : Wire) (r mid : Replica) (piece : List ℕ) (before : ℕ) (fault : CodecFault) → Hands old r (Ok before) held mid → IsCodecCause held piece fault → new ≡ held → Takes old r piece (Err (wire.Codec fault)) new mid
+takes_nothing old held new r mid piece before fault first cause same =
+    subst (λ (w : Wire). Takes old r piece (Err (wire.Codec fault)) w mid) (sym same)
+    (record {
+      source = first.source;
+      is = record {
+        cause = subst (λ (b : List ℕ). (fault ≡ codec.Memory) ⊎ Stops (b ++ piece) fault) first.rest cause;
+        hands = first.is.0;
+        none = first.is.2;
+        rest = first.rest;
+      };
+    })
+
+-- what waits is handed on
+pub hands_on_grow : (old new : Wire) (r then : Replica) (answer : Result ℕ ReplicaFault) → Hands old r answer new then → Grows r then
+hands_on_grow old new r then (Ok count) h = hands_grow old.source r then old.waiting h.is.0
+hands_on_grow old new r then (Err fault) h = hands_grow old.source r then h.is.gone h.is.hands

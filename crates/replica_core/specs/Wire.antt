@@ -3,7 +3,7 @@ use Rattle.std.specs.Prelude.{◌≡◌, ◌⊎◌, ℕ, ◌≤◌, List, [], �
 use Rattle.record_codec.specs.declared.fault.CodecFault.{CodecFault}
 use Rattle.record_codec.specs.declared.fault.CodecFault.TheVariants as codec
 use Rattle.record_codec.specs.declared.records.Record.{Record}
-use Rattle.record_stream.specs.Stream.{Splits, Stops}
+use Rattle.record_stream.specs.Stream.{Adds, Splits, Stops}
 use Rattle.relay.specs.declared.ReplicaFault.{ReplicaFault}
 use Rattle.relay.specs.declared.ReplicaFault.TheVariants.{Memory}
 use Rattle.relay.specs.declared.Received.{Received}
@@ -62,7 +62,27 @@ pub record HandsSome (from : List ℕ) (r : Replica) (records waiting : List Rec
   pub hands : HandsAll from r gone then
   pub refused : IsFirstRefused from then waiting fault
 
+-- all of them are handed on and counted, or those up to one that is refused
+abbrev pub HandsOn : List ℕ → Replica → List Record → Result ℕ ReplicaFault → List Record → Replica → Type 0
+HandsOn from r records (Ok count) waiting then = HandsAll from r records then × (count ≡ length records) × (waiting ≡ [])
+HandsOn from r records (Err fault) waiting then = HandsSome from r records waiting fault then
+
 -- ---- what a wire does with a piece
+
+-- The records that wait are handed on, all or up to one that is refused. The rest stays.
+pub record Hands (old : Wire) (r : Replica) (answer : Result ℕ ReplicaFault) (new : Wire) (then : Replica) : Type 0 where
+  pub source : new.source ≡ old.source
+  pub is : HandsOn old.source r old.waiting answer new.waiting then
+  pub rest : new.rest ≡ old.rest
+
+-- The records that the rest and the piece are, as many as are whole now, wait behind those that do, up to a new rest.
+pub record Gathers (old : Wire) (piece : List ℕ) (new : Wire) : Type 0 where
+  pub source : new.source ≡ old.source
+  pub adds : Adds (old.rest ++ piece) old.waiting new.waiting new.rest
+
+-- why nothing of a piece is taken: a fault behind whole records, or want of memory
+abbrev pub IsCodecCause : Wire → List ℕ → CodecFault → Type 0
+IsCodecCause old piece fault = (fault ≡ codec.Memory) ⊎ Stops (old.rest ++ piece) fault
 
 -- The records that waited are handed on; then those that the rest and the piece are, as many as are whole now, up to a new
 -- rest.
@@ -82,7 +102,7 @@ pub record TakesSome (old : Wire) (r : Replica) (piece : List ℕ) (fault : Repl
 
 -- Nothing of the piece is taken, for a fault behind whole records, or for want of memory. The records that waited are handed on.
 pub record TakesNone (old : Wire) (r : Replica) (piece : List ℕ) (fault : CodecFault) (new : Wire) (then : Replica) : Type 0 where
-  pub cause : (fault ≡ codec.Memory) ⊎ Stops (old.rest ++ piece) fault
+  pub cause : IsCodecCause old piece fault
   pub hands : HandsAll old.source r old.waiting then
   pub none : new.waiting ≡ []
   pub rest : new.rest ≡ old.rest

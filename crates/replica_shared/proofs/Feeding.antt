@@ -1,11 +1,12 @@
 -- What the core, and what stands with it, are once a wire took a piece.
-use Rattle.std.proofs.Common.{◌≡◌, ◌∙◌, sym, ap, subst, refl, ℕ, ◌<◌, ◌≤◌, ◌⊎◌, inl, inr, Bool, true, false, ◌||◌, nat_lt, List, [], ◌∷◌, ◌++◌, length, length-append, Option, Some, None, Result, Ok, Err, IfErr, arith}
+use Rattle.std.proofs.Common.{◌≡◌, ◌∙◌, sym, ap, subst, refl, ℕ, ◌<◌, ◌≤◌, ◌⊎◌, inl, inr, Bool, true, false, ◌||◌, nat_eq, nat_lt, List, [], ◌∷◌, ◌++◌, length, length-append, Option, Some, None, Result, Ok, Err, IfErr, arith}
 use Rattle.std.specs.Prelude.{IsOk}
 use Rattle.std.specs.Option.{option_map_or}
-use Rattle.std.proofs.lemmas.Bool.{false≢true, false_from_ne_true, ltb-true, ltb-false}
+use Rattle.std.proofs.lemmas.Bool.{false≢true, false_from_ne_true, eqb-true, ltb-true, ltb-false}
 use mathlib.Core.List.{IsPrefix}
 use Rattle.schema.specs.declared.Table.{Table}
 use Rattle.store_trait.specs.Batch.{Entry}
+use Rattle.record_codec.specs.declared.fault.CodecFault.{CodecFault}
 use Rattle.record_codec.specs.declared.records.Record.{Record}
 use Rattle.published.specs.declared.counts.Counts.{Counts}
 use Rattle.published.specs.Status.{NoneFalls, latest}
@@ -14,12 +15,13 @@ use Rattle.relay.specs.declared.ReplicaFault.TheVariants as faults
 use Rattle.relay.specs.declared.Received.{Received}
 use Rattle.replica_core.specs.Replica.{Replica}
 use Rattle.replica_core.specs.Sound.{IsSound}
-use Rattle.replica_core.specs.Wire.{Wire, HandsAll, Takes, piece_taken}
+use Rattle.replica_core.specs.Calls.{new_over}
+use Rattle.replica_core.specs.Wire.{Wire, HandsAll, Gathers, IsCodecCause, Takes, piece_taken}
 use Rattle.replica_core.specs.declared.wire.WireFault.{WireFault}
 use Rattle.replica_core.specs.declared.wire.WireFault.TheVariants as wire
-use Rattle.replica_core.proofs.Handing.{Grows, takes_grow, grows_none}
+use Rattle.replica_core.proofs.Handing.{Grows, takes_grow, hands_on_grow, takes_first, takes_nothing, grows_none}
 use Rattle.replica_shared.specs.Together.{State, IsWhole, words_of}
-use Rattle.replica_shared.specs.Feeding.{IsNamed, left_by_take, SettlesOrLacks, told_behind, TakesAndSettles, Feeds}
+use Rattle.replica_shared.specs.Feeding.{IsNamed, left_by_take, SettlesOrLacks, told_behind, TakesAndSettles, HandsAs, HandsAndSettles, Feeds}
 use Rattle.replica_shared.proofs.Commits.{same_operations}
 use Rattle.replica_shared.proofs.Standing.{committed_within}
 use Rattle.replica_shared.proofs.Whole.{unsettled}
@@ -31,9 +33,9 @@ not_more r then h few =
     grows_none r then h (let all = ap (λ (q : Replica). length q.accepted) h.is in omega (arith, length-append r.accepted h.more))
 
 -- where no more are accepted than before, nothing changed
-pub same_core : (old new : Wire) (r then : Replica) (piece : List ℕ) (answer : Result ℕ WireFault) (before after : List Record) → Takes old r piece answer new then → before ≡ r.accepted → after ≡ then.accepted → length after ≤ length before → then ≡ r
-same_core old new r then piece answer before after takes was is few =
-    not_more r then (takes_grow old new r then piece answer takes) (subst (λ (l : List Record). length then.accepted ≤ length l) was (subst (λ (l : List Record). length l ≤ length before) is few))
+pub same_core : (r then : Replica) (before after : List Record) → Grows r then → before ≡ r.accepted → after ≡ then.accepted → length after ≤ length before → then ≡ r
+same_core r then before after grows was is few =
+    not_more r then grows (subst (λ (l : List Record). length then.accepted ≤ length l) was (subst (λ (l : List Record). length l ≤ length before) is few))
 
 -- where a record was taken the replica ran
 runs : (stopped : Option ℕ) (answer : Result Received ReplicaFault) → IsOk (option_map_or (λ gno. Err (faults.Stopped gno)) stopped answer) → stopped ≡ None
@@ -44,16 +46,37 @@ hands_where_running : (from : List ℕ) (r then : Replica) (records : List Recor
 hands_where_running from r then [] h more = let same = ap (λ (q : Replica). length q.accepted) h.left in absurd (omega arith)
 hands_where_running from r then (x ∷ records) h more = runs r.stopped _ h.taken.0
 
-takes_where_running : (old new : Wire) (r then : Replica) (piece : List ℕ) (answer : Result ℕ WireFault) → Takes old r piece answer new then → length r.accepted < length then.accepted → r.stopped ≡ None
+pub takes_where_running : (old new : Wire) (r then : Replica) (piece : List ℕ) (answer : Result ℕ WireFault) → Takes old r piece answer new then → length r.accepted < length then.accepted → r.stopped ≡ None
 takes_where_running old new r then piece (Ok count) h more = let is = h.is in hands_where_running old.source r then (old.waiting ++ is.added) is.hands more
 takes_where_running old new r then piece (Err (wire.Replica fault)) h more = let is = h.is in hands_where_running old.source r then is.hands.gone is.hands.hands more
 takes_where_running old new r then piece (Err (wire.Codec fault)) h more = let is = h.is in hands_where_running old.source r then old.waiting is.hands more
 takes_where_running old new r then piece (Err (wire.Waiting fault)) h more = let is = h.is in hands_where_running old.source r then is.hands.gone is.hands.hands more
 
-pub still_running : (old new : Wire) (r then : Replica) (piece : List ℕ) (answer : Result ℕ WireFault) (before : ℕ) → Takes old r piece answer new then → before ≡ length r.accepted → before < length then.accepted → then.stopped ≡ None
-still_running old new r then piece answer before takes was more =
-    let grows = takes_grow old new r then piece answer takes in
-    ap (λ (q : Replica). q.stopped) grows.is ∙ takes_where_running old new r then piece answer takes (subst (λ n. n < length then.accepted) was more)
+pub hands_where_running_as : (old new : Wire) (r then : Replica) (answer : Result ℕ WireFault) → HandsAs old r answer new then → length r.accepted < length then.accepted → r.stopped ≡ None
+hands_where_running_as old new r then (Ok count) h more = hands_where_running old.source r then old.waiting h.is.0 more
+hands_where_running_as old new r then (Err (wire.Replica fault)) h more = hands_where_running old.source r then h.is.gone h.is.hands more
+hands_where_running_as old new r then (Err (wire.Codec fault)) h more = absurd h
+hands_where_running_as old new r then (Err (wire.Waiting fault)) h more = absurd h
+
+-- a replica that accepted more runs still
+pub still_running : (r then : Replica) (before : ℕ) → Grows r then → (length r.accepted < length then.accepted → r.stopped ≡ None) → before ≡ length r.accepted → before < length then.accepted → then.stopped ≡ None
+still_running r then before grows running was more =
+    ap (λ (q : Replica). q.stopped) grows.is ∙ running (subst (λ n. n < length then.accepted) was more)
+
+-- ---- a piece that was gathered
+
+pub hands_grow_as : (old new : Wire) (r then : Replica) (answer : Result ℕ WireFault) → HandsAs old r answer new then → Grows r then
+hands_grow_as old new r then (Ok count) h = hands_on_grow old new r then (Ok count) h
+hands_grow_as old new r then (Err (wire.Replica fault)) h = hands_on_grow old new r then (Err fault) h
+hands_grow_as old new r then (Err (wire.Codec fault)) h = absurd h
+hands_grow_as old new r then (Err (wire.Waiting fault)) h = absurd h
+
+-- is taken as a whole piece is
+hands_take : (old full new : Wire) (r then : Replica) (piece : List ℕ) (answer : Result ℕ WireFault) → old.waiting ≡ [] → Gathers old piece full → HandsAs full r answer new then → Takes old r piece answer new then
+hands_take old full new r then piece (Ok count) none g h = subst (λ n. Takes old r piece (Ok n) new then) (omega arith) (takes_first old full new r then piece (Ok count) none g h)
+hands_take old full new r then piece (Err (wire.Replica fault)) none g h = takes_first old full new r then piece (Err fault) none g h
+hands_take old full new r then piece (Err (wire.Codec fault)) none g h = absurd h
+hands_take old full new r then piece (Err (wire.Waiting fault)) none g h = absurd h
 
 -- no word falls
 pub words_rise : (r then : Replica) (stored : List Counts) → Grows r then → latest stored ≡ words_of r → NoneFalls (latest stored) (words_of then)
@@ -115,10 +138,15 @@ takes_and_settles s mid then old new piece taken answer settled before takes lef
   some = λ more. subst (λ (x : State). SettlesOrLacks x settled then) left (some (subst (λ n. n < length mid.core.accepted) (sym was) more));
   none = λ few.
       let is = none (subst (λ n. length mid.core.accepted ≤ n) (sym was) few) in
-      let same = same_core old new s.core mid.core piece taken s.core.accepted mid.core.accepted takes refl refl few in
+      let same = same_core s.core mid.core s.core.accepted mid.core.accepted (takes_grow old new s.core mid.core piece taken takes) refl refl few in
       (is.0, is.1 ∙ left ∙ left_same s mid.core same);
   told = told;
 }
+
+pub hands_and_settles : (s mid then : State) (full new : Wire) (taken answer : Result ℕ WireFault) (settled : Result (Unit {0}) ReplicaFault) (before : ℕ) → HandsAs full s.core taken new mid.core → mid ≡ left_by_take s mid.core → before ≡ length s.core.accepted
+    → (length mid.core.accepted ≤ before → (settled ≡ Ok tt) × (then ≡ mid)) → (before < length mid.core.accepted → SettlesOrLacks mid settled then) → answer ≡ told_behind taken settled → HandsAndSettles s full answer new then
+hands_and_settles s mid then full new taken answer settled before hands left was none some told =
+    λ old piece empty gathers. takes_and_settles s mid then old new piece taken answer settled before (hands_take old full new s.core mid.core piece taken empty gathers hands) left was none some told
 
 -- the wire's own answer, or want of memory
 told_as : (taken : Result ℕ WireFault) (settled : Result (Unit {0}) ReplicaFault) → IfErr settled (λ fault. fault ≡ faults.Memory) → (told_behind taken settled ≡ taken) ⊎ (IsOk taken × (told_behind taken settled ≡ Err (wire.Replica faults.Memory)))
@@ -150,3 +178,36 @@ feeds tables source base s then old new piece answer h named = record {
     of_more : (b : Bool) → nat_lt (length s.core.accepted) (length h.core.accepted) ≡ b → IfErr h.settled (λ fault. fault ≡ faults.Memory)
     of_more true is = lacks_or_none (left_by_take s h.core) then h.settled (h.some (ltb-true (length s.core.accepted) (length h.core.accepted) is))
     of_more false is = subst (λ (r : Result (Unit {0}) ReplicaFault). IfErr r (λ fault. fault ≡ faults.Memory)) (sym (h.none (ltb-false (length s.core.accepted) (length h.core.accepted) is)).0) tt
+
+-- ---- without the lock
+
+-- what needs no replica is as over any one
+pub feeds_without : (tables : List Table) (source : List ℕ) (base : List Entry) (old new : Wire) (piece : List ℕ) (answer : Result ℕ WireFault) → ((r : Replica) → Takes old r piece answer new r) → Feeds tables source base old piece answer new
+feeds_without tables source base old new piece answer takes =
+    let any : Replica = new_over tables source base 1 in
+    record { before = any; named = (refl, refl, refl); core = any; taken = answer; takes = takes any; told = inl refl; bytes = refl }
+
+-- a list that is told to be empty
+pub is_none : (told list : List Record) (b : Bool) → told ≡ list → b ≡ nat_eq (length told) 0 → b ≡ true → list ≡ []
+is_none [] list b same is empty = sym same
+is_none (x ∷ told) list b same is empty = let e = eqb-true (length (x ∷ told)) 0 (sym is ∙ empty) in absurd (omega arith)
+
+-- no record is whole
+pub none_whole : (old new : Wire) (r : Replica) (piece : List ℕ) → old.waiting ≡ [] → Gathers old piece new → new.waiting ≡ [] → Takes old r piece (Ok 0) new r
+none_whole old new r piece none g empty =
+    hands_take old new new r r piece (Ok 0) none g (record {
+      source = refl;
+      is = (subst (λ (l : List Record). HandsAll new.source r l r) (sym empty) (record { taken = tt; left = refl }), ap (λ (l : List Record). length l) (sym empty), empty);
+      rest = refl;
+    })
+
+-- nothing is taken
+pub none_taken : (old new : Wire) (r : Replica) (piece : List ℕ) (fault : CodecFault) → old.waiting ≡ [] → IsCodecCause old piece fault → new ≡ old → Takes old r piece (Err (wire.Codec fault)) new r
+none_taken old new r piece fault none cause same =
+    takes_nothing old old new r r piece 0 fault
+    (record {
+      source = refl;
+      is = (subst (λ (l : List Record). HandsAll old.source r l r) (sym none) (record { taken = tt; left = refl }), ap (λ (l : List Record). length l) (sym none), none);
+      rest = refl;
+    })
+    cause same

@@ -1,5 +1,5 @@
 -- What a piece of a wire's bytes does to what lies under the lock, and to the wire; and sets of ids.
-use Rattle.std.specs.Prelude.{◌≡◌, ◌⊎◌, ℕ, ◌<◌, ◌≤◌, ◌||◌, nat_lt, true, List, length, Result, Ok, Err, IsOk, MatchResult}
+use Rattle.std.specs.Prelude.{◌≡◌, ◌⊎◌, ℕ, ◌<◌, ◌≤◌, ◌||◌, nat_lt, true, List, [], length, Result, Ok, Err, IsOk, MatchResult}
 use Rattle.schema.specs.declared.Table.{Table}
 use Rattle.store_trait.specs.Batch.{Entry}
 use Rattle.gtid_set.specs.Ids.{Ids}
@@ -7,7 +7,7 @@ use Rattle.gtid_set.specs.Numbers.{has_number}
 use Rattle.relay.specs.declared.ReplicaFault.{ReplicaFault}
 use Rattle.relay.specs.declared.ReplicaFault.TheVariants as faults
 use Rattle.replica_core.specs.Replica.{Replica}
-use Rattle.replica_core.specs.Wire.{Wire, Takes, piece_taken}
+use Rattle.replica_core.specs.Wire.{Wire, Hands, Gathers, Takes, piece_taken}
 use Rattle.replica_core.specs.declared.wire.WireFault.{WireFault}
 use Rattle.replica_core.specs.declared.wire.WireFault.TheVariants as wire
 use Rattle.replica_shared.specs.Together.{State, Settles, IsSettled}
@@ -41,6 +41,17 @@ pub record TakesAndSettles (s : State) (old : Wire) (piece : List ℕ) (answer :
   pub some : length s.core.accepted < length core.accepted → SettlesOrLacks (left_by_take s core) settled then
   pub none : length core.accepted ≤ length s.core.accepted → (settled ≡ Ok tt) × (then ≡ s)
   pub told : answer ≡ told_behind taken settled
+
+-- the records that wait at the wire are handed on, and one that is refused is told as a record of the piece
+abbrev pub HandsAs : Wire → Replica → Result ℕ WireFault → Wire → Replica → Type 0
+HandsAs old r (Ok count) new then = Hands old r (Ok count) new then
+HandsAs old r (Err (wire.Replica fault)) new then = Hands old r (Err fault) new then
+HandsAs old r (Err (wire.Codec fault)) new then = ⊥
+HandsAs old r (Err (wire.Waiting fault)) new then = ⊥
+
+-- The same of a wire that gathered a piece: whatever it was before, if no record waited then.
+abbrev pub HandsAndSettles : State → Wire → Result ℕ WireFault → Wire → State → Type 0
+HandsAndSettles s full answer new then = (old : Wire) (piece : List ℕ) → old.waiting ≡ [] → Gathers old piece full → TakesAndSettles s old piece answer new then
 
 -- What a piece does to the wire: what the wire's `take` does over a core of this replica. Its own answer is told, or, where that
 -- is Ok, that memory ran out. Either way so much of the piece is taken as the answer says.

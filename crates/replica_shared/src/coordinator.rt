@@ -9,7 +9,7 @@ ghost use Rattle.replica_core.specs.Replica.{operations};
 ghost use Rattle.replica_core.specs.Calls.{new_over, received, left_by_receive, is_eligible, finish_fault, IsHandedOut, with_finished, left_by_fault, next_commit, committed_next, unless_stopped, with_published};
 ghost use Rattle.replica_core.specs.Sound.{IsUnderWay};
 ghost use Rattle.replica_core.specs.Wire.{Takes};
-ghost use Rattle.replica_shared.specs.Feeding.{IsNamed, left_by_take, SettlesOrLacks, told_behind, TakesAndSettles};
+ghost use Rattle.replica_shared.specs.Feeding.{IsNamed, left_by_take, SettlesOrLacks, told_behind, TakesAndSettles, HandsAs, HandsAndSettles};
 ghost use Rattle.replica_shared.specs.Outlet.{empty_outlet, pushed_aside};
 ghost use Rattle.replica_shared.specs.Together.{State, words_of, is_awaited, IsStopBehind, IsLater, IsSettled, Settles, IsFaultOf, new_state, left_by_accept, AcceptsAndSettles, left_by_finish, refused_so, HandsIn, NoneIsKept, Finds, FindsBehind, DispatchesOne, DispatchesMore, is_ended, is_idle, offers, outlook_of, news_between, answered, with_waiting, IsAppended, shown, NoneLost, laid, taken_back, TakesOut};
 
@@ -169,6 +169,17 @@ impl<S: RowStore + Drop, J: ReplicaNaming> Coordinator<S, J> {
         told_of(taken, settled)
     }
 
+    // The same of a piece that was gathered already, where no record waited before.
+    pub(crate) fn hand(&mut self, rt: &impl Wait, wire: &mut Wire) -> Result<u64, WireFault>
+        ensures takes { HandsAndSettles self.old wire.old result wire.new self.new }
+        ensures named { IsNamed J.tables J.source J.base self.old.core }
+    {
+        let before = self.accepted();
+        let taken = self.hand_waiting(rt, wire);
+        let settled = self.settle_past(rt, before);
+        told_of(taken, settled)
+    }
+
     // The wire's call over the core.
     fn take_piece(
         &mut self,
@@ -188,6 +199,25 @@ impl<S: RowStore + Drop, J: ReplicaNaming> Coordinator<S, J> {
             self.behind = true;
         }
         taken
+    }
+
+    // Hands on the records that wait. What is refused is told as a record of the piece.
+    fn hand_waiting(&mut self, rt: &impl Wait, wire: &mut Wire) -> Result<u64, WireFault>
+        ensures hands { HandsAs wire.old self.old.core result wire.new self.new.core }
+        ensures left { self.new ≡ left_by_take self.old self.new.core }
+        ensures named { IsNamed J.tables J.source J.base self.old.core }
+    {
+        let _sound = self.core.committed();
+        let before = self.core.accepted().len();
+        let handed = wire.hand(&mut self.core);
+        if before < self.core.accepted().len() {
+            store_words(rt, &self.core, &mut self.status);
+            self.behind = true;
+        }
+        match handed {
+            Ok(count) => Ok(count),
+            Err(fault) => Err(WireFault::Replica(fault)),
+        }
     }
 
     // Does all that can be done, where more than so many records were accepted.

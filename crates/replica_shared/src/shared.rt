@@ -111,7 +111,8 @@ impl<S: RowStore + Drop, J: ReplicaNaming> SharedReplica<S, J> {
 
     /// Takes a piece of a log's bytes, as the wire's `take` does over the core: each record that is whole then is one `receive`, in
     /// order, behind those that waited. Then what may be dispatched is. Answers how many records were taken, also those that
-    /// were skipped. The time and the memory are those of `take`.
+    /// were skipped. The time and the memory are those of `take`. A piece that makes no record whole does not wait for the lock, where
+    /// none waited.
     ///
     /// A fault is `take`'s own: behind `Codec` and `Waiting` nothing of the piece is taken, and it may be sent again; behind
     /// `Replica` it is taken, and may not. Where all records were taken and memory ran out for what comes behind them, `Replica` tells
@@ -119,8 +120,29 @@ impl<S: RowStore + Drop, J: ReplicaNaming> SharedReplica<S, J> {
     pub fn feed(&self, rt: &impl Wait, wire: &mut Wire, piece: &[u8]) -> Result<u64, WireFault>
         ensures { Feeds J.tables J.source J.base wire.old piece.now result wire.new }
     {
+        if wire.waiting().is_empty() {
+            self.feed_first(rt, wire, piece)
+        } else {
+            let mut held = self.held.lock(rt);
+            let answer = held.take(rt, wire, piece);
+            self.let_go(held);
+            answer
+        }
+    }
+
+    // The same where no record waits: the piece is gathered without the lock.
+    fn feed_first(&self, rt: &impl Wait, wire: &mut Wire, piece: &[u8]) -> Result<u64, WireFault>
+        requires { wire.old.waiting ≡ [] }
+        ensures { Feeds J.tables J.source J.base wire.old piece.now result wire.new }
+    {
+        if let Err(fault) = wire.gather(piece) {
+            return Err(WireFault::Codec(fault));
+        }
+        if wire.waiting().is_empty() {
+            return Ok(0);
+        }
         let mut held = self.held.lock(rt);
-        let answer = held.take(rt, wire, piece);
+        let answer = held.hand(rt, wire);
         self.let_go(held);
         answer
     }

@@ -1,0 +1,14 @@
+use Rattle.replica_core.proofs.Handing.{hands_on_grow}
+use Rattle.replica_shared.proofs.Feeding.{same_core, words_rise, whole_grown, whole_same}
+use Rattle.replica_shared.proofs.coordinator.Coordinator.hand_waiting.Goals as goal
+
+pub store_words-requires : goal.store_words-requires
+store_words-requires g c = words_rise _ _ c.self.inside.status.stored (hands_on_grow _ _ _ _ _ c.hand-handed.ensures.hands) c.self.invariant.stand.words
+
+pub invariant_of-self : goal.invariant_of-self
+invariant_of-self g c =
+    whole_grown _ _ _ _ _ _ _ _ c.committed-sound.ensures.sound (hands_on_grow _ _ _ _ _ c.hand-handed.ensures.hands) c.store_words.ensures c.self.invariant
+
+pub invariant_of-self-else-before-accepted : goal.invariant_of-self-else-before-accepted
+invariant_of-self-else-before-accepted g c =
+    whole_same _ _ _ _ _ _ _ (same_core _ _ _ _ (hands_on_grow _ _ _ _ _ c.hand-handed.ensures.hands) c.accepted-before.ensures c.accepted.ensures c.if-before-accepted.false) c.self.invariant
