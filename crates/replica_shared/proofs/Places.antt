@@ -1,9 +1,11 @@
 -- The places of the jobs that are kept, at each step.
 use Rattle.std.proofs.Common.{◌≡◌, ◌∙◌, sym, ap, subst, refl, ℕ, zero, suc, ◌+◌, ◌-◌, ◌%◌, ◌<◌, ◌≤◌, inl, inr, Bool, true, false, true≢false, is_some, ◌⊎◌, ◌&&◌, nat_le, Result, Err, IfSome, List, [], ◌∷◌, length, nat_lt, cond, replicate, Option, Some, None, arith, slice_set, get_or, length-drop}
-use Rattle.std.specs.List.{position, position_or_len}
-use Rattle.std.proofs.lemmas.Bool.{cases_eq, and_parts, or_parts, leb-true, leb-false, lt-ltb}
+use Rattle.std.specs.List.{position, position_or_len, count_by}
+use Rattle.std.proofs.lemmas.Bool.{cases_eq, and_parts, or_parts, leb-true, leb-false, lt-ltb, ltb-false}
 use Rattle.std.proofs.lemmas.Option.{none-some, same_Some}
-use Rattle.std.proofs.lemmas.List.{length_push, length-set, get_or-set_same, get_or-set_other}
+use Rattle.std.proofs.lemmas.List.{length_push, length-set, set_past, get_or-set_same, get_or-set_other}
+use Rattle.std.proofs.lemmas.List.Quantifiers.{position-Some}
+use Rattle.std.proofs.lemmas.List.Sums.{sum_by-cons, sum_by-set}
 use Rattle.record_codec.specs.declared.records.Record.{Record}
 use Rattle.executor.specs.declared.Job.{Job}
 use Rattle.executor.specs.Job.{Finished}
@@ -76,11 +78,16 @@ kept_laid n job kept within h =
       ];
     }
 
-pub kept_taken : (n at : ℕ) (kept : List (Option Job)) → at < length kept → AreKept n kept → AreKept n (slice_set kept at None)
-kept_taken n at kept inside h = record {
+none_set : (kept : List (Option Job)) (at : ℕ) → get_or (slice_set kept at None) at None ≡ None
+none_set [] at = refl
+none_set (place ∷ kept) zero = refl
+none_set (place ∷ kept) (suc at) = none_set kept at
+
+pub kept_taken : (n at : ℕ) (kept : List (Option Job)) → AreKept n kept → AreKept n (slice_set kept at None)
+kept_taken n at kept h = record {
   places = length-set kept at None ∙ h.places;
   own = λ place job is. elim (cases_eq place at) [
-    | inl here ↦ absurd (none-some job (sym (get_or-set_same kept at None None inside) ∙ ap (λ n. get_or (slice_set kept at None) n None) (sym here) ∙ is))
+    | inl here ↦ absurd (none-some job (sym (none_set kept at) ∙ ap (λ n. get_or (slice_set kept at None) n None) (sym here) ∙ is))
     | inr elsewhere ↦ h.own place job (sym (get_or-set_other kept at place None None elsewhere) ∙ is)
   ];
 }
@@ -120,23 +127,47 @@ found_within (None ∷ kept) zero job is = absurd (none-some job is)
 found_within (None ∷ kept) (suc place) job is = let rest = found_within kept place job is in omega arith
 found_within (Some other ∷ kept) place job is = omega arith
 
--- where none is found each place is empty
-pub none_found : (kept : List (Option Job)) → None ≡ position is_some kept → (place : ℕ) → get_or kept place None ≡ None
-none_found kept is place = no_job (get_or kept place None) refl
-  where
-    no_job : (at : Option Job) → get_or kept place None ≡ at → get_or kept place None ≡ None
-    no_job None at = at
-    no_job (Some job) at =
-        let within = found_within kept place job at in
-        let test : nat_lt (position_or_len is_some kept) (length kept) ≡ true = lt-ltb _ _ within in
-        absurd (none-some (position_or_len is_some kept) (is ∙ ap (λ b. cond b (Some (position_or_len is_some kept)) None) test))
+abbrev one : Option Job → ℕ
+one place = cond (is_some place) 1 0
 
--- the job of a place, or none where no place has one
-pub takes_out : (n at : ℕ) (kept : List (Option Job)) (result : Option Job) → AreKept n kept → result ≡ get_or kept at None → is_some result ≡ true → TakesOut kept result (slice_set kept at None)
-takes_out n at kept None h is some = absurd (true≢false (sym some))
-takes_out n at kept (Some job) h is some =
-    let own = h.own at job (sym is) in
+-- where no job is counted nothing is taken out
+pub none_counted : (kept : List (Option Job)) (place : ℕ) → count_by is_some kept ≡ 0 → kept ≡ slice_set kept place None
+none_counted [] place none = refl
+none_counted (None ∷ kept) zero none = refl
+none_counted (None ∷ kept) (suc place) none =
+    let more : count_by is_some (None ∷ kept) ≡ 0 + count_by is_some kept = sum_by-cons one None kept in
+    ap (λ (l : List (Option Job)). None ∷ l) (none_counted kept place (omega (arith, none, more)))
+none_counted (Some job ∷ kept) place none =
+    let more : count_by is_some (Some job ∷ kept) ≡ 1 + count_by is_some kept = sum_by-cons one (Some job) kept in
+    absurd (omega (arith, none, more))
+
+-- where a job is taken out there is one less
+pub one_less : (kept : List (Option Job)) (place : ℕ) → place < length kept → is_some (get_or kept place None) ≡ true → count_by is_some (slice_set kept place None) + 1 ≡ count_by is_some kept + 0
+one_less kept place within some = ap (λ b. count_by is_some (slice_set kept place None) + cond b 1 0) (sym some) ∙ sum_by-set one kept place None None within
+
+-- The job of the first place that has one is taken out; where that is none, no place has one.
+pub takes_first : (n : ℕ) (kept : List (Option Job)) (result : Option Job) → AreKept n kept → result ≡ get_or kept (position_or_len is_some kept) None → TakesOut kept result (slice_set kept (position_or_len is_some kept) None)
+takes_first n kept (Some job) h is =
+    let own = h.own (position_or_len is_some kept) job (sym is) in
     rw own.0 (sym is, refl)
+takes_first n kept None h is = (λ place. empty place (get_or kept place None) refl, past (nat_lt at (length kept)) refl)
+  where
+    at : ℕ
+    at = position_or_len is_some kept
+
+    first : nat_lt at (length kept) ≡ true → position is_some kept ≡ Some at
+    first within = ap (λ b. cond b (Some at) None) within
+
+    none : nat_lt at (length kept) ≡ true → ⊥
+    none within = true≢false (sym (position-Some is_some kept at None (first within)).1 ∙ ap is_some (sym is))
+
+    empty : (place : ℕ) (found : Option Job) → get_or kept place None ≡ found → get_or kept place None ≡ None
+    empty place None found = found
+    empty place (Some job) found = absurd (none (lt-ltb _ _ (found_within kept place job found)))
+
+    past : (b : Bool) → nat_lt at (length kept) ≡ b → slice_set kept at None ≡ kept
+    past true within = absurd (none within)
+    past false within = set_past kept at None (ltb-false at (length kept) within)
 
 -- ---- a result that was refused for want of memory
 

@@ -1,6 +1,6 @@
 //! What lies under the lock: the core, its publisher, the words of the status, the coordinator's end of the queue, and the jobs
 //! for which memory ran out. Each call of the shared replica is one call here.
-ghost use Rattle.std.specs.Prelude.{◌≡◌, ◌⊎◌, ◌≤◌, ◌<◌, ◌+◌, ◌++◌, ◌∷◌, [], true, false, replicate, position, count_by, length, None, Ok, Err, IfOk, IfErr, IfSome, OnOk, OnErr, IsErrOf, IsOk, IsSome, is_some, if◌then◌else◌};
+ghost use Rattle.std.specs.Prelude.{◌≡◌, ◌⊎◌, ◌≤◌, ◌<◌, ◌+◌, ◌++◌, ◌∷◌, [], true, false, replicate, count_by, length, None, Ok, Err, IfOk, IfErr, IfSome, OnOk, OnErr, IsErrOf, IsOk, IsSome, is_some, if◌then◌else◌};
 ghost use mathlib.Core.List.{IsPrefix};
 ghost use Rattle.store_trait.specs.declared.Op.TheVariants.{Load};
 ghost use Rattle.published.specs.History.{IsHistory, commits_in};
@@ -13,6 +13,7 @@ ghost use Rattle.replica_shared.specs.Feeding.{IsNamed, left_by_take, SettlesOrL
 ghost use Rattle.replica_shared.specs.Outlet.{empty_outlet, pushed_aside};
 ghost use Rattle.replica_shared.specs.Together.{State, words_of, is_awaited, IsStopBehind, IsLater, IsSettled, Settles, IsFaultOf, new_state, left_by_accept, AcceptsAndSettles, left_by_finish, refused_so, HandsIn, NoneIsKept, Finds, FindsBehind, DispatchesOne, DispatchesMore, is_ended, is_idle, offers, outlook_of, news_between, answered, with_waiting, IsAppended, shown, NoneLost, laid, taken_back, TakesOut};
 
+use crate::kept::Kept;
 use crate::naming::ReplicaNaming;
 use crate::news::{News, Next, Outlook, Sleepers};
 use crate::outlet::Outlet;
@@ -30,9 +31,6 @@ use std::sync::Wait;
 use store_trait::RowStore;
 use uuid::Uuid;
 
-/// How many jobs can be out, and so how many can be kept.
-const PLACES: usize = 64;
-
 /// Contracts see it as `State` of `specs/Together.antt`.
 pub struct Coordinator<S: RowStore + Drop, J: ReplicaNaming>
 where
@@ -43,9 +41,7 @@ where
     /// How many commits were appended to the publisher.
     appended: u64,
     status: Status,
-    /// The jobs for which memory ran out, each at its gno modulo the places: those that are out lie within so many numbers,
-    /// so none takes another's place.
-    kept: Vec<Option<Job>>,
+    kept: Kept,
     closed: bool,
     outlet: Outlet,
     /// How many of the jobs that were pushed were claimed by workers.
@@ -65,9 +61,9 @@ where
 
     ghost Value = { State };
 
-    ghost view = { λ c. state_of c.core c.publisher c.closed c.kept.items c.outlet c.claimed c.behind c.told };
+    ghost view = { λ c. state_of c.core c.publisher c.closed c.kept c.outlet c.claimed c.behind c.told };
 
-    ghost invariant = { λ c. IsWhole J.tables J.source J.base (state_of c.core c.publisher c.closed c.kept.items c.outlet c.claimed c.behind c.told) c.appended c.status.stored };
+    ghost invariant = { λ c. IsWhole J.tables J.source J.base (state_of c.core c.publisher c.closed c.kept c.outlet c.claimed c.behind c.told) c.appended c.status.stored };
 }
 
 impl<S: RowStore + Drop, J: ReplicaNaming> Coordinator<S, J> {
@@ -76,7 +72,7 @@ impl<S: RowStore + Drop, J: ReplicaNaming> Coordinator<S, J> {
         core: ReplicaCore<S>,
         publisher: Publisher<S, J>,
         status: Status,
-        kept: Vec<Option<Job>>,
+        kept: Kept,
         outlet: Outlet,
     ) -> Coordinator<S, J>
         requires core { core ≡ new_over core.tables core.source core.base core.workers }
@@ -85,7 +81,7 @@ impl<S: RowStore + Drop, J: ReplicaNaming> Coordinator<S, J> {
         requires base { core.base ≡ J.base }
         requires publisher { publisher ≡ record { published = Load core.base ∷ []; waiting = []; history = Load core.base ∷ [] } }
         requires status { status.stored ≡ [] }
-        requires kept { kept.items ≡ replicate 64 None }
+        requires kept { kept ≡ replicate 64 None }
         requires outlet { outlet ≡ empty_outlet }
         ensures { result ≡ new_state core }
     {
@@ -346,8 +342,7 @@ impl<S: RowStore + Drop, J: ReplicaNaming> Coordinator<S, J> {
         ensures none_lost { NoneLost self.old.core self.old.kept self.new.kept }
     {
         let _sound = self.core.committed();
-        let place = (job.gno % 64) as usize;
-        self.kept[place] = Some(job);
+        self.kept.lay(job);
     }
 
     // A job that was kept, if any is.
@@ -355,8 +350,7 @@ impl<S: RowStore + Drop, J: ReplicaNaming> Coordinator<S, J> {
         ensures same { self.new ≡ record self.old { kept = self.new.kept } }
         ensures taken { TakesOut self.old.kept result self.new.kept }
     {
-        let place = first_kept(&self.kept)?;
-        self.kept[place].take()
+        self.kept.take()
     }
 
     // Commits what can be committed, publishes it, and dispatches what then may be.
@@ -603,7 +597,7 @@ impl<S: RowStore + Drop, J: ReplicaNaming> Coordinator<S, J> {
         ensures { result ≡ offers self.now }
     {
         let _sound = self.core.committed();
-        (self.outlet.pushed() - self.claimed) + count_kept(&self.kept)
+        (self.outlet.pushed() - self.claimed) + self.kept.count()
     }
 
     // Who is to be told of what was done since this was asked last.
@@ -663,27 +657,6 @@ fn told_of(
     Ok(count)
 }
 
-// The first place that has a job.
-fn first_kept(kept: &[Option<Job>]) -> Option<usize>
-    ensures { result ≡ position is_some kept.now }
-{
-    kept.iter().position(|place| place.is_some())
-}
-
-// How many places have a job.
-fn count_kept(kept: &[Option<Job>]) -> u64
-    ensures value { result ≡ count_by is_some kept.now }
-    ensures few { result ≤ length kept.now }
-{
-    let mut count = 0;
-    for place in kept {
-        if place.is_some() {
-            count += 1;
-        }
-    }
-    count
-}
-
 // Stores how far the core is.
 fn store_words<S: RowStore>(rt: &impl Wait, core: &ReplicaCore<S>, status: &mut Status)
     requires { NoneFalls (latest status.old.stored) (words_of core.now) }
@@ -698,22 +671,11 @@ fn store_words<S: RowStore>(rt: &impl Wait, core: &ReplicaCore<S>, status: &mut 
 }
 
 /// The memory of a coordinator: the places for jobs, and the words of the status.
-pub(crate) fn parts(alloc: Global) -> Result<(Vec<Option<Job>>, Status, Watch), Memory>
-    ensures { IfOk result (λ parts. (parts.0.items ≡ replicate 64 None) × (parts.1.stored ≡ [])) }
+pub(crate) fn parts(alloc: Global) -> Result<(Kept, Status, Watch), Memory>
+    ensures { IfOk result (λ parts. (parts.0 ≡ replicate 64 None) × (parts.1.stored ≡ [])) }
 {
-    let places = empty_places(alloc)?;
+    let places = Kept::new(alloc)?;
     let mut status = Status::new(alloc)?;
     let watch = status.watch()?;
     Ok((places, status, watch))
-}
-
-// A place for each job that can be out.
-fn empty_places(alloc: Global) -> Result<Vec<Option<Job>>, Memory>
-    ensures { IfOk result (λ places. places.items ≡ replicate 64 None) }
-{
-    let mut places = Vec::with_capacity(alloc, PLACES)?;
-    for _place in 0..PLACES {
-        places.push(None)?;
-    }
-    Ok(places)
 }

@@ -8,14 +8,16 @@
 //! publisher say of themselves. A worker claims a job under the lock, takes it from the queue (`Jobs`) and executes it without,
 //! and hands in what came of it; what it does under the lock is said of the coordinator's own call. Who has nothing to do sleeps
 //! on a condition variable until there is what it waits for: each call under the lock ends in `let_go`, which asks the
-//! coordinator whom the change concerns. Records come one by one (`receive`), or as the bytes of a log in pieces (`feed`), which
-//! are the wire's own call under the lock (`specs/Feeding.antt`). It stands on `replica_core`, `executor` and `published`, on
-//! `gtid_set` for the ids that are waited for (`wait_for_set`), and on the ruled queue of `crossbeam_deque`.
+//! coordinator whom the change concerns. Records come one by one (`receive`), or as the bytes of a log in pieces (`feed`): a piece
+//! is the wire's own call over the core (`specs/Feeding.antt`), and waits for the lock only where a record waits or is whole. It
+//! stands on `replica_core`, `executor` and `published`, on `gtid_set` for the ids that are waited for (`wait_for_set`), and on
+//! the ruled queue of `crossbeam_deque`.
 #![tactic(auto)]
 
 mod coordinator;
 mod gate;
 mod hand;
+mod kept;
 mod naming;
 mod news;
 mod outlet;

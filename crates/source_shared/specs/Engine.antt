@@ -1,9 +1,10 @@
 -- What lies under the engine lock, and what is true of it each time that the lock is taken.
 use Rattle.std.specs.Prelude.{◌≡◌, ◌≢◌, ◌⊎◌, ℕ, ◌+◌, ◌-◌, ◌≤◌, nat_le, nat_lt, count_by, find, ◌==◌, ◌&&◌, ◌||◌, not, if◌then◌else◌, Bool, true, false, List, [], ◌∷◌, ◌++◌, length, take, drop, replicate, slice_get, slice_set, slice_index_or, Option, Some, None, is_some, is_none, IfSome, IsSome, Result, Ok, Err, OnOk, OnErr, IsErrOf}
+use Rattle.std.specs.List.{flat_map, AllByRecursion}
 use Rattle.schema.specs.declared.Table.{Table}
 use Rattle.store_trait.specs.Batch.{Entry}
 use Rattle.record_codec.specs.declared.records.Record.{Record}
-use Rattle.record_codec.specs.Group.{GroupValue, Hold}
+use Rattle.record_codec.specs.Group.{GroupValue, Hold, AreNumbered}
 use Rattle.record_codec.specs.Spelling.{spelling, HasSpelling}
 use Rattle.log_file.specs.Log.{Log, Kept, Tail, log_of}
 use Rattle.log_file.specs.declared.fault.LogFault.{LogFault}
@@ -188,17 +189,27 @@ with_told s = record s { watch = record s.watch { told = outlook s } }
 abbrev pub synced_record : State → ℕ → Option Record
 synced_record s gno = find (λ r. r.gno == gno) s.kept.records
 
--- the bytes are followed by those of the record, if there is one
-abbrev pub IsAppended : Option Record → List ℕ → Bool → List ℕ → Type 0
-IsAppended None old there new = (there ≡ false) × (new ≡ old)
-IsAppended (Some r) old there new = (there ≡ true) × HasSpelling r × (new ≡ old ++ spelling r)
+-- the bytes are followed by those of these records
+pub record AreAppended (made : List Record) (old new : List ℕ) : Type 0 where
+  pub have : AllByRecursion HasSpelling made
+  pub bytes : new ≡ old ++ flat_map spelling made
 
--- the bytes are followed by those of a record of this gno
-pub record AppendsOne (gno : ℕ) (old new : List ℕ) : Type 0 where
-  pub made : Record
-  pub number : made.gno ≡ gno
-  pub has : HasSpelling made
-  pub bytes : new ≡ old ++ spelling made
+-- the bytes are followed by those of so many records, whose gnos are this one, the next, and so on
+pub record AppendsSome (gno count : ℕ) (old new : List ℕ) : Type 0 where
+  pub made : List Record
+  pub many : length made ≡ count
+  pub numbered : AreNumbered gno made
+  pub appended : AreAppended made old new
+
+-- the synced records behind this gno, so many at most
+abbrev pub synced_past : State → ℕ → ℕ → List Record
+synced_past s gno count = take count (drop gno s.kept.records)
+
+-- the bytes are followed by those of so many synced records, the ones behind this gno
+pub record AppendsSynced (s : State) (gno count : ℕ) (old new : List ℕ) : Type 0 where
+  pub many : length (synced_past s gno count) ≡ count
+  pub numbered : AreNumbered (gno + 1) (synced_past s gno count)
+  pub appended : AreAppended (synced_past s gno count) old new
 
 -- ---- what receipts, groups and the writer leave
 

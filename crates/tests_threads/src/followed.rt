@@ -71,21 +71,24 @@ pub fn follow<J: Naming, R: Wait + Clock>(
     source: &Shared<'_, J, R>,
 ) -> Result<Vec<u8>, SourceFault> {
     let mut bytes = Vec::new(alloc);
-    for gno in 0..u64::MAX {
-        if !comes(rt, source, gno, &mut bytes)? {
+    let mut followed = 0u64;
+    for _ in rt.forever() {
+        let count = comes(rt, source, followed, &mut bytes)?;
+        if count == 0 {
             break;
         }
+        followed = followed.saturating_add(count);
     }
     Ok(bytes)
 }
 
-/// Whether a record comes behind this one. It is asked for once more where it lacked memory.
+/// How many records come behind this one. They are asked for once more where that lacked memory.
 fn comes<J: Naming, R: Wait + Clock>(
     rt: &R,
     source: &Shared<'_, J, R>,
     gno: u64,
     bytes: &mut Vec<u8>,
-) -> Result<bool, SourceFault> {
+) -> Result<u64, SourceFault> {
     match source.bytes_past(rt, gno, bytes) {
         Err(SourceFault::Memory) => source.bytes_past(rt, gno, bytes),
         answer => answer,
@@ -102,7 +105,7 @@ pub fn are_bytes<J: Naming, R: Wait + Abort + Clock>(
 ) -> Result<(), Fail> {
     let len = bytes.len();
     for gno in [count, u64::MAX] {
-        assert_eq!(rt; source.bytes_past(rt, gno, &mut bytes), Ok(false));
+        assert_eq!(rt; source.bytes_past(rt, gno, &mut bytes), Ok(0));
     }
     assert_eq!(rt; bytes.len(), len);
     let mut rest = &bytes[..];
@@ -112,6 +115,25 @@ pub fn are_bytes<J: Naming, R: Wait + Abort + Clock>(
         rest = rest.get(taken..).unwrap_or(&[]);
     }
     assert!(rt; rest.is_empty(), "bytes behind the last record");
+    fill_the_room(rt, source, bytes, count)
+}
+
+/// One call gives the bytes of all records where there is room for them, and of all but the last where a byte is missing.
+fn fill_the_room<J: Naming, R: Wait + Abort + Clock>(
+    rt: &R,
+    source: &Shared<'_, J, R>,
+    mut bytes: Vec<u8>,
+    count: u64,
+) -> Result<(), Fail> {
+    let len = bytes.len();
+    for missing in [0, 1] {
+        bytes.clear();
+        for _ in len.saturating_sub(missing)..bytes.capacity() {
+            bytes.push(0)?;
+        }
+        let taken = count.saturating_sub(missing as u64);
+        assert_eq!(rt; source.bytes_past(rt, 0, &mut bytes), Ok(taken));
+    }
     Ok(())
 }
 

@@ -435,16 +435,18 @@ fn sleep_all<J: ReplicaNaming>(
     false
 }
 
-/// Receives a record, and again where memory was refused: it may have been accepted by then.
+/// Receives a record, and again where memory was refused: it may have been accepted by then, and a worker may have stopped
+/// the replica at it.
 pub fn receive<J: ReplicaNaming>(
     rt: &impl Wait,
     shared: &Shared<J>,
     new: &Record,
 ) -> Result<Received, ReplicaFault> {
     match shared.receive(rt, Uuid::from_u128(SOURCE), new) {
-        Err(ReplicaFault::Memory) => shared
-            .receive(rt, Uuid::from_u128(SOURCE), new)
-            .and(Ok(Received::Accepted)),
+        Err(ReplicaFault::Memory) => match shared.receive(rt, Uuid::from_u128(SOURCE), new) {
+            Err(ReplicaFault::Stopped(gno)) if gno == new.gno => Ok(Received::Accepted),
+            answer => answer.and(Ok(Received::Accepted)),
+        },
         answer => answer,
     }
 }

@@ -20,6 +20,9 @@ use uuid::Uuid;
 /// So many bytes of the log are sent at once.
 const PIECE: usize = 7;
 
+/// So many bytes of the log are taken from the source at once, or those of one record where it has more.
+const ROOM: usize = 4096;
+
 /// The receipts of one session, in order; or why it stopped.
 type Receipts<J> = Result<Vec<Receipt<J>>, Trouble>;
 
@@ -120,8 +123,8 @@ fn commit_one<S: NewStore, T: Tracker + Drop + Send + Sync, J: Naming, H: Wait>(
     Ok(source.commit(rt, seat)?)
 }
 
-/// Sends the source's log to the replica, record by record, until the sessions have ended and all was sent. It sleeps while there
-/// is nothing to send. The bytes of one record are kept at a time.
+/// Sends the source's log to the replica until the sessions have ended and all was sent. It sleeps while there is nothing to send.
+/// The bytes are kept of as many records as there is room for, and of one at least.
 fn carry_all<S: NewStore, T: Tracker + Drop + Send + Sync, J: Naming, K: ReplicaNaming, H: Wait>(
     rt: &H,
     alloc: Global,
@@ -129,15 +132,18 @@ fn carry_all<S: NewStore, T: Tracker + Drop + Send + Sync, J: Naming, K: Replica
     replica: &Replica<S, K>,
 ) -> Result<(), Trouble> {
     let mut wire = Wire::new(alloc, Uuid::from_bytes(SOURCE));
-    let mut bytes = Vec::new(alloc);
-    for gno in 0..u64::MAX {
+    let mut bytes = Vec::with_capacity(alloc, ROOM)?;
+    let mut sent = 0u64;
+    for _ in rt.forever() {
         bytes.clear();
-        if !source.bytes_past(rt, gno, &mut bytes)? {
+        let count = source.bytes_past(rt, sent, &mut bytes)?;
+        if count == 0 {
             return Ok(());
         }
         send(rt, replica, &mut wire, &bytes)?;
+        sent = sent.saturating_add(count);
     }
-    Err(Trouble::Different)
+    unreachable!()
 }
 
 /// Sends bytes over the wire, in pieces.

@@ -14,7 +14,7 @@ invariant_of-self-then-is_some g c =
     let same : dispatched (committed_next was) ≡ dispatched was = dispatched_stays was (commit_had was _ c.in_ok-next.ensures.answer c.if-is_some.ensures) in
     rw left record {
       stand = stand_committed c.commits.ensures.first _ _ _ _ _ _ _ _ c.self.invariant.stand (c.store_words.ensures ∙ ap words_of left);
-      kept = subst (λ n. AreKept n c.self.inside.kept.items) (sym same) c.self.invariant.kept;
+      kept = subst (λ n. AreKept n c.self.inside.kept) (sym same) c.self.invariant.kept;
       line = subst (λ n. AreInLine n c.self.inside.outlet) (sym same) c.self.invariant.line;
       claims = c.self.invariant.claims;
       rest = unsettled _ (ap (λ (s : State). s.behind) c.self.view_is ∙ c.requires);

@@ -1,5 +1,5 @@
 use Rattle.std.proofs.Common.{arith, ◌≡◌, ◌∙◌, ap, None, replicate}
-use Rattle.replica_shared.proofs.coordinator.empty_places.Goals as goal
+use Rattle.replica_shared.proofs.kept.empty_places.Goals as goal
 
 pub returns : goal.returns
 returns c =
