@@ -2,11 +2,13 @@
 //!
 //! `again` sends each event that is refused for want of memory once more, and compares with a world that met no refusal.
 //! `one_thread` goes through the calls of a shared source and a shared replica one by one: no clause can name what a call
-//! does to the core under the lock.
+//! does to the core under the lock. `limits` does so at the bounds of the product.
 #![tactic(auto)]
 
 #[cfg(test)]
 mod again;
+#[cfg(test)]
+mod limits;
 #[cfg(test)]
 mod makers;
 #[cfg(test)]

@@ -53,16 +53,20 @@ pub fn set(key: i64, value: i64) -> Change {
     }
 }
 
-/// Table 1, of two columns.
+/// How many records a log may have.
+pub const LIMIT: u64 = 1010;
+
+/// Table 1, of two columns; table 2, of sixteen; and table 256, of one.
 fn schema(alloc: Global) -> Result<Schema, LogFault> {
-    let tables = vec![in alloc;
-        Table {
-            id: 1,
-            columns: 2,
+    let mut tables = Vec::new(alloc);
+    for (id, columns) in [(1, 2), (2, 16), (256, 1)] {
+        tables.push(Table {
+            id,
+            columns,
             keyed: true,
-            parent: None
-        },
-    ]?;
+            parent: None,
+        })?;
+    }
     Schema::new(tables).map_err(|_| LogFault::Memory)
 }
 
@@ -87,7 +91,7 @@ pub fn sides(alloc: Global) -> Result<InMemory, LogFault>
 {
     let (schema, base) = (schema(alloc)?, Batch::new(alloc));
     let identifier = Uuid::from_bytes(SOURCE);
-    match pair_of(alloc, schema, identifier, &base, 1000, 2, parts(alloc))? {
+    match pair_of(alloc, schema, identifier, &base, LIMIT, 2, parts(alloc))? {
         Some(sides) => Ok(sides),
         None => Err(LogFault::OutOfTurn),
     }
@@ -99,7 +103,7 @@ pub fn world(alloc: Global) -> Result<InOne, LogFault>
 {
     let (schema, base) = (schema(alloc)?, Batch::new(alloc));
     let identifier = Uuid::from_bytes(SOURCE);
-    match pair_of(alloc, schema, identifier, &base, 1000, 2, parts(alloc))? {
+    match pair_of(alloc, schema, identifier, &base, LIMIT, 2, parts(alloc))? {
         Some(sides) => Ok(sides.into_world(alloc, base, BTreeStore::new(alloc))?),
         None => Err(LogFault::OutOfTurn),
     }

@@ -1,11 +1,12 @@
 //! Both sides on one thread, call by call: two sessions whose transactions clash, a replica that is handed their records in
-//! wrong ways before the right one, and both sides compared in the end.
+//! wrong ways before the right one, and both sides compared in the end; and the same over a log that is filled (`limits`).
 
 ghost use Rattle.std.specs.Prelude.{◌≡◌};
 ghost use Rattle.source_core.specs.Source.{new_source};
 ghost use Rattle.replica_core.specs.Calls.{new_over};
 ghost use Rattle.world.specs.Fresh.{IsNew};
 
+use crate::limits::fill;
 use crate::makers::{InMemory, SOURCE, columns, insert, row, set, sides};
 use btree_store::BTreeStore;
 use commit_order_tracker::CommitOrder;
@@ -24,24 +25,43 @@ use std::test::Fail;
 use uuid::Uuid;
 use world::{Pair, begins};
 
-type Source<J> = SharedSource<BTreeStore, CommitOrder, MemoryDevice, J>;
+pub type Source<J> = SharedSource<BTreeStore, CommitOrder, MemoryDevice, J>;
 
-type Replica<K> = SharedReplica<BTreeStore, K>;
+pub type Replica<K> = SharedReplica<BTreeStore, K>;
 
 /// A source whose records are not taken.
 const OTHER: [u8; 16] = [7; 16];
 
+/// What happens between the opening and the end.
+#[derive(Clone, Copy, Drop)]
+enum Course {
+    /// Two transactions that clash.
+    Clash,
+    /// As many as the log may have.
+    Limits,
+}
+
 #[test]
 fn both_sides_on_one_thread(rt: HostRuntime) -> Result<(), Fail> {
-    let alloc = rt.alloc();
+    runs(&rt, rt.alloc(), Course::Clash)
+}
+
+/// Catches a call that gives up at a bound of the product, or does there what it does elsewhere.
+#[test]
+fn a_log_is_filled(rt: HostRuntime) -> Result<(), Fail> {
+    runs(&rt, rt.alloc(), Course::Limits)
+}
+
+fn runs<R: Wait + Abort>(rt: &R, alloc: Global, course: Course) -> Result<(), Fail> {
     let sides = sides(alloc)?;
     let base = sides.replica.base().copy()?;
     story::<Brand, Brand, _>(
-        &rt,
+        rt,
         alloc,
         sides,
         source_shared::Beginning::new(),
         published::Beginning::of(base),
+        course,
     )
 }
 
@@ -51,6 +71,7 @@ fn story<J: Naming, K: ReplicaNaming, R: Wait + Abort>(
     sides: InMemory,
     receipts: source_shared::Beginning,
     publication: published::Beginning,
+    course: Course,
 ) -> Result<(), Fail>
     requires source { sides.source ≡ new_source sides.source.tables sides.source.base sides.source.limit sides.source.kind }
     requires log { IsNew sides.log }
@@ -80,7 +101,7 @@ fn story<J: Naming, K: ReplicaNaming, R: Wait + Abort>(
         1,
     )?;
     let replica: Replica<K> = SharedReplica::new(rt, alloc, replica, publisher, seats)?;
-    let met = meet(rt, alloc, &source, &replica);
+    let met = meet(rt, alloc, &source, &replica, course);
     let (core, publisher) = replica.end();
     drop(publisher.close(rt));
     assert!(rt; begins(&source.end(&met?), &core));
@@ -93,8 +114,22 @@ fn meet<J: Naming, K: ReplicaNaming, R: Wait + Abort>(
     alloc: Global,
     source: &Source<J>,
     replica: &Replica<K>,
-) -> Result<[Receipt<J>; 2], Fail> {
-    let receipts = commits(rt, source)?;
+    course: Course,
+) -> Result<Vec<Receipt<J>>, Fail> {
+    match course {
+        Course::Clash => clash(rt, alloc, source, replica),
+        Course::Limits => fill(rt, alloc, source, replica),
+    }
+}
+
+/// Two transactions that clash; it answers the source's receipts.
+fn clash<J: Naming, K: ReplicaNaming, R: Wait + Abort>(
+    rt: &R,
+    alloc: Global,
+    source: &Source<J>,
+    replica: &Replica<K>,
+) -> Result<Vec<Receipt<J>>, Fail> {
+    let receipts = commits(rt, alloc, source)?;
     applies(rt, alloc, source, replica)?;
     Ok(receipts)
 }
@@ -102,15 +137,17 @@ fn meet<J: Naming, K: ReplicaNaming, R: Wait + Abort>(
 /// Session 2 commits a row that session 1 held, and then session 1 sets a column of it.
 fn commits<J: Naming, R: Wait + Abort>(
     rt: &R,
+    alloc: Global,
     source: &Source<J>,
-) -> Result<[Receipt<J>; 2], SourceFault> {
+) -> Result<Vec<Receipt<J>>, SourceFault> {
     let mut one = source.session(rt, 1)?;
     let mut two = source.session(rt, 2)?;
     clashes(rt, source, &mut one, &mut two)?;
-    let first = receipt(rt, source, &mut two, (2, 1, 0))?;
+    let mut receipts = Vec::new(alloc);
+    receipts.push(receipt(rt, source, &mut two, (2, 1, 0))?)?;
     sets(rt, source, &mut one)?;
-    let second = receipt(rt, source, &mut one, (1, 2, 1))?;
-    Ok([first, second])
+    receipts.push(receipt(rt, source, &mut one, (1, 2, 1))?)?;
+    Ok(receipts)
 }
 
 /// Both insert the row. Session 1 gives it up, and session 2 prepares, and may write no more.
@@ -174,8 +211,8 @@ fn applies<J: Naming, K: ReplicaNaming>(
     reads(rt, replica)
 }
 
-/// The second too early, the first, the first again, the second from another source, the second with a parent that does
-/// not cover the first, and the second.
+/// The second too early, the first, the first again, the second from another source, with a flag that lies, and with a parent that
+/// does not cover the first, and the second.
 fn receives<K: ReplicaNaming>(
     rt: &(impl Wait + Abort),
     replica: &Replica<K>,
@@ -184,11 +221,14 @@ fn receives<K: ReplicaNaming>(
 ) -> Result<(), Fail> {
     let mut lying = second.copy()?;
     lying.parent = 0;
+    let mut flagged = second.copy()?;
+    flagged.flags.missing_keys = true;
     for (from, record, want) in [
         (SOURCE, second, Err(ReplicaFault::Gap)),
         (SOURCE, first, Ok(Received::Accepted)),
         (SOURCE, first, Ok(Received::Skipped)),
         (OTHER, second, Err(ReplicaFault::ForeignSource)),
+        (SOURCE, &flagged, Err(ReplicaFault::Malformed)),
         (SOURCE, &lying, Err(ReplicaFault::BadParent)),
         (SOURCE, second, Ok(Received::Accepted)),
     ] {

@@ -1,4 +1,4 @@
-use Rattle.tests_pair.proofs.one_thread.both_sides_on_one_thread.Given as goal
+use Rattle.tests_pair.proofs.one_thread.runs.Given as goal
 
 -- the history of receipts that was just made, and the rows of the source
 abbrev pub ghosts-story-J-Naming : goal.ghosts-story-J-Naming
