@@ -1,14 +1,16 @@
 //! Changes run over rows, and the parent rows that they look at.
 
-ghost use Rattle.std.specs.Prelude.{◌≡◌, ◌++◌, IfOk, IfSome, OnOk, option_and_then, option_copied, option_to_list};
+ghost use Rattle.std.specs.Prelude.{◌≡◌, ◌++◌, IfOk, IfSome, OnOk, is_none, option_copied};
 ghost use Rattle.std.specs.List.{list_all};
 ghost use Rattle.std.specs.List.Sorted.{IsSorted};
 ghost use Rattle.std.specs.Option.{option_map};
+ghost use Rattle.std.specs.FinMap.{get};
 ghost use Rattle.schema.specs.RowId.{row_cmp};
 ghost use Rattle.schema.specs.Rows.{has_row};
-ghost use Rattle.rows.specs.Database.{effect, kin, parent_of};
-ghost use Rattle.overlay.specs.Pending.{pending_of};
-ghost use Rattle.executor.specs.Job.{same_rows};
+ghost use Rattle.schema.specs.Schema.{link_of};
+ghost use Rattle.rows.specs.Database.{effect, kin};
+ghost use Rattle.overlay.specs.Pending.{pending_of, seen};
+ghost use Rattle.executor.specs.Job.{same_rows, kin_at};
 
 use overlay::{Overlay, left_seen, parent_row, row_seen};
 use record_codec::Refs;
@@ -43,12 +45,36 @@ pub(crate) fn run_changes<S: RowStore>(
             return Ok(None);
         };
         let row = change.target();
-        let before = row_seen(&overlay, store, row);
-        put_parent(&mut kin, schema, row.table, before.as_ref())?;
-        put_parent(&mut kin, schema, row.table, left.as_ref())?;
+        put_parents(&mut kin, schema, store, &overlay, row, left.as_ref())?;
         overlay.push(*change, left)?;
     }
     Ok(Some(Run { overlay, kin }))
+}
+
+/// Puts the parents of a row, as it is and as a change leaves it, behind the others, where its table has a parent.
+fn put_parents<S: RowStore>(
+    kin: &mut Vec<RowId>,
+    schema: &Schema,
+    store: &S,
+    overlay: &Overlay,
+    row: RowId,
+    left: Option<&Row>,
+) -> Result<(), Memory>
+    ensures { OnOk result (kin.new.items ≡ kin.old.items ++ kin_at schema.now row.table (get (seen overlay.now (S.contents store.now)) row) ++ kin_at schema.now row.table (option_copied left.entry)) }
+{
+    if has_no_parent(schema, row.table) {
+        return Ok(());
+    }
+    let before = row_seen(overlay, store, row);
+    put_parent(kin, schema, row.table, before.as_ref())?;
+    put_parent(kin, schema, row.table, left)
+}
+
+/// Whether the table has no parent.
+fn has_no_parent(schema: &Schema, table: u16) -> bool
+    ensures { result ≡ is_none (link_of schema.now table) }
+{
+    schema.table(table).is_none_or(|t| t.parent.is_none())
 }
 
 /// Puts the parent of a row of the table behind the others, where the row is there and has one.
@@ -58,7 +84,7 @@ fn put_parent(
     table: u16,
     row: Option<&Row>,
 ) -> Result<(), Memory>
-    ensures { OnOk result (kin.new.items ≡ kin.old.items ++ option_to_list (option_and_then (parent_of schema.now table) (option_copied row.entry))) }
+    ensures { OnOk result (kin.new.items ≡ kin.old.items ++ kin_at schema.now table (option_copied row.entry)) }
 {
     let Some(columns) = row else {
         return Ok(());

@@ -5,7 +5,7 @@
 //! keeps its job, and its type keeps that its outcome is what comes of that job: the rows that the record writes, as its
 //! changes leave them; or that they do not apply; or that they apply and look at other parent rows than the record states.
 //! `laws` states what that says of the database that the rows are copies of. It stands on `overlay` for running the changes,
-//! and on `btree_store` for the rows that they run over.
+//! and on `vector_store` for the rows that they run over.
 #![tactic(auto)]
 
 ghost use Rattle.std.specs.Prelude.{◌≡◌, ◌⊎◌, ◌↔◌, IsTrue, IfOk};
@@ -15,7 +15,6 @@ mod kin;
 pub mod laws;
 mod same;
 
-use btree_store::BTreeStore;
 use kin::{Run, are_exactly, run_changes};
 use record_codec::{Record, same_records};
 use same::{same_batches, same_schemas};
@@ -23,6 +22,7 @@ use schema::{Memory, Schema};
 use std::alloc::Global;
 use std::marker::Model;
 use store_trait::{Batch, RowStore};
+use vector_store::VectorStore;
 
 /// What a worker needs for executing one record.
 #[derive(Debug, Drop)]
@@ -168,7 +168,7 @@ pub fn execute(alloc: Global, job: Job) -> JobResult
 fn run(alloc: Global, job: &Job) -> Result<Outcome, Memory>
     ensures { IfOk result (λ outcome. outcome ≡ executed job.now) }
 {
-    let mut rows = BTreeStore::new(alloc);
+    let mut rows = VectorStore::new(alloc);
     rows.put_all(&job.input)?;
     let Some(run) = run_changes(alloc, &job.schema, &rows, job.rec.changes.list())? else {
         return Ok(Outcome::Undefined);
