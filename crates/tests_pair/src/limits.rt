@@ -43,6 +43,8 @@ pub fn fill<J: Naming, K: ReplicaNaming, R: Wait + Abort>(
     let missing = RowId { table: 3, key: 0 };
     let read = source.read(rt, &mut seat, missing);
     assert_eq!(rt; read, Err(SourceFault::NoTable));
+    let last = source.record(rt, LIMIT)?.map(|record| record.gno);
+    assert_eq!(rt; last, Some(LIMIT));
     source.close(rt);
     sends(rt, alloc, source, replica)?;
     replica.worker(rt, alloc, &NoGate)?;

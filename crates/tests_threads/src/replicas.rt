@@ -6,7 +6,7 @@ use crate::device::{PATIENCE, comes};
 use crate::lacking::Lacking;
 use crate::makers::{ONE, SOURCE, insert, record, replica, set};
 use crate::watched::{Order, is_crowded, is_empty, is_handed_in_late, is_refused, is_watched};
-use crate::wires::{come_in_pieces, is_damaged, is_kept_waiting, sets_are_shown};
+use crate::wires::{come_in_pieces, is_damaged, is_kept_waiting, sets_are_shown, wake_workers};
 use btree_store::BTreeStore;
 use published::{Answer, Beginning, Counts, LeftRight, OpenError, open};
 use record_codec::Record;
@@ -63,6 +63,8 @@ pub enum Course {
     Damaged,
     /// They come before the record in front of them.
     Waiting,
+    /// Two workers sleep when the bytes come.
+    Asleep,
     /// Sets of ids are waited for.
     Sets,
 }
@@ -234,6 +236,7 @@ fn run_over<J: ReplicaNaming + Send + Sync, R: Threads + Wait + Abort + Clock + 
         Course::Singles => come_in_pieces(rt, alloc, &shared, records, 1),
         Course::Damaged => is_damaged(rt, alloc, &shared, records),
         Course::Waiting => is_kept_waiting(rt, alloc, &shared, records),
+        Course::Asleep => wake_workers(rt, alloc, &shared, records),
         Course::Sets => sets_are_shown(rt, alloc, &shared, records),
     };
     let ends = ended(rt, shared);
@@ -421,7 +424,7 @@ fn receive_each<J: ReplicaNaming>(
 }
 
 /// Whether so many sleep before the patience ends.
-fn sleep_all<J: ReplicaNaming>(
+pub fn sleep_all<J: ReplicaNaming>(
     rt: &(impl Wait + Clock),
     shared: &Shared<J>,
     asleep: Sleepers,
@@ -494,7 +497,7 @@ pub fn counts(committed: u64, published: u64) -> Counts {
 
 /// It holds each job until it is opened, for a while at most. A job that is entered while another is held opens it.
 #[derive(Drop)]
-struct Held<'a, R: Clock> {
+pub struct Held<'a, R: Clock> {
     rt: &'a R,
     open: AtomicBool,
     /// A job is held, or goes on.
@@ -504,13 +507,18 @@ struct Held<'a, R: Clock> {
 }
 
 impl<'a, R: Clock> Held<'a, R> {
-    fn new(rt: &'a R, open: bool) -> Held<'a, R> {
+    pub fn new(rt: &'a R, open: bool) -> Held<'a, R> {
         Held {
             rt,
             open: AtomicBool::new(open),
             entered: AtomicBool::new(false),
             met: AtomicBool::new(false),
         }
+    }
+
+    /// Whether two jobs were there at one time.
+    pub fn has_met(&self) -> bool {
+        self.met.load(Ordering::SeqCst)
     }
 }
 
@@ -595,7 +603,7 @@ fn beside<J: ReplicaNaming + Send + Sync, R: Threads + Wait + Abort + Clock + Sy
     let met = run_threads(rt, alloc, shared, records, &gate, 3, &steps)?;
     assert_eq!(rt; met, ([Ok(()); 3], Ok(3)));
     // (Where there is no memory for a thread, the workers run one after another.)
-    if !gate.met.load(Ordering::SeqCst) {
+    if !gate.has_met() {
         Err(Memory)?;
     }
     assert!(rt; !gate.entered.load(Ordering::SeqCst), "a job was not left");

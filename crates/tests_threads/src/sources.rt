@@ -309,7 +309,7 @@ where
     Ok(sessions.saturating_mul(rows as usize))
 }
 
-/// Commits inserts of so many rows, by the session behind so many others.
+/// Commits inserts of so many rows, by the session in front of so many others, which are the last.
 fn commit_each<J: Naming, R: Wait + Clock>(
     rt: &R,
     source: &Shared<'_, J, R>,
@@ -317,7 +317,7 @@ fn commit_each<J: Naming, R: Wait + Clock>(
     place: usize,
     rows: u16,
 ) -> Result<(), SourceFault> {
-    let session = u16::try_from(place).unwrap_or(u16::MAX).saturating_add(1);
+    let session = 256u16.saturating_sub(u16::try_from(place).unwrap_or(u16::MAX));
     let mut seat = source.session(rt, session)?;
     for key in 0..rows as i64 {
         let change = insert(session as i64 * 1000 + key, [key, 0])?;

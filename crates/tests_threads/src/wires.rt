@@ -2,17 +2,18 @@
 ghost use Rattle.std.specs.Prelude.{◌<◌};
 
 use crate::makers::SOURCE;
-use crate::replicas::{Course, Shared, Step, feed, receive, runs, shows, work};
+use crate::replicas::{Course, Held, Shared, Step, feed, receive, runs, shows, sleep_all, work};
 use gtid_set::GtidSet;
 use record_codec::{CodecFault, Record, encode};
 use relay::ReplicaFault;
 use replica_core::{Wire, WireFault};
-use replica_shared::{NoGate, ReplicaNaming};
+use replica_shared::{NoGate, ReplicaNaming, Sleepers};
 use schema::Memory;
 use std::alloc::Global;
 use std::process::Abort;
 use std::sync::Wait;
 use std::test::Fail;
+use std::thread::{Threads, join};
 use std::time::Clock;
 use uuid::Uuid;
 
@@ -44,6 +45,12 @@ fn nothing_of_a_damaged_piece_is_taken(rt: HostRuntime) -> Result<(), Fail> {
 #[test]
 fn a_refused_record_waits(rt: HostRuntime) -> Result<(), Fail> {
     runs(&rt, rt.alloc(), Course::Waiting)
+}
+
+/// Catches bytes whose records wake no worker that sleeps, and a worker that is woken and wakes no other where more is left.
+#[test]
+fn bytes_wake_two_workers(rt: HostRuntime) -> Result<(), Fail> {
+    runs(&rt, rt.alloc(), Course::Asleep)
 }
 
 /// Catches a wait for an id of another source, and one for no id that does not end.
@@ -159,6 +166,57 @@ pub fn is_kept_waiting<J: ReplicaNaming>(
     shared.close(rt);
     work(rt, alloc, shared, &NoGate)?;
     shows(rt, shared, 3, [7, 6])
+}
+
+/// Two workers sleep when the bytes of all records come at once. The first two are executed at one time.
+pub fn wake_workers<J, R>(
+    rt: &R,
+    alloc: Global,
+    shared: &Shared<J>,
+    records: &[Record],
+) -> Result<u64, Fail>
+where
+    J: ReplicaNaming + Send + Sync,
+    R: Threads + Wait + Abort + Clock + Sync,
+{
+    let bytes = spelled(alloc, records)?;
+    let gate = Held::new(rt, false);
+    let ((one, two), shown) = join(
+        rt,
+        || join(
+            rt,
+            || work(rt, alloc, shared, &gate),
+            || work(rt, alloc, shared, &gate),
+        ),
+        || show_asleep(rt, alloc, shared, &bytes),
+    );
+    if !shown? || !gate.has_met() {
+        Err(Memory)?;
+    }
+    one?;
+    two?;
+    shows(rt, shared, 3, [7, 6])
+}
+
+/// Feeds the bytes once two workers sleep, waits until their records are published, and closes, however that ends. Whether they
+/// are.
+fn show_asleep<J: ReplicaNaming>(
+    rt: &(impl Wait + Clock),
+    alloc: Global,
+    shared: &Shared<J>,
+    bytes: &[u8],
+) -> Result<bool, Memory> {
+    let asleep = Sleepers {
+        workers: 2,
+        readers: 0,
+    };
+    let in_time = sleep_all(rt, shared, asleep);
+    let mut wire = Wire::new(alloc, Uuid::from_u128(SOURCE));
+    let told = told(rt, shared, &mut wire, bytes);
+    let shown = in_time && told == Ok(Ok(3)) && shared.wait_for(rt, 3).is_ok();
+    shared.close(rt);
+    told?.map_err(|_| Memory)?;
+    Ok(shown)
 }
 
 /// No id, one of another source, and then the first two.
