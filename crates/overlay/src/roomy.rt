@@ -86,12 +86,7 @@ fn make_room(
     ensures left { left.new.entries ≡ left.old.entries }
     ensures ok { OnOk result ((length changes.new.items < vec_capacity changes.new) × (0 < spare left.new)) }
 {
-    // Most transactions have one change, which stays in the log as it stands here.
-    if changes.is_empty() {
-        changes.reserve_exact(1)?;
-    } else {
-        changes.reserve(1)?;
-    }
+    changes.reserve(1)?;
     left.reserve(1)?;
     Ok(())
 }
