@@ -1,6 +1,5 @@
 -- The parent rows that changes look at, as they are run one after another.
 use Rattle.std.proofs.Common.{◌≡◌, sym, ap, ◌∙◌, refl, ℕ, ◌+◌, ◌<◌, ◌≤◌, List, [], ◌∷◌, ◌++◌, append_assoc, take, length, get_or, ℤ, Option, Some, None, option_map}
-use Rattle.std.specs.Prelude.{true, is_none, slice_get, option_and_then, option_to_list}
 use Rattle.std.specs.FinMap.{get}
 use Rattle.std.proofs.lemmas.List.{append-nil, take_more, take_all}
 use Rattle.std.proofs.lemmas.Option.{same_Some}
@@ -9,7 +8,6 @@ use Rattle.schema.specs.declared.RowId.{RowId}
 use Rattle.rows.specs.declared.Change.{Change}
 use Rattle.rows.specs.Database.{Database, target, apply, effect, kin}
 use Rattle.rows.proofs.Effect.{kin_joined, kin_then}
-use Rattle.schema.specs.Schema.{link_of}
 use Rattle.overlay.specs.Pending.{Pending, seen}
 use Rattle.overlay.proofs.Follow.{seen-Follows}
 use Rattle.overlay.proofs.Run.{HasRun}
@@ -18,18 +16,6 @@ use Rattle.executor.specs.Job.{kin_at}
 mapped : {A B : Type 0} (f : A → B) (o : Option A) (y : B) → option_map f o ≡ Some y → (x : A) × (o ≡ Some x) × (f x ≡ y)
 mapped f None y h = cc
 mapped f (Some x) y h = (x, refl, same_Some (f x) y h)
-
-abbrev named_by : List ℤ → ℕ × ℕ → Option RowId
-named_by columns link = option_map (λ key. record { table = link.1; key = key }) (slice_get columns link.0)
-
-no_link : (link : Option (ℕ × ℕ)) (columns : List ℤ) → is_none link ≡ true → option_to_list (option_and_then (named_by columns) link) ≡ []
-no_link None columns none = refl
-no_link (Some l) columns none = cc
-
--- a row of a table without a parent has none
-pub kin_at_none : (ts : List Table) (id : ℕ) (row : Option (List ℤ)) → is_none (link_of ts id) ≡ true → kin_at ts id row ≡ []
-kin_at_none ts id None none = refl
-kin_at_none ts id (Some columns) none = no_link (link_of ts id) columns none
 
 -- one change more, the rows behind the list being the parents of its row before and after it
 pub kin_more : (ts : List Table) (changes : List Change) (db : Database) (n : ℕ) (pending : Pending) (change : Change) (row : RowId) (left : Option (List ℤ)) (answer : Option (Option (List ℤ))) (now later : List RowId) →
