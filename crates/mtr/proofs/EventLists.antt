@@ -1,61 +1,71 @@
--- The events that lines say, kept behind one another.
-use Rattle.std.proofs.Common.{◌≡◌, ◌∙◌, sym, ap, refl, ℕ, zero, suc, ◌+◌, ◌-◌, ◌≤◌, get_or, eqb, false, List, [], ◌∷◌, ◌++◌, length, length-append, append_assoc, append-nil, arith, Bool, true, not, Option, Some, None, is_some, Result, Ok, Err}
-use Rattle.std.specs.Result.{OnErr, OnOk}
-use Rattle.std.specs.List.{flat_map, slice_split, All}
-use Rattle.std.proofs.lemmas.Grind.{flat_map-append}
-use Rattle.std.proofs.lemmas.List.Splits.{slice_split_none}
+-- Events that are kept, and put behind one another.
+use Rattle.std.proofs.Common.{◌≡◌, ◌∙◌, sym, ap, refl, ℕ, ℤ, zero, suc, ◌+◌, ◌-◌, ◌<◌, ◌≤◌, get_or, eqb, false, List, [], ◌∷◌, ◌++◌, length, length-append, take, drop, append_assoc, append-nil, arith, Result, Ok, Err, subst}
+use Rattle.std.specs.Result.{OnOk}
+use Rattle.std.specs.List.{sum_by, All}
+use Rattle.std.proofs.Math.Seq.{drop-cons}
+use Rattle.std.proofs.Math.ListN.{set}
+use Rattle.std.proofs.lemmas.List.{take-append-le, drop-append-le, take_all, length-take-le, length-drop}
+use Rattle.std.proofs.lemmas.List.Elements.{All-push, All-head, All-tail}
+use Rattle.std.proofs.lemmas.List.Sums.{sum_by_push, sum_by-cons}
 use Rattle.std.proofs.lemmas.Bool.Decides.{nat_tests}
 use Rattle.world.specs.declared.events.Event.{Event}
-use Rattle.mtr.specs.declared.script.Line.TheVariants as lines
-use Rattle.mtr.specs.Lines.{text_line}
-use Rattle.mtr.specs.Words.{Word}
-use Rattle.mtr.specs.declared.command.Verb.{Verb}
-use Rattle.mtr.specs.Command.{event_of}
-use Rattle.mtr.specs.Events.{one_or_none, event_in, event_of_line, events_of, joined}
-use Rattle.std.proofs.Math.ListN.{set}
-use Rattle.mtr.proofs.Splits.{split_behind, is_byte}
-
-pub no_event : events_of [] ≡ []
-unfolding text_line
-no_event = refl
-
--- lines behind an LF
-pub events_behind : (text lines : List ℕ) → events_of ((text ++ 10 ∷ []) ++ lines) ≡ events_of text ++ events_of lines
-events_behind text lines =
-    let cut : slice_split (is_byte 10) ((text ++ 10 ∷ []) ++ lines) ≡ slice_split (is_byte 10) text ++ slice_split (is_byte 10) lines =
-    ap (slice_split (is_byte 10)) (append_assoc text (10 ∷ []) lines) ∙ split_behind (is_byte 10) text 10 lines refl in
-    ap (flat_map event_of_line) cut ∙ flat_map-append event_of_line (slice_split (is_byte 10) text) (slice_split (is_byte 10) lines)
-
--- an LF alone
-pub events_before_end : (text : List ℕ) → events_of (text ++ 10 ∷ []) ≡ events_of text
-events_before_end text =
-    ap events_of (sym (append-nil (text ++ 10 ∷ []))) ∙ events_behind text [] ∙ ap (λ es. events_of text ++ es) no_event ∙ append-nil (events_of text)
+use Rattle.mtr.specs.declared.events.Kept.{Kept}
+use Rattle.mtr.specs.Events.{AreWhole, IsWhole, width_of, event_of, events_of, joined}
 
 not_zero : (n k : ℕ) → n ≡ k + 1 → eqb n 0 ≡ false
 not_zero n k e = grind (arith, nat_tests)
 
-pub some_behind : (events more : List Event) → length more ≡ 1 → eqb (length (events ++ more)) 0 ≡ false
-some_behind events more one =
-    let n : length (events ++ more) ≡ length events + 1 = omega (arith, length-append events more) in
+pub some_behind : (events : List Event) (e : Event) → eqb (length (events ++ e ∷ [])) 0 ≡ false
+some_behind events e =
+    let n : length (events ++ e ∷ []) ≡ length events + 1 = omega (arith, length-append events (e ∷ [])) in
     not_zero _ _ n
 
--- what one line says
-pub events_of_one : (line : List ℕ) → All (λ b. eqb b 10 ≡ false) line → events_of line ≡ event_of_line line
-events_of_one line h = ap (flat_map event_of_line) (slice_split_none (is_byte 10) line h) ∙ append-nil (event_of_line line)
+nothing : (columns : List ℤ) → 0 ≡ length columns → columns ≡ []
+nothing [] e = refl
+nothing (c ∷ cs) e = absurd (omega arith)
 
-pub on_err_always : {T E P : Type 0} (r : Result T E) → P → OnErr r P
-on_err_always (Ok v) h = tt
-on_err_always (Err e) h = h
+-- an event more, with its columns
+pub events_more : (kept : List Kept) (k : Kept) (columns own : List ℤ) → sum_by width_of kept ≡ length columns → width_of k ≡ length own → events_of (kept ++ k ∷ []) (columns ++ own) ≡ events_of kept columns ++ event_of k own ∷ []
+events_more [] k columns own sum width =
+    let none : columns ≡ [] = nothing columns sum in
+    let mine : take (width_of k) own ≡ own = take_all (width_of k) own (omega (arith, width)) in
+    ap (λ cs. events_of (k ∷ []) (cs ++ own)) none ∙ ap (λ cs. event_of k cs ∷ []) mine
+events_more (x ∷ xs) k columns own sum width =
+    let w = width_of x in
+    let parts : w + sum_by width_of xs ≡ length columns = sym (sum_by-cons width_of x xs) ∙ sum in
+    let few : w ≤ length columns = omega (arith, parts) in
+    let left : sum_by width_of xs ≡ length (drop w columns) = omega (arith, parts, length-drop w columns) in
+    ap (λ cs. event_of x cs ∷ events_of (xs ++ k ∷ []) (drop w (columns ++ own))) (take-append-le w columns own few)
+    ∙ ap (λ cs. event_of x (take w columns) ∷ events_of (xs ++ k ∷ []) cs) (drop-append-le w columns own few)
+    ∙ ap (λ events. event_of x (take w columns) ∷ events) (events_more xs k (drop w columns) own left width)
 
-pub event_alone : (line : List ℕ) (verb : Verb) (words : List Word) (e : Event) → All (λ b. eqb b 10 ≡ false) line → text_line line ≡ Some (lines.Event verb words) → event_of verb words ≡ Some e → events_of line ≡ e ∷ []
-event_alone line verb words e h says is = events_of_one line h ∙ ap event_in says ∙ ap one_or_none is
+pub whole_more : (kept : List Kept) (k : Kept) (columns own : List ℤ) → AreWhole kept columns → IsWhole k → width_of k ≡ length own → AreWhole (kept ++ k ∷ []) (columns ++ own)
+whole_more kept k columns own h whole width = record {
+  each = All-push IsWhole kept k h.each whole;
+  width = omega (arith, sum_by_push width_of kept k, length-append columns own, h.width, width);
+}
 
--- a line whose words were tried
-pub one_event : (line : List ℕ) (verb : Verb) (words : List Word) (found : Option Event) → All (λ b. eqb b 10 ≡ false) line → text_line line ≡ Some (lines.Event verb words) → found ≡ event_of verb words → (none : Bool) → is_some found ≡ not none → none ≡ false
-    → (e : Event) × (event_of verb words ≡ Some e) × (events_of line ≡ e ∷ [])
-one_event line verb words None h says is true told some = cc
-one_event line verb words None h says is false told some = cc
-one_event line verb words (Some e) h says is none told some = (e, sym is, event_alone line verb words e h says (sym is))
+-- the first of those that are left, and its columns
+pub first_whole : (kept : List Kept) (i : ℕ) (d : Kept) (columns : List ℤ) → i < length kept → AreWhole (drop i kept) columns → IsWhole (get_or kept i d) × (width_of (get_or kept i d) ≤ length columns) × AreWhole (drop (suc i) kept) (drop (width_of (get_or kept i d)) columns)
+first_whole kept i d columns below h =
+    let k = get_or kept i d in
+    let front : drop i kept ≡ k ∷ drop (suc i) kept = drop-cons kept i d below in
+    let all : AreWhole (k ∷ drop (suc i) kept) columns = let P : List Kept → Type 0 = λ l. AreWhole l columns in subst P front h in
+    let parts : width_of k + sum_by width_of (drop (suc i) kept) ≡ length columns = sym (sum_by-cons width_of k (drop (suc i) kept)) ∙ all.width in (
+      All-head IsWhole k (drop (suc i) kept) all.each,
+      omega (arith, parts),
+      record {
+        each = All-tail IsWhole k (drop (suc i) kept) all.each;
+        width = omega (arith, parts, length-drop (width_of k) columns);
+      },
+    )
+
+pub first_put : (kept : List Kept) (i : ℕ) (d : Kept) (columns : List ℤ) (done all : List Event) → i < length kept → done ++ events_of (drop i kept) columns ≡ all
+    → (done ++ event_of (get_or kept i d) (take (width_of (get_or kept i d)) columns) ∷ []) ++ events_of (drop (suc i) kept) (drop (width_of (get_or kept i d)) columns) ≡ all
+first_put kept i d columns done all below h =
+    let k = get_or kept i d in
+    append_assoc done (event_of k (take (width_of k) columns) ∷ []) (events_of (drop (suc i) kept) (drop (width_of k) columns))
+    ∙ ap (λ l. done ++ events_of l columns) (sym (drop-cons kept i d below)) ∙ h
 
 -- more events of the last piece
 pub joined_set : (pieces : List (List Event)) (i : ℕ) (d new more : List Event) → i + 1 ≡ length pieces → new ≡ get_or pieces i d ++ more → joined (set pieces i new) ≡ joined pieces ++ more

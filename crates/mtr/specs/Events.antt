@@ -1,47 +1,56 @@
--- The events that the lines of a text say.
-use Rattle.std.specs.Prelude.{ℕ, ◌+◌, ◌==◌, List, [], ◌∷◌, length, Option, Some, None}
-use Rattle.std.specs.Borrow.{Bor}
-use Rattle.std.specs.List.{flat_map, slice_split}
+-- Events as they are kept.
+use Rattle.std.specs.Prelude.{◌≡◌, ◌≤◌, ℕ, ℤ, List, [], ◌∷◌, take, drop, length, sum_by, count_ones, All}
+use Rattle.std.specs.List.{flat_map}
+use Rattle.rows.specs.declared.Change.TheVariants.{Insert, Update, Delete}
 use Rattle.world.specs.declared.events.Event.{Event}
-use Rattle.mtr.specs.declared.script.Line.{Line}
-use Rattle.mtr.specs.declared.script.Line.TheVariants as lines
-use Rattle.mtr.specs.Lines.{text_line}
-use Rattle.mtr.specs.Command.{event_of}
+use Rattle.world.specs.declared.events.Event.TheVariants as events
+use Rattle.mtr.specs.declared.events.Kept.{Kept}
+use Rattle.mtr.specs.declared.events.Kept.TheVariants as kepts
 
-abbrev pub one_or_none : {A : Type 0} → Option A → List A
-one_or_none None = []
-one_or_none (Some x) = x ∷ []
+-- how many columns are kept of an event
+abbrev pub width_of : Kept → ℕ
+width_of (kepts.Insert session table key count) = count
+width_of (kepts.Update session table key mask) = count_ones mask
+width_of _ = 0
 
--- the event that a line says, if it says one
-abbrev pub event_in : Option Line → List Event
-event_in None = []
-event_in (Some lines.Skipped) = []
-event_in (Some (lines.Table words)) = []
-event_in (Some (lines.Base words)) = []
-event_in (Some (lines.Event verb words)) = one_or_none (event_of verb words)
+-- an event may have so many columns
+abbrev pub IsWhole : Kept → Type 0
+IsWhole (kepts.Insert session table key count) = (1 ≤ count) × (count ≤ 16)
+IsWhole (kepts.Update session table key mask) = 1 ≤ mask
+IsWhole _ = Unit {0}
 
-abbrev pub event_of_line : List ℕ → List Event
-event_of_line line = event_in (text_line line)
+-- what is kept is this event, with these columns
+abbrev pub event_of : Kept → List ℤ → Event
+event_of (kepts.Begin session) columns = events.Begin session
+event_of (kepts.Insert session table key count) columns = events.Write session (Insert (record { table = table; key = key }) columns)
+event_of (kepts.Update session table key mask) columns = events.Write session (Update (record { table = table; key = key }) (record { mask = mask; values = columns }))
+event_of (kepts.Delete session table key) columns = events.Write session (Delete (record { table = table; key = key }))
+event_of (kepts.See session table key) columns = events.See session (record { table = table; key = key })
+event_of (kepts.Prepare session) columns = events.Prepare session
+event_of (kepts.Queue session) columns = events.Queue session
+event_of (kepts.Abort session) columns = events.Abort session
+event_of kepts.Flush columns = events.Flush
+event_of kepts.Sync columns = events.Sync
+event_of kepts.Commit columns = events.Commit
+event_of (kepts.Deliver gno) columns = events.Deliver gno
+event_of kepts.Dispatch columns = events.Dispatch
+event_of (kepts.Finish gno) columns = events.Finish gno
+event_of kepts.Next columns = events.Next
+event_of kepts.Publish columns = events.Publish
+event_of kepts.Executed columns = events.Executed
+event_of (kepts.Read table key) columns = events.Read (record { table = table; key = key })
+event_of kepts.Log columns = events.Log
 
--- the events of all lines, in order
-abbrev pub events_of : List ℕ → List Event
-events_of text = flat_map event_of_line (slice_split (λ b. b == 10) text)
+-- the events in order, each with the next of the columns
+abbrev pub events_of : List Kept → List ℤ → List Event
+events_of [] columns = []
+events_of (kept ∷ rest) columns = event_of kept (take (width_of kept) columns) ∷ events_of rest (drop (width_of kept) columns)
+
+-- the columns are those of all events
+pub record AreWhole (kept : List Kept) (columns : List ℤ) : Type 0 where
+  pub each : All IsWhole kept
+  pub width : sum_by width_of kept ≡ length columns
 
 -- those of pieces that follow one another
 abbrev pub joined : List (List Event) → List Event
 joined pieces = flat_map (λ piece. piece) pieces
-
--- those of the rest of a text
-abbrev pub events_left : Option (Bor (List ℕ)) → List Event
-events_left None = []
-events_left (Some text) = events_of text.now
-
--- how much of a text is left
-abbrev pub bytes_left : Option (Bor (List ℕ)) → ℕ
-bytes_left None = 0
-bytes_left (Some text) = length text.now + 1
-
--- its lines
-abbrev pub lines_left : Option (Bor (List ℕ)) → List (List ℕ)
-lines_left None = []
-lines_left (Some text) = slice_split (λ b. b == 10) text.now

@@ -136,8 +136,8 @@ fn open<S: NewStore, T: Tracker + Drop>(
     }
 }
 
-/// Runs the events of the pieces, over a world that goes on from what was done before. At most one piece's events and
-/// replies are kept at a time, and no line of a piece that was run.
+/// Runs the events of the pieces, over a world that goes on from what was done before. At most one piece's replies are kept at
+/// a time, and nothing of a piece that was run.
 fn run_pieces<S: RowStore, T: Tracker, D: Device, R: RowStore, W: Write>(
     alloc: Global,
     world: &mut World<S, T, D, R>,
@@ -150,7 +150,7 @@ fn run_pieces<S: RowStore, T: Tracker, D: Device, R: RowStore, W: Write>(
     let mut events = Vec::new(alloc);
     let mut text = Vec::new(alloc);
     for piece in pieces {
-        piece.read_into(&mut events)?;
+        piece.put_into(&mut events)?;
         let replies = world.run(alloc, &events)?;
         print(&mut text, &replies, output)?;
     }

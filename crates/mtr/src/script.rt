@@ -3,17 +3,17 @@
 //! A script is read and checked as a whole before anything is done, line by line as it comes. Its lines end with
 //! LF; an empty line and one that begins with `#` say nothing. All tables come first, then the rows of the base,
 //! then the events. Any other line is bad; the first bad line ends the reading, and what is behind it is not kept.
-//! Of the events the text alone is kept (`events`).
+//! The events are kept short (`events`).
 
 ghost use Rattle.std.specs.Prelude.{◌≡◌, ◌++◌, ◌∷◌, [], ◌==◌, true, false, length, IfOk, IfSome, OnOk, Some};
 ghost use Rattle.std.specs.Bool.{then_some};
 ghost use Rattle.std.specs.List.{All};
 ghost use Rattle.mtr.specs.Lines.{table_of, keyed_of, link_in, parent_of, base_of, command_of, is_skipped, text_line};
-ghost use Rattle.mtr.specs.Script.{said, said_with, added, Says, IsLine, LeavesLines, TakesEnd};
+ghost use Rattle.mtr.specs.Script.{said, said_with, added, Says, LeavesLines, TakesEnd};
 
 use crate::command::{Verb, alone, event_of};
 use crate::ending::Stop;
-use crate::events::EventLines;
+use crate::events::EventList;
 use crate::words::Words;
 use rows::Row;
 use schema::{Memory, RowId, Table};
@@ -28,8 +28,8 @@ pub struct Script {
     pub tables: Vec<Table>,
     /// The rows that source and replica hold at the start, in the order of their lines.
     pub base: Vec<(RowId, Row)>,
-    /// The lines of what happens, in order.
-    pub events: EventLines,
+    /// What happens, in order.
+    pub events: EventList,
 }
 
 /// What one line is about, by its first word, and the words behind that, which were not looked at yet.
@@ -47,14 +47,14 @@ pub enum Line<'a> {
 
 impl Script {
     /// What the text of a reader says: the whole of it is read before anything is done, and no more than its
-    /// first bad line. The time is that of a walk over the text, and the lines of events alone are kept.
+    /// first bad line. The time is that of a walk over the text; sixteen bytes are kept of an event, and its columns.
     pub fn read<R: BufRead>(alloc: Global, input: &mut R) -> Result<Script, Stop>
         ensures { IfSome (R.remaining input.old) (λ text. Says text result) }
     {
         let mut script = Script {
             tables: Vec::new(alloc),
             base: Vec::new(alloc),
-            events: EventLines::new(alloc),
+            events: EventList::new(alloc),
         };
         let mut line = Vec::new(alloc);
         for number in 1..usize::MAX {
@@ -71,7 +71,6 @@ impl Script {
 
     /// Takes what a line says. `false`, and nothing is taken, where the line is bad or comes too late.
     fn add(&mut self, line: &[u8]) -> Result<bool, Memory>
-        requires { IsLine line.now }
         ensures said { IfOk result (λ is_good. said_with (said self.old) line.now ≡ then_some is_good (said self.new)) }
     {
         let Ok(text) = str::from_utf8(line) else {
@@ -82,7 +81,7 @@ impl Script {
             Some(Line::Skipped) => Ok(true),
             Some(Line::Table(words)) => self.add_table(words),
             Some(Line::Base(words)) => self.add_base(words),
-            Some(Line::Event(verb, words)) => self.add_event(text, verb, words),
+            Some(Line::Event(verb, words)) => self.add_event(verb, words),
         }
     }
 
@@ -116,24 +115,21 @@ impl Script {
         Ok(true)
     }
 
-    /// Takes the line, which is of an event, where the words behind the verb are its parameters.
+    /// Takes the event, where the words behind the verb are its parameters.
     #[tactic(auto, unfolding(crate::specs::Script::added))]
-    fn add_event(&mut self, text: &str, verb: Verb, words: Words) -> Result<bool, Memory>
-        requires line { IsLine text.now }
-        requires says { text_line text.now ≡ Some (Line.Event verb words) }
+    fn add_event(&mut self, verb: Verb, words: Words) -> Result<bool, Memory>
         ensures { IfOk result (λ is_good. added (said self.old) (Line.Event verb words.entry) ≡ then_some is_good (said self.new)) }
     {
-        if event_of(verb, words).is_none() {
+        let Some(event) = event_of(verb, words) else {
             return Ok(false);
-        }
-        self.events.push(text)?;
+        };
+        self.events.push(&event)?;
         Ok(true)
     }
 }
 
 /// Reads a line in the place of another. `false` where it is the last, as no LF ends it.
 fn read_line<R: BufRead>(input: &mut R, line: &mut Vec<u8>) -> io::Result<bool>
-    ensures one { OnOk result (IsLine line.new.items) }
     ensures known { IfOk result (λ is_more. IfSome (R.remaining input.old) (λ text. LeavesLines text line.new.items is_more (R.remaining input.new))) }
 {
     line.clear();

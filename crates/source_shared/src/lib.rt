@@ -19,6 +19,7 @@
 #![tactic(auto)]
 
 mod book;
+mod calls;
 mod engine;
 mod errand;
 mod leading;

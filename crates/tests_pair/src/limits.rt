@@ -3,7 +3,7 @@
 
 use crate::makers::{LIMIT, SOURCE, columns, insert, row};
 use crate::one_thread::{Replica, Source};
-use published::{Answer, Counts};
+use published::{Answer, Counts, Notice};
 use replica_core::Wire;
 use replica_shared::{NoGate, ReplicaNaming};
 use rows::{Change, Named, Row};
@@ -14,6 +14,7 @@ use std::alloc::Global;
 use std::process::Abort;
 use std::sync::Wait;
 use std::test::Fail;
+use std::thread::{Threads, join};
 use uuid::Uuid;
 
 /// The row of the greatest key, in the table of sixteen columns.
@@ -29,7 +30,7 @@ const LEAST: RowId = RowId {
 };
 
 /// Session 256 fills the log, and the replica takes it; it answers the source's receipts.
-pub fn fill<J: Naming, K: ReplicaNaming, R: Wait + Abort>(
+pub fn fill<J: Naming, K: ReplicaNaming + Send + Sync, R: Threads + Wait + Abort + Sync>(
     rt: &R,
     alloc: Global,
     source: &Source<J>,
@@ -47,8 +48,7 @@ pub fn fill<J: Naming, K: ReplicaNaming, R: Wait + Abort>(
     assert_eq!(rt; last, Some(LIMIT));
     source.close(rt);
     sends(rt, alloc, source, replica)?;
-    replica.worker(rt, alloc, &NoGate)?;
-    reads(rt, replica)?;
+    applies(rt, alloc, replica)?;
     Ok(receipts)
 }
 
@@ -151,10 +151,30 @@ fn sends<J: Naming, K: ReplicaNaming>(
     Ok(())
 }
 
-/// What a reader sees of it.
-fn reads<K: ReplicaNaming>(rt: &(impl Wait + Abort), replica: &Replica<K>) -> Result<(), Fail> {
+/// A worker applies it all, beside a reader that waits for the last commit.
+fn applies<K: ReplicaNaming + Send + Sync, R: Threads + Wait + Abort + Sync>(
+    rt: &R,
+    alloc: Global,
+    replica: &Replica<K>,
+) -> Result<(), Fail> {
+    // The second closure is called first where no thread can be made.
+    let (told, worked) = join(
+        rt,
+        || replica.wait_for(rt, LIMIT),
+        || replica.worker(rt, alloc, &NoGate),
+    );
+    worked?;
+    reads(rt, replica, told?)
+}
+
+/// What a reader sees of it, once it was told.
+fn reads<K: ReplicaNaming>(
+    rt: &(impl Wait + Abort),
+    replica: &Replica<K>,
+    told: Notice<K>,
+) -> Result<(), Fail> {
     let mut reader = replica.seat(rt).ok_or("a seat")?;
-    reader.learn(replica.wait_for(rt, LIMIT)?);
+    reader.learn(told);
     let mut last = [i64::MIN; 16];
     last[15] = LIMIT.cast_signed();
     for (row, seen) in [

@@ -22,6 +22,7 @@ use std::marker::Brand;
 use std::process::Abort;
 use std::sync::Wait;
 use std::test::Fail;
+use std::thread::Threads;
 use uuid::Uuid;
 use world::{Pair, begins};
 
@@ -52,7 +53,11 @@ fn a_log_is_filled(rt: HostRuntime) -> Result<(), Fail> {
     runs(&rt, rt.alloc(), Course::Limits)
 }
 
-fn runs<R: Wait + Abort>(rt: &R, alloc: Global, course: Course) -> Result<(), Fail> {
+fn runs<R: Threads + Wait + Abort + Sync>(
+    rt: &R,
+    alloc: Global,
+    course: Course,
+) -> Result<(), Fail> {
     let sides = sides(alloc)?;
     let base = sides.replica.base().copy()?;
     story::<Brand, Brand, _>(
@@ -65,7 +70,7 @@ fn runs<R: Wait + Abort>(rt: &R, alloc: Global, course: Course) -> Result<(), Fa
     )
 }
 
-fn story<J: Naming, K: ReplicaNaming, R: Wait + Abort>(
+fn story<J: Naming, K: ReplicaNaming + Send + Sync, R: Threads + Wait + Abort + Sync>(
     rt: &R,
     alloc: Global,
     sides: InMemory,
@@ -109,7 +114,7 @@ fn story<J: Naming, K: ReplicaNaming, R: Wait + Abort>(
 }
 
 /// What happens between the opening and the end; it answers the source's receipts.
-fn meet<J: Naming, K: ReplicaNaming, R: Wait + Abort>(
+fn meet<J: Naming, K: ReplicaNaming + Send + Sync, R: Threads + Wait + Abort + Sync>(
     rt: &R,
     alloc: Global,
     source: &Source<J>,

@@ -1,0 +1,10 @@
+use Rattle.std.proofs.Common.{◌≡◌, ◌++◌, drop}
+use Rattle.mtr.specs.Events.{AreWhole, events_of}
+use Rattle.mtr.proofs.events.put_all.Given as goal
+
+-- the events so far, and those of the rest, are all
+abbrev pub invariant-loop-one : goal.invariant-loop-one
+invariant-loop-one l = record {
+  left : AreWhole (drop l.one-index l.kept) l.columns;
+  so_far : l.events.items ++ events_of (drop l.one-index l.kept) l.columns ≡ l.fn.events.items ++ events_of l.kept l.initial.columns;
+}
