@@ -1,5 +1,5 @@
 -- Events that are kept, and put behind one another.
-use Rattle.std.proofs.Common.{◌≡◌, ◌∙◌, sym, ap, refl, ℕ, ℤ, zero, suc, ◌+◌, ◌-◌, ◌<◌, ◌≤◌, get_or, eqb, false, List, [], ◌∷◌, ◌++◌, length, length-append, take, drop, append_assoc, append-nil, arith, Result, Ok, Err, subst}
+use Rattle.std.proofs.Common.{◌≡◌, ◌∙◌, sym, ap, refl, ℕ, ℤ, zero, suc, ◌+◌, ◌-◌, ◌<◌, ◌≤◌, get_or, eqb, Bool, true, false, not, ◌&&◌, Option, Some, None, is_some, List, [], ◌∷◌, ◌++◌, length, length-append, take, drop, append_assoc, append-nil, arith, Result, Ok, Err, subst}
 use Rattle.std.specs.Result.{OnOk}
 use Rattle.std.specs.List.{sum_by, All}
 use Rattle.std.proofs.Math.Seq.{drop-cons}
@@ -9,16 +9,26 @@ use Rattle.std.proofs.lemmas.List.Elements.{All-push, All-head, All-tail}
 use Rattle.std.proofs.lemmas.List.Sums.{sum_by_push, sum_by-cons}
 use Rattle.std.proofs.lemmas.Bool.Decides.{nat_tests}
 use Rattle.world.specs.declared.events.Event.{Event}
-use Rattle.mtr.specs.declared.events.Kept.{Kept}
-use Rattle.mtr.specs.Events.{AreWhole, IsWhole, width_of, event_of, events_of, joined}
+use Rattle.mtr.specs.declared.kept.Kept.{Kept}
+use Rattle.mtr.specs.Events.{AreWhole, IsWhole, Keeps, one_or_none, width_of, event_of, events_of, joined}
+
+and_true : (b : Bool) → (b && true) ≡ b
+and_true true = refl
+and_true false = refl
+
+and_false : (b : Bool) → (b && false) ≡ false
+and_false true = refl
+and_false false = refl
 
 not_zero : (n k : ℕ) → n ≡ k + 1 → eqb n 0 ≡ false
 not_zero n k e = grind (arith, nat_tests)
 
-pub some_behind : (events : List Event) (e : Event) → eqb (length (events ++ e ∷ [])) 0 ≡ false
-some_behind events e =
+-- whether there is none, once an event was tried
+pub none_still : (events : List Event) (found : Option Event) → eqb (length (events ++ one_or_none found)) 0 ≡ (eqb (length events) 0 && not (is_some found))
+none_still events None = ap (λ l. eqb (length l) 0) (append-nil events) ∙ sym (and_true (eqb (length events) 0))
+none_still events (Some e) =
     let n : length (events ++ e ∷ []) ≡ length events + 1 = omega (arith, length-append events (e ∷ [])) in
-    not_zero _ _ n
+    not_zero _ _ n ∙ sym (and_false (eqb (length events) 0))
 
 nothing : (columns : List ℤ) → 0 ≡ length columns → columns ≡ []
 nothing [] e = refl
@@ -44,6 +54,20 @@ whole_more kept k columns own h whole width = record {
   each = All-push IsWhole kept k h.each whole;
   width = omega (arith, sum_by_push width_of kept k, length-append columns own, h.width, width);
 }
+
+-- what is kept of an event that was tried, behind others
+pub kept_more : (kept : List Kept) (columns new : List ℤ) (event : Option Event) (k : Kept) → AreWhole kept columns → Keeps event (Some k) columns new → events_of (kept ++ k ∷ []) new ≡ events_of kept columns ++ one_or_none event
+kept_more kept columns new event k h keeps =
+    ap (events_of (kept ++ k ∷ [])) keeps.2 ∙ events_more kept k columns keeps.0 h.width keeps.4 ∙ ap (λ e. events_of kept columns ++ one_or_none e) (sym keeps.1)
+
+pub none_more : (kept : List Kept) (columns new : List ℤ) (event : Option Event) → Keeps event None columns new → events_of kept new ≡ events_of kept columns ++ one_or_none event
+none_more kept columns new event keeps =
+    ap (events_of kept) keeps.1 ∙ sym (append-nil (events_of kept columns)) ∙ ap (λ e. events_of kept columns ++ one_or_none e) (sym keeps.0)
+
+pub kept_whole : (kept : List Kept) (columns new : List ℤ) (event : Option Event) (k : Kept) → AreWhole kept columns → Keeps event (Some k) columns new → AreWhole (kept ++ k ∷ []) new
+kept_whole kept columns new event k h keeps =
+    let P : List ℤ → Type 0 = λ l. AreWhole (kept ++ k ∷ []) l in
+    subst P (sym keeps.2) (whole_more kept k columns keeps.0 h keeps.3 keeps.4)
 
 -- the first of those that are left, and its columns
 pub first_whole : (kept : List Kept) (i : ℕ) (d : Kept) (columns : List ℤ) → i < length kept → AreWhole (drop i kept) columns → IsWhole (get_or kept i d) × (width_of (get_or kept i d) ≤ length columns) × AreWhole (drop (suc i) kept) (drop (width_of (get_or kept i d)) columns)

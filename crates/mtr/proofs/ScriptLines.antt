@@ -11,8 +11,9 @@ use Rattle.mtr.specs.declared.command.Verb.{Verb}
 use Rattle.mtr.specs.declared.script.Line.{Line}
 use Rattle.mtr.specs.declared.script.Line.TheVariants as lines
 use Rattle.mtr.specs.Command.{event_of}
+use Rattle.mtr.specs.Events.{one_or_none}
 use Rattle.world.specs.declared.events.Event.{Event}
-use Rattle.std.specs.Prelude.{IfOk}
+use Rattle.std.specs.Prelude.{IfOk, OnOk}
 use Rattle.std.specs.Bool.{then_some}
 
 pub line_of_text : (line : List ℕ) → IsUtf8 line → text_line line ≡ line_of line
@@ -88,11 +89,18 @@ pub skipped_added : (s : Said) → added s lines.Skipped ≡ Some s
 unfolding added
 skipped_added s = refl
 
-pub event_added : (s : Said) (verb : Verb) (words : List Word) (e : Event) (events : List Event) → event_of verb words ≡ Some e → events ≡ s.events ++ e ∷ []
-    → added s (lines.Event verb words) ≡ Some (record { tables = s.tables; base = s.base; events = events })
+tried : (s : Said) (found : Option Event) (good : Bool) (events : List Event) → good ≡ is_some found → events ≡ s.events ++ one_or_none found
+    → (found >>= (λ event. Some (record s { events = s.events ++ event ∷ [] }))) ≡ then_some good (record { tables = s.tables; base = s.base; events = events })
+tried s None good events is h = ap (λ b. then_some b (record { tables = s.tables; base = s.base; events = events })) (sym is)
+tried s (Some e) good events is h =
+    ap (λ es. Some (record { tables = s.tables; base = s.base; events = es })) (sym h) ∙ ap (λ b. then_some b (record { tables = s.tables; base = s.base; events = events })) (sym is)
+
+-- an event is added where there is one
+pub event_added : {E : Type 0} (r : Result Bool E) (s : Said) (verb : Verb) (words : List Word) (events : List Event) → IfOk r (λ good. good ≡ is_some (event_of verb words)) → OnOk r (events ≡ s.events ++ one_or_none (event_of verb words))
+    → IfOk r (λ good. added s (lines.Event verb words) ≡ then_some good (record { tables = s.tables; base = s.base; events = events }))
 unfolding added
-event_added s verb words e events is h =
-    ap (λ o. o >>= (λ event. Some (record s { events = s.events ++ event ∷ [] }))) is ∙ ap (λ es. Some (record { tables = s.tables; base = s.base; events = es })) (sym h)
+event_added (Ok good) s verb words events is h = tried s (event_of verb words) good events is h
+event_added (Err x) s verb words events is h = is
 
 -- what was said of what a line is about is said of the line
 pub then_taken : {E : Type 0} (r : Result Bool E) (s after : Said) (line : List ℕ) (about : Line) → said_with s line ≡ added s about

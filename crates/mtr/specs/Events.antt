@@ -1,11 +1,23 @@
 -- Events as they are kept.
-use Rattle.std.specs.Prelude.{◌≡◌, ◌≤◌, ℕ, ℤ, List, [], ◌∷◌, take, drop, length, sum_by, count_ones, All}
+use Rattle.std.specs.Prelude.{◌≡◌, ◌≤◌, ℕ, ℤ, Bool, true, false, Option, Some, None, List, [], ◌∷◌, ◌++◌, take, drop, length, sum_by, count_ones, All}
 use Rattle.std.specs.List.{flat_map}
 use Rattle.rows.specs.declared.Change.TheVariants.{Insert, Update, Delete}
 use Rattle.world.specs.declared.events.Event.{Event}
 use Rattle.world.specs.declared.events.Event.TheVariants as events
-use Rattle.mtr.specs.declared.events.Kept.{Kept}
-use Rattle.mtr.specs.declared.events.Kept.TheVariants as kepts
+use Rattle.mtr.specs.declared.command.Verb.{Verb}
+use Rattle.mtr.specs.declared.command.Verb.TheVariants as verbs
+use Rattle.mtr.specs.declared.kept.Kept.{Kept}
+use Rattle.mtr.specs.declared.kept.Kept.TheVariants as kepts
+
+abbrev pub one_or_none : {A : Type 0} → Option A → List A
+one_or_none None = []
+one_or_none (Some x) = x ∷ []
+
+-- whether the event of a verb has columns
+abbrev pub has_columns : Verb → Bool
+has_columns verbs.Insert = true
+has_columns verbs.Set = true
+has_columns _ = false
 
 -- how many columns are kept of an event
 abbrev pub width_of : Kept → ℕ
@@ -18,6 +30,12 @@ abbrev pub IsWhole : Kept → Type 0
 IsWhole (kepts.Insert session table key count) = (1 ≤ count) × (count ≤ 16)
 IsWhole (kepts.Update session table key mask) = 1 ≤ mask
 IsWhole _ = Unit {0}
+
+-- it has none
+abbrev pub IsBare : Kept → Type 0
+IsBare (kepts.Insert session table key count) = ⊥
+IsBare (kepts.Update session table key mask) = ⊥
+IsBare _ = Unit {0}
 
 -- what is kept is this event, with these columns
 abbrev pub event_of : Kept → List ℤ → Event
@@ -40,6 +58,11 @@ event_of kepts.Publish columns = events.Publish
 event_of kepts.Executed columns = events.Executed
 event_of (kepts.Read table key) columns = events.Read (record { table = table; key = key })
 event_of kepts.Log columns = events.Log
+
+-- where there is an event this is kept of it, and its own columns stand behind the others
+abbrev pub Keeps : Option Event → Option Kept → List ℤ → List ℤ → Type 0
+Keeps event None old new = (event ≡ None) × (new ≡ old)
+Keeps event (Some kept) old new = (own : List ℤ) × (event ≡ Some (event_of kept own)) × (new ≡ old ++ own) × IsWhole kept × (width_of kept ≡ length own)
 
 -- the events in order, each with the next of the columns
 abbrev pub events_of : List Kept → List ℤ → List Event

@@ -1,15 +1,14 @@
-//! The event that a line's words are.
-//!
-//! An event has room for sixteen columns. What makes one is inlined, so that where a line is only checked no event of
-//! few words is made; what reads its words is not.
+//! The event that a line's words are, as it is kept.
 
-ghost use Rattle.std.specs.Prelude.{◌≡◌, ◌^◌};
+ghost use Rattle.std.specs.Prelude.{◌≡◌, ◌^◌, ◌==◌, [], false, if◌then◌else◌, length, option_map, IfOk, IfSome, OnErr, Some, None};
 ghost use Rattle.mtr.specs.Words.{alone, number_in, row_id_in};
-ghost use Rattle.mtr.specs.Command.{verb_of, bare, at_row, event_of};
+ghost use Rattle.mtr.specs.Command.{verb_of, at_row, event_of};
+ghost use Rattle.mtr.specs.Events.{IsBare, Keeps, has_columns, event_of as whole};
 
+use crate::kept::Kept;
 use crate::words::Words;
 use rows::Change;
-use schema::RowId;
+use schema::{Memory, RowId};
 use world::Event;
 
 /// The first word of an event's line.
@@ -76,31 +75,91 @@ pub fn alone<T: Drop>(found: Option<(T, Words)>) -> Option<T>
     if rest.is_empty() { Some(value) } else { None }
 }
 
-/// The event of a verb and the words behind it; `None` where these are not the verb's parameters.
-#[inline(always)]
-pub fn event_of(verb: Verb, words: Words) -> Option<Event>
-    ensures { result ≡ event_of verb words.entry }
+/// What is kept of the event of a verb and the words behind it; its columns go behind others. `None`, and none of these, where
+/// the words are not the verb's parameters.
+pub fn keep(verb: Verb, words: Words, columns: &mut Vec<i64>) -> Result<Option<Kept>, Memory>
+    ensures kept { IfOk result (λ found. Keeps (event_of verb words.entry) found columns.old.items columns.new.items) }
+    ensures err { OnErr result (columns.new.items ≡ columns.old.items) }
 {
     match verb {
-        Verb::Begin => session_of(words).map(|session| Event::Begin { session }),
-        Verb::Insert => insert_of(words),
-        Verb::Set => set_of(words),
-        Verb::Delete => delete_of(words),
-        Verb::See => at_row(words).map(|(session, row)| Event::See { session, row }),
-        Verb::Prepare => session_of(words).map(|session| Event::Prepare { session }),
-        Verb::Queue => session_of(words).map(|session| Event::Queue { session }),
-        Verb::Abort => session_of(words).map(|session| Event::Abort { session }),
-        Verb::Flush => bare(Event::Flush, words),
-        Verb::Sync => bare(Event::Sync, words),
-        Verb::Commit => bare(Event::Commit, words),
-        Verb::Deliver => gno_of(words).map(|gno| Event::Deliver { gno }),
-        Verb::Dispatch => bare(Event::Dispatch, words),
-        Verb::Finish => gno_of(words).map(|gno| Event::Finish { gno }),
-        Verb::Next => bare(Event::Next, words),
-        Verb::Publish => bare(Event::Publish, words),
-        Verb::Executed => bare(Event::Executed, words),
-        Verb::Read => row_of(words).map(|row| Event::Read { row }),
-        Verb::Log => bare(Event::Log, words),
+        Verb::Insert => keep_write(insert_of(words), columns),
+        Verb::Set => keep_write(set_of(words), columns),
+        _ => Ok(bare_of(verb, words)),
+    }
+}
+
+/// What is kept of a write, with its columns.
+fn keep_write(found: Option<(u16, Change)>, columns: &mut Vec<i64>) -> Result<Option<Kept>, Memory>
+    ensures kept { IfOk result (λ kept. Keeps (option_map (λ x. Event.Write x.0 x.1) found) kept columns.old.items columns.new.items) }
+    ensures err { OnErr result (columns.new.items ≡ columns.old.items) }
+{
+    let Some((session, change)) = found else {
+        return Ok(None);
+    };
+    let (kept, own) = Kept::of(session, &change);
+    columns.extend_from_slice(own)?;
+    Ok(Some(kept))
+}
+
+/// What is kept of an event without columns.
+fn bare_of(verb: Verb, words: Words) -> Option<Kept>
+    ensures event { has_columns verb ≡ false → option_map (λ kept. whole kept []) result ≡ event_of verb words.entry }
+    ensures bare { IfSome result IsBare }
+{
+    match verb {
+        Verb::Insert | Verb::Set => None,
+        Verb::Begin => {
+            let session = session_of(words)?;
+            Some(Kept::Begin { session })
+        }
+        Verb::Delete => {
+            let (session, RowId { table, key }) = at_row(words)?;
+            Some(Kept::Delete {
+                session,
+                table,
+                key,
+            })
+        }
+        Verb::See => {
+            let (session, RowId { table, key }) = at_row(words)?;
+            Some(Kept::See {
+                session,
+                table,
+                key,
+            })
+        }
+        Verb::Prepare => {
+            let session = session_of(words)?;
+            Some(Kept::Prepare { session })
+        }
+        Verb::Queue => {
+            let session = session_of(words)?;
+            Some(Kept::Queue { session })
+        }
+        Verb::Abort => {
+            let session = session_of(words)?;
+            Some(Kept::Abort { session })
+        }
+        Verb::Deliver => {
+            let gno = gno_of(words)?;
+            Some(Kept::Deliver { gno })
+        }
+        Verb::Finish => {
+            let gno = gno_of(words)?;
+            Some(Kept::Finish { gno })
+        }
+        Verb::Read => {
+            let RowId { table, key } = row_of(words)?;
+            Some(Kept::Read { table, key })
+        }
+        Verb::Flush => bare(Kept::Flush, words),
+        Verb::Sync => bare(Kept::Sync, words),
+        Verb::Commit => bare(Kept::Commit, words),
+        Verb::Dispatch => bare(Kept::Dispatch, words),
+        Verb::Next => bare(Kept::Next, words),
+        Verb::Publish => bare(Kept::Publish, words),
+        Verb::Executed => bare(Kept::Executed, words),
+        Verb::Log => bare(Kept::Log, words),
     }
 }
 
@@ -126,45 +185,30 @@ fn row_of(words: Words) -> Option<RowId>
 }
 
 /// An event without parameters.
-#[inline(always)]
-fn bare(event: Event, words: Words) -> Option<Event>
-    ensures { result ≡ bare event words.entry }
+fn bare(kept: Kept, words: Words) -> Option<Kept>
+    ensures { result ≡ (if length words.entry == 0 then Some kept else None) }
 {
-    if words.is_empty() { Some(event) } else { None }
+    if words.is_empty() { Some(kept) } else { None }
 }
 
-fn insert_of(words: Words) -> Option<Event>
-    ensures { result ≡ event_of Verb.Insert words.entry }
+/// The session and the change of an insert.
+fn insert_of(words: Words) -> Option<(u16, Change)>
+    ensures { option_map (λ x. Event.Write x.0 x.1) result ≡ event_of Verb.Insert words.entry }
 {
     let (session, words) = words.u16()?;
     let (row, words) = words.row_id()?;
     let values = words.row()?;
-    Some(Event::Write {
-        session,
-        change: Change::Insert { row, values },
-    })
+    Some((session, Change::Insert { row, values }))
 }
 
-fn set_of(words: Words) -> Option<Event>
-    ensures { result ≡ event_of Verb.Set words.entry }
+/// Those of a `set`.
+fn set_of(words: Words) -> Option<(u16, Change)>
+    ensures { option_map (λ x. Event.Write x.0 x.1) result ≡ event_of Verb.Set words.entry }
 {
     let (session, words) = words.u16()?;
     let (row, words) = words.row_id()?;
     let columns = words.named()?;
-    Some(Event::Write {
-        session,
-        change: Change::Update { row, columns },
-    })
-}
-
-fn delete_of(words: Words) -> Option<Event>
-    ensures { result ≡ event_of Verb.Delete words.entry }
-{
-    let (session, row) = at_row(words)?;
-    Some(Event::Write {
-        session,
-        change: Change::Delete { row },
-    })
+    Some((session, Change::Update { row, columns }))
 }
 
 /// A session and a row, to the end of the line.

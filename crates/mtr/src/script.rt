@@ -11,7 +11,7 @@ ghost use Rattle.std.specs.List.{All};
 ghost use Rattle.mtr.specs.Lines.{table_of, keyed_of, link_in, parent_of, base_of, command_of, is_skipped, text_line};
 ghost use Rattle.mtr.specs.Script.{said, said_with, added, Says, LeavesLines, TakesEnd};
 
-use crate::command::{Verb, alone, event_of};
+use crate::command::{Verb, alone};
 use crate::ending::Stop;
 use crate::events::EventList;
 use crate::words::Words;
@@ -120,11 +120,7 @@ impl Script {
     fn add_event(&mut self, verb: Verb, words: Words) -> Result<bool, Memory>
         ensures { IfOk result (λ is_good. added (said self.old) (Line.Event verb words.entry) ≡ then_some is_good (said self.new)) }
     {
-        let Some(event) = event_of(verb, words) else {
-            return Ok(false);
-        };
-        self.events.push(&event)?;
-        Ok(true)
+        self.events.push(verb, words)
     }
 }
 

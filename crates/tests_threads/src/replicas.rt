@@ -125,7 +125,7 @@ fn more_calls_than_workers_end(rt: HostRuntime) -> Result<(), Fail> {
     runs(&rt, rt.alloc(), Course::Crowded)
 }
 
-/// Catches a status that shows as published what is committed alone.
+/// Catches a status that shows as published what is committed alone, and a worker that ends once it made up for a publication.
 #[test]
 fn a_refused_publication_is_made_up_for(rt: HostRuntime) -> Result<(), Fail> {
     runs(&rt, rt.alloc(), Course::Refused)
@@ -408,7 +408,8 @@ fn feed_each<J: ReplicaNaming>(
     Ok(in_time)
 }
 
-fn receive_each<J: ReplicaNaming>(
+/// Hands over the records from this number to that.
+pub fn receive_each<J: ReplicaNaming>(
     rt: &impl Wait,
     shared: &Shared<J>,
     records: &[Record],

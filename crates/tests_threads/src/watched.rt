@@ -2,7 +2,7 @@
 //! that ends before another one's result is in.
 
 use crate::makers::ONE;
-use crate::replicas::{Shared, Step, counts, feed, shows, work};
+use crate::replicas::{Shared, Step, counts, feed, receive_each, shows, work};
 use published::{Answer, Counts};
 use record_codec::Record;
 use relay::ReplicaFault;
@@ -140,21 +140,34 @@ impl WorkerGate for Order {
     fn left(&self, _gno: u64) {}
 }
 
-/// The first worker commits the first record and can't publish it; the next does.
-pub fn is_refused<J: ReplicaNaming>(
-    rt: &(impl Wait + Abort + Clock),
+/// The first worker commits the first record and can't publish it. The next does, sleeps while there is nothing else to do, and applies
+/// what comes then.
+pub fn is_refused<J: ReplicaNaming + Send + Sync, R: Threads + Wait + Abort + Clock + Sync>(
+    rt: &R,
     alloc: Global,
     shared: &Shared<J>,
     records: &[Record],
 ) -> Result<u64, Fail> {
-    feed(rt, shared, records, &[Step::Take(1, 3)])?;
+    receive_each(rt, shared, records, 1, 1)?;
     let refused = shared.worker(rt, alloc, &NoGate);
     assert_eq!(rt; refused, Err(ReplicaFault::Memory));
+    let unpublished = Counts {
+        received: 1,
+        committed: 1,
+        published: 0,
+    };
     // (It may have found no memory before that.)
-    if shared.status(rt) != counts(1, 0) {
+    if shared.status(rt) != unpublished {
         refused?;
     }
-    work(rt, alloc, shared, &NoGate)?;
+    let steps = [Step::Sleep(1, 0), Step::Take(2, 3)];
+    let (worked, fed) = join(
+        rt,
+        || work(rt, alloc, shared, &NoGate),
+        || feed(rt, shared, records, &steps),
+    );
+    fed?;
+    worked?;
     shows(rt, shared, 3, [7, 6])
 }
 

@@ -1,0 +1,213 @@
+//! Events as they are kept until they are run.
+//!
+//! An `Event` has room for sixteen columns. Of one that waits sixteen bytes are kept, and its own columns in a list beside.
+
+ghost use Rattle.std.specs.Prelude.{◌≡◌, ◌≤◌, length, count_ones};
+ghost use Rattle.mtr.specs.Events.{IsWhole, width_of, event_of};
+
+use rows::{Change, Named, Row};
+use schema::RowId;
+use world::Event;
+
+/// An event without its columns. A row's table and key stand apart, since a `RowId` has six bytes more.
+#[derive(Clone, Copy)]
+pub enum Kept {
+    Begin {
+        session: u16,
+    },
+    /// A write of a row with so many columns.
+    Insert {
+        session: u16,
+        table: u16,
+        key: i64,
+        count: u8,
+    },
+    /// A write of the columns that the mask names.
+    Update {
+        session: u16,
+        table: u16,
+        key: i64,
+        mask: u16,
+    },
+    Delete {
+        session: u16,
+        table: u16,
+        key: i64,
+    },
+    See {
+        session: u16,
+        table: u16,
+        key: i64,
+    },
+    Prepare {
+        session: u16,
+    },
+    Queue {
+        session: u16,
+    },
+    Abort {
+        session: u16,
+    },
+    Flush,
+    Sync,
+    Commit,
+    Deliver {
+        gno: u64,
+    },
+    Dispatch,
+    Finish {
+        gno: u64,
+    },
+    Next,
+    Publish,
+    Executed,
+    Read {
+        table: u16,
+        key: i64,
+    },
+    Log,
+}
+
+impl Kept {
+    /// What is kept of a write, beside its columns.
+    pub fn of(session: u16, change: &Change) -> (Kept, &[i64])
+        ensures whole { IsWhole result.0 }
+        ensures width { width_of result.0 ≡ length result.1.now }
+        ensures event { event_of result.0 result.1.now ≡ Event.Write session change.now }
+    {
+        let RowId { table, key } = change.target();
+        match change {
+            Change::Insert { values, .. } => {
+                let columns = values.columns();
+                let count = columns.len() as u8;
+                (
+                    Kept::Insert {
+                        session,
+                        table,
+                        key,
+                        count,
+                    },
+                    columns,
+                )
+            }
+            Change::Update { columns, .. } => {
+                let mask = columns.mask();
+                (
+                    Kept::Update {
+                        session,
+                        table,
+                        key,
+                        mask,
+                    },
+                    columns.values(),
+                )
+            }
+            Change::Delete { .. } => (
+                Kept::Delete {
+                    session,
+                    table,
+                    key,
+                },
+                &[],
+            ),
+        }
+    }
+
+    /// How many columns it has.
+    pub fn width(self) -> usize
+        ensures { result ≡ width_of self }
+    {
+        match self {
+            Kept::Insert { count, .. } => count as usize,
+            Kept::Update { mask, .. } => mask.count_ones() as usize,
+            _ => 0,
+        }
+    }
+
+    /// The event, with its columns.
+    pub fn with(self, columns: &[i64]) -> Event
+        requires whole { IsWhole self }
+        requires width { length columns.now ≡ width_of self }
+        ensures { result ≡ event_of self columns.now }
+    {
+        match self {
+            Kept::Begin { session } => Event::Begin { session },
+            Kept::Insert {
+                session,
+                table,
+                key,
+                ..
+            } => inserted(session, RowId { table, key }, columns),
+            Kept::Update {
+                session,
+                table,
+                key,
+                mask,
+            } => updated(session, RowId { table, key }, mask, columns),
+            Kept::Delete {
+                session,
+                table,
+                key,
+            } => deleted(session, RowId { table, key }),
+            Kept::See {
+                session,
+                table,
+                key,
+            } => Event::See {
+                session,
+                row: RowId { table, key },
+            },
+            Kept::Prepare { session } => Event::Prepare { session },
+            Kept::Queue { session } => Event::Queue { session },
+            Kept::Abort { session } => Event::Abort { session },
+            Kept::Flush => Event::Flush,
+            Kept::Sync => Event::Sync,
+            Kept::Commit => Event::Commit,
+            Kept::Deliver { gno } => Event::Deliver { gno },
+            Kept::Dispatch => Event::Dispatch,
+            Kept::Finish { gno } => Event::Finish { gno },
+            Kept::Next => Event::Next,
+            Kept::Publish => Event::Publish,
+            Kept::Executed => Event::Executed,
+            Kept::Read { table, key } => Event::Read {
+                row: RowId { table, key },
+            },
+            Kept::Log => Event::Log,
+        }
+    }
+}
+
+/// A write of a row of these columns, of which there are as many as a row may have.
+fn inserted(session: u16, row: RowId, columns: &[i64]) -> Event
+    requires some { 1 ≤ length columns.now }
+    requires few { length columns.now ≤ 16 }
+    ensures { result ≡ Event.Write session (Change.Insert row columns.now) }
+{
+    let values = Row::new(columns).unwrap();
+    Event::Write {
+        session,
+        change: Change::Insert { row, values },
+    }
+}
+
+/// A write of these values of the columns that the mask names, one for each.
+fn updated(session: u16, row: RowId, mask: u16, values: &[i64]) -> Event
+    requires some { 1 ≤ mask }
+    requires each { length values.now ≡ count_ones mask }
+    ensures { result ≡ Event.Write session (Change.Update row (record { mask = mask; values = values.now })) }
+{
+    let columns = Named::new(mask, values).unwrap();
+    Event::Write {
+        session,
+        change: Change::Update { row, columns },
+    }
+}
+
+fn deleted(session: u16, row: RowId) -> Event
+    ensures { result ≡ Event.Write session (Change.Delete row) }
+{
+    Event::Write {
+        session,
+        change: Change::Delete { row },
+    }
+}
