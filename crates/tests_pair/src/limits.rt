@@ -4,6 +4,7 @@
 use crate::makers::{LIMIT, SOURCE, columns, insert, row};
 use crate::one_thread::{Replica, Source};
 use published::{Answer, Counts, Notice};
+use relay::ReplicaFault;
 use replica_core::Wire;
 use replica_shared::{NoGate, ReplicaNaming};
 use rows::{Change, Named, Row};
@@ -161,10 +162,22 @@ fn applies<K: ReplicaNaming + Send + Sync, R: Threads + Wait + Abort + Sync>(
     let (told, worked) = join(
         rt,
         || replica.wait_for(rt, LIMIT),
-        || replica.worker(rt, alloc, &NoGate),
+        || works(rt, alloc, replica),
     );
     worked?;
     reads(rt, replica, told?)
+}
+
+/// A worker's call, made again where it lacks memory: the reader would wait for ever else.
+fn works<K: ReplicaNaming>(
+    rt: &impl Wait,
+    alloc: Global,
+    replica: &Replica<K>,
+) -> Result<(), ReplicaFault> {
+    match replica.worker(rt, alloc, &NoGate) {
+        Err(ReplicaFault::Memory) => replica.worker(rt, alloc, &NoGate),
+        ended => ended,
+    }
 }
 
 /// What a reader sees of it, once it was told.
