@@ -4,7 +4,7 @@
 //! that has its room before the first of them. Where one is refused, all that was kept is put back, which takes none. Then rows
 //! are removed. A batch of one row needs no list: the map takes it or not.
 
-ghost use Rattle.std.specs.Prelude.{◌≡◌, Some, IfSome, OnOk, OnErr, FitsSigned};
+ghost use Rattle.std.specs.Prelude.{◌≡◌, ◌<◌, ◌++◌, ◌∷◌, [], length, vec_capacity, Some, IfSome, OnOk, OnErr, FitsSigned};
 ghost use Rattle.std.specs.List.{AllByRecursion};
 ghost use Rattle.std.specs.FinMap.{insert, get as row_of};
 ghost use Rattle.std.proofs.Common.{w64};
@@ -85,15 +85,18 @@ fn replace_row(rows: &mut Rows, id: RowId, row: Row, before: &mut Vec<Entry>) ->
     ensures undone { undo before.new.items (contents_of rows.new) ≡ undo before.old.items (contents_of rows.old) }
     ensures ok { OnOk result (contents_of rows.new ≡ insert (contents_of rows.old) id row) }
 {
+    before.reserve(1)?;
     let replaced = rows.insert(id, row)?;
-    match before.push((id, replaced)) {
-        Ok(()) => Ok(()),
-        Err(refused) => {
-            let (id, replaced) = refused.value;
-            reset_row(rows, id, replaced);
-            Err(Memory)
-        }
-    }
+    note(before, id, replaced);
+    Ok(())
+}
+
+/// Adds what stood at a row, where there is room for it.
+fn note(before: &mut Vec<Entry>, id: RowId, row: Option<Row>)
+    requires { length before.old.items < vec_capacity before.old }
+    ensures { before.new.items ≡ before.old.items ++ (id, row) ∷ [] }
+{
+    before.push((id, row)).unwrap();
 }
 
 /// Puts these rows back, the last of the list first. It takes no memory.

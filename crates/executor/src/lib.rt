@@ -49,6 +49,17 @@ pub enum Outcome {
     Memory,
 }
 
+impl From<Memory> for Outcome {
+    ghost use Rattle.std.specs.Prelude.{◌≡◌};
+    ghost use Rattle.executor.specs.declared.Outcome.TheVariants as outcomes;
+
+    ghost from_gives = { λ _ outcome. outcome ≡ outcomes.Memory };
+
+    fn from(_memory: Memory) -> Outcome {
+        Outcome::Memory
+    }
+}
+
 /// A job with what came of it. `execute` makes it.
 #[derive(Debug, Drop)]
 pub struct JobResult {
@@ -159,7 +170,7 @@ pub fn execute(alloc: Global, job: Job) -> JobResult
 {
     let outcome = match run(alloc, &job) {
         Ok(outcome) => outcome,
-        Err(Memory) => Outcome::Memory,
+        Err(memory) => memory.into(),
     };
     JobResult { job, outcome }
 }

@@ -1,5 +1,5 @@
 -- How the program ends, and what it tells then.
-use Rattle.std.specs.Prelude.{◌≡◌, ◌⊎◌, ℕ, List, ◌++◌, codes}
+use Rattle.std.specs.Prelude.{◌≡◌, ◌⊎◌, ℕ, List, Option, ◌++◌, codes}
 use Rattle.std.specs.Fmt.{decimal}
 use Rattle.schema.specs.declared.SchemaFault.{SchemaFault}
 use Rattle.schema.specs.declared.SchemaFault.TheVariants as schema
@@ -50,6 +50,10 @@ stop_of_log fault = stops.Log fault
 -- want of memory, and a stream that fails, may stop the work anywhere
 abbrev pub IsCutOff : Stop → Type 0
 IsCutOff stop = (stop ≡ stops.Memory) ⊎ (stop ≡ stops.Stream)
+
+-- A script that is refused prints nothing: only want of memory, and a stream that fails, may come behind a beginning of its replies.
+abbrev pub PrintsNoReply : Option (List ℕ) → Option (List ℕ) → Stop → Type 0
+PrintsNoReply before after stop = IsCutOff stop ⊎ (after ≡ before)
 
 -- what is told; a stream that fails has no text
 abbrev pub stop_text : Stop → List ℕ

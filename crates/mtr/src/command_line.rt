@@ -307,6 +307,6 @@ fn fault_of(alloc: Global, error: &clap::Error) -> LineFault
     match format!(in alloc; "{error}") {
         Ok(text) if error.use_stderr() => LineFault::Line(text),
         Ok(text) => LineFault::Asked(text),
-        Err(_) => LineFault::Memory,
+        Err(memory) => memory.into(),
     }
 }

@@ -1,12 +1,13 @@
 //! A script's events, run piece by piece: each piece's replies are printed before the next is run.
 
-ghost use Rattle.std.specs.Prelude.{◌≡◌, ◌≤◌, ◌++◌, [], IfOk, IfSome, OnOk};
+ghost use Rattle.std.specs.Prelude.{◌≡◌, ◌≤◌, ◌++◌, [], IfOk, IfErr, IfSome, OnOk};
 ghost use Rattle.std.specs.Io.KnownBytes.{Appends};
 ghost use Rattle.world.specs.State.{IsWorld};
 ghost use Rattle.world.specs.Seen.{seen};
 ghost use Rattle.mtr.specs.Events.{joined};
 ghost use Rattle.mtr.specs.Script.{said};
 ghost use Rattle.mtr.specs.Printing.{lines_of};
+ghost use Rattle.mtr.specs.Ending.{IsCutOff, PrintsNoReply};
 ghost use Rattle.mtr.specs.Options.{AreSides, kind_for};
 ghost use Rattle.mtr.specs.Pair.{IsNewTracker, BeginsWith, GoesOn, Prints, PrintsText};
 
@@ -40,7 +41,8 @@ pub fn run_text<R: BufRead, W: Write>(
     output: &mut W,
 ) -> Result<(), Stop>
     requires { AreSides sides }
-    ensures { OnOk result (IfSome (R.remaining input.old) (λ text. PrintsText (kind_for sides) sides.workers text (W.contents output.old) (W.contents output.new))) }
+    ensures prints { OnOk result (IfSome (R.remaining input.old) (λ text. PrintsText (kind_for sides) sides.workers text (W.contents output.old) (W.contents output.new))) }
+    ensures refused { IfErr result (PrintsNoReply (W.contents output.old) (W.contents output.new)) }
 {
     run_by_mode(alloc, sides, Script::read(alloc, input)?, output)
 }
@@ -53,7 +55,8 @@ fn run_by_mode<W: Write>(
     output: &mut W,
 ) -> Result<(), Stop>
     requires { AreSides sides }
-    ensures { OnOk result (Prints (kind_for sides) sides.workers (said script) (W.contents output.old) (W.contents output.new)) }
+    ensures prints { OnOk result (Prints (kind_for sides) sides.workers (said script) (W.contents output.old) (W.contents output.new)) }
+    ensures refused { IfErr result (PrintsNoReply (W.contents output.old) (W.contents output.new)) }
 {
     let limit = sides.history as u32;
     match sides.tracker {
@@ -79,7 +82,8 @@ fn run_by<T: Tracker + Drop, W: Write>(
 ) -> Result<(), Stop>
     requires tracker { IsNewTracker T.agrees tracker }
     requires sides { AreSides sides }
-    ensures { OnOk result (Prints (T.kind tracker) sides.workers (said script) (W.contents output.old) (W.contents output.new)) }
+    ensures prints { OnOk result (Prints (T.kind tracker) sides.workers (said script) (W.contents output.old) (W.contents output.new)) }
+    ensures refused { IfErr result (PrintsNoReply (W.contents output.old) (W.contents output.new)) }
 {
     let workers = sides.workers;
     match sides.store {
@@ -99,7 +103,8 @@ fn run_script<S: NewStore, T: Tracker + Drop, W: Write>(
     requires tracker { IsNewTracker T.agrees tracker }
     requires some { 1 ≤ workers }
     requires few { workers ≤ 64 }
-    ensures { OnOk result (Prints (T.kind tracker) workers (said script) (W.contents output.old) (W.contents output.new)) }
+    ensures prints { OnOk result (Prints (T.kind tracker) workers (said script) (W.contents output.old) (W.contents output.new)) }
+    ensures refused { IfErr result (PrintsNoReply (W.contents output.old) (W.contents output.new)) }
 {
     let Script {
         tables,
@@ -145,7 +150,8 @@ fn run_pieces<S: RowStore, T: Tracker, D: Device, R: RowStore, W: Write>(
     output: &mut W,
 ) -> Result<(), Stop>
     requires { IsWorld R.contents (seen world.old) }
-    ensures { OnOk result (GoesOn R.contents (seen world.old) (seen world.new) (joined pieces.items) (W.contents output.old) (W.contents output.new)) }
+    ensures goes_on { OnOk result (GoesOn R.contents (seen world.old) (seen world.new) (joined pieces.items) (W.contents output.old) (W.contents output.new)) }
+    ensures stop { IfErr result IsCutOff }
 {
     let mut events = Vec::new(alloc);
     let mut text = Vec::new(alloc);
@@ -160,7 +166,8 @@ fn run_pieces<S: RowStore, T: Tracker, D: Device, R: RowStore, W: Write>(
 /// Prints the lines of replies. They are put together first, so that no part of a line is printed where memory
 /// runs out.
 fn print<W: Write>(text: &mut Vec<u8>, replies: &[Reply], output: &mut W) -> Result<(), Stop>
-    ensures { OnOk result (Appends (W.contents output.old) (W.contents output.new) (lines_of replies.now)) }
+    ensures lines { OnOk result (Appends (W.contents output.old) (W.contents output.new) (lines_of replies.now)) }
+    ensures stop { IfErr result IsCutOff }
 {
     text.clear();
     write_replies(text, replies)?;

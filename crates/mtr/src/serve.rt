@@ -128,7 +128,7 @@ fn threads_by<T: Tracker + Drop + Send + Sync, H: Threads + Wait + Sync, W: Writ
 {
     let tracker = match tracker {
         Ok(tracker) => tracker,
-        Err(Memory) => return Stop::Memory.tell(errors),
+        Err(memory) => return Stop::from(memory).tell(errors),
     };
     match plan.sides.store {
         Store::BTree => tell_ending(

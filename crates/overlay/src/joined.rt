@@ -81,9 +81,11 @@ fn append(
 {
     let count = entries.len();
     let rows = left.iter().map(|(id, left)| (*id, *left));
-    if entries.extend(rows).is_err() {
-        entries.truncate(count);
-        return Err(Memory);
+    match entries.extend(rows) {
+        Ok(()) => Ok(()),
+        Err(refused) => {
+            entries.truncate(count);
+            Err(refused.into())
+        }
     }
-    Ok(())
 }

@@ -36,9 +36,9 @@ impl Model for Roomy {
 
 impl Overlay {
     /// The same changes, with room for one more. Where memory runs out they come back as they are.
-    pub fn into_roomy(self) -> Result<Roomy, Overlay>
+    pub fn into_roomy(self) -> Result<Roomy, (Memory, Overlay)>
         ensures ok { IfOk result (λ roomy. roomy ≡ self) }
-        ensures err { IfErr result (λ overlay. overlay ≡ self) }
+        ensures err { IfErr result (λ refused. refused.1 ≡ self) }
     {
         let Overlay {
             mut changes,
@@ -46,7 +46,7 @@ impl Overlay {
         } = self;
         match make_room(&mut changes, &mut left) {
             Ok(()) => Ok(Roomy { changes, left }),
-            Err(Memory) => Err(Overlay { changes, left }),
+            Err(memory) => Err((memory, Overlay { changes, left })),
         }
     }
 }

@@ -1,5 +1,6 @@
 -- Beginnings of one history, and a history with one more commit.
-use Rattle.std.proofs.Common.{◌≡◌, ℕ, ◌+◌, ◌≤◌, Bool, true, false, List, [], ◌∷◌, ◌++◌, length, refl, sym, ap, ◌∙◌, subst, arith, length-append, MatchBool}
+use Rattle.std.proofs.Common.{◌≡◌, ◌≢◌, ℕ, ◌+◌, ◌<◌, ◌≤◌, Bool, true, false, List, [], ◌∷◌, ◌++◌, length, refl, sym, ap, ◌∙◌, subst, arith, length-append, MatchBool}
+use Rattle.std.proofs.lemmas.Bool.{false≢true}
 use Rattle.std.proofs.lemmas.Bool.Decides.{nat_tests}
 use Rattle.std.specs.Prelude.{nat_le}
 use Rattle.std.proofs.lemmas.List.{append-nil}
@@ -48,6 +49,13 @@ begins_by a b whole p q ha hb true is =
 begins_by a b whole p q ha hb false is =
     let le : commits_in b ≤ commits_in a = grind (arith, nat_tests) in
     prefix_shorter b a whole q p (omega (arith, history_length a ha, history_length b hb))
+
+-- lists of other numbers of commits are two
+pub other_counts : (a b : List Op) (t : Bool) → nat_le (commits_in a) (commits_in b) ≡ t → t ≡ false → a ≢ b
+other_counts a b true is none same = false≢true (sym none)
+other_counts a b false is none same =
+    let more : commits_in b < commits_in a = grind (arith, nat_tests) in
+    absurd (omega (arith, more, ap commits_in same))
 
 -- a history that is as long as a beginning of it
 pub same_history : (v log : List Op) → IsPrefix v log → IsHistory v → IsHistory log → commits_in log ≡ commits_in v → v ≡ log

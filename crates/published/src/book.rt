@@ -1,7 +1,7 @@
 //! The history of operations, which exists in proofs alone: all that seats see and are told is a beginning of
 //! it. What is shared at run time is one word, the number of its commits. It grows where commits are published,
 //! by all that wait at once, and nowhere else.
-ghost use Rattle.std.specs.Prelude.{◌≡◌, ◌+◌, ◌++◌, ◌∷◌, [], length, MatchBool, IfSome};
+ghost use Rattle.std.specs.Prelude.{◌≡◌, ◌≢◌, false, ◌+◌, ◌++◌, ◌∷◌, [], length, MatchBool, IfSome};
 ghost use mathlib.Core.List.{IsPrefix};
 ghost use Rattle.published.specs.History.{CommitsFrom, IsHistory, commits_in};
 ghost use Rattle.published.specs.Book.{head_of};
@@ -182,7 +182,8 @@ impl<J: Naming> Notice<J> {
 
     /// Whether the other begins with this one. If not, this one begins with the other. It takes no memory.
     pub fn begins(&self, other: &Notice<J>) -> bool
-        ensures { MatchBool result (IsPrefix self.now other.now) (IsPrefix other.now self.now) }
+        ensures one { MatchBool result (IsPrefix self.now other.now) (IsPrefix other.now self.now) }
+        ensures other { result ≡ false → self.now ≢ other.now }
     {
         let mut both = self.seen.again();
         both.learn(&other.seen);

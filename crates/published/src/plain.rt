@@ -1,5 +1,5 @@
 //! Publication for one thread, on one store.
-ghost use Rattle.std.specs.Prelude.{◌≡◌, ◌+◌, [], ◌∷◌, ◌++◌, length, IfOk, OnOk, OnErr};
+ghost use Rattle.std.specs.Prelude.{◌≡◌, ◌+◌, [], ◌∷◌, ◌++◌, length, IfOk, IsOk, OnOk, OnErr};
 ghost use Rattle.std.specs.FinMap.{empty, get as row_of};
 ghost use Rattle.store_trait.specs.Batch.{put_batch, put_batches};
 ghost use Rattle.store_trait.specs.Operation.{batch_of};
@@ -67,12 +67,13 @@ impl<S: RowStore> Plain<S> {
     }
 
     /// Shows all that was appended, at once, and answers how many commits are shown then. Where memory runs
-    /// out nothing changes, and the next `publish` shows the same and what came since. The time is
-    /// n log(n + m), for n entries that wait and a store of m rows.
+    /// out nothing changes, and the next `publish` shows the same and what came since. Where nothing waits it takes no
+    /// memory. The time is n log(n + m), for n entries that wait and a store of m rows.
     pub fn publish(&mut self) -> Result<u64, Memory>
         ensures number { IfOk result (λ upto. (upto ≡ self.new.upto) × (upto ≡ self.old.upto + length self.old.waiting)) }
         ensures contents { OnOk result (S.contents self.new.store ≡ put_batches self.old.waiting (S.contents self.old.store)) }
         ensures all { OnOk result (self.new.waiting ≡ []) }
+        ensures idle { self.old.waiting ≡ [] → IsOk result }
 
         ensures err { OnErr result (S.contents self.new.store ≡ S.contents self.old.store) }
         ensures err_number { OnErr result (self.new.upto ≡ self.old.upto) }
@@ -107,6 +108,7 @@ impl<S: RowStore> Plain<S> {
 // Puts all batches, in order, or none of them.
 fn put_together<S: RowStore>(alloc: Global, store: &mut S, batches: &[Batch]) -> Result<(), Memory>
     ensures ok { OnOk result (S.contents store.new ≡ put_batches batches.now (S.contents store.old)) }
+    ensures idle { batches.now ≡ [] → IsOk result }
     ensures err { OnErr result (S.contents store.new ≡ S.contents store.old) }
 {
     match batches {

@@ -295,8 +295,9 @@ impl<S: RowStore> ReplicaCore<S> {
         self.workers
     }
 
-    /// Whether the next record in log order may be dispatched.
-    fn is_eligible(&self) -> bool
+    /// Whether the next record in log order may be dispatched: then `dispatch` hands out its job, unless the replica is
+    /// stopped. It takes no memory, and constant time.
+    pub fn is_eligible(&self) -> bool
         ensures { result ≡ is_eligible self.now }
     {
         match self.relay.accepted().get(self.dispatched() as usize) {

@@ -77,13 +77,19 @@ impl<S: RowStore + Drop, J: ReplicaNaming> SharedReplica<S, J> {
         requires source { core.source ≡ J.source }
         requires base { core.base ≡ J.base }
     {
-        let Ok((places, status, watch)) = parts(alloc) else {
-            drop(publisher.close(rt));
-            return Err(Memory);
+        let (places, status, watch) = match parts(alloc) {
+            Ok(parts) => parts,
+            Err(memory) => {
+                drop(publisher.close(rt));
+                return Err(memory);
+            }
         };
-        let Ok((jobs, outlet)) = Outlet::new(alloc) else {
-            drop(publisher.close(rt));
-            return Err(Memory);
+        let (jobs, outlet) = match Outlet::new(alloc) {
+            Ok(queue) => queue,
+            Err(memory) => {
+                drop(publisher.close(rt));
+                return Err(memory);
+            }
         };
         Ok(SharedReplica {
             held: Mutex::new(Coordinator::new(core, publisher, status, places, outlet)),

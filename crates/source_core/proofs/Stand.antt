@@ -2,7 +2,7 @@
 use Rattle.std.proofs.Common.{◌≡◌, ◌≢◌, ◌∙◌, sym, ap, subst, refl, ℕ, zero, suc, ◌+◌, ◌-◌, ◌<◌, ◌≤◌, List, [], ◌∷◌, length, take, drop, get_or, Bool, false, Option, Some, None, arith}
 use Rattle.std.specs.Prelude.{slice_get}
 use Rattle.std.specs.Option.{option_map, option_map_or, option_and_then, IsSome}
-use Rattle.std.proofs.lemmas.List.{length-drop}
+use Rattle.std.proofs.lemmas.List.{length-drop, length-map}
 use Rattle.std.specs.FinMap.{empty}
 use Rattle.std.proofs.Math.ListN.{get_or-map}
 use Rattle.schema.specs.declared.Table.{Table}
@@ -101,6 +101,7 @@ each_applies p kind halted core session =
 
 pub is_sound : (p : Parts) (kind : Kind) (halted : Bool) → IsCore p → IsSound (source_of p kind halted)
 is_sound p kind halted core = record {
+  sessions = length-map p.places _ ∙ core.sessions;
   legal = core.legal;
   shaped = core.shaped;
   few = omega (arith, core.few);

@@ -123,9 +123,10 @@ are_shaped ts changes = list_all (is_shaped ts) changes
 abbrev pub HasShape : List Table → List Record → Type 0
 HasShape ts log = (n : ℕ) (made : Record) → slice_get log n ≡ Some made → are_shaped ts made.changes ≡ true
 
--- What is true of every source: its log is legal and not too long, its changes are such as the schema allows, and its
--- counts are in order.
+-- What is true of every source: its log is legal and not too long, its changes are such as the schema allows, its
+-- counts are in order, and it has 256 sessions.
 pub record IsSound (s : Source) : Type 0 where
+  pub sessions : length s.sessions ≡ 256
   pub legal : IsLegalLog s.tables (loaded s.base) s.log
   pub shaped : HasShape s.tables s.log
   pub few : length s.log ≤ s.limit

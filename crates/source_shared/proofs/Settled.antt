@@ -1,9 +1,10 @@
 -- What is true under the lock stays so, step by step.
-use Rattle.std.proofs.Common.{◌≡◌, ℕ, zero, suc, ◌+◌, ◌≤◌, Bool, true, false, List, [], ◌∷◌, ◌++◌, length, take, drop, replicate, Option, Some, None, IfSome, refl, sym, ap, ◌∙◌, subst, append_assoc, arith}
-use Rattle.std.specs.Prelude.{slice_get, IsSomeAnd, ◌&&◌, ◌==◌, not}
-use Rattle.std.proofs.lemmas.Bool.{eqb-true}
+use Rattle.std.proofs.Common.{◌≡◌, ℕ, zero, suc, ◌+◌, ◌≤◌, Bool, true, false, List, [], ◌∷◌, ◌++◌, length, take, drop, replicate, Option, Some, None, IfSome, is_some, get_or, nat_lt, Bor, refl, sym, ap, ◌∙◌, subst, append_assoc, arith}
+use Rattle.std.specs.Prelude.{slice_get, IsSomeAnd, ◌&&◌, ◌==◌, not, if◌then◌else◌}
+use Rattle.std.proofs.lemmas.Bool.{eqb-true, false≢true}
+use Rattle.std.proofs.lemmas.Bool.Decides.{nat_tests}
 use Rattle.std.specs.Option.{option_map}
-use Rattle.std.proofs.lemmas.Option.{IfSome_then}
+use Rattle.std.proofs.lemmas.Option.{IfSome_then, same_Some}
 use Rattle.std.proofs.lemmas.List.{append-nil, take-append-le, take-append-drop, take_at, drop_at, length-append, length-set, length-replicate, length-take-le}
 use Rattle.schema.specs.declared.Table.{Table}
 use Rattle.store_trait.specs.Batch.{Entry}
@@ -12,7 +13,9 @@ use Rattle.record_codec.specs.Group.{GroupValue, AreRecordsOf, Hold}
 use Rattle.log_file.specs.Log.{Log, Kept, Tail, waiting_of, log_of, AreHalves}
 use Rattle.source_core.specs.declared.transaction.Receipt.{Receipt}
 use Rattle.source_core.specs.Source.{Source, IsSound, new_source}
-use Rattle.log_file.specs.Calls.{confirmed}
+use Rattle.log_file.specs.declared.fault.LogFault.{LogFault}
+use Rattle.log_file.specs.declared.fault.LogFault.TheVariants.{OutOfTurn}
+use Rattle.log_file.specs.Calls.{confirmed, prepare_cause}
 use Rattle.source_core.specs.declared.fault.SourceFault.{SourceFault}
 use Rattle.source_core.specs.declared.fault.SourceFault.TheVariants.{Halted}
 use Rattle.source_core.specs.Calls.{cause, Flushes, IsOldest, with_synced, all_committed, receipts, receipts_for}
@@ -66,6 +69,27 @@ oldest s group groups sound h =
       is_oldest = subst (AreRecordsOf group) (sym behind) h.3;
       rest = subst (Hold groups) (sym left) h.4;
     }
+
+-- the group that is lent is the oldest
+pub first_lent : (l : List GroupValue) (got : Option (Bor GroupValue)) (x : Bor GroupValue) → is_some got ≡ nat_lt 0 (length l) → IfSome got (λ y. y.now ≡ get_or l 0 y.now) → got ≡ Some x → slice_get l 0 ≡ Some x.now
+first_lent l got x some here is = of l (sym (ap (λ (o : Option (Bor GroupValue)). is_some o) is) ∙ some) (subst (λ (o : Option (Bor GroupValue)). IfSome o (λ y. y.now ≡ get_or l 0 y.now)) is here) where
+  of : (l : List GroupValue) → true ≡ nat_lt 0 (length l) → x.now ≡ get_or l 0 x.now → slice_get l 0 ≡ Some x.now
+  of [] e h = absurd (false≢true (sym e))
+  of (y ∷ l) e h = ap (λ (g : GroupValue). Some g) (sym h)
+
+-- and is the next behind those that are synced
+pub oldest_next : (base : List Entry) (tables : List Table) (s : State) (group : GroupValue) → IsSound s.core → slice_get s.ring 0 ≡ Some group → IsSettled base tables s → prepare_cause s.kept group ≡ None
+oldest_next base tables s group sound at h =
+    let parts = split s.ring at in
+    let o = oldest s.core group parts.0 sound (subst (λ (l : List GroupValue). Hold l (drop s.core.synced s.core.log)) parts.1 h.waiting) in
+    let long : length s.kept.records ≡ s.core.synced = ap (λ (l : List Record). length l) h.records ∙ length-take-le s.core.synced s.core.log sound.synced_within in
+    in_turn group.first (length s.kept.records) (omega (arith, o.first, long)) where
+      split : (l : List GroupValue) → slice_get l 0 ≡ Some group → (rest : List GroupValue) × (l ≡ group ∷ rest)
+      split [] e = absurd (cc e)
+      split (x ∷ l) e = (l, ap (λ (y : GroupValue). y ∷ l) (same_Some x group e))
+
+      in_turn : (a b : ℕ) → a ≡ b + 1 → (if a == b + 1 then None else Some OutOfTurn) ≡ None
+      in_turn a b e = grind (arith, nat_tests)
 
 -- ---- steps
 

@@ -15,6 +15,11 @@ const TWO: [u8; 107] = [
     0, 0, 0, 0x0a, 0, 1, 0, 0, 0, 0, 0, 0, 0, 7,
 ];
 
+/// What comes of a stream where each bit of one byte of `TWO` is another: `f`, a fault at the end of the record; `w`, a length
+/// for which there are not enough bytes; `n`, another number.
+const FATES: &[u8; 107] = b"ffwwnnnnnnnnnnnnnnnnnnnnnnnnffffffnnnnnnnnnnfnnnnnnnn\
+ffwwnnnnnnnnnnnnnnnnnnnnnnnnffffffnnnnnnnnnnffnnnnnnnn";
+
 /// Feeds a piece, once more where memory lacked.
 fn feed_again(
     stream: &mut Stream,
@@ -22,6 +27,22 @@ fn feed_again(
     records: &mut Vec<Record>,
 ) -> Result<(), CodecFault> {
     again(|| stream.feed(piece, records))
+}
+
+/// Feeds bytes one by one, up to the first fault, and tells whether there was one.
+fn meets_fault(
+    stream: &mut Stream,
+    bytes: &[u8],
+    records: &mut Vec<Record>,
+) -> Result<bool, CodecFault> {
+    for byte in bytes {
+        match feed_again(stream, &[*byte], records) {
+            Ok(()) => {}
+            Err(CodecFault::Memory) => return Err(CodecFault::Memory),
+            Err(_) => return Ok(true),
+        }
+    }
+    Ok(false)
 }
 
 /// The records, written one behind the other.
@@ -80,6 +101,30 @@ fn the_greatest_record_byte_by_byte(rt: HostRuntime) -> Result<(), Fail> {
         stream.feed(&[*byte], &mut records)?;
     }
     assert!(rt; written(rt.alloc(), &records)?.as_slice() == bytes.as_slice());
+    Ok(())
+}
+
+/// A damaged byte that takes a record before it along, that goes unseen, or behind which a record comes out.
+#[test]
+fn a_damaged_byte_at_each_place(rt: HostRuntime) -> Result<(), Fail> {
+    for place in 0..160 {
+        let mut bytes = [0; 160];
+        bytes[..107].copy_from_slice(&TWO);
+        bytes[107..].copy_from_slice(&TWO[..53]);
+        bytes[place] ^= 0xff;
+        let mut stream = Stream::new(rt.alloc());
+        let mut records = Vec::new(rt.alloc());
+        let faulty = meets_fault(&mut stream, &bytes, &mut records)?;
+        let fate = FATES[place % 107];
+        assert_eq!(rt; faulty, fate == b'f', "{place}");
+        let out = match (fate, place) {
+            (b'n', _) => 160,
+            (_, 0..53) => 0,
+            (_, 53..107) => 53,
+            _ => 107,
+        };
+        assert_eq!(rt; written(rt.alloc(), &records)?.as_slice(), &bytes[..out], "{place}");
+    }
     Ok(())
 }
 

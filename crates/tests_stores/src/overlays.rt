@@ -96,7 +96,7 @@ fn push(overlay: &mut Overlay, entry: &Entry) -> Result<(), Memory> {
 fn push_again(overlay: Overlay, entry: &Entry) -> Result<Overlay, Memory> {
     let roomy = match overlay.into_roomy() {
         Ok(roomy) => roomy,
-        Err(overlay) => overlay.into_roomy().map_err(|_| Memory)?,
+        Err((_, overlay)) => overlay.into_roomy().map_err(|refused| refused.0)?,
     };
     let mut overlay = roomy.push(Change::Delete { row: entry.0 }, entry.1);
     again!(push(&mut overlay, entry));

@@ -88,6 +88,8 @@ impl<'a, D: Device, R: Clock> Device for Ordered<'a, D, R> {
 
     ghost faults = { λ d. D.faults d.inner };
 
+    ghost may_leave = { λ d left. D.may_leave d.inner left };
+
     fn len(&self) -> u64 {
         self.inner.len()
     }

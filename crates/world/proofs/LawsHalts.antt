@@ -1,6 +1,7 @@
 -- A source is halted for good.
 use Rattle.std.proofs.Common.{◌≡◌, ◌∙◌, ap, subst, refl, ℕ, zero, suc, ◌<◌, Bool, true, false, not, ◌&&◌, ◌||◌, List, [], ◌∷◌, take, Option, Some, slice_get, inl, inr, arith}
-use Rattle.std.proofs.lemmas.Bool.{false≢true}
+use Rattle.std.specs.Option.{is_none}
+use Rattle.std.proofs.lemmas.Bool.{false≢true, and_parts}
 use Rattle.std.proofs.lemmas.Option.{none-some, same_Some}
 use Rattle.record_codec.specs.declared.records.Record.{Record}
 use Rattle.source_core.specs.declared.fault.SourceFault.{SourceFault}
@@ -12,7 +13,7 @@ use Rattle.world.specs.declared.events.Event.TheVariants as events
 use Rattle.world.specs.declared.events.Reply.{Reply}
 use Rattle.world.specs.declared.events.Reply.TheVariants as replies
 use Rattle.world.specs.Past.{Past, queue, unsynced, is_failure, halted}
-use Rattle.world.specs.Legal.{Setup, refused_or, FlushAnswers, SyncAnswers, Answers, lacks_memory, AreAllowed}
+use Rattle.world.specs.Legal.{Setup, refused_or, FlushAnswers, SyncAnswers, Answers, asks_memory, AreAllowed}
 use Rattle.world.specs.Laws.{pairs_after, past_at, asks_source, HaltsForGood}
 use Rattle.world.proofs.LawsRuns.{answered_at}
 
@@ -44,22 +45,26 @@ first_cause : (halts : Bool) (later : Option SourceFault) (reply answer : Reply)
 first_cause true later reply answer h is = is
 first_cause false later reply answer h is = absurd (false≢true h)
 
--- a halted source lacks no memory
-none_lacks : (halts lacks : Bool) → halts ≡ true → (not halts && lacks) ≡ true → ⊥
-none_lacks true lacks h is = false≢true is
-none_lacks false lacks h is = false≢true h
+-- a halted source is asked for no memory
+none_asked : (halts asked : Bool) → halts ≡ true → (not halts && asked) ≡ true → ⊥
+none_asked true asked h is = false≢true is
+none_asked false asked h is = false≢true h
 
-no_memory : (halts : Bool) (committed_ : ℕ) (event : Event) (reply : Reply) → halts ≡ true → asks_source event ≡ true → lacks_memory halts committed_ event reply ≡ true → ⊥
-no_memory halts committed_ (events.Write session change) reply h asks lacks = none_lacks halts _ h lacks
-no_memory halts committed_ (events.Prepare session) reply h asks lacks = none_lacks halts _ h lacks
-no_memory halts committed_ events.Flush reply h asks lacks = none_lacks halts _ h lacks
-no_memory halts committed_ events.Sync reply h asks lacks = none_lacks halts _ h lacks
-no_memory halts committed_ events.Commit reply h asks lacks = none_lacks halts _ h lacks
-no_memory halts committed_ (events.Begin session) reply h asks lacks = false≢true lacks
-no_memory halts committed_ (events.See session id) reply h asks lacks = false≢true lacks
-no_memory halts committed_ (events.Queue session) reply h asks lacks = false≢true lacks
-no_memory halts committed_ (events.Abort session) reply h asks lacks = false≢true lacks
-no_memory halts committed_ event reply h asks lacks = false≢true asks
+refused_first : (halts : Bool) (later : Option SourceFault) → halts ≡ true → is_none (cause halts source.Halted later) ≡ true → ⊥
+refused_first true later h is = false≢true is
+refused_first false later h is = false≢true h
+
+no_memory : (setup : Setup) (log : List Record) (past : Past) (event : Event) → halted past ≡ true → asks_source event ≡ true → asks_memory setup log past event ≡ true → ⊥
+no_memory setup log past (events.Write session change) h asks lacks = refused_first (halted past) _ h lacks
+no_memory setup log past (events.Prepare session) h asks lacks = false≢true lacks
+no_memory setup log past events.Flush h asks lacks = none_asked (halted past) _ h lacks
+no_memory setup log past events.Sync h asks lacks = none_asked (halted past) _ h lacks
+no_memory setup log past events.Commit h asks lacks = none_asked (halted past) _ h lacks
+no_memory setup log past (events.Begin session) h asks lacks = false≢true lacks
+no_memory setup log past (events.See session id) h asks lacks = false≢true lacks
+no_memory setup log past (events.Queue session) h asks lacks = false≢true lacks
+no_memory setup log past (events.Abort session) h asks lacks = false≢true lacks
+no_memory setup log past event h asks lacks = false≢true asks
 
 refuses : (setup : Setup) (log : List Record) (past : Past) (event : Event) (reply : Reply) → halted past ≡ true → asks_source event ≡ true → Answers setup log past event reply → reply ≡ replies.Source source.Halted
 refuses setup log past (events.Begin session) reply h asks is = first_cause (halted past) _ reply _ h is
@@ -77,4 +82,4 @@ pub for_good : HaltsForGood
 for_good setup log es rs legal before later event lt failed asked asks =
     let at = answered_at setup log [] es rs legal.allowed later event asked in
     let h = halted_behind setup log [] es rs legal.allowed before later lt failed in
-    at.1 ∙ ap Some (elim at.2 [ inl lacks ↦ absurd (no_memory _ _ event at.0 h asks lacks) | inr is ↦ refuses setup log (past_at es rs later) event at.0 h asks is ])
+    at.1 ∙ ap Some (elim at.2 [ inl lacks ↦ absurd (no_memory setup log (past_at es rs later) event h asks (and_parts _ _ lacks).0) | inr is ↦ refuses setup log (past_at es rs later) event at.0 h asks is ])

@@ -24,7 +24,7 @@ use Rattle.world.specs.declared.events.Reply.{Reply}
 use Rattle.world.specs.declared.events.Reply.TheVariants as replies
 use Rattle.world.specs.Replies.{prepared_reply}
 use Rattle.world.specs.Past.{Past, flushed, unsynced, synced, synced_groups, is_failure, halted, queue, accepted, dispatched, replica_committed, published}
-use Rattle.world.specs.Legal.{Setup, rows_after, source_at, refused_or, stamp_of, next_records, FlushAnswers, SyncAnswers, commit_reply, group_between, log_text, may_dispatch, Answers, is_source_memory, is_replica_memory, is_codec_memory, is_log_memory, lacks_memory, Allowed, AreAllowed, AreLegal}
+use Rattle.world.specs.Legal.{Setup, rows_after, source_at, refused_or, stamp_of, next_records, FlushAnswers, SyncAnswers, commit_reply, group_between, log_text, may_dispatch, Answers, is_source_memory, is_replica_memory, is_codec_memory, is_log_memory, asks_memory, tells_memory, Allowed, AreAllowed, AreLegal}
 use Rattle.world.specs.Laws.{pairs_after, is_memory, OneAnswer, OneLog}
 use Rattle.world.proofs.LawsReplies.{Says, says}
 use Rattle.world.proofs.LawsSteps.{Follow, Follow-le, Holds, at_first, step, in_order}
@@ -225,27 +225,26 @@ says_memory reply h = among (is_source_memory reply) (is_replica_memory reply) (
   among false false false true h = refl
   among false false false false h = absurd (elim h [ inl e ↦ false≢true e | inr k ↦ elim k [ inl e ↦ false≢true e | inr m ↦ elim m [ inl e ↦ false≢true e | inr e ↦ false≢true e ] ] ])
 
-lacking_says : (halts : Bool) (committed_ : ℕ) (event : Event) (reply : Reply) → lacks_memory halts committed_ event reply ≡ true → is_memory reply ≡ true
-lacking_says halts committed_ (events.Write session change) reply h = says_memory reply (inl (and_parts (not halts) (is_source_memory reply) h).1)
-lacking_says halts committed_ (events.Prepare session) reply h = says_memory reply (inl (and_parts (not halts) (is_source_memory reply) h).1)
-lacking_says halts committed_ events.Flush reply h = says_memory reply (inl (and_parts (not halts) (is_source_memory reply) h).1)
-lacking_says halts committed_ events.Sync reply h = says_memory reply (inr (inr (inr (and_parts (not halts) (is_log_memory reply) h).1)))
-lacking_says halts committed_ events.Commit reply h = says_memory reply (inl (and_parts (not halts) (is_source_memory reply) h).1)
-lacking_says halts committed_ (events.Deliver gno) reply h =
+telling_says : (event : Event) (reply : Reply) → tells_memory event reply ≡ true → is_memory reply ≡ true
+telling_says (events.Write session change) reply h = says_memory reply (inl h)
+telling_says events.Flush reply h = says_memory reply (inl h)
+telling_says events.Sync reply h = says_memory reply (inr (inr (inr h)))
+telling_says events.Commit reply h = says_memory reply (inl h)
+telling_says (events.Deliver gno) reply h =
     says_memory reply (elim (or_cases (is_replica_memory reply) (is_codec_memory reply) h) [ inl r ↦ inr (inl r) | inr c ↦ inr (inr (inl c)) ])
-lacking_says halts committed_ events.Dispatch reply h = says_memory reply (inr (inl h))
-lacking_says halts committed_ (events.Finish gno) reply h = says_memory reply (inr (inl h))
-lacking_says halts committed_ events.Next reply h = says_memory reply (inr (inl h))
-lacking_says halts committed_ events.Publish reply h = says_memory reply (inr (inl h))
-lacking_says halts committed_ events.Executed reply h = says_memory reply (inr (inl (and_parts (nat_lt 0 committed_) (is_replica_memory reply) h).1))
-lacking_says halts committed_ events.Log reply h = says_memory reply (inr (inr (inr h)))
-lacking_says halts committed_ event reply h = absurd (false≢true h)
+telling_says events.Dispatch reply h = says_memory reply (inr (inl h))
+telling_says (events.Finish gno) reply h = says_memory reply (inr (inl h))
+telling_says events.Next reply h = says_memory reply (inr (inl h))
+telling_says events.Publish reply h = says_memory reply (inr (inl h))
+telling_says events.Executed reply h = says_memory reply (inr (inl h))
+telling_says events.Log reply h = says_memory reply (inr (inr (inr h)))
+telling_says event reply h = absurd (false≢true h)
 
 -- an allowed reply that does not say that memory ran out
 answers : (setup : Setup) (log : List Record) (past : Past) (event : Event) (reply : Reply) → Allowed setup log past event reply → is_memory reply ≡ false → Answers setup log past event reply
 answers setup log past event reply allowed enough =
     elim allowed [
-      | inl lacks ↦ absurd (false≢true (sym enough ∙ lacking_says (halted past) (replica_committed past) event reply lacks))
+      | inl lacks ↦ absurd (false≢true (sym enough ∙ telling_says event reply (and_parts (asks_memory setup log past event) (tells_memory event reply) lacks).1))
       | inr is ↦ is
     ]
 

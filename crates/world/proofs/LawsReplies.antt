@@ -21,7 +21,7 @@ use Rattle.world.specs.declared.events.Reply.TheVariants as replies
 use Rattle.world.specs.Replies.{prepared_reply}
 use Rattle.world.specs.Past.{Past, flushed, unsynced, synced, halted, source_committed, queue, accepted, dispatched, under_way, replica_committed, published}
 use Rattle.world.proofs.ReplicaEvents.{some_under}
-use Rattle.world.specs.Legal.{Setup, rows_after, source_at, refused_or, stamp_of, next_records, FlushAnswers, SyncAnswers, commit_reply, log_text, may_dispatch, is_out, Answers, is_source_memory, is_replica_memory, is_codec_memory, is_log_memory, lacks_memory, Allowed}
+use Rattle.world.specs.Legal.{Setup, rows_after, source_at, refused_or, stamp_of, next_records, FlushAnswers, SyncAnswers, commit_reply, log_text, may_dispatch, is_out, Answers, is_source_memory, is_replica_memory, is_codec_memory, is_log_memory, asks_memory, tells_memory, Allowed}
 
 -- the row of a read, after the first so many records
 abbrev pub ReadSays : Setup → List Record → ℕ → Event → Option (List ℤ) → Type 0
@@ -63,21 +63,20 @@ of_log : (setup : Setup) (log : List Record) (past : Past) (event : Event) (repl
 of_log setup log past event (replies.Log fault) h = tt
 of_log setup log past event reply h = absurd (false≢true h)
 
-lacking : (setup : Setup) (log : List Record) (past : Past) (event : Event) (reply : Reply) → lacks_memory (halted past) (replica_committed past) event reply ≡ true → Says setup log past event reply
-lacking setup log past (events.Write session change) reply h = of_source setup log past _ reply (and_parts (not (halted past)) (is_source_memory reply) h).1
-lacking setup log past (events.Prepare session) reply h = of_source setup log past _ reply (and_parts (not (halted past)) (is_source_memory reply) h).1
-lacking setup log past events.Flush reply h = of_source setup log past _ reply (and_parts (not (halted past)) (is_source_memory reply) h).1
-lacking setup log past events.Sync reply h = of_log setup log past _ reply (and_parts (not (halted past)) (is_log_memory reply) h).1
-lacking setup log past events.Commit reply h = of_source setup log past _ reply (and_parts (not (halted past)) (is_source_memory reply) h).1
-lacking setup log past (events.Deliver gno) reply h =
+telling : (setup : Setup) (log : List Record) (past : Past) (event : Event) (reply : Reply) → tells_memory event reply ≡ true → Says setup log past event reply
+telling setup log past (events.Write session change) reply h = of_source setup log past _ reply h
+telling setup log past events.Flush reply h = of_source setup log past _ reply h
+telling setup log past events.Sync reply h = of_log setup log past _ reply h
+telling setup log past events.Commit reply h = of_source setup log past _ reply h
+telling setup log past (events.Deliver gno) reply h =
     elim (or_cases (is_replica_memory reply) (is_codec_memory reply) h) [ inl r ↦ of_replica setup log past _ reply r | inr c ↦ of_codec setup log past _ reply c ]
-lacking setup log past events.Dispatch reply h = of_replica setup log past _ reply h
-lacking setup log past (events.Finish gno) reply h = of_replica setup log past _ reply h
-lacking setup log past events.Next reply h = of_replica setup log past _ reply h
-lacking setup log past events.Publish reply h = of_replica setup log past _ reply h
-lacking setup log past events.Executed reply h = of_replica setup log past _ reply (and_parts (nat_lt 0 (replica_committed past)) (is_replica_memory reply) h).1
-lacking setup log past events.Log reply h = of_log setup log past _ reply h
-lacking setup log past event reply h = absurd (false≢true h)
+telling setup log past events.Dispatch reply h = of_replica setup log past _ reply h
+telling setup log past (events.Finish gno) reply h = of_replica setup log past _ reply h
+telling setup log past events.Next reply h = of_replica setup log past _ reply h
+telling setup log past events.Publish reply h = of_replica setup log past _ reply h
+telling setup log past events.Executed reply h = of_replica setup log past _ reply h
+telling setup log past events.Log reply h = of_log setup log past _ reply h
+telling setup log past event reply h = absurd (false≢true h)
 
 -- ---- each event
 
@@ -165,6 +164,6 @@ answers_say setup log past events.Log reply h = by setup log past _ reply (repli
 pub says : (setup : Setup) (log : List Record) (past : Past) (event : Event) (reply : Reply) → Allowed setup log past event reply → Says setup log past event reply
 says setup log past event reply allowed =
     elim allowed [
-      | inl lacks ↦ lacking setup log past event reply lacks
+      | inl lacks ↦ telling setup log past event reply (and_parts (asks_memory setup log past event) (tells_memory event reply) lacks).1
       | inr answers ↦ answers_say setup log past event reply answers
     ]

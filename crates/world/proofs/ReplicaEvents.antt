@@ -3,11 +3,11 @@ use mathlib.Core.List.{IsPrefix}
 use base.Growing.{prefix_refl}
 use Rattle.std.proofs.Common.{◌≡◌, ◌∙◌, sym, ap, subst, refl, ℕ, zero, suc, ◌+◌, ◌-◌, ◌<◌, ◌≤◌, Bool, true, false, ◌&&◌, if◌then◌else◌, nat_le, nat_lt, get_or, List, [], ◌∷◌, ◌++◌, length, length-append, take, drop, Option, Some, None, Result, Ok, Err, arith, inl, inr, ◌⊎◌}
 use Rattle.std.specs.Prelude.{ℤ, option_and_then, slice_get}
-use Rattle.std.specs.Option.{option_map_or}
+use Rattle.std.specs.Option.{option_map_or, IsSome}
 use Rattle.std.specs.Result.{IsErrOf}
 use Rattle.std.specs.FinMap.{get}
 use Rattle.std.proofs.lemmas.List.{take-append-drop, take-take, length-drop}
-use Rattle.std.proofs.lemmas.Bool.{and_parts}
+use Rattle.std.proofs.lemmas.Bool.{false≢true, and_parts}
 use Rattle.std.proofs.lemmas.Bool.Decides.{nat_tests}
 use Rattle.std.proofs.lemmas.Option.{none-some, same_Some}
 use Rattle.rows.specs.Database.{Database}
@@ -27,11 +27,11 @@ use Rattle.replica_core.specs.Calls.{unless_stopped, is_eligible, next_job, disp
 use Rattle.world.specs.declared.events.Event.{Event}
 use Rattle.world.specs.declared.events.Event.TheVariants as events
 use Rattle.world.specs.declared.events.Reply.TheVariants as replies
-use Rattle.world.specs.Past.{Past, halted, published, accepted, dispatched, replica_committed, under_way}
-use Rattle.world.specs.Legal.{Setup, replica_at, rows_after, may_dispatch, dispatch_reply, next_reply, lacks_memory}
+use Rattle.world.specs.Past.{Past, published, accepted, dispatched, replica_committed, under_way}
+use Rattle.world.specs.Legal.{Setup, replica_at, rows_after, may_dispatch, dispatch_reply, next_reply, asks_memory, tells_memory}
 use Rattle.world.specs.State.{World, IsWorld, Stands, Goes}
 use Rattle.world.specs.Run.{ShowsOperations}
-use Rattle.world.proofs.Parts.{replica_is, take_longer, stays, with_replica, untold, source_untold, unfailed}
+use Rattle.world.proofs.Parts.{replica_is, take_longer, stays, with_replica, untold, source_untold, unfailed, both_true, is_below}
 use Rattle.world.proofs.Jobs.{gno_of_job, job_of_parts, jobs_dispatched, jobs_committed}
 use Rattle.store_trait.specs.Operation.{loaded, left_by}
 
@@ -63,13 +63,17 @@ only_memory {T} r asked fault going answer (inr told) is = absurd (other (sym (r
 abbrev pub with_jobs : {R : Type 0} → World R → Replica → List (Option Job) → World R
 with_jobs w r jobs = record w { replica = r; jobs = jobs }
 
+-- what is due asks for memory, whichever pairs the world stands for
+abbrev pub Asks : {R : Type 0} → World R → Event → Type 0
+Asks w event = (setup : Setup) (past : Past) (log : List Record) → Stands setup past w → IsPrefix w.source.log log → asks_memory setup log past event ≡ true
+
 -- a call that was refused for want of memory leaves the world as it was
-pub lacks : {R : Type 0} (contents : R → Database) (w : World R) (event : Event) (next : Replica) (jobs : List (Option Job)) → IsWorld contents w → ((halts : Bool) (committed_ : ℕ) → lacks_memory halts committed_ event (replies.Replica faults.Memory) ≡ true) →
+pub lacks : {R : Type 0} (contents : R → Database) (w : World R) (event : Event) (next : Replica) (jobs : List (Option Job)) → IsWorld contents w → Asks w event → tells_memory event (replies.Replica faults.Memory) ≡ true →
     ((setup : Setup) (past : Past) → Stands setup past w → Stands setup ((event, replies.Replica faults.Memory) ∷ past) w) → next ≡ w.replica → jobs ≡ w.jobs → Goes contents w event (replies.Replica faults.Memory) (with_jobs w next jobs)
-lacks {R} contents w event next jobs h may stands same kept =
+lacks {R} contents w event next jobs h asks tells stands same kept =
     subst (λ (r : Replica). Goes {R = R} contents w event (replies.Replica faults.Memory) (with_jobs w r jobs)) (sym same)
     (subst (λ (l : List (Option Job)). Goes {R = R} contents w event (replies.Replica faults.Memory) (with_jobs w w.replica l)) (sym kept)
-    (stays contents w event (replies.Replica faults.Memory) h refl stands (λ setup past log st longer. inl (may (halted past) (replica_committed past)))))
+    (stays contents w event (replies.Replica faults.Memory) h refl stands (λ setup past log st longer. inl (both_true _ _ (asks setup past log st longer) tells))))
 
 -- ---- dispatch
 
@@ -149,8 +153,13 @@ dispatch_goes {R} contents w job next jobs gno h is leaves kept number =
       allowed = λ setup past log st longer. inr (ap replies.Job its ∙ sym (reply_as contents setup past w log true h st longer out.0));
     }))
 
-pub dispatch_lacks : {R : Type 0} (contents : R → Database) (w : World R) (next : Replica) (jobs : List (Option Job)) → IsWorld contents w → next ≡ w.replica → jobs ≡ w.jobs → Goes contents w events.Dispatch (replies.Replica faults.Memory) (with_jobs w next jobs)
-dispatch_lacks contents w next jobs h same kept = lacks contents w events.Dispatch next jobs h (λ halts committed_. refl) (λ setup past st. untold setup past w events.Dispatch (replies.Replica faults.Memory) (λ k. refl) st) same kept
+pub dispatch_lacks : {R : Type 0} (contents : R → Database) (w : World R) (next : Replica) (jobs : List (Option Job)) → IsWorld contents w → is_eligible w.replica ≡ true → next ≡ w.replica → jobs ≡ w.jobs → Goes contents w events.Dispatch (replies.Replica faults.Memory) (with_jobs w next jobs)
+dispatch_lacks contents w next jobs h eligible same kept = lacks contents w events.Dispatch next jobs h (λ setup past log st longer. eligible_as contents setup past w log h st longer ∙ eligible) refl (λ setup past st. untold setup past w events.Dispatch (replies.Replica faults.Memory) (λ k. refl) st) same kept
+
+pub dispatch_idle : {R : Type 0} (contents : R → Database) (w : World R) → IsWorld contents w → is_eligible w.replica ≡ false → Goes contents w events.Dispatch replies.Nothing w
+dispatch_idle contents w h idle =
+    stays contents w events.Dispatch replies.Nothing h refl (λ setup past st. untold setup past w events.Dispatch replies.Nothing (λ k. refl) st)
+    (λ setup past log st longer. inr (sym (reply_as contents setup past w log false h st longer idle)))
 
 pub dispatch_nothing : {R : Type 0} (contents : R → Database) (w : World R) (next : Replica) (jobs : List (Option Job)) → IsWorld contents w → IsSound w.replica → next_job w.replica ≡ None → next ≡ w.replica → jobs ≡ w.jobs → Goes contents w events.Dispatch replies.Nothing (with_jobs w next jobs)
 dispatch_nothing {R} contents w next jobs h sound is same kept =
@@ -197,20 +206,16 @@ executed_goes contents w ids h is = stays contents w _ _ h refl (λ setup past s
     inr (ap replies.Executed (sym is ∙ ap executed_ids st.replica.is)))
 
 -- memory lacks only where there are some
-may_lack_ids : (said committed_ : ℕ) → said ≡ committed_ → 0 < committed_ → (nat_lt 0 said && true) ≡ true
-may_lack_ids said committed_ is some = ap (λ b. b && true) (above said (omega (arith, is, some))) where
-  above : (n : ℕ) → 0 < n → nat_lt 0 n ≡ true
-  above n h = grind (arith, nat_tests)
-
 pub executed_lacks : {R : Type 0} (contents : R → Database) (w : World R) → IsWorld contents w → 0 < w.replica.committed → Goes contents w events.Executed (replies.Replica faults.Memory) w
 executed_lacks contents w h some = stays contents w _ _ h refl (λ setup past st. untold setup past w events.Executed (replies.Replica faults.Memory) (λ k. refl) st) (λ setup past log st longer.
-    inl (may_lack_ids (replica_committed past) w.replica.committed (ap (λ (r : Replica). r.committed) (sym st.replica.is)) some))
+    let said : replica_committed past ≡ w.replica.committed = ap (λ (r : Replica). r.committed) (sym st.replica.is) in
+    inl (both_true _ true (is_below 0 (replica_committed past) (omega (arith, said, some))) refl))
 
 -- want of memory leaves the replica as it was
-pub no_memory : {R : Type 0} (contents : R → Database) (w : World R) (event : Event) (next : Replica) → IsWorld contents w → ((halts : Bool) (committed_ : ℕ) → lacks_memory halts committed_ event (replies.Replica faults.Memory) ≡ true) →
+pub no_memory : {R : Type 0} (contents : R → Database) (w : World R) (event : Event) (next : Replica) → IsWorld contents w → Asks w event → tells_memory event (replies.Replica faults.Memory) ≡ true →
     ((setup : Setup) (past : Past) → Stands setup past w → Stands setup ((event, replies.Replica faults.Memory) ∷ past) w) → next ≡ w.replica → Goes contents w event (replies.Replica faults.Memory) (with_replica w next)
-no_memory {R} contents w event next h lacks stands same =
-    subst (λ (r : Replica). Goes {R = R} contents w event (replies.Replica faults.Memory) (with_replica w r)) (sym same) (stays contents w event (replies.Replica faults.Memory) h refl stands (λ setup past log st longer. inl (lacks (halted past) (replica_committed past))))
+no_memory {R} contents w event next h asks tells stands same =
+    subst (λ (r : Replica). Goes {R = R} contents w event (replies.Replica faults.Memory) (with_replica w r)) (sym same) (stays contents w event (replies.Replica faults.Memory) h refl stands (λ setup past log st longer. inl (both_true _ _ (asks setup past log st longer) tells)))
 
 -- the rows after each beginning of a source's log are there
 beginning_leaves_rows : (s : Source) → IsLegalLog s.tables (loaded s.base) s.log → (n : ℕ) → (db : Database) × (after s.tables (loaded s.base) (take n s.log) ≡ Some db)
@@ -281,5 +286,13 @@ next_nothing {R} contents w next h is same =
     (stays contents w events.Next replies.Nothing h refl (λ setup past st. untold setup past w events.Next replies.Nothing (λ k. refl) st)
     (λ setup past log st longer. inr (sym (next_as contents setup past w log false h st longer (not_committed w.replica is)))))
 
-pub next_lacks : {R : Type 0} (contents : R → Database) (w : World R) (next : Replica) → IsWorld contents w → next ≡ w.replica → Goes contents w events.Next (replies.Replica faults.Memory) (with_replica w next)
-next_lacks contents w next h same = no_memory contents w events.Next next h (λ halts committed_. refl) (λ setup past st. untold setup past w events.Next (replies.Replica faults.Memory) (λ k. refl) st) same
+-- one more is due
+some_is : (o : Option ℕ) → IsSome o → (n : ℕ) × (o ≡ Some n)
+some_is None h = absurd (false≢true h)
+some_is (Some n) h = (n, refl)
+
+pub next_lacks : {R : Type 0} (contents : R → Database) (w : World R) (next : Replica) → IsWorld contents w → IsSome (next_commit w.replica) → next ≡ w.replica → Goes contents w events.Next (replies.Replica faults.Memory) (with_replica w next)
+next_lacks contents w next h due same =
+    let one = some_is (next_commit w.replica) due in
+    no_memory contents w events.Next next h
+    (λ setup past log st longer. ap (λ (r : Replica). get_or r.under_way 0 false) (replica_is contents setup past w log h st longer) ∙ (committed_is w.replica one.0 one.1).0) refl (λ setup past st. untold setup past w events.Next (replies.Replica faults.Memory) (λ k. refl) st) same

@@ -1,7 +1,7 @@
 -- Legal replies: each reply is the one that the pairs before it and one legal log allow.
 use Rattle.std.specs.Prelude.{◌≡◌, ℕ, ◌+◌, ◌-◌, Bool, true, false, not, ◌&&◌, ◌||◌, ◌==◌, nat_le, nat_lt, if◌then◌else◌, List, [], ◌∷◌, length, map, take, drop, slice_get, slice_index_or, Option, Some, None, Ok, option_and_then, ◌⊎◌}
 use Rattle.std.specs.List.{flat_map, AllByRecursion}
-use Rattle.std.specs.Option.{option_map_or}
+use Rattle.std.specs.Option.{option_map_or, is_none}
 use Rattle.std.specs.FinMap.{get}
 use Rattle.schema.specs.declared.Table.{Table}
 use Rattle.gtid_set.specs.Ids.{first_ids}
@@ -190,28 +190,49 @@ is_codec_memory reply = elim reply [ replies.Codec fault ↦ (elim fault [ codec
 abbrev pub is_log_memory : Reply → Bool
 is_log_memory reply = elim reply [ replies.Log fault ↦ (elim fault [ log_file.Memory ↦ true | _ ↦ false ]) | _ ↦ false ]
 
--- Whether an event may be answered so for want of memory. It changes nothing then. A halted source asks for none, and the
--- ids of what the replica committed only where there are some.
-abbrev pub lacks_memory : Bool → ℕ → Event → Reply → Bool
-lacks_memory halts committed_ event reply = elim event [
-  | events.Write session change ↦ not halts && is_source_memory reply
-  | events.Prepare session ↦ not halts && is_source_memory reply
-  | events.Flush ↦ not halts && is_source_memory reply
-  | events.Sync ↦ not halts && is_log_memory reply
-  | events.Commit ↦ not halts && is_source_memory reply
+-- Whether the answer that is due asks for memory: that a change is written, that a group is flushed, is on the log, or is committed,
+-- a synced record, a job that is handed out, finished or committed, what is published, the ids of what is committed, or the
+-- log's text. No refusal does, nor that there was nothing to do.
+abbrev pub asks_memory : Setup → List Record → Past → Event → Bool
+asks_memory setup log past event = elim event [
+  | events.Write session change ↦ is_none (write_fault (source_at setup log past) session change)
+  | events.Flush ↦ not (halted past) && nat_lt 0 (length (queue past))
+  | events.Sync ↦ not (halted past) && nat_lt 0 (length (unsynced past))
+  | events.Commit ↦ not (halted past) && not (source_committed past == synced past)
+  | events.Deliver gno ↦ nat_le 1 gno && nat_le gno (synced past)
+  | events.Dispatch ↦ may_dispatch setup log past
+  | events.Finish gno ↦ is_out past gno
+  | events.Next ↦ slice_index_or (under_way past) 0 false
+  | events.Publish ↦ nat_lt (published past) (replica_committed past)
+  | events.Executed ↦ nat_lt 0 (replica_committed past)
+  | events.Log ↦ true
+  | _ ↦ false
+]
+
+-- whether the reply tells, of this event, that memory ran out
+abbrev pub tells_memory : Event → Reply → Bool
+tells_memory event reply = elim event [
+  | events.Write session change ↦ is_source_memory reply
+  | events.Flush ↦ is_source_memory reply
+  | events.Sync ↦ is_log_memory reply
+  | events.Commit ↦ is_source_memory reply
   | events.Deliver gno ↦ is_replica_memory reply || is_codec_memory reply
   | events.Dispatch ↦ is_replica_memory reply
   | events.Finish gno ↦ is_replica_memory reply
   | events.Next ↦ is_replica_memory reply
   | events.Publish ↦ is_replica_memory reply
-  | events.Executed ↦ nat_lt 0 committed_ && is_replica_memory reply
+  | events.Executed ↦ is_replica_memory reply
   | events.Log ↦ is_log_memory reply
   | _ ↦ false
 ]
 
+-- Whether an event may be answered so for want of memory. It changes nothing then.
+abbrev pub lacks_memory : Setup → List Record → Past → Event → Reply → Bool
+lacks_memory setup log past event reply = asks_memory setup log past event && tells_memory event reply
+
 -- a reply that the pairs so far allow
 abbrev pub Allowed : Setup → List Record → Past → Event → Reply → Type 0
-Allowed setup log past event reply = (lacks_memory (halted past) (replica_committed past) event reply ≡ true) ⊎ Answers setup log past event reply
+Allowed setup log past event reply = (lacks_memory setup log past event reply ≡ true) ⊎ Answers setup log past event reply
 
 -- each reply is allowed behind the pairs before it
 abbrev pub AreAllowed : Setup → List Record → Past → List Event → List Reply → Type 0

@@ -1,7 +1,7 @@
 -- How a world came to be.
 use mathlib.Core.List.{IsPrefix}
-use Rattle.std.specs.Prelude.{◌≡◌, ◌≤◌, true, false, List, [], length}
-use Rattle.std.specs.List.{list_any, AllByRecursion}
+use Rattle.std.specs.Prelude.{◌≡◌, ℕ, true, false, List, [], ◌∷◌, length}
+use Rattle.std.specs.List.{AllByRecursion}
 use Rattle.rows.specs.Database.{Database}
 use Rattle.store_trait.specs.Operation.{loaded, left_by}
 use Rattle.record_codec.specs.declared.records.Record.{Record}
@@ -12,10 +12,9 @@ use Rattle.world.specs.declared.events.Event.{Event}
 use Rattle.world.specs.declared.events.Reply.{Reply}
 use Rattle.log_file.specs.Log.{Log}
 use Rattle.world.specs.Put.{DeviceFailed}
-use Rattle.world.specs.Past.{is_failure}
 use Rattle.world.specs.Legal.{Setup, AreLegal}
 use Rattle.world.specs.Laws.{pairs_after}
-use Rattle.world.specs.State.{World, IsWorld, Stands}
+use Rattle.world.specs.State.{World, IsWorld, Stands, IsCounted}
 
 -- The world came by these events and replies from a new one.
 pub record HasRun {R : Type 0} (contents : R → Database) (setup : Setup) (events_ : List Event) (replies_ : List Reply) (w : World R) : Type 0 where
@@ -28,12 +27,15 @@ pub record HasRun {R : Type 0} (contents : R → Database) (setup : Setup) (even
   pub legal : AreLegal setup w.source.log events_ replies_
   pub onward : (log : List Record) → IsPrefix w.source.log log → IsLegalLog setup.tables (loaded setup.base) log → AllByRecursion HasSpelling log → AreLegal setup log events_ replies_
 
--- What the replies of a run tell of the log's device: the count of its failures never fell, and stayed where no reply says
--- that it failed. Where one does, and where the log file failed meanwhile, it failed by its count.
+-- What replies tell, in order, of the count of the device's failures, each of the count as the one before it left it.
+abbrev pub AreCounted : ℕ → List Reply → ℕ → Type 0
+AreCounted before [] now = now ≡ before
+AreCounted before (reply ∷ replies_) now = (between : ℕ) × IsCounted before reply between × AreCounted between replies_ now
+
+-- What the replies of a run tell of the log's device: each of those that say that it failed comes of a failure of its own, and no
+-- failure goes untold. Where the log file failed meanwhile, the device failed by its count.
 pub record TellFailures (replies_ : List Reply) (old new : Log) : Type 0 where
-  pub counts : old.faults ≤ new.faults
-  pub quiet : list_any is_failure replies_ ≡ false → new.faults ≡ old.faults
-  pub told : list_any is_failure replies_ ≡ true → DeviceFailed old new
+  pub counted : AreCounted old.faults replies_ new.faults
   pub seen : old.failed ≡ false → new.failed ≡ true → DeviceFailed old new
 
 -- Readers have the rows that the operations of the published records leave of an empty store: as many of the source's

@@ -13,7 +13,7 @@ use Rattle.executor.specs.declared.Job.{Job}
 use Rattle.replica_core.specs.Replica.{Replica, dispatched as dispatched_at, job_of, commits}
 use Rattle.published.specs.Plain.{Shown}
 use Rattle.log_file.specs.Log.{Log}
-use Rattle.world.specs.Put.{DeviceFailed}
+use Rattle.world.specs.Put.{FailedBy, DeviceFailed}
 use Rattle.world.specs.declared.events.Event.{Event}
 use Rattle.world.specs.declared.events.Reply.{Reply}
 use Rattle.world.specs.Past.{Past, flushed, accepted, dispatched, unsynced, synced_groups, is_failure}
@@ -118,12 +118,16 @@ abbrev pub Stands : {R : Type 0} → Setup → Past → World R → Type 0
 Stands setup past w =
     SidesAre (source_at setup w.source.log past) (flushed past) setup.identifier (unsynced past) (synced_groups past) (replica_at setup w.source.log past) (accepted past) (dispatched past) w.source w.wire w.replica
 
--- What a reply tells of the log's device: the count of its failures never falls, and stays where the reply says nothing of
--- a failure. Where the reply says so, and where the log file failed meanwhile, the device failed by its count.
+-- What a reply tells of the count of the device's failures: it grew, or is at its last value, where the reply says that the device
+-- failed, and else it is as it was.
+pub record IsCounted (before : ℕ) (reply : Reply) (now : ℕ) : Type 0 where
+  pub grows : before ≤ now
+  pub quiet : is_failure reply ≡ false → now ≡ before
+  pub told : is_failure reply ≡ true → FailedBy before now
+
+-- What a reply tells of the log's device. Where the log file failed meanwhile, the device failed by its count.
 pub record TellsFailure (reply : Reply) (old new : Log) : Type 0 where
-  pub counts : old.faults ≤ new.faults
-  pub quiet : is_failure reply ≡ false → new.faults ≡ old.faults
-  pub told : is_failure reply ≡ true → DeviceFailed old new
+  pub counted : IsCounted old.faults reply new.faults
   pub seen : old.failed ≡ false → new.failed ≡ true → DeviceFailed old new
 
 -- One event: the world stays one, its log grows at its end, and, whatever pairs the world stood for, it stands

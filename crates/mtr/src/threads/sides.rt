@@ -22,7 +22,7 @@ use log_device::MemoryDevice;
 use published::{LeftRight, OpenError, Publisher, open};
 use replica_core::ReplicaCore;
 use replica_shared::{ReplicaNaming, SharedReplica};
-use schema::{Schema, Table};
+use schema::{Schema, SchemaFault, Table};
 use source_core::Receipt as Given;
 use source_shared::{Naming, Receipt, SharedSource};
 use std::alloc::{AllocError, Global};
@@ -79,8 +79,11 @@ fn schema(alloc: Global) -> Result<Schema, Trouble> {
             parent: None
         },
     ]?;
-    // The table is valid, so memory is all that can lack.
-    Schema::new(tables).map_err(|_| Trouble::Memory)
+    match Schema::new(tables) {
+        Ok(schema) => Ok(schema),
+        Err(SchemaFault::Memory) => Err(Trouble::Memory),
+        Err(_) => unreachable!(),
+    }
 }
 
 /// A new source, a new log file and a new replica of so many workers, over no rows.

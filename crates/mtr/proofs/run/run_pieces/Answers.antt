@@ -30,6 +30,6 @@ loop-piece-preserved g c =
         goes_further contents (seen c.args.world.now) (seen c.loop-piece.world) (seen c.run.new.self) done.0 c.deref.result.now c.in_ok-replies.replies.items
             (g.W.Write.contents c.args.output.now) (g.W.Write.contents c.loop-piece.output) (g.W.Write.contents c.print.new.output)
             done.2 c.in_ok-replies.ensures.goes_on
-            (along (g.W.Write.contents c.loop-piece.output) (g.W.Write.contents c.print.new.output) (lines_of c.deref-in-loop-piece.result.now) (lines_of c.in_ok-replies.replies.items) (ap lines_of c.deref-in-loop-piece.ensures.value) c.in_ok-print.ensures),
+            (along (g.W.Write.contents c.loop-piece.output) (g.W.Write.contents c.print.new.output) (lines_of c.deref-in-loop-piece.result.now) (lines_of c.in_ok-replies.replies.items) (ap lines_of c.deref-in-loop-piece.ensures.value) c.in_ok-print.ensures.lines),
       );
     }
