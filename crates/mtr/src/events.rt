@@ -61,12 +61,17 @@ impl Piece {
         Ok(true)
     }
 
-    /// Puts the events into the place of others. It takes no memory but the list's.
+    /// Puts the events into the place of others. It takes no memory but the list's; where that lacks the list is empty.
     pub fn put_into(&self, events: &mut Vec<Event>) -> Result<(), Memory>
-        ensures { OnOk result (events.new.items ≡ self.now) }
+        ensures ok { OnOk result (events.new.items ≡ self.now) }
+        ensures err { OnErr result (events.new.items ≡ []) }
     {
         events.clear();
-        put_all(&self.kept, &self.columns, events)
+        let put = put_all(&self.kept, &self.columns, events);
+        if put.is_err() {
+            events.clear();
+        }
+        put
     }
 }
 

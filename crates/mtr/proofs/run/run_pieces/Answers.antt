@@ -20,7 +20,7 @@ loop-piece-preserved g c =
     let contents = g.R.RowStore.contents in
     let done = c.loop-piece.invariant.done in
     let rest = into_iter_items c.next.new.self in
-    let read = c.deref.ensures.value ∙ c.in_ok-put_into.ensures in
+    let read = c.deref.ensures.value ∙ c.in_ok-put_into.ensures.ok in
     record {
       world = c.in_ok-replies.ensures.world;
       done = (
