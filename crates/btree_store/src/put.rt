@@ -13,12 +13,16 @@ ghost use Rattle.btree_store.specs.Contents.{contents_of, KeysFit};
 ghost use Rattle.btree_store.specs.Put.{reset, undo, AreSet};
 
 use crate::Rows;
+use crate::packed::Packed;
 use rows::Row;
 use schema::{Memory, RowId};
 use std::alloc::Global;
 
 /// A row by its id, or that there is none.
 type Entry = (RowId, Option<Row>);
+
+/// What stood at a row.
+type Replaced = (RowId, Option<Packed>);
 
 /// Puts all of these entries, or, where memory runs out, none.
 pub(crate) fn put_whole(alloc: Global, rows: &mut Rows, entries: &[Entry]) -> Result<(), Memory>
@@ -28,7 +32,7 @@ pub(crate) fn put_whole(alloc: Global, rows: &mut Rows, entries: &[Entry]) -> Re
     ensures keys { KeysFit (contents_of rows.old) → KeysFit (contents_of rows.new) }
 {
     match entries {
-        [(id, row)] => put_one(rows, *id, *row),
+        [(id, row)] => put_one(alloc, rows, *id, *row),
         several => put_several(alloc, rows, several),
     }
 }
@@ -41,7 +45,7 @@ fn put_several(alloc: Global, rows: &mut Rows, entries: &[Entry]) -> Result<(), 
     ensures keys { KeysFit (contents_of rows.old) → KeysFit (contents_of rows.new) }
 {
     let mut before = Vec::with_capacity(alloc, entries.len())?;
-    if let Err(refused) = set_rows(rows, entries, &mut before) {
+    if let Err(refused) = set_rows(alloc, rows, entries, &mut before) {
         put_back(rows, before);
         return Err(refused);
     }
@@ -50,7 +54,7 @@ fn put_several(alloc: Global, rows: &mut Rows, entries: &[Entry]) -> Result<(), 
 }
 
 /// Puts one row, or removes it, with one look-up: where that is refused nothing is changed.
-fn put_one(rows: &mut Rows, id: RowId, row: Option<Row>) -> Result<(), Memory>
+fn put_one(alloc: Global, rows: &mut Rows, id: RowId, row: Option<Row>) -> Result<(), Memory>
     ensures ok { OnOk result (contents_of rows.new ≡ put_row (contents_of rows.old) id row) }
     ensures err { OnErr result (contents_of rows.new ≡ contents_of rows.old) }
     ensures keys { KeysFit (contents_of rows.old) → KeysFit (contents_of rows.new) }
@@ -58,7 +62,8 @@ fn put_one(rows: &mut Rows, id: RowId, row: Option<Row>) -> Result<(), Memory>
     match row {
         None => reset_row(rows, id, None),
         Some(row) => {
-            rows.insert(id, row)?;
+            let packed = Packed::of(alloc, row)?;
+            rows.insert(id, packed)?;
         }
     }
     Ok(())
@@ -66,7 +71,12 @@ fn put_one(rows: &mut Rows, id: RowId, row: Option<Row>) -> Result<(), Memory>
 
 /// Sets the rows that the entries set, in order, and adds what stood there to the list. Where it is refused, the list has
 /// what those replaced that were set.
-fn set_rows(rows: &mut Rows, entries: &[Entry], before: &mut Vec<Entry>) -> Result<(), Memory>
+fn set_rows(
+    alloc: Global,
+    rows: &mut Rows,
+    entries: &[Entry],
+    before: &mut Vec<Replaced>,
+) -> Result<(), Memory>
     requires { IsRising entries.now }
     ensures undone { undo before.new.items (contents_of rows.new) ≡ undo before.old.items (contents_of rows.old) }
     ensures same { OnOk result (put_batch entries.now (contents_of rows.new) ≡ put_batch entries.now (contents_of rows.old)) }
@@ -74,14 +84,20 @@ fn set_rows(rows: &mut Rows, entries: &[Entry], before: &mut Vec<Entry>) -> Resu
 {
     for (id, row) in entries {
         if let Some(row) = row {
-            replace_row(rows, *id, *row, before)?;
+            let packed = Packed::of(alloc, *row)?;
+            replace_row(rows, *id, packed, before)?;
         }
     }
     Ok(())
 }
 
 /// Sets the row, and adds what stood there to the list. Where that is refused neither is changed.
-fn replace_row(rows: &mut Rows, id: RowId, row: Row, before: &mut Vec<Entry>) -> Result<(), Memory>
+fn replace_row(
+    rows: &mut Rows,
+    id: RowId,
+    row: Packed,
+    before: &mut Vec<Replaced>,
+) -> Result<(), Memory>
     ensures undone { undo before.new.items (contents_of rows.new) ≡ undo before.old.items (contents_of rows.old) }
     ensures ok { OnOk result (contents_of rows.new ≡ insert (contents_of rows.old) id row) }
 {
@@ -92,7 +108,7 @@ fn replace_row(rows: &mut Rows, id: RowId, row: Row, before: &mut Vec<Entry>) ->
 }
 
 /// Adds what stood at a row, where there is room for it.
-fn note(before: &mut Vec<Entry>, id: RowId, row: Option<Row>)
+fn note(before: &mut Vec<Replaced>, id: RowId, row: Option<Packed>)
     requires { length before.old.items < vec_capacity before.old }
     ensures { before.new.items ≡ before.old.items ++ (id, row) ∷ [] }
 {
@@ -100,7 +116,7 @@ fn note(before: &mut Vec<Entry>, id: RowId, row: Option<Row>)
 }
 
 /// Puts these rows back, the last of the list first. It takes no memory.
-fn put_back(rows: &mut Rows, mut before: Vec<Entry>)
+fn put_back(rows: &mut Rows, mut before: Vec<Replaced>)
     ensures { contents_of rows.new ≡ undo before.items (contents_of rows.old) }
 {
     while let Some((id, row)) = before.pop() {
@@ -133,7 +149,7 @@ fn remove_row(rows: &mut Rows, id: RowId, row: Option<Row>)
 }
 
 /// Overwrites a row that is there, or removes one. It takes no memory.
-fn reset_row(rows: &mut Rows, id: RowId, row: Option<Row>)
+fn reset_row(rows: &mut Rows, id: RowId, row: Option<Packed>)
     ensures reset { contents_of rows.new ≡ reset (contents_of rows.old) id row }
     ensures key { FitsSigned w64 id.key }
 {
