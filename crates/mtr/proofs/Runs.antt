@@ -1,5 +1,5 @@
 -- Runs that go on from one another.
-use Rattle.std.proofs.Common.{◌≡◌, ◌∙◌, sym, ap, ℕ, ◌<◌, List, [], ◌∷◌, ◌++◌, refl, ℤ, Result, Ok, Err, Option, append_assoc, append-nil, subst, ◌≢◌, length, length-append, arith}
+use Rattle.std.proofs.Common.{◌≡◌, ◌∙◌, sym, ap, ℕ, ◌<◌, List, [], ◌∷◌, ◌++◌, refl, ℤ, Result, Ok, Err, Option, append_assoc, append-nil, subst, ◌≢◌, length, length-append, arith, inl}
 use Rattle.std.specs.Io.KnownBytes.{Appends}
 use Rattle.std.proofs.KnownBytes.{Appends-trans, Appends-nil}
 use Rattle.std.proofs.lemmas.Grind.{flat_map-append}
@@ -11,9 +11,11 @@ use Rattle.world.specs.Legal.{Setup}
 use Rattle.world.specs.Run.{HasRun}
 use Rattle.world.specs.State.{World}
 use Rattle.world.proofs.LawsOne.{only_answer}
-use Rattle.std.specs.Result.{OnOk}
+use Rattle.std.specs.Result.{OnOk, IfErr}
 use Rattle.schema.specs.declared.RowId.{RowId}
 use Rattle.schema.specs.declared.Table.{Table}
+use Rattle.mtr.specs.declared.ending.Stop.{Stop}
+use Rattle.mtr.specs.Ending.{IsCutOff, PrintsNoReply}
 use Rattle.mtr.specs.Script.{Said}
 use Rattle.mtr.specs.Pair.{BeginsWith, GoesOn, Prints, setup_of}
 use Rattle.mtr.specs.Printing.{line_of, lines_of}
@@ -85,3 +87,8 @@ pub prints : {R T E : Type 0} (contents : R → Database) (r : Result T E) (scri
 prints contents (Ok v) script kind workers rows events old new before after given all begins goes =
     prints_it contents script kind workers old new before after (begins_along contents kind workers script.tables rows script.base old given begins) (goes_to contents old new events script.events before after all goes)
 prints contents (Err e) script kind workers rows events old new before after given all begins goes = goes
+
+-- a run that is cut off prints no reply, or a beginning of them
+pub cut_off : (result : Result (Unit {0}) Stop) (before after : Option (List ℕ)) → IfErr result IsCutOff → IfErr result (PrintsNoReply before after)
+cut_off (Ok done) before after h = tt
+cut_off (Err stop) before after h = inl h
