@@ -1,0 +1,13 @@
+use Rattle.embedding.proofs.open.Given as goal
+
+-- the history of receipts that was just made, and the rows and the tables of the source
+abbrev pub ghosts-run-J-Naming : goal.ghosts-run-J-Naming
+ghosts-run-J-Naming g a = record { book = a.receipts; base = a.pair.source.base; tables = a.pair.source.tables }
+
+-- the tables, the source and the rows of the replica
+abbrev pub ghosts-run-K-ReplicaNaming : goal.ghosts-run-K-ReplicaNaming
+ghosts-run-K-ReplicaNaming g a = record { tables = a.pair.replica.tables; source = a.pair.replica.source; base = a.pair.replica.base }
+
+-- the publication that just began
+abbrev pub ghosts-run-K-Naming : goal.ghosts-run-K-Naming
+ghosts-run-K-Naming g a = record { book = a.publication.book }

@@ -1,0 +1,219 @@
+//! A program of one's own over the pair. Two threads commit at the source; its log goes to the replica as bytes; a reader
+//! waits there for both commits, and reads. Then both sides end, and are compared.
+//!
+//! `docs/EMBEDDING.md` goes through it.
+#![tactic(auto)]
+
+ghost use Rattle.std.specs.Prelude.{◌≡◌, ◌≤◌};
+ghost use Rattle.source_core.specs.Source.{new_source};
+ghost use Rattle.replica_core.specs.Calls.{new_over};
+ghost use Rattle.world.specs.Fresh.{IsNew};
+
+mod sides;
+mod trouble;
+
+use btree_store::BTreeStore;
+use commit_order_tracker::CommitOrder;
+use log_device::MemoryDevice;
+use published::Notice;
+use relay::ReplicaFault;
+use replica_shared::{NoGate, ReplicaNaming};
+use rows::{Change, Row};
+use schema::{RowId, Schema, Table};
+use sides::{Replica, SOURCE, Source, new_replica, send};
+use source_shared::{Naming, Receipt, SharedSource};
+use std::alloc::Global;
+use std::io;
+use std::marker::Brand;
+use std::process::ExitCode;
+use std::sync::Wait;
+use std::thread::{Threads, join};
+use store_trait::Batch;
+use trouble::Trouble;
+use uuid::Uuid;
+use world::{Pair, PairParts, begins, pair_of};
+
+/// The accounts, each with an owner and a balance.
+const ACCOUNTS: u16 = 1;
+
+/// What is told at the end.
+#[derive(Clone, Copy)]
+struct Told {
+    commits: u64,
+    first: Option<Row>,
+    second: Option<Row>,
+    is_beginning: bool,
+}
+
+fn main(rt: HostRuntime) -> ExitCode {
+    match open(&rt, rt.alloc()) {
+        Ok(told) => match tell(rt, &told) {
+            Ok(()) => ExitCode::SUCCESS,
+            Err(_) => ExitCode::FAILURE,
+        },
+        Err(_) => ExitCode::FAILURE,
+    }
+}
+
+fn tell(rt: HostRuntime, told: &Told) -> io::Result<()> {
+    println!(rt; "{} commits at the replica", told.commits)?;
+    println!(rt; "{} {}", balance(&told.first), balance(&told.second))?;
+    println!(rt; "a beginning of the source's log: {}", told.is_beginning)
+}
+
+/// The balance of an account, -1 where there is none.
+fn balance(row: &Option<Row>) -> i64 {
+    match row {
+        Some(row) => row.columns().get(1).copied().unwrap_or(-1),
+        None => -1,
+    }
+}
+
+/// Opens both sides over a schema and no rows, and runs them.
+fn open<R: Threads + Wait + Sync>(rt: &R, alloc: Global) -> Result<Told, Trouble> {
+    let tables = vec![in alloc;
+        Table {
+            id: ACCOUNTS,
+            columns: 2,
+            keyed: true,
+            parent: None
+        },
+    ]?;
+    let parts = PairParts {
+        rows: BTreeStore::new(alloc),
+        copy: BTreeStore::new(alloc),
+        tracker: CommitOrder,
+        device: MemoryDevice::new(alloc),
+    };
+    let schema = Schema::new(tables)?;
+    let source = Uuid::from_bytes(SOURCE);
+    let pair = pair_of(alloc, schema, source, &Batch::new(alloc), 1000, 2, parts)?;
+    let pair = pair.ok_or(Trouble::Misfit)?;
+    let base = pair.replica.base().copy()?;
+    run::<Brand, Brand, R>(
+        rt,
+        alloc,
+        pair,
+        source_shared::Beginning::new(),
+        published::Beginning::of(base),
+    )
+}
+
+/// Runs both sides, each under a name of its own, up to their end.
+fn run<J: Naming + Send + Sync, K: ReplicaNaming + Send + Sync, R: Threads + Wait + Sync>(
+    rt: &R,
+    alloc: Global,
+    pair: Pair<BTreeStore, CommitOrder, MemoryDevice>,
+    receipts: source_shared::Beginning,
+    publication: published::Beginning,
+) -> Result<Told, Trouble>
+    requires source { pair.source ≡ new_source pair.source.tables pair.source.base pair.source.limit pair.source.kind }
+    requires log { IsNew pair.log }
+    requires replica { pair.replica ≡ new_over pair.replica.tables pair.replica.source pair.replica.base pair.replica.workers }
+    requires source_base { pair.source.base ≡ J.base }
+    requires source_tables { pair.source.tables ≡ J.tables }
+    requires receipts { receipts ≡ J.book }
+    requires replica_tables { pair.replica.tables ≡ K.tables }
+    requires replica_source { pair.replica.source ≡ K.source }
+    requires replica_base { pair.replica.base ≡ K.base }
+    requires publication { publication.book ≡ K.book }
+    requires published { publication.base ≡ pair.replica.base }
+{
+    let Pair {
+        source,
+        log,
+        replica,
+    } = pair;
+    let source: Source<J> = SharedSource::new(alloc, source, log, receipts)?;
+    let replica: Replica<K> = new_replica(rt, alloc, replica, publication)?;
+    let met = meet(rt, alloc, &source, &replica);
+    let (replica, publisher) = replica.end();
+    drop(publisher.close(rt));
+    let (receipts, mut told) = met?;
+    let source = source.end(&receipts);
+    told.is_beginning = begins(&source, &replica);
+    Ok(told)
+}
+
+/// What both sides do between their opening and their end. A source that ends wants the receipts that it gave.
+fn meet<J: Naming + Send + Sync, K: ReplicaNaming + Send + Sync, R: Threads + Wait + Sync>(
+    rt: &R,
+    alloc: Global,
+    source: &Source<J>,
+    replica: &Replica<K>,
+) -> Result<(Vec<Receipt<J>>, Told), Trouble> {
+    let (first, second) = join(
+        rt,
+        || commit(rt, source, 1, 10, 500),
+        || commit(rt, source, 2, 20, 700),
+    );
+    let receipts = vec![in alloc; first?, second?]?;
+    source.close(rt);
+    send(rt, alloc, source, replica)?;
+    replica.close(rt);
+    // Of two closures the second is called first where no thread can be made, so the one that waits is the first.
+    let (published, worked) = join(rt, || replica.wait_for(rt, 2), || works(rt, alloc, replica));
+    worked?;
+    Ok((receipts, read(rt, replica, published?)?))
+}
+
+/// One session's transaction: an account, with its balance.
+fn commit<J: Naming>(
+    rt: &impl Wait,
+    source: &Source<J>,
+    session: u16,
+    account: i64,
+    balance: i64,
+) -> Result<Receipt<J>, Trouble>
+    requires least { 1 ≤ session }
+    requires greatest { session ≤ 256 }
+{
+    let values = Row::new(&[i64::from(session), balance]).ok_or(Trouble::Misfit)?;
+    let mut seat = source.session(rt, session)?;
+    source.begin(rt, &mut seat)?;
+    source.write(
+        rt,
+        &mut seat,
+        Change::Insert {
+            row: row(account),
+            values,
+        },
+    )?;
+    source.prepare(rt, &mut seat)?;
+    Ok(source.commit(rt, &mut seat)?)
+}
+
+/// The row of an account.
+fn row(account: i64) -> RowId {
+    RowId {
+        table: ACCOUNTS,
+        key: account,
+    }
+}
+
+/// A worker's call ends once all is committed, since the replica was told that no more comes.
+fn works<K: ReplicaNaming>(
+    rt: &impl Wait,
+    alloc: Global,
+    replica: &Replica<K>,
+) -> Result<(), ReplicaFault> {
+    replica.worker(rt, alloc, &NoGate)
+}
+
+/// What a reader sees that was told of the commits.
+fn read<K: ReplicaNaming>(
+    rt: &impl Wait,
+    replica: &Replica<K>,
+    published: Notice<K>,
+) -> Result<Told, Trouble> {
+    let mut reader = replica.seat(rt).ok_or(Trouble::Misfit)?;
+    reader.learn(published);
+    let first = reader.read(row(10)).ok_or(Trouble::Misfit)?;
+    let second = reader.read(row(20)).ok_or(Trouble::Misfit)?;
+    Ok(Told {
+        commits: second.upto,
+        first: first.row,
+        second: second.row,
+        is_beginning: false,
+    })
+}
