@@ -14,6 +14,7 @@ use log_device::MemoryDevice;
 use published::{Answer, Counts, LeftRight, open};
 use record_codec::Record;
 use relay::{Received, ReplicaFault};
+use replica_core::ReplicaCore;
 use replica_shared::{NoGate, ReplicaNaming, SharedReplica};
 use source_core::{Prepared, SourceFault};
 use source_shared::{Naming, Receipt, SessionSeat, SharedSource};
@@ -96,8 +97,30 @@ fn story<J: Naming, K: ReplicaNaming + Send + Sync, R: Threads + Wait + Abort + 
         replica,
     } = sides;
     let source: Source<J> = SharedSource::new(alloc, source, log, receipts)?;
+    let replica: Replica<K> = new_replica(rt, alloc, replica, publication)?;
+    let met = meet(rt, alloc, &source, &replica, course);
+    let (core, publisher) = replica.end();
+    drop(publisher.close(rt));
+    assert!(rt; begins(&source.end(&met?), &core));
+    Ok(())
+}
+
+/// The replica for many threads, with one seat.
+fn new_replica<K: ReplicaNaming>(
+    rt: &impl Wait,
+    alloc: Global,
+    core: ReplicaCore<BTreeStore>,
+    publication: published::Beginning,
+) -> Result<Replica<K>, Fail>
+    requires core { core ≡ new_over core.tables core.source core.base core.workers }
+    requires tables { core.tables ≡ K.tables }
+    requires source { core.source ≡ K.source }
+    requires base { core.base ≡ K.base }
+    requires publication { publication.book ≡ K.book }
+    requires published { publication.base ≡ core.base }
+{
     let (first, second) = (BTreeStore::new(alloc), BTreeStore::new(alloc));
-    let (publisher, seats) = open::<BTreeStore, K, R, LeftRight>(
+    let (publisher, seats) = open::<BTreeStore, K, _, LeftRight>(
         rt,
         alloc,
         publication,
@@ -105,12 +128,7 @@ fn story<J: Naming, K: ReplicaNaming + Send + Sync, R: Threads + Wait + Abort + 
         second,
         1,
     )?;
-    let replica: Replica<K> = SharedReplica::new(rt, alloc, replica, publisher, seats)?;
-    let met = meet(rt, alloc, &source, &replica, course);
-    let (core, publisher) = replica.end();
-    drop(publisher.close(rt));
-    assert!(rt; begins(&source.end(&met?), &core));
-    Ok(())
+    Ok(SharedReplica::new(rt, alloc, core, publisher, seats)?)
 }
 
 /// What happens between the opening and the end; it answers the source's receipts.
