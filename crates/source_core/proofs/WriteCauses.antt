@@ -42,6 +42,6 @@ pub write_not_memory : (s : Source) (session : ℕ) (change : Change) → write_
 write_not_memory s session change =
     not_one _ faults.Halted _ (λ e. cc e) (not_one _ faults.NoSession _ (λ e. cc e) (not_one _ faults.NotActive _ (λ e. cc e)
     (of_some _ (table_at s.tables (target change).table) (Some faults.NoTable) (λ table.
-        not_one _ faults.WrongColumns _ (λ e. cc e) (not_one _ faults.TooManyChanges _ (λ e. cc e) (not_one _ faults.RowLocked _ (λ e. cc e)
-        (of_some _ (session_rows s session) None (λ db. of_row change _ _ (of_parents s.tables db (λ row. is_locked s session row Share) change (step_over s.tables db change))) no_cause))))
-      no_table)))
+    not_one _ faults.WrongColumns _ (λ e. cc e) (not_one _ faults.TooManyChanges _ (λ e. cc e) (not_one _ faults.RowLocked _ (λ e. cc e)
+    (of_some _ (session_rows s session) None (λ db. of_row change _ _ (of_parents s.tables db (λ row. is_locked s session row Share) change (step_over s.tables db change))) no_cause))))
+    no_table)))

@@ -123,7 +123,11 @@ fn a_damaged_byte_at_each_place(rt: HostRuntime) -> Result<(), Fail> {
             (_, 53..107) => 53,
             _ => 107,
         };
-        assert_eq!(rt; written(rt.alloc(), &records)?.as_slice(), &bytes[..out], "{place}");
+        assert_eq!(rt;
+            written(rt.alloc(), &records)?.as_slice(),
+            &bytes[..out],
+            "{place}"
+        );
     }
     Ok(())
 }
