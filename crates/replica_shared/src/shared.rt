@@ -32,6 +32,9 @@ use std::sync::{Arc, Condvar, Mutex, MutexGuard, Wait};
 use store_trait::RowStore;
 use uuid::Uuid;
 
+/// So often who brings a record looks whether the lock is free, some microseconds in all.
+const LOOKS: usize = 1000;
+
 /// A replica and its publisher, under one lock. Each call but `new`, `end`, `seat` and `status` takes that lock; `seat` and
 /// `status` have one each of their own. A call waits for as long as others hold its lock. Threads share it by reference.
 ///
@@ -109,7 +112,7 @@ impl<S: RowStore + Drop, J: ReplicaNaming> SharedReplica<S, J> {
         from: Uuid,
         new: &Record,
     ) -> Result<Received, ReplicaFault> {
-        let mut held = self.held.lock(rt);
+        let mut held = self.lock_soon(rt);
         let answer = held.receive(rt, from, new);
         self.let_go(held);
         answer
@@ -129,7 +132,7 @@ impl<S: RowStore + Drop, J: ReplicaNaming> SharedReplica<S, J> {
         if wire.waiting().is_empty() {
             self.feed_first(rt, wire, piece)
         } else {
-            let mut held = self.held.lock(rt);
+            let mut held = self.lock_soon(rt);
             let answer = held.take(rt, wire, piece);
             self.let_go(held);
             answer
@@ -147,10 +150,21 @@ impl<S: RowStore + Drop, J: ReplicaNaming> SharedReplica<S, J> {
         if wire.waiting().is_empty() {
             return Ok(0);
         }
-        let mut held = self.held.lock(rt);
+        let mut held = self.lock_soon(rt);
         let answer = held.hand(rt, wire);
         self.let_go(held);
         answer
+    }
+
+    // Takes the lock for a record. A worker that commits holds it for a moment, as often as records come, so it looks whether it is free
+    // before it sleeps.
+    fn lock_soon(&self, rt: &impl Wait) -> MutexGuard<'_, Coordinator<S, J>> {
+        for _look in 0..LOOKS {
+            if let Some(held) = self.held.try_lock() {
+                return held;
+            }
+        }
+        self.held.lock(rt)
     }
 
     /// Executes jobs until `close` was called and all accepted records are committed and published. It claims a job under the
