@@ -22,6 +22,8 @@ mod replicas;
 #[cfg(test)]
 mod sources;
 #[cfg(test)]
+mod unlocked;
+#[cfg(test)]
 mod watched;
 #[cfg(test)]
 mod wires;

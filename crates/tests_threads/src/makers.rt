@@ -80,6 +80,16 @@ pub fn set(key: i64, value: i64) -> Result<Change, Memory> {
 
 /// The record of this number with one change.
 pub fn record(alloc: Global, gno: u64, parent: u64, change: Change) -> Result<Record, Memory> {
+    record_of(alloc, gno, parent, vec![in alloc; change]?)
+}
+
+/// The record of this number with these changes.
+pub fn record_of(
+    alloc: Global,
+    gno: u64,
+    parent: u64,
+    changes: Vec<Change>,
+) -> Result<Record, Memory> {
     Ok(Record {
         gno,
         sequence: gno,
@@ -89,7 +99,7 @@ pub fn record(alloc: Global, gno: u64, parent: u64, change: Change) -> Result<Re
             missing_keys: false,
         },
         refs: Refs::none(alloc),
-        changes: Changes::new(vec![in alloc; change]?).ok_or(Memory)?,
+        changes: Changes::new(changes).ok_or(Memory)?,
     })
 }
 

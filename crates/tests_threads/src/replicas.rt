@@ -5,6 +5,7 @@ ghost use Rattle.replica_core.specs.Calls.{new_over};
 use crate::device::{PATIENCE, comes};
 use crate::lacking::Lacking;
 use crate::makers::{ONE, SOURCE, insert, record, replica, set};
+use crate::unlocked::is_unlocked;
 use crate::watched::{Order, is_crowded, is_empty, is_handed_in_late, is_refused, is_watched};
 use crate::wires::{come_in_pieces, is_damaged, is_kept_waiting, sets_are_shown, wake_workers};
 use btree_store::BTreeStore;
@@ -67,6 +68,8 @@ pub enum Course {
     Asleep,
     /// Sets of ids are waited for.
     Sets,
+    /// Large records are executed, and another takes the lock meanwhile.
+    Unlocked,
 }
 
 /// Catches a shared call that gives up where memory is there, also once it was refused, and a job that was kept then and is
@@ -135,6 +138,12 @@ fn a_refused_publication_is_made_up_for(rt: HostRuntime) -> Result<(), Fail> {
 #[test]
 fn a_late_result_is_told_of_the_stop(rt: HostRuntime) -> Result<(), Fail> {
     runs(&rt, rt.alloc(), Course::Late)
+}
+
+/// Catches a job that is executed under the lock, and a gate that is entered once the job was executed.
+#[test]
+fn others_get_the_lock_while_a_job_is_executed(rt: HostRuntime) -> Result<(), Fail> {
+    runs(&rt, rt.alloc(), Course::Unlocked)
 }
 
 /// Makes a replica and its records, and does with them what the course says.
@@ -238,6 +247,7 @@ fn run_over<J: ReplicaNaming + Send + Sync, R: Threads + Wait + Abort + Clock + 
         Course::Waiting => is_kept_waiting(rt, alloc, &shared, records),
         Course::Asleep => wake_workers(rt, alloc, &shared, records),
         Course::Sets => sets_are_shown(rt, alloc, &shared, records),
+        Course::Unlocked => is_unlocked(rt, alloc, &shared),
     };
     let ends = ended(rt, shared);
     let published = run?;
