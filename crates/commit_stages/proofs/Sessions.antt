@@ -4,19 +4,20 @@ use Rattle.std.specs.Prelude.{nat_eq}
 use Rattle.std.specs.List.{list_any, IsDistinct, AllByRecursion}
 use Rattle.std.proofs.lemmas.Cmp.{nat_eq_equiv}
 use Rattle.std.proofs.lemmas.Bool.Decides.{eqb_tells, nat_tests}
-use Rattle.std.proofs.lemmas.List.{length-drop}
+use Rattle.std.proofs.lemmas.List.{length-drop, length-take}
 use Rattle.std.proofs.lemmas.Map.Keys.{IsDistinct-push, IsDistinct-cons, IsDistinct-tail}
 use Rattle.std.proofs.lemmas.Map.Steps.{length-le_from_distinct_below}
-use Rattle.commit_stages.specs.Queues.{line_of, is_waiting, IsSession, IsOrderly}
-use Rattle.commit_stages.specs.Line.{queues_in, IsLine}
+use Rattle.commit_stages.specs.Queues.{line_of, is_waiting, IsSession, IsOrderly, AreSizes}
+use Rattle.commit_stages.specs.Line.{queues_in, IsLine, AreGroups}
 use Rattle.commit_stages.proofs.Parts.{line-of_parts}
 
-pub orderly : (line : List ℕ) (sync_from flush_from capacity : ℕ) → IsLine line sync_from flush_from capacity → IsOrderly (queues_in line sync_from flush_from)
-orderly line sync_from flush_from capacity is =
-    let whole : line_of (queues_in line sync_from flush_from) ≡ line = line-of_parts line sync_from flush_from is.in_order in
+pub orderly : (line : List ℕ) (sync_from flush_from capacity : ℕ) (sizes : List ℕ) (room : ℕ) → IsLine line sync_from flush_from capacity × AreGroups sizes sync_from flush_from room → IsOrderly (queues_in line sync_from flush_from sizes)
+orderly line sync_from flush_from capacity sizes room (is, groups) =
+    let whole : line_of (queues_in line sync_from flush_from sizes) ≡ line = line-of_parts line sync_from flush_from sizes is.in_order in
     record {
       sessions = subst (λ (l : List ℕ). AllByRecursion IsSession l) (sym whole) is.sessions;
       distinct = subst (λ (l : List ℕ). IsDistinct eqb l) (sym whole) is.distinct;
+      groups = subst (λ n. AreSizes sizes n) (omega (arith, is.within, is.in_order, length-drop sync_from line, length-take (flush_from - sync_from) (drop sync_from line))) groups.are;
     }
 
 -- a look through the line finds who waits
@@ -27,8 +28,8 @@ flipped (first ∷ line) session = ap (λ b. b || list_any (λ y. nat_eq y sessi
     turned : (a b : ℕ) → nat_eq a b ≡ eqb b a
     turned a b = grind (arith, nat_tests)
 
-pub found : (line : List ℕ) (sync_from flush_from session : ℕ) → sync_from ≤ flush_from → list_any (λ y. nat_eq y session) line ≡ is_waiting (queues_in line sync_from flush_from) session
-found line sync_from flush_from session h = flipped line session ∙ ap (λ l. list_any (eqb session) l) (sym (line-of_parts line sync_from flush_from h))
+pub found : (line : List ℕ) (sync_from flush_from : ℕ) (sizes : List ℕ) (session : ℕ) → sync_from ≤ flush_from → list_any (λ y. nat_eq y session) line ≡ is_waiting (queues_in line sync_from flush_from sizes) session
+found line sync_from flush_from sizes session h = flipped line session ∙ ap (λ l. list_any (eqb session) l) (sym (line-of_parts line sync_from flush_from sizes h))
 
 -- ---- one more session
 
@@ -52,7 +53,7 @@ positive (first ∷ line) all = (above first all.0.0, positive line all.1)
     above n h = grind (arith, nat_tests)
 
 -- at most 256 sessions wait
-few : (line : List ℕ) → AllByRecursion IsSession line → IsDistinct eqb line → length line ≤ 256
+pub few : (line : List ℕ) → AllByRecursion IsSession line → IsDistinct eqb line → length line ≤ 256
 few line all distinct =
     let h = length-le_from_distinct_below (0 ∷ line) 257 (IsDistinct-cons eqb 0 line (positive line all) distinct) below in
     omega (arith, h)
@@ -64,9 +65,9 @@ few line all distinct =
           | inr apart ↦ let both = is_session_of line all q (rw apart.0 at e) in omega (arith, both.1)
         ]
 
-module _ (line : List ℕ) (sync_from flush_from capacity session : ℕ) (is : IsLine line sync_from flush_from capacity) (one : IsSession session) (free : is_waiting (queues_in line sync_from flush_from) session ≡ false) where
+module _ (line : List ℕ) (sync_from flush_from capacity : ℕ) (sizes : List ℕ) (session : ℕ) (is : IsLine line sync_from flush_from capacity) (one : IsSession session) (free : is_waiting (queues_in line sync_from flush_from sizes) session ≡ false) where
   absent : list_any (eqb session) line ≡ false
-  absent = ap (λ l. list_any (eqb session) l) (sym (line-of_parts line sync_from flush_from is.in_order)) ∙ free
+  absent = ap (λ l. list_any (eqb session) l) (sym (line-of_parts line sync_from flush_from sizes is.in_order)) ∙ free
 
   distinct : IsDistinct eqb (line ++ session ∷ [])
   distinct = IsDistinct-push nat_eq_equiv line session is.distinct absent

@@ -7,5 +7,5 @@ use Rattle.commit_stages.specs.Queues.{Queues, line_of, queued, flush_taken, syn
 pub record KeepsLine : Type 0 where
   pub queue : (q : Queues) (session : ℕ) → line_of (queued q session) ≡ line_of q ++ session ∷ []
   pub flush : (q : Queues) → line_of (flush_taken q) ≡ line_of q
-  pub sync : (q : Queues) (count : ℕ) → line_of (sync_taken q count) ≡ line_of q
+  pub sync : (q : Queues) → line_of (sync_taken q) ≡ line_of q
   pub commit : (q : Queues) → q.commit ++ line_of (commit_taken q) ≡ line_of q

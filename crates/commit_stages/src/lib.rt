@@ -1,19 +1,21 @@
 //! The queues of group commit: a session's transaction waits for its flush, then for its sync, then for its commit.
 //!
 //! A `Stages` has three queues of the sessions 1 to 256, which callers see as three lists (`specs/Queues.antt`). A session
-//! enters at the end of the flush queue; whole groups then go on to the end of the next queue, in the order in which
-//! they came, and leave at the front of the commit queue. A session stands in at most one queue, and once: the type keeps
-//! that. So no step between changes the line of all that wait, the furthest first (`specs/Laws.antt`), and the queues are
-//! three parts of one list of at most 256 places: a group goes on by moving the bound between two parts. All room is taken
-//! when the queues are made. The crate stands on no other.
+//! enters at the end of the flush queue. All that are in it go on together, as a group: the group goes as a whole to the
+//! end of the next queue, in the order in which the groups came, and leaves at the front of the commit queue. A session
+//! stands in at most one queue, and once: the type keeps that. So no step between changes the line of all that wait, the
+//! furthest first (`specs/Laws.antt`), and the queues are three parts of one list of at most 256 places: a group goes on by
+//! moving the bound between two parts. All room is taken when the queues are made. The crate stands on no other.
 #![tactic(auto)]
 
-ghost use Rattle.std.specs.Prelude.{◌≡◌, ◌≤◌, false, length, IfOk};
-ghost use Rattle.commit_stages.specs.Queues.{no_queues, queue_of, is_waiting, queued, flush_taken, sync_taken, commit_taken, IsOrderly};
+ghost use Rattle.std.specs.Prelude.{◌≡◌, ◌≤◌, ◌<◌, ◌++◌, ◌∷◌, [], nat_lt, if◌then◌else◌, false, length, IfOk};
+ghost use Rattle.std.specs.VecDeque.{deque_len, deque_capacity};
+ghost use Rattle.commit_stages.specs.Queues.{no_queues, queue_of, is_waiting, queued, flush_taken, oldest_size, sync_taken, commit_taken, IsOrderly};
 
 pub mod laws;
 
 use std::alloc::{AllocError, Global};
+use std::collections::VecDeque;
 use std::marker::Model;
 
 /// What the sessions of a queue wait for.
@@ -39,19 +41,22 @@ pub struct Stages {
     sync_from: usize,
     /// Where the flush queue begins.
     flush_from: usize,
+    /// How many sessions each group of the sync queue has, the oldest group first. There is room for all.
+    sizes: VecDeque<usize>,
 }
 
 impl Model for Stages {
     ghost use Rattle.std.specs.Prelude.{vec_capacity};
+    ghost use Rattle.std.specs.VecDeque.{deque_capacity};
     ghost use Rattle.commit_stages.specs.Queues.{Queues};
 
     ghost Value = { Queues };
 
-    ghost use Rattle.commit_stages.specs.Line.{queues_in, IsLine};
+    ghost use Rattle.commit_stages.specs.Line.{queues_in, IsLine, AreGroups};
 
-    ghost view = { λ s. queues_in s.line.items s.sync_from s.flush_from };
+    ghost view = { λ s. queues_in s.line.items s.sync_from s.flush_from s.sizes.items };
 
-    ghost invariant = { λ s. IsLine s.line.items s.sync_from s.flush_from (vec_capacity s.line) };
+    ghost invariant = { λ s. IsLine s.line.items s.sync_from s.flush_from (vec_capacity s.line) × AreGroups s.sizes.items s.sync_from s.flush_from (deque_capacity s.sizes) };
 }
 
 impl Stages {
@@ -63,6 +68,7 @@ impl Stages {
             line: Vec::with_capacity(alloc, MAX_SESSIONS as usize)?,
             sync_from: 0,
             flush_from: 0,
+            sizes: VecDeque::with_capacity(alloc, MAX_SESSIONS as usize)?,
         })
     }
 
@@ -95,24 +101,27 @@ impl Stages {
         self.line.push(session).unwrap();
     }
 
-    /// Moves the whole flush queue behind the sync queue, in its order, and answers how many sessions that are. It takes
-    /// constant time.
+    /// Moves the whole flush queue behind the sync queue, in its order, as one group, and answers how many sessions that
+    /// are. Where none is in it nothing changes. It takes constant time, and no memory.
     pub fn take_flush(&mut self) -> usize
         ensures queues { self.new ≡ flush_taken self.old }
         ensures count { result ≡ length self.old.flush }
     {
         let count = self.line.len() - self.flush_from;
+        keep_size(&mut self.sizes, count);
         self.flush_from = self.line.len();
         count
     }
 
-    /// Moves the first so many sessions of the sync queue behind the commit queue, in their order: those of the oldest
-    /// group, where that is what they are. It takes constant time.
-    pub fn take_sync(&mut self, count: usize)
-        requires { count ≤ length self.old.sync }
-        ensures { self.new ≡ sync_taken self.old count }
+    /// Moves the oldest group of the sync queue behind the commit queue, in its order, and answers how many sessions that
+    /// are. Where none is in it nothing changes. It takes constant time, and no memory.
+    pub fn take_sync(&mut self) -> usize
+        ensures queues { self.new ≡ sync_taken self.old }
+        ensures count { result ≡ oldest_size self.old }
     {
+        let count = self.sizes.pop_front().unwrap_or(0);
         self.sync_from += count;
+        count
     }
 
     /// Empties the commit queue. The time is that of a move of each session that waits, 256 at most.
@@ -122,5 +131,16 @@ impl Stages {
         drop(self.line.drain(..self.sync_from));
         self.flush_from -= self.sync_from;
         self.sync_from = 0;
+    }
+}
+
+/// Keeps the size of a group for which there is room. No session makes no group.
+fn keep_size(sizes: &mut VecDeque<usize>, size: usize)
+    requires { 0 < size → deque_len sizes.old < deque_capacity sizes.old }
+    ensures sizes { sizes.new.items ≡ sizes.old.items ++ (if nat_lt 0 size then size ∷ [] else []) }
+    ensures room { deque_capacity sizes.old ≤ deque_capacity sizes.new }
+{
+    if size > 0 {
+        sizes.push_back(size).unwrap();
     }
 }

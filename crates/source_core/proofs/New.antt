@@ -38,8 +38,8 @@ absent i t at = cc (sym (none_of 256 i) ∙ at)
 pub views_none : sessions_view (replicate 256 None) ≡ replicate 256 None
 views_none = mapped (option_map open_view) 256 None
 
-abbrev pub parts_over : List Table → Database → List Entry → ℕ → List Record → List Seen → List (Option Transaction) → List ℕ → Locks → Parts
-parts_over ts rows base limit log entries places queue locks = record {
+abbrev pub parts_over : List Table → Database → List Entry → ℕ → List Record → List Seen → List (Option Transaction) → Queues → Locks → Parts
+parts_over ts rows base limit log entries places stages locks = record {
   tables = ts;
   rows = rows;
   base = base;
@@ -50,7 +50,8 @@ parts_over ts rows base limit log entries places queue locks = record {
   owners = map (λ (e : Seen). e.session) entries;
   entries = entries;
   places = places;
-  queue = queue;
+  queue = stages.flush;
+  group_sizes = stages.sizes;
   locks = locks;
 }
 
@@ -59,7 +60,7 @@ unfolding IsDistinct
 none_twice = tt
 
 new_core : (ts : List Table) (rows : Database) (base : List Entry) (limit : ℕ) (locks : Locks) → limit < 2 ^ 63 → put_batch base empty ≡ rows → Fits ts rows → locks ≡ no_locks → NoClash locks →
-    IsCore (parts_over ts rows base limit [] [] (replicate 256 None) [] locks)
+    IsCore (parts_over ts rows base limit [] [] (replicate 256 None) no_queues locks)
 unfolding no_locks
 new_core ts rows base limit locks bound loaded_is fits none clear = record {
   legal = empty_is_legal ts (put_batch base empty);
@@ -72,6 +73,7 @@ new_core ts rows base limit locks bound loaded_is fits none clear = record {
   fits = fits;
   sessions = long {X = Option Transaction} 256 None;
   owned = refl;
+  grouped = record { some = tt; whole = refl };
   seen = refl;
   locks = none ∙ sym (ap (map (held_for ts rows)) views_none ∙ mapped (held_for ts rows) 256 None);
   no_clash = clear;
@@ -85,12 +87,12 @@ new_core ts rows base limit locks bound loaded_is fits none clear = record {
 
 pub new_holds : (ts : List Table) (rows : Database) (base : List Entry) (limit : ℕ) (locks : Locks) → limit < 2 ^ 63 → put_batch base empty ≡ rows → Fits ts rows → locks ≡ no_locks → NoClash locks →
     (log : List Record) (entries : List Seen) (places : List (Option Transaction)) (stages : Queues) → log ≡ [] → entries ≡ [] → places ≡ replicate 256 None → stages ≡ no_queues →
-    (IsSo : List Seen → Type 0) → IsSo [] → Holds (parts_over ts rows base limit log entries places stages.flush locks) stages (IsSo entries)
+    (IsSo : List Seen → Type 0) → IsSo [] → Holds (parts_over ts rows base limit log entries places stages locks) stages (IsSo entries)
 new_holds ts rows base limit locks bound loaded_is fits none clear log entries places stages no_log no_entries no_places no_stages IsSo so =
     rw (no_log, no_entries, no_places, no_stages) (record { core = new_core ts rows base limit locks bound loaded_is fits none clear; syncing = refl; committing = refl; tracked = so })
 
 pub new_view : (ts : List Table) (rows : Database) (base : List Entry) (limit : ℕ) (locks : Locks) (kind : Kind) → (log : List Record) (entries : List Seen) (places : List (Option Transaction)) (stages : Queues) →
-    log ≡ [] → entries ≡ [] → places ≡ replicate 256 None → stages ≡ no_queues → source_of (parts_over ts rows base limit log entries places stages.flush locks) kind false ≡ new_source ts base limit kind
+    log ≡ [] → entries ≡ [] → places ≡ replicate 256 None → stages ≡ no_queues → source_of (parts_over ts rows base limit log entries places stages locks) kind false ≡ new_source ts base limit kind
 new_view ts rows base limit locks kind log entries places stages no_log no_entries no_places no_stages =
     rw (no_log, no_entries, no_places, no_stages) (ap (λ sessions. record (new_source ts base limit kind) { sessions = sessions }) views_none)
 

@@ -124,6 +124,7 @@ place_set p core i within now free queue locks few queued distinct grows are cle
       fits = core.fits;
       sessions = length-set p.places i now ∙ core.sessions;
       owned = core.owned;
+      grouped = core.grouped;
       seen = core.seen;
       locks = are ∙ ap (λ l. set l i (held_for p.tables p.rows (option_map open_view now))) core.locks ∙ sym (locks_set p.tables p.rows p.places i now);
       no_clash = clear;

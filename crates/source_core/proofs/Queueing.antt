@@ -140,20 +140,20 @@ next_is p core i within order w found next found_is is =
     sym (is ∙ ap (option_map (with_phase (Queued order))) (sym (placed_is p.places i found (omega (arith, within, core.sessions)) found_is) ∙ w.is))
 
 pub queued_at : (p : Parts) → IsCore p → (i session : ℕ) → i < 256 → i + 1 ≡ session → (order : ℕ) → (read found next : Option Transaction) → read ≡ get_or p.places i read → found ≡ get_or p.places i found →
-    option_and_then prepared_order read ≡ Some order → next ≡ option_map (with_phase (Queued order)) found → length p.log + length p.queue < p.limit → (queue : List ℕ) → queue ≡ p.queue ++ session ∷ [] →
-    IsCore (placing p i next queue p.locks)
-queued_at p core i session within is order read found next read_is found_is told next_told few queue queue_is =
+    option_and_then prepared_order read ≡ Some order → next ≡ option_map (with_phase (Queued order)) found → length p.log + length p.queue < p.limit → (queue sizes : List ℕ) → queue ≡ p.queue ++ session ∷ [] → sizes ≡ p.group_sizes →
+    IsCore (record (placing p i next queue p.locks) { group_sizes = sizes })
+queued_at p core i session within is order read found next read_is found_is told next_told few queue sizes queue_is sizes_are =
     let w = at_place p core i within read read_is order told in
-    subst (λ (l : List ℕ). IsCore (placing p i next l p.locks)) (sym queue_is)
+    rw (queue_is, sizes_are)
     (subst (λ (o : Option Transaction). IsCore (placing p i o (p.queue ++ session ∷ []) p.locks)) (next_is p core i within order w found next found_is next_told)
     (queued_core p core i session within is order w few))
 
 pub queued_at_view : (p : Parts) → IsCore p → (kind : Kind) (halted : Bool) (i session : ℕ) → i < 256 → i + 1 ≡ session → (order : ℕ) → (read found next : Option Transaction) → read ≡ get_or p.places i read → found ≡ get_or p.places i found →
-    option_and_then prepared_order read ≡ Some order → next ≡ option_map (with_phase (Queued order)) found → (queue : List ℕ) → queue ≡ p.queue ++ session ∷ [] →
-    source_of (placing p i next queue p.locks) kind halted ≡ queued (source_of p kind halted) session
-queued_at_view p core kind halted i session within is order read found next read_is found_is told next_told queue queue_is =
+    option_and_then prepared_order read ≡ Some order → next ≡ option_map (with_phase (Queued order)) found → (queue sizes : List ℕ) → queue ≡ p.queue ++ session ∷ [] → sizes ≡ p.group_sizes →
+    source_of (record (placing p i next queue p.locks) { group_sizes = sizes }) kind halted ≡ queued (source_of p kind halted) session
+queued_at_view p core kind halted i session within is order read found next read_is found_is told next_told queue sizes queue_is sizes_are =
     let w = at_place p core i within read read_is order told in
-    ap (λ (l : List ℕ). source_of (placing p i next l p.locks) kind halted) queue_is
+    (λ k. source_of (record (placing p i next (queue_is k) p.locks) { group_sizes = sizes_are k }) kind halted)
     ∙ ap (λ (o : Option Transaction). source_of (placing p i o (p.queue ++ session ∷ []) p.locks) kind halted) (sym (next_is p core i within order w found next found_is next_told))
     ∙ queued_view p core i session within is order w kind halted
 

@@ -109,6 +109,7 @@ is_sound p kind halted core = record {
   synced_within = core.synced_within;
   committed_within = core.committed_within;
   owned = core.owned;
+  grouped = core.grouped;
 }
 
 -- a session's transaction, as callers see it

@@ -3,10 +3,10 @@ use Rattle.std.proofs.Common.{◌≡◌, ◌∙◌, sym, ap, refl, ℕ, ◌+◌,
 use Rattle.std.specs.List.{list_any}
 use Rattle.std.proofs.Math.Seq.{take-add}
 use Rattle.std.proofs.lemmas.Bool.Decides.{eqb_tells}
-use Rattle.std.proofs.lemmas.List.{take-append-le, drop-append-le, drop-drop, drop_all, length-drop, length-take-le}
+use Rattle.std.proofs.lemmas.List.{take-append-le, drop-append-le, drop-drop, drop_all, length-take-le}
 use Rattle.std.proofs.lemmas.List.Folds.{list_any-append}
 use Rattle.record_codec.specs.declared.records.Record.{Record}
-use Rattle.commit_stages.specs.Queues.{Queues, is_waiting, queued, flush_taken, sync_taken, commit_taken}
+use Rattle.commit_stages.specs.Queues.{Queues, is_waiting, queued, flush_taken, oldest_size, sync_taken, commit_taken}
 use Rattle.source_core.specs.Core.{Parts, AreFlushed, Holds, placed}
 use Rattle.source_core.proofs.CommitLists.{drop_parts}
 use Rattle.source_core.proofs.Place.{IsFree, not_flushed}
@@ -58,19 +58,15 @@ wait_flushed stages more owners now synced_ committed_ w within is now_is = reco
   committing = ap (λ (q : Queues). q.commit) is ∙ w.committing ∙ sym (ap (λ l. drop committed_ (take synced_ l)) now_is ∙ ap (drop committed_) (take-append-le synced_ owners stages.flush within));
 }
 
-pub wait_synced : (stages more : Queues) (owners : List ℕ) (synced_ committed_ count last : ℕ) → Wait stages owners synced_ committed_ → committed_ ≤ synced_ → synced_ + count ≡ last → last ≤ length owners → more ≡ sync_taken stages count →
+pub wait_synced : (stages more : Queues) (owners : List ℕ) (synced_ committed_ last : ℕ) → Wait stages owners synced_ committed_ → committed_ ≤ synced_ → synced_ + oldest_size stages ≡ last → last ≤ length owners → more ≡ sync_taken stages →
     Wait more owners last committed_
-wait_synced stages more owners synced_ committed_ count last w few sum within is = record {
-  syncing = ap (λ (q : Queues). q.sync) is ∙ ap (drop count) w.syncing ∙ drop-drop count synced_ owners ∙ ap (λ n. drop n owners) sum;
-  committing = ap (λ (q : Queues). q.commit) is ∙ (λ i. w.committing i ++ take count (w.syncing i))
-      ∙ sym (drop-append-le committed_ (take synced_ owners) (take count (drop synced_ owners)) (omega (arith, few, sum, within, length-take-le synced_ owners)))
-      ∙ ap (drop committed_) (sym (take-add synced_ count owners))
+wait_synced stages more owners synced_ committed_ last w few sum within is = record {
+  syncing = ap (λ (q : Queues). q.sync) is ∙ ap (drop (oldest_size stages)) w.syncing ∙ drop-drop (oldest_size stages) synced_ owners ∙ ap (λ n. drop n owners) sum;
+  committing = ap (λ (q : Queues). q.commit) is ∙ (λ i. w.committing i ++ take (oldest_size stages) (w.syncing i))
+      ∙ sym (drop-append-le committed_ (take synced_ owners) (take (oldest_size stages) (drop synced_ owners)) (omega (arith, few, sum, within, length-take-le synced_ owners)))
+      ∙ ap (drop committed_) (sym (take-add synced_ (oldest_size stages) owners))
       ∙ ap (λ n. drop committed_ (take n owners)) sum;
 }
-
--- so many wait for their sync
-pub many_wait : (stages : Queues) (owners : List ℕ) (synced_ committed_ count last : ℕ) → Wait stages owners synced_ committed_ → synced_ + count ≡ last → last ≤ length owners → count ≤ length stages.sync
-many_wait stages owners synced_ committed_ count last w sum within = omega (arith, ap length w.syncing, length-drop synced_ owners, sum, within)
 
 pub wait_committed : (stages more : Queues) (owners : List ℕ) (synced_ committed_ : ℕ) → Wait stages owners synced_ committed_ → synced_ ≤ length owners → more ≡ commit_taken stages → Wait more owners synced_ synced_
 wait_committed stages more owners synced_ committed_ w within is = record {

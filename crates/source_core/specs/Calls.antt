@@ -1,5 +1,5 @@
 -- What each call of a source answers: its first cause of refusal, in order, and what it leaves.
-use Rattle.std.specs.Prelude.{◌≡◌, ℕ, ◌+◌, ◌-◌, Bool, true, false, not, ◌&&◌, ◌==◌, nat_le, if◌then◌else◌, List, [], ◌∷◌, ◌++◌, length, map, take, drop, slice_set, Option, Some, None, is_some, is_none}
+use Rattle.std.specs.Prelude.{◌≡◌, ℕ, ◌+◌, ◌-◌, Bool, true, false, not, ◌&&◌, ◌==◌, nat_le, if◌then◌else◌, List, [], ◌∷◌, ◌++◌, length, map, take, drop, slice_get, slice_set, Option, Some, None, is_some, is_none}
 use Rattle.std.specs.Option.{option_map, option_map_or}
 use Rattle.schema.specs.declared.Table.{Table}
 use Rattle.schema.specs.declared.RowId.{RowId}
@@ -20,6 +20,7 @@ use Rattle.source_core.specs.declared.transaction.Receipt.{Receipt}
 use Rattle.log_index.specs.declared.Entry.{Entry as Seen}
 use Rattle.log_index.specs.Footprint.{footprint_of}
 use Rattle.row_locks.specs.declared.Mode.TheVariants.{Share, Exclusive}
+use Rattle.commit_stages.specs.Queues.{sizes_of}
 use Rattle.tracker_trait.specs.Parent.{dependency_of}
 use Rattle.source_core.specs.Source.{Source, Open, is_session, open_of, changes_of, session_rows, is_locked, entry_of, entries_of}
 pub use Rattle.source_core.specs.Steps.{cause}
@@ -143,7 +144,7 @@ flushed_open first queue session t =
 
 abbrev pub flushed : Source → List Record → Source
 flushed s records =
-    record s { log = s.log ++ records; owners = s.owners ++ s.queue; queue = []; sessions = each_session (flushed_open (length s.log + 1) s.queue) 1 s.sessions }
+    record s { log = s.log ++ records; owners = s.owners ++ s.queue; queue = []; group_sizes = s.group_sizes ++ sizes_of s.queue; sessions = each_session (flushed_open (length s.log + 1) s.queue) 1 s.sessions }
 
 abbrev pub parent_of_phase : Phase → ℕ
 parent_of_phase Active = 0
@@ -153,7 +154,7 @@ parent_of_phase (Flushed gno) = 0
 
 -- The next record behind this log of a queued transaction: its changes, and the parent that the tracker's mode gives it.
 -- Its order parent is the one fixed when it was prepared.
-pub record IsRecordOf (s : Source) (before : List Seen) (session : ℕ) (made : Record) : Type 0 where
+pub record IsNextRecord (s : Source) (before : List Seen) (session : ℕ) (made : Record) : Type 0 where
   pub t : Open
   pub is : open_of s session ≡ Some t
   pub gno : made.gno ≡ length before + 1
@@ -163,12 +164,12 @@ pub record IsRecordOf (s : Source) (before : List Seen) (session : ℕ) (made : 
 
 -- one record for each of these sessions, in their order, the first behind this log and each of the others behind the one
 -- before it
-abbrev pub AreRecordsOf : Source → List Seen → List ℕ → List Record → Type 0
-AreRecordsOf s before [] [] = Unit {0}
-AreRecordsOf s before (session ∷ sessions) (made ∷ more) =
-    IsRecordOf s before session made × AreRecordsOf s (before ++ entry_of s.tables made session ∷ []) sessions more
-AreRecordsOf s before [] (made ∷ more) = ⊥
-AreRecordsOf s before (session ∷ sessions) [] = ⊥
+abbrev pub AreNextRecords : Source → List Seen → List ℕ → List Record → Type 0
+AreNextRecords s before [] [] = Unit {0}
+AreNextRecords s before (session ∷ sessions) (made ∷ more) =
+    IsNextRecord s before session made × AreNextRecords s (before ++ entry_of s.tables made session ∷ []) sessions more
+AreNextRecords s before [] (made ∷ more) = ⊥
+AreNextRecords s before (session ∷ sessions) [] = ⊥
 
 -- the log as a tracker sees it
 abbrev pub seen_log : Source → List Seen
@@ -177,18 +178,25 @@ seen_log s = entries_of s.tables s.log s.owners
 -- a flush: the queued transactions are the records of the group
 pub record Flushes (old : Source) (group : GroupValue) (new : Source) : Type 0 where
   pub made : List Record
-  pub are : AreRecordsOf old (seen_log old) old.queue made
+  pub are : AreNextRecords old (seen_log old) old.queue made
   pub leaves : new ≡ flushed old made
   pub group_of : codec.AreRecordsOf group made
 
 -- synced
 
--- the group is the oldest that is not synced: its records are those of the log from behind the synced ones to its last
-abbrev pub IsOldest : Source → GroupValue → Type 0
-IsOldest s group = codec.AreRecordsOf group (drop s.synced (take group.last s.log))
+-- how many records a group has
+abbrev pub size_of : GroupValue → ℕ
+size_of group = group.last + 1 - group.first
 
+-- The group is the oldest that is not synced, as it was flushed: its records are those of the log from behind the synced
+-- ones to its last, and these are as many as were flushed together.
+pub record IsOldest (s : Source) (group : GroupValue) : Type 0 where
+  pub are : codec.AreRecordsOf group (drop s.synced (take group.last s.log))
+  pub whole : slice_get s.group_sizes 0 ≡ Some (group.last - s.synced)
+
+-- the oldest group, which ends with the record of this gno, is synced
 abbrev pub with_synced : Source → ℕ → Source
-with_synced s last = record s { synced = last }
+with_synced s last = record s { synced = last; group_sizes = drop 1 s.group_sizes }
 
 -- commit: the transactions up to the last synced one end
 

@@ -17,7 +17,7 @@ use Rattle.overlay.specs.Follows.{Follows}
 use Rattle.record_codec.specs.declared.records.Record.{Record}
 use Rattle.record_codec.specs.Log.{after, place_of, IsLegalLog}
 use Rattle.log_index.specs.declared.Entry.{Entry as Seen}
-use Rattle.commit_stages.specs.Queues.{Queues}
+use Rattle.commit_stages.specs.Queues.{Queues, AreSizes}
 use Rattle.row_locks.specs.Locks.{Locks, NoClash}
 use Rattle.tracker_trait.specs.History.{last_of}
 use Rattle.tracker_trait.specs.Kind.{Kind}
@@ -51,6 +51,7 @@ pub record Parts : Type 0 where
   -- the transaction of each session, session 1 first
   pub places : List (Option Transaction)
   pub queue : List ℕ
+  pub group_sizes : List ℕ
   pub locks : Locks
 
 abbrev pub source_of : Parts → Kind → Bool → Source
@@ -65,6 +66,7 @@ source_of p kind halted = record {
   owners = p.owners;
   sessions = sessions_view p.places;
   queue = p.queue;
+  group_sizes = p.group_sizes;
   halted = halted;
 }
 
@@ -142,7 +144,7 @@ AreQueued places (session ∷ queue) = IsQueued places session × AreQueued plac
 -- The log is legal, and its changes are such as the schema allows; the store has the rows after the committed records,
 -- which the schema allows. Each open transaction applies to these rows, refers to the kin of its changes there, and holds
 -- its rows and their kin; no two sessions clash. The records that are not committed are those of the flushed transactions, and the queue those that are
--- queued, each once.
+-- queued, each once. Those that are not synced are those of the groups.
 pub record IsCore (p : Parts) : Type 0 where
   pub legal : IsLegalLog p.tables (put_batch p.base empty) p.log
   pub shaped : HasShape p.tables p.log
@@ -154,6 +156,7 @@ pub record IsCore (p : Parts) : Type 0 where
   pub fits : Fits p.tables p.rows
   pub sessions : length p.places ≡ 256
   pub owned : length p.owners ≡ length p.log
+  pub grouped : AreSizes p.group_sizes (length p.log - p.synced)
   pub seen : p.entries ≡ entries_of p.tables p.log p.owners
   pub locks : p.locks ≡ locks_over p.tables p.rows (sessions_view p.places)
   pub no_clash : NoClash p.locks

@@ -14,6 +14,7 @@ use Rattle.record_codec.specs.Log.{after, IsLegalLog}
 use Rattle.log_index.specs.declared.Entry.{Entry as Seen}
 use Rattle.log_index.specs.Footprint.{footprint_of}
 use Rattle.row_locks.specs.declared.Mode.{Mode}
+use Rattle.commit_stages.specs.Queues.{AreSizes}
 use Rattle.row_locks.specs.Locks.{Holding, Locks, holding, clashes_with}
 use Rattle.tracker_trait.specs.Kind.{Kind}
 use Rattle.source_core.specs.declared.transaction.Phase.{Phase}
@@ -42,6 +43,8 @@ pub record Source : Type 0 where
   pub sessions : List (Option Open)
   -- the sessions whose transactions are queued, in order
   pub queue : List ℕ
+  -- how many records each group has that is flushed and not synced, the oldest group first
+  pub group_sizes : List ℕ
   pub halted : Bool
 
 abbrev pub is_session : Source → ℕ → Bool
@@ -112,6 +115,7 @@ new_source ts base limit kind = record {
   owners = [];
   sessions = replicate 256 None;
   queue = [];
+  group_sizes = [];
   halted = false;
 }
 
@@ -124,7 +128,7 @@ abbrev pub HasShape : List Table → List Record → Type 0
 HasShape ts log = (n : ℕ) (made : Record) → slice_get log n ≡ Some made → are_shaped ts made.changes ≡ true
 
 -- What is true of every source: its log is legal and not too long, its changes are such as the schema allows, its
--- counts are in order, and it has 256 sessions.
+-- counts are in order, the records that are not synced are those of its groups, and it has 256 sessions.
 pub record IsSound (s : Source) : Type 0 where
   pub sessions : length s.sessions ≡ 256
   pub legal : IsLegalLog s.tables (loaded s.base) s.log
@@ -134,3 +138,4 @@ pub record IsSound (s : Source) : Type 0 where
   pub synced_within : s.synced ≤ length s.log
   pub committed_within : s.committed ≤ s.synced
   pub owned : length s.owners ≡ length s.log
+  pub grouped : AreSizes s.group_sizes (length s.log - s.synced)

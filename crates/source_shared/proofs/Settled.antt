@@ -1,11 +1,11 @@
 -- What is true under the lock stays so, step by step.
 use Rattle.std.proofs.Common.{◌≡◌, ℕ, zero, suc, ◌+◌, ◌≤◌, Bool, true, false, List, [], ◌∷◌, ◌++◌, length, take, drop, replicate, Option, Some, None, IfSome, is_some, get_or, nat_lt, Bor, refl, sym, ap, ◌∙◌, subst, append_assoc, arith}
-use Rattle.std.specs.Prelude.{slice_get, IsSomeAnd, ◌&&◌, ◌==◌, not, if◌then◌else◌}
+use Rattle.std.specs.Prelude.{map, slice_get, IsSomeAnd, ◌&&◌, ◌==◌, not, if◌then◌else◌}
 use Rattle.std.proofs.lemmas.Bool.{eqb-true, false≢true}
 use Rattle.std.proofs.lemmas.Bool.Decides.{nat_tests}
 use Rattle.std.specs.Option.{option_map}
 use Rattle.std.proofs.lemmas.Option.{IfSome_then, same_Some}
-use Rattle.std.proofs.lemmas.List.{append-nil, take-append-le, take-append-drop, take_at, drop_at, length-append, length-set, length-replicate, length-take-le}
+use Rattle.std.proofs.lemmas.List.{append-nil, take-append-le, take-append-drop, take_at, drop_at, length-append, map-append, length-set, length-replicate, length-take-le}
 use Rattle.schema.specs.declared.Table.{Table}
 use Rattle.store_trait.specs.Batch.{Entry}
 use Rattle.record_codec.specs.declared.records.Record.{Record}
@@ -18,7 +18,8 @@ use Rattle.log_file.specs.declared.fault.LogFault.TheVariants.{OutOfTurn}
 use Rattle.log_file.specs.Calls.{confirmed, prepare_cause}
 use Rattle.source_core.specs.declared.fault.SourceFault.{SourceFault}
 use Rattle.source_core.specs.declared.fault.SourceFault.TheVariants.{Halted}
-use Rattle.source_core.specs.Calls.{cause, Flushes, IsOldest, with_synced, all_committed, receipts, receipts_for}
+use Rattle.source_core.proofs.FlushEnds.{group_is_counted}
+use Rattle.source_core.specs.Calls.{cause, Flushes, IsOldest, size_of, with_synced, all_committed, receipts, receipts_for}
 use Rattle.source_shared.specs.Engine.{State, Watch, nobody, count, IsWatch, IsReady, IsSettled, ArePlaced, committed_receipts, emptied as emptied_at, failed, with_home, landed, given, laid, is_other, expects}
 use Rattle.source_shared.proofs.Places.{number_at, placed_none, none_placed}
 
@@ -49,9 +50,10 @@ pub record Oldest (s : Source) (group : GroupValue) (groups : List GroupValue) :
   pub later : s.synced ≤ group.last
   pub is_oldest : IsOldest s group
   pub rest : Hold groups (drop group.last s.log)
+  pub sizes : drop 1 s.group_sizes ≡ map size_of groups
 
-pub oldest : (s : Source) (group : GroupValue) (groups : List GroupValue) → IsSound s → Hold (group ∷ groups) (drop s.synced s.log) → Oldest s group groups
-oldest s group groups sound h =
+oldest_in : (s : Source) (group : GroupValue) (groups : List GroupValue) → IsSound s → Hold (group ∷ groups) (drop s.synced s.log) → s.group_sizes ≡ map size_of (group ∷ groups) → Oldest s group groups
+oldest_in s group groups sound h sizes =
     let its = h.0 in
     let rest = h.1 in
     let front = take s.synced s.log in
@@ -66,9 +68,14 @@ oldest s group groups sound h =
       first = first;
       within = omega (arith, both, ap length log, length-append (front ++ its) rest);
       later = omega (arith, both, length-append front its, len);
-      is_oldest = subst (AreRecordsOf group) (sym behind) h.3;
+      is_oldest = record { are = subst (AreRecordsOf group) (sym behind) h.3; whole = ap (λ (l : List ℕ). slice_get l 0) sizes ∙ ap (λ (n : ℕ). Some n) (omega (arith, first)) };
       rest = subst (Hold groups) (sym left) h.4;
+      sizes = ap (drop 1) sizes;
     }
+
+pub oldest : (base : List Entry) (tables : List Table) (s : State) (group : GroupValue) (groups : List GroupValue) → IsSound s.core → s.ring ≡ group ∷ groups → IsSettled base tables s → Oldest s.core group groups
+oldest base tables s group groups sound ring h =
+    oldest_in s.core group groups sound (subst (λ (l : List GroupValue). Hold l (drop s.core.synced s.core.log)) ring h.waiting) (h.sizes ∙ ap (map size_of) ring)
 
 -- the group that is lent is the oldest
 pub first_lent : (l : List GroupValue) (got : Option (Bor GroupValue)) (x : Bor GroupValue) → is_some got ≡ nat_lt 0 (length l) → IfSome got (λ y. y.now ≡ get_or l 0 y.now) → got ≡ Some x → slice_get l 0 ≡ Some x.now
@@ -81,7 +88,7 @@ first_lent l got x some here is = of l (sym (ap (λ (o : Option (Bor GroupValue)
 pub oldest_next : (base : List Entry) (tables : List Table) (s : State) (group : GroupValue) → IsSound s.core → slice_get s.ring 0 ≡ Some group → IsSettled base tables s → prepare_cause s.kept group ≡ None
 oldest_next base tables s group sound at h =
     let parts = split s.ring at in
-    let o = oldest s.core group parts.0 sound (subst (λ (l : List GroupValue). Hold l (drop s.core.synced s.core.log)) parts.1 h.waiting) in
+    let o = oldest base tables s group parts.0 sound parts.1 h in
     let long : length s.kept.records ≡ s.core.synced = ap (λ (l : List Record). length l) h.records ∙ length-take-le s.core.synced s.core.log sound.synced_within in
     in_turn group.first (length s.kept.records) (omega (arith, o.first, long)) where
       split : (l : List GroupValue) → slice_get l 0 ≡ Some group → (rest : List GroupValue) × (l ≡ group ∷ rest)
@@ -94,13 +101,14 @@ oldest_next base tables s group sound at h =
 -- ---- steps
 
 -- another core of the same log
-pub same_core : (base : List Entry) (tables : List Table) (s : State) (c : Source) → c.base ≡ s.core.base → c.tables ≡ s.core.tables → c.log ≡ s.core.log → c.owners ≡ s.core.owners → c.synced ≡ s.core.synced
+pub same_core : (base : List Entry) (tables : List Table) (s : State) (c : Source) → c.base ≡ s.core.base → c.tables ≡ s.core.tables → c.log ≡ s.core.log → c.owners ≡ s.core.owners → c.synced ≡ s.core.synced → c.group_sizes ≡ s.core.group_sizes
     → c.committed ≡ s.core.committed → (c.halted ≡ false → s.core.halted ≡ false) → IsSettled base tables s → IsSettled base tables (record s { core = c })
-same_core base tables s c base_is tables_is log owners synced committed halted h = record {
+same_core base tables s c base_is tables_is log owners synced sizes committed halted h = record {
   base_is = base_is ∙ h.base_is;
   tables_is = tables_is ∙ h.tables_is;
   records = h.records ∙ sym (λ i. take (synced i) (log i));
   waiting = subst (Hold s.ring) (sym (λ i. drop (synced i) (log i))) h.waiting;
+  sizes = sizes ∙ h.sizes;
   prepared = h.prepared;
   ready = IfSome_then s.home h.ready (λ t ready e. subst (λ (n : ℕ). IsReady n t) (sym synced) (ready (halted e)));
   placed = h.placed;
@@ -117,6 +125,7 @@ emptied base tables s k h = record {
   tables_is = h.tables_is;
   records = h.records;
   waiting = h.waiting;
+  sizes = h.sizes;
   prepared = h.prepared;
   ready = h.ready;
   placed = placed_none s.history 1 s.places k h.placed;
@@ -133,6 +142,7 @@ home_settled base tables s t ready h = record {
   tables_is = h.tables_is;
   records = h.records;
   waiting = h.waiting;
+  sizes = h.sizes;
   prepared = h.prepared;
   ready = ready;
   placed = h.placed;
@@ -149,6 +159,7 @@ failed_settled base tables s t h = record {
   tables_is = h.tables_is;
   records = h.records;
   waiting = h.waiting;
+  sizes = h.sizes;
   prepared = h.prepared;
   ready = λ e. absurd cc;
   placed = h.placed;
@@ -178,6 +189,7 @@ flushed_settled base tables s c group sound f h =
       tables_is = h.tables_is;
       records = h.records ∙ sym (take-append-le core.synced core.log f.made sound.synced_within);
       waiting = subst (Hold (s.ring ++ group ∷ [])) (sym behind) (hold_push s.ring (drop core.synced core.log) group f.made h.waiting f.group_of);
+      sizes = ap (λ (k : Source). k.group_sizes) (sym f.leaves) ∙ group_is_counted core c group sound f ∙ ap (λ (l : List ℕ). l ++ size_of group ∷ []) h.sizes ∙ sym (map-append size_of s.ring (group ∷ []));
       prepared = IfSome_then s.kept.prepared h.prepared (λ first at. front_push s.ring first group at);
       ready = h.ready;
       placed = h.placed;
@@ -200,6 +212,7 @@ departed base tables s group at h = record {
   tables_is = h.tables_is;
   records = h.records;
   waiting = h.waiting;
+  sizes = h.sizes;
   prepared = at;
   ready = tt;
   placed = h.placed;
@@ -213,12 +226,13 @@ departed base tables s group at h = record {
 pub landed_settled : (base : List Entry) (tables : List Table) (s : State) (t : Tail) (group : GroupValue) (groups : List GroupValue) → IsSound s.core → s.ring ≡ group ∷ groups → (s.core.halted ≡ false → IsReady group.last t) → IsSettled base tables s
     → IsSettled base tables (landed group (with_home t s))
 landed_settled base tables s t group groups sound ring ready h =
-    let at = oldest s.core group groups sound (subst (λ (l : List GroupValue). Hold l (drop s.core.synced s.core.log)) ring h.waiting) in
+    let at = oldest base tables s group groups sound ring h in
     record {
       base_is = h.base_is;
       tables_is = h.tables_is;
       records = refl;
       waiting = subst (λ (l : List GroupValue). Hold l (drop group.last s.core.log)) (sym (ap (drop 1) ring)) at.rest;
+      sizes = at.sizes ∙ sym (ap (λ (l : List GroupValue). map size_of (drop 1 l)) ring);
       prepared = tt;
       ready = ready;
       placed = h.placed;
@@ -238,11 +252,11 @@ pub landed_is : (base : List Entry) (tables : List Table) (s : State) (t : Tail)
     → s.kept.prepared ≡ Some group → c ≡ with_synced s.core group.last → ((g : GroupValue) (rs : List Record) → s.kept.prepared ≡ Some g → AreRecordsOf g rs → k ≡ confirmed g rs s.kept)
     → record s { core = c; kept = k; home = Some t; ring = groups } ≡ landed group (with_home t s)
 landed_is base tables s t group groups c k sound h ring p core confirms =
-    let at = oldest s.core group groups sound (subst (λ (l : List GroupValue). Hold l (drop s.core.synced s.core.log)) ring h.waiting) in
+    let at = oldest base tables s group groups sound ring h in
     let its = drop s.core.synced (take group.last s.core.log) in
     let all : s.kept.records ++ its ≡ take group.last s.core.log = ap (λ (l : List Record). l ++ its) h.records ∙ parts s.core.synced group.last s.core.log at.later in
     let kept : k ≡ record s.kept { records = take group.last s.core.log; groups = s.kept.groups ++ group ∷ []; prepared = None } =
-    confirms group its p at.is_oldest ∙ (λ i. record s.kept { records = all i; groups = s.kept.groups ++ group ∷ []; prepared = None }) in
+    confirms group its p at.is_oldest.are ∙ (λ i. record s.kept { records = all i; groups = s.kept.groups ++ group ∷ []; prepared = None }) in
     let rest : groups ≡ drop 1 s.ring = sym (ap (drop 1) ring) in
     λ i. record s { core = core i; kept = kept i; home = Some t; ring = rest i }
 
@@ -263,7 +277,7 @@ pub taken_back : (base : List Entry) (tables : List Table) (s : State) (t : Tail
     → IsReady s.core.synced t
 taken_back base tables s t sound h some waiting =
     let f = prepared_first base tables s (λ group. group.first ≡ t.last + 1) h some in
-    let at = oldest s.core f.0 f.1 sound (subst (λ (l : List GroupValue). Hold l (drop s.core.synced s.core.log)) f.3 h.waiting) in
+    let at = oldest base tables s f.0 f.1 sound f.3 h in
     record { waiting = waiting; last = omega (arith, f.4, at.first) }
 
 -- the fault of a writer that comes with the expected group
@@ -301,6 +315,7 @@ given_settled base tables s c places history is placed long history_is h =
       tables_is = h.tables_is;
       records = h.records;
       waiting = h.waiting;
+      sizes = h.sizes;
       prepared = h.prepared;
       ready = h.ready;
       placed = placed;
@@ -327,6 +342,7 @@ watch_settled base tables s w watch h = record {
   tables_is = h.tables_is;
   records = h.records;
   waiting = h.waiting;
+  sizes = h.sizes;
   prepared = h.prepared;
   ready = h.ready;
   placed = h.placed;
@@ -351,6 +367,7 @@ new_settled core log kept t ring places out history watch is both halves no_reco
       tables_is = refl;
       records = records ∙ sym new.0;
       waiting = subst (λ (l : List GroupValue). Hold l (drop core.synced core.log)) (sym none) new.1;
+      sizes = ap (λ (c : Source). c.group_sizes) is ∙ sym (ap (map size_of) none);
       prepared = subst (λ (o : Option GroupValue). IfSome o (λ group. slice_get ring 0 ≡ Some group)) (sym prepared) tt;
       ready = λ e. record { waiting = none_waits kept t halves prepared; last = halves.last ∙ ap length records ∙ sym new.2 };
       placed = rw no_places (none_placed history 1 256);

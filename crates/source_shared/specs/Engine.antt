@@ -1,5 +1,5 @@
 -- What lies under the engine lock, and what is true of it each time that the lock is taken.
-use Rattle.std.specs.Prelude.{◌≡◌, ◌≢◌, ◌⊎◌, ℕ, ◌+◌, ◌-◌, ◌≤◌, nat_le, nat_lt, count_by, find, ◌==◌, ◌&&◌, ◌||◌, not, if◌then◌else◌, Bool, true, false, List, [], ◌∷◌, ◌++◌, length, take, drop, replicate, slice_get, slice_set, slice_index_or, Option, Some, None, is_some, is_none, IfSome, IsSome, Result, Ok, Err, OnOk, OnErr, IsErrOf}
+use Rattle.std.specs.Prelude.{◌≡◌, ◌≢◌, ◌⊎◌, ℕ, ◌+◌, ◌-◌, ◌≤◌, nat_le, nat_lt, count_by, find, ◌==◌, ◌&&◌, ◌||◌, not, if◌then◌else◌, Bool, true, false, List, [], ◌∷◌, ◌++◌, length, map, take, drop, replicate, slice_get, slice_set, slice_index_or, Option, Some, None, is_some, is_none, IfSome, IsSome, Result, Ok, Err, OnOk, OnErr, IsErrOf}
 use Rattle.std.specs.List.{flat_map, AllByRecursion}
 use Rattle.schema.specs.declared.Table.{Table}
 use Rattle.store_trait.specs.Batch.{Entry}
@@ -13,7 +13,7 @@ use Rattle.source_core.specs.declared.fault.SourceFault.{SourceFault}
 use Rattle.source_core.specs.declared.fault.SourceFault.TheVariants.{AlreadyOpen, Halted, Memory}
 use Rattle.source_core.specs.declared.transaction.Receipt.{Receipt}
 use Rattle.source_core.specs.Source.{Source}
-use Rattle.source_core.specs.Calls.{session_fault, queue_fault, queued, cause, receipts_for, receipts, receipt_as, begun, with_synced, all_committed, halted, Flushes}
+use Rattle.source_core.specs.Calls.{session_fault, queue_fault, queued, cause, receipts_for, receipts, receipt_as, begun, with_synced, all_committed, halted, Flushes, size_of}
 use Rattle.source_shared.specs.declared.engine.Due.{Due}
 use Rattle.source_shared.specs.declared.engine.Due.TheVariants.{Ended, Lead, Wait}
 use Rattle.source_shared.specs.Seat.{Seat}
@@ -82,6 +82,8 @@ pub record IsSettled (base : List Entry) (tables : List Table) (s : State) : Typ
   pub records : s.kept.records ≡ take s.core.synced s.core.log
   -- the groups that wait hold what is flushed and not synced
   pub waiting : Hold s.ring (drop s.core.synced s.core.log)
+  -- as they were flushed
+  pub sizes : s.core.group_sizes ≡ map size_of s.ring
   -- the oldest of them is the one that is prepared, if one is
   pub prepared : IfSome s.kept.prepared (λ group. slice_get s.ring 0 ≡ Some group)
   pub ready : IfSome s.home (λ t. s.core.halted ≡ false → IsReady s.core.synced t)

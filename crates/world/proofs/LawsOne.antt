@@ -15,7 +15,7 @@ use Rattle.record_codec.specs.Log.{after}
 use Rattle.record_codec.specs.Spelling.{spelling}
 use Rattle.source_core.specs.declared.fault.SourceFault.TheVariants as source
 use Rattle.source_core.specs.Source.{Source, seen_row}
-use Rattle.source_core.specs.Calls.{begin_fault, write_fault, read_fault, prepare_fault, prepare_answer, queue_fault, abort_fault, halted_fault, AreRecordsOf, seen_log}
+use Rattle.source_core.specs.Calls.{begin_fault, write_fault, read_fault, prepare_fault, prepare_answer, queue_fault, abort_fault, halted_fault, AreNextRecords, seen_log}
 use Rattle.source_core.proofs.FlushLists.{all_push, all_by}
 use Rattle.log_file.specs.Text.{text}
 use Rattle.world.specs.declared.events.Event.{Event}
@@ -127,15 +127,15 @@ module _ (setup : Setup) (log other : List Record) (past : Past) (agree : Agree 
   none_more : (reply answer : Reply) → reply ≡ answer → FlushedAlike log other ((events.Flush, answer) ∷ past) → FlushedAlike log other ((events.Flush, reply) ∷ past)
   none_more reply answer is same = subst (λ (r : Reply). FlushedAlike log other ((events.Flush, r) ∷ past)) (sym is) same
 
-  same_group : (sessions : List ℕ) → AreRecordsOf (source_at setup log past) (seen_log (source_at setup log past)) sessions (next_records log past) →
-      AreRecordsOf (source_at setup other past) (seen_log (source_at setup other past)) sessions (next_records other past) → next_records log past ≡ next_records other past
+  same_group : (sessions : List ℕ) → AreNextRecords (source_at setup log past) (seen_log (source_at setup log past)) sessions (next_records log past) →
+      AreNextRecords (source_at setup other past) (seen_log (source_at setup other past)) sessions (next_records other past) → next_records log past ≡ next_records other past
   same_group sessions m o =
       let f = flushed past in
       let n = length (queue past) in
       let left = subst (λ (l : List Record). MayStand setup.tables (loaded setup.base) l) (in_three f n log) agree.stands in
       let cut = subst (λ (l : List Record). MayStand setup.tables (loaded setup.base) l) (in_three f n other) agree.other_stands in
       let right = subst (λ (l : List Record). MayStand setup.tables (loaded setup.base) (l ++ (next_records other past ++ drop n (drop f other)))) (sym agree.same) cut in
-      let theirs = subst (λ (s : Source). AreRecordsOf s (seen_log s) sessions (next_records other past)) (sym same_source) o in
+      let theirs = subst (λ (s : Source). AreNextRecords s (seen_log s) sessions (next_records other past)) (sym same_source) o in
       one_group setup.tables (loaded setup.base) (source_at setup log past) (take f log) (seen_log (source_at setup log past)) sessions
       (next_records log past) (next_records other past) (drop n (drop f log)) (drop n (drop f other)) left right m theirs
 

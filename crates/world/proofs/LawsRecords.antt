@@ -14,7 +14,7 @@ use Rattle.log_index.specs.declared.Entry.{Entry as Seen}
 use Rattle.log_index.specs.Footprint.{footprint_of}
 use Rattle.tracker_trait.specs.Parent.{dependency_of}
 use Rattle.source_core.specs.Source.{Source, Open, entry_of}
-use Rattle.source_core.specs.Calls.{parent_of_phase, IsRecordOf, AreRecordsOf}
+use Rattle.source_core.specs.Calls.{parent_of_phase, IsNextRecord, AreNextRecords}
 use Rattle.world.proofs.LawsRefs.{rising_is_one}
 
 -- a log that a source over these rows may have
@@ -28,7 +28,7 @@ spelled_at (r ∷ front) next rest all = spelled_at front next rest all.1
 
 -- the next record behind one log, of one session
 one_record : (ts : List Table) (base : Database) (s : Source) (front : List Record) (before : List Seen) (session : ℕ) (made other : Record) → IsLegalNext ts base front made → IsLegalNext ts base front other →
-    HasSpelling made → HasSpelling other → IsRecordOf s before session made → IsRecordOf s before session other → made ≡ other
+    HasSpelling made → HasSpelling other → IsNextRecord s before session made → IsNextRecord s before session other → made ≡ other
 one_record ts base s front before session made other a b spelled other_spelled m o =
     let t : m.t ≡ o.t = same_Some m.t o.t (sym m.is ∙ o.is) in
     let changes : made.changes ≡ other.changes = m.changes ∙ ap (λ (x : Open). x.changes) t ∙ sym o.changes in
@@ -47,7 +47,7 @@ one_record ts base s front before session made other a b spelled other_spelled m
 
 -- the next records behind one log, of one queue
 pub one_group : (ts : List Table) (base : Database) (s : Source) (front : List Record) (before : List Seen) (sessions : List ℕ) (made others rest other_rest : List Record) →
-    MayStand ts base (front ++ (made ++ rest)) → MayStand ts base (front ++ (others ++ other_rest)) → AreRecordsOf s before sessions made → AreRecordsOf s before sessions others → made ≡ others
+    MayStand ts base (front ++ (made ++ rest)) → MayStand ts base (front ++ (others ++ other_rest)) → AreNextRecords s before sessions made → AreNextRecords s before sessions others → made ≡ others
 one_group ts base s front before [] [] [] rest other_rest left right m o = refl
 one_group ts base s front before [] [] (y ∷ others) rest other_rest left right m o = absurd o
 one_group ts base s front before [] (x ∷ made) others rest other_rest left right m o = absurd m
@@ -60,6 +60,6 @@ one_group ts base s front before (session ∷ sessions) (x ∷ made) (y ∷ othe
     let next_left = subst (λ (l : List Record). MayStand ts base l) (sym (append_assoc front (x ∷ []) (made ++ rest))) left in
     let from_x = subst (λ (r : Record). MayStand ts base (front ++ r ∷ (others ++ other_rest))) (sym same) right in
     let next_right = subst (λ (l : List Record). MayStand ts base l) (sym (append_assoc front (x ∷ []) (others ++ other_rest))) from_x in
-    let behind_x = subst (λ (r : Record). AreRecordsOf s (before ++ entry_of s.tables r session ∷ []) sessions others) (sym same) o.1 in
+    let behind_x = subst (λ (r : Record). AreNextRecords s (before ++ entry_of s.tables r session ∷ []) sessions others) (sym same) o.1 in
     let more : made ≡ others = one_group ts base s (front ++ x ∷ []) (before ++ entry_of s.tables x session ∷ []) sessions made others rest other_rest next_left next_right m.1 behind_x in
     (λ i. same i ∷ more i)

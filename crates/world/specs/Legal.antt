@@ -17,7 +17,7 @@ use Rattle.source_core.specs.declared.fault.SourceFault.TheVariants as source
 use Rattle.log_file.specs.declared.fault.LogFault.TheVariants as log_file
 use Rattle.log_file.specs.Text.{text}
 use Rattle.source_core.specs.Source.{Source, seen_row}
-use Rattle.source_core.specs.Calls.{begin_fault, write_fault, read_fault, prepare_fault, prepare_answer, queue_fault, abort_fault, halted_fault, AreRecordsOf, seen_log}
+use Rattle.source_core.specs.Calls.{begin_fault, write_fault, read_fault, prepare_fault, prepare_answer, queue_fault, abort_fault, halted_fault, AreNextRecords, seen_log}
 use Rattle.tracker_trait.specs.Kind.{Kind}
 use Rattle.relay.specs.declared.ReplicaFault.TheVariants as replica
 use Rattle.replica_core.specs.Replica.{Replica}
@@ -43,6 +43,10 @@ pub record Setup : Type 0 where
 abbrev pub rows_after : Setup → List Record → ℕ → Option Database
 rows_after setup log n = after setup.tables (loaded setup.base) (take n log)
 
+-- how many records lie from one number to another
+abbrev pub size_between : ℕ × ℕ → ℕ
+size_between ends = ends.1 + 1 - ends.0
+
 -- the source, as the pairs so far and the log say that it stands
 abbrev pub source_at : Setup → List Record → Past → Source
 source_at setup log past = record {
@@ -56,6 +60,7 @@ source_at setup log past = record {
   owners = owners past;
   sessions = transactions past;
   queue = queue past;
+  group_sizes = map size_between (unsynced past);
   halted = halted past;
 }
 
@@ -93,7 +98,7 @@ FlushAnswers setup log past true sessions reply = reply ≡ replies.Source sourc
 FlushAnswers setup log past false [] reply = reply ≡ replies.Nothing
 FlushAnswers setup log past false (first ∷ rest) reply =
     (reply ≡ replies.Flushed (flushed past + 1) (map stamp_of (next_records log past)))
-    × AreRecordsOf (source_at setup log past) (seen_log (source_at setup log past)) (first ∷ rest) (next_records log past)
+    × AreNextRecords (source_at setup log past) (seen_log (source_at setup log past)) (first ∷ rest) (next_records log past)
 
 -- A halted source refuses. Else `nothing` exactly where no group is flushed and not synced; else the oldest of these is
 -- on the log, or the log's device failed, and the source is halted from then on.

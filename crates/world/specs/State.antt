@@ -7,6 +7,7 @@ use Rattle.record_codec.specs.declared.records.Record.{Record}
 use Rattle.record_codec.specs.Group.{GroupValue, Hold}
 use Rattle.record_codec.specs.Log.{after}
 use Rattle.source_core.specs.Source.{Source, IsSound}
+use Rattle.source_core.specs.Calls.{size_of}
 use Rattle.schema.specs.declared.Table.{Table}
 use Rattle.store_trait.specs.Batch.{Entry}
 use Rattle.executor.specs.declared.Job.{Job}
@@ -42,11 +43,13 @@ pub record IsSource (s : Source) : Type 0 where
 
 -- The wire of a source with this log, of which so many records are synced: these are the log file's, and its groups hold
 -- them; the groups that wait hold the rest. The source is halted where the log file failed; where it did not, no group is
--- in it that waits for its sync. What came over the wire is a beginning of the synced log.
-pub record IsWire (log : List Record) (synced_ : ℕ) (halted_ : Bool) (accepted_ : List Record) (wire : Wire) : Type 0 where
+-- in it that waits for its sync. The groups that wait are as they were flushed. What came over the wire is a beginning of the
+-- synced log.
+pub record IsWire (log : List Record) (synced_ : ℕ) (sizes_ : List ℕ) (halted_ : Bool) (accepted_ : List Record) (wire : Wire) : Type 0 where
   pub on_log : Hold wire.log.groups (take synced_ log)
   pub records : wire.log.records ≡ take synced_ log
   pub waiting : Hold wire.waiting (drop synced_ log)
+  pub sizes : sizes_ ≡ map size_of wire.waiting
   pub failed : wire.log.failed ≡ halted_
   pub ready : wire.log.failed ≡ false → wire.log.waiting ≡ None
   pub front : accepted_ ≡ take (length accepted_) log
@@ -82,7 +85,7 @@ pub record IsShown {R : Type 0} (contents : R → Database) (ts : List Table) (b
 -- What is true of every world, whatever came before.
 pub record IsWorld {R : Type 0} (contents : R → Database) (w : World R) : Type 0 where
   pub source : IsSource w.source
-  pub wire : IsWire w.source.log w.source.synced w.source.halted w.replica.accepted w.wire
+  pub wire : IsWire w.source.log w.source.synced w.source.group_sizes w.source.halted w.replica.accepted w.wire
   pub replica : IsReplica w.source.tables w.source.base w.wire.log.source w.replica.tables w.replica.base w.replica.source w.replica.stopped
   pub jobs : HasJobs w.replica w.jobs
   pub readers : IsShown contents w.replica.tables w.replica.base w.replica.accepted w.replica.committed w.replica.published w.shown

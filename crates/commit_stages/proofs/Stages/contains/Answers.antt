@@ -8,5 +8,5 @@ pub returns : goal.returns
 returns c =
     c.contains.ensures.value
     ∙ ap (λ (l : List ℕ). list_any (λ y. nat_eq y c.args.session) l) c.deref.ensures.value
-    ∙ found _ _ _ c.args.session c.self.invariant.in_order
+    ∙ found _ _ _ c.self.inside.sizes.items c.args.session c.self.invariant.0.in_order
     ∙ ap (λ (q : Queues). is_waiting q c.args.session) c.self.view_is
