@@ -9,8 +9,8 @@ pub record Line : Type 0 where
   pub places : List (Option Finished)
 
 -- the place of the record of this gno
-abbrev pub place_of : Line → ℕ → Option Finished
-place_of line gno = slice_index_or line.places (gno - line.first) None
+abbrev pub result_at : Line → ℕ → Option Finished
+result_at line gno = slice_index_or line.places (gno - line.first) None
 
 abbrev pub entered : Line → Line
 entered line = record { first = line.first; places = line.places ++ None ∷ [] }

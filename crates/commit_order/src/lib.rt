@@ -5,7 +5,7 @@
 #![tactic(auto)]
 
 ghost use Rattle.std.specs.Prelude.{◌≡◌, ◌+◌, ◌-◌, ◌<◌, ◌≤◌, [], length, None, IfOk, IfSome, option_copied, is_some, if◌then◌else◌};
-ghost use Rattle.commit_order.specs.Turns.{place_of, entered, with_result, turn, passed};
+ghost use Rattle.commit_order.specs.Turns.{result_at, entered, with_result, turn, passed};
 
 use executor::JobResult;
 use schema::Memory;
@@ -63,7 +63,7 @@ impl Turns {
     pub fn finish(&mut self, done: JobResult)
         requires entered { self.old.first ≤ done.job.gno }
         requires there { done.job.gno < self.old.first + length self.old.places }
-        requires free { place_of self.old done.job.gno ≡ None }
+        requires free { result_at self.old done.job.gno ≡ None }
         ensures { self.new ≡ with_result self.old done }
     {
         let place = self.place(done.job().gno);
@@ -73,7 +73,7 @@ impl Turns {
     /// Whether the record of this gno has its result. It takes no memory.
     pub fn is_finished(&self, gno: u64) -> bool
         requires entered { self.now.first ≤ gno }
-        ensures { result ≡ is_some (place_of self.now gno) }
+        ensures { result ≡ is_some (result_at self.now gno) }
     {
         matches!(self.places.get(self.place(gno)), Some(Some(_)))
     }

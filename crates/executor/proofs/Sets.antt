@@ -1,25 +1,15 @@
--- Lists of row ids as sets: the test of two of them, and what a search in a sorted one finds.
-use Rattle.std.proofs.Common.{◌≡◌, sym, ap, ◌∙◌, refl, arith, ℕ, zero, suc, ◌<◌, ◌≤◌, Bool, true, false, ◌&&◌, List, [], ◌∷◌, length, get_or, Result, Ok, Err, is_ok, Ordering, Less, Equal, Greater, is_lt, inl, inr, IsPermutation, true≢false, add-one}
+-- Lists of row ids as sets: the test of two of them.
+use Rattle.std.proofs.Common.{◌≡◌, sym, ap, ◌∙◌, refl, Bool, true, false, ◌&&◌, List, [], ◌∷◌, inl, inr, IsPermutation, true≢false}
 use Rattle.std.specs.List.{list_all}
-use Rattle.std.specs.List.Sorted.{IsSorted, IsBinarySearchResult, IsSearchInRange}
-use Rattle.std.specs.Ordering.{ordering_reverse}
 use Rattle.std.proofs.lemmas.Bool.{and_from, and_parts, or_cases, or_left, or_right}
-use Rattle.std.proofs.lemmas.Bool.{cases_lt}
-use Rattle.std.proofs.lemmas.Cmp.{tied_itself}
-use Rattle.std.proofs.lemmas.List.Folds.{list_any_at}
-use Rattle.std.proofs.lemmas.List.Sorted.{list_any-IsPermutation, searchable_from_sorted}
+use Rattle.std.proofs.lemmas.List.Sorted.{list_any-IsPermutation}
 use Rattle.schema.specs.declared.RowId.{RowId}
-use Rattle.schema.specs.RowId.{row_cmp, row_total, same_row, exact_row}
+use Rattle.schema.specs.RowId.{same_row}
 use Rattle.schema.specs.Rows.{has_row, SameRows}
 use Rattle.rows.proofs.Apply.{row_is, same_row_itself}
-use Rattle.record_codec.specs.Record.{is_rising}
+use Rattle.record_codec.proofs.Searching.{both_or_none}
 use Rattle.executor.specs.Job.{same_rows}
 use Rattle.executor.specs.Laws.{TellsSets}
-
-both_or_none : (a b : Bool) → (a ≡ true → b ≡ true) → (b ≡ true → a ≡ true) → a ≡ b
-both_or_none true b h g = sym (h refl)
-both_or_none false true h g = g refl
-both_or_none false false h g = refl
 
 -- ---- two lists that are one set
 
@@ -53,56 +43,6 @@ same_for_moved refs rows moved moves =
     both_or_none (same_rows refs moved) (same_rows refs rows)
     (λ h. (tells_sets refs rows).1 (λ q. (tells_sets refs moved).0 h q ∙ sym (alike q)))
     (λ h. (tells_sets refs moved).1 (λ q. (tells_sets refs rows).0 h q ∙ alike q))
-
--- ---- a search
-
--- a row that no row of the list is
-absent : (rows : List RowId) (q : RowId) → ((k : ℕ) (d : RowId) → k < length rows → get_or rows k d ≡ q → ⊥) → has_row rows q ≡ false
-absent [] q none = refl
-absent (row ∷ rows) q none =
-    both_or_none (has_row (row ∷ rows) q) false
-    (λ is. elim (or_cases (same_row q row) (has_row rows q) is) [
-      | inl here ↦ absurd (none 0 q (omega arith) (sym (row_is q row here)))
-      | inr there ↦ sym (absent rows q (λ k d lt. none (suc k) d (omega arith))) ∙ there
-    ])
-    (λ is. absurd (true≢false (sym is)))
-
-less_or_greater : (a b : RowId) → row_cmp a b ≡ Equal → (row_cmp a b ≡ Less → ⊥) × (row_cmp a b ≡ Greater → ⊥)
-less_or_greater a b e = (λ l. cc, λ g. cc)
-
--- a search finds a row exactly where it is among the rows
-pub is_found : (rows : List RowId) (q : RowId) (r : Result ℕ ℕ) → IsSorted row_cmp rows → IsSearchInRange r (length rows) → IsBinarySearchResult (λ y. row_cmp y q) rows r → is_ok r ≡ has_row rows q
-is_found rows q (Ok at) sorted within found =
-    sym (list_any_at (same_row q) rows at q within (ap (same_row q) (exact_row (get_or rows at q) q (found q)) ∙ same_row_itself q))
-is_found rows q (Err at) sorted within found =
-    let point = found (searchable_from_sorted row_total (λ (y : RowId). y) rows q sorted) in
-    let tied : (k : ℕ) (d : RowId) → get_or rows k d ≡ q → row_cmp (get_or rows k d) q ≡ Equal = λ k d e. ap (λ y. row_cmp y q) e ∙ row_total_itself q in
-    sym (absent rows q (λ k d lt e. by_place (at) k (λ before. (less_or_greater (get_or rows k d) q (tied k d e)).0 (point.0 k d (omega arith) before)) (λ behind. (less_or_greater (get_or rows k d) q (tied k d e)).1 (point.1 k d behind lt))))
-  where
-    row_total_itself : (q : RowId) → row_cmp q q ≡ Equal
-    row_total_itself q = tied_itself row_total q
-
-    by_place : (at k : ℕ) → (k < at → ⊥) → (at ≤ k → ⊥) → ⊥
-    by_place at k before behind = elim (cases_lt k at) [ inl lt ↦ before lt | inr le ↦ behind le ]
-
--- ---- rising rows
-
-not_back : (a b : RowId) → row_cmp a b ≡ Less → is_lt (row_cmp b a) ≡ false
-not_back a b less = ap is_lt (row_total.antisymm b a ∙ ap ordering_reverse less)
-
-is_less : (o : Ordering) → is_lt o ≡ true → o ≡ Less
-is_less Less h = refl
-is_less Equal h = cc
-is_less Greater h = cc
-
-neighbors : (rows : List RowId) → is_rising rows ≡ true → (k : ℕ) (d : RowId) → suc k < length rows → is_lt (row_cmp (get_or rows (suc k) d) (get_or rows k d)) ≡ false
-neighbors [] h k d lt = absurd (omega arith)
-neighbors (a ∷ []) h k d lt = absurd (omega arith)
-neighbors (a ∷ b ∷ rows) h zero d lt = not_back a b (is_less (row_cmp a b) (and_parts (is_lt (row_cmp a b)) (is_rising (b ∷ rows)) h).0)
-neighbors (a ∷ b ∷ rows) h (suc k) d lt = neighbors (b ∷ rows) (and_parts (is_lt (row_cmp a b)) (is_rising (b ∷ rows)) h).1 k d (omega arith)
-
-pub rising_is_sorted : (rows : List RowId) → is_rising rows ≡ true → IsSorted row_cmp rows
-rising_is_sorted rows h k d from lt = rw (add-one k) (neighbors rows h k d (omega arith))
 
 -- ---- both searches
 

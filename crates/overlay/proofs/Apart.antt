@@ -6,10 +6,10 @@ use Rattle.std.specs.List.{AllByRecursion}
 use Rattle.std.specs.Option.{option_or}
 use Rattle.std.specs.FinMap.{get, find, same_map}
 use Rattle.std.proofs.lemmas.Bool.{cases_Bool, or_parts}
-use Rattle.std.proofs.lemmas.List.Folds.{list_any-append}
 use Rattle.std.proofs.lemmas.Option.{same_Some}
 use Rattle.schema.specs.declared.Table.{Table}
 use Rattle.schema.specs.declared.RowId.{RowId}
+use Rattle.schema.proofs.Conflicts.{none_of_both}
 use Rattle.schema.specs.RowId.{row_cmp, same_row, exact_row, row_total}
 use Rattle.schema.specs.Rows.{has_row, meets}
 use Rattle.rows.specs.Database.{Database, writes, effect, kin}
@@ -52,14 +52,6 @@ unwritten {after = after} f q none = left_at-Follows f q ∙ ap (λ b. cond b (S
 left_by_later : {ts : List Table} {db : Database} {earlier later : Pending} {after end : Database} → Follows ts db earlier after → Follows ts db later end → IsApart ts db earlier later → (q : RowId) → IsSome (left_at later q) → left_at earlier q ≡ None
 left_by_later {ts = ts} {db = db} {earlier = earlier} {later = later} f g apart q is =
     unwritten f q (not_of_first (writes earlier.changes) (writes later.changes ++ kin ts later.changes db) q apart (has_row-left (writes later.changes) (kin ts later.changes db) q (written g q is)))
-
-none_of_both : (xs ys zs : List RowId) → meets xs ys ≡ false → meets xs zs ≡ false → meets xs (ys ++ zs) ≡ false
-none_of_both [] ys zs first second = refl
-none_of_both (x ∷ xs) ys zs first second =
-    let one = or_parts (has_row ys x) (meets xs ys) first in
-    let other = or_parts (has_row zs x) (meets xs zs) second in
-    (λ i. list_any-append (same_row x) ys zs i || meets xs (ys ++ zs))
-    ∙ (λ i. (one.0 i || other.0 i) || none_of_both xs ys zs one.1 other.1 i)
 
 pub apart_without_conflict : ApartWithoutConflict
 apart_without_conflict ts db earlier later none =

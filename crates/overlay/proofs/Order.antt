@@ -1,38 +1,28 @@
 -- The rows of an `IndexMap`, and the same in the order of row ids.
-use Rattle.std.proofs.Common.{true≢false, Result, Ok, Err, IsOk, OnOk, ◌≡◌, IsPermutation, IsSortedByKey, sym, ap, subst, ◌∙◌, refl, Bool, ◌&&◌, cond, eqb, int_eq, List, [], ◌∷◌, ℤ, Option, Some, nat_cmp, int_cmp}
+use Rattle.std.proofs.Common.{true≢false, Result, Ok, Err, IsOk, OnOk, ◌≡◌, IsPermutation, IsSortedByKey, sym, subst, ◌∙◌, cond, List, ℤ, Option, Some}
 use Rattle.std.proofs.lemmas.Cmp.{on_equiv, and_equiv, nat_eq_equiv, int_eq_equiv}
 use Rattle.std.proofs.lemmas.List.Sorted.{IsPermutation-map}
 use Rattle.std.proofs.lemmas.Map.Keys.{IsDistinct-IsPermutation}
-use Rattle.std.specs.Cmp.{IsEquivalence, unsigned_tied, tied_then, eq_by_cmp_equiv}
+use Rattle.std.specs.Cmp.{IsEquivalence}
 use Rattle.std.specs.List.{IsDistinct}
 use Rattle.std.specs.Map.{lookup, keys_of}
-use Rattle.std.specs.FinMap.{find, put}
+use Rattle.std.specs.FinMap.{put}
 use Rattle.std.specs.FinMap.Entries.{find-put}
 use Rattle.indexmap.specs.IndexMap.{IndexMap, Updates}
 use Rattle.indexmap.proofs.MapLemmas.{lookup_permutation}
 use Rattle.schema.specs.declared.RowId.{RowId}
+use Rattle.schema.proofs.RowMaps.{row_eq, row_eq-same_row, turned, lookup-find}
 use Rattle.schema.specs.RowId.{row_cmp, same_row, row_total}
 use Rattle.store_trait.specs.Batch.{Entry, IsRising, in_order}
 use Rattle.store_trait.proofs.Batches.{find-in_order, in_order_rises, put_rises, same_batch}
 use Rattle.store_trait.proofs.Sorting.{sorted_rows_rise}
-
--- what `==` answers of two row ids
-abbrev pub row_eq : RowId → RowId → Bool
-row_eq a b = eqb a.table b.table && int_eq a.key b.key
-
-pub row_eq-same_row : (a b : RowId) → row_eq a b ≡ same_row a b
-row_eq-same_row a b = ap (λ t. t && int_eq a.key b.key) (sym (unsigned_tied a.table b.table)) ∙ tied_then (nat_cmp a.table b.table) (int_cmp a.key b.key)
-
-pub lookup-find : (es : List Entry) (q : RowId) → lookup (row_eq q) es ≡ find row_cmp q es
-lookup-find [] q = refl
-lookup-find (e ∷ es) q = λ i. cond (row_eq-same_row q e.0 i) (Some e.1) (lookup-find es q i)
 
 -- a key that an insert writes is put in its place
 pub in_order-updates : (es fs : List Entry) (k : RowId) (left : Option (List ℤ)) → ((q : RowId) → lookup (row_eq q) fs ≡ cond (row_eq k q) (Some left) (lookup (row_eq q) es)) → in_order fs ≡ put row_cmp k left (in_order es)
 in_order-updates es fs k left h =
     same_batch (in_order fs) (put row_cmp k left (in_order es)) (in_order_rises fs) (put_rises k left (in_order es) (in_order_rises es)) (λ q.
     find-in_order fs q ∙ sym (lookup-find fs q) ∙ h q
-    ∙ (λ i. cond ((row_eq-same_row k q ∙ (eq_by_cmp_equiv row_total).symm k q) i) (Some left) ((lookup-find es q ∙ sym (find-in_order es q)) i))
+    ∙ (λ i. cond (turned k q i) (Some left) ((lookup-find es q ∙ sym (find-in_order es q)) i))
     ∙ sym (find-put row_cmp row_total q k left (in_order es)))
 
 row_eq_equiv : IsEquivalence row_eq

@@ -8,8 +8,8 @@ use prog.Atomic.{either}
 use Rattle.logbook.specs.Pages.{Cell, cell, keeps, no_nib, step, Moves, Goes}
 use Rattle.store_trait.specs.declared.Op.{Op}
 use Rattle.published.specs.History.{CommitsFrom, IsHistory, commits_in}
-use Rattle.published.specs.Book.{joined, IsKept, Adds}
-use Rattle.published.proofs.Histories.{same_history, history_with, commits_in-with, prefix_joined, joined-snoc}
+use Rattle.published.specs.Book.{operations_of, CountsCommits, Adds}
+use Rattle.published.proofs.Histories.{same_history, history_with, commits_in-with, prefix_of_operations, operations_of-snoc}
 
 abbrev shown : List (List Op) → List (List Op)
 shown log = []
@@ -17,16 +17,16 @@ shown log = []
 abbrev moved : List (List Op) → List (List Op) → ℕ → Type 0
 moved xs ys n = Unit {0}
 
-adds_goes : (log v : List (List Op)) (ops : List Op) (old new : ℕ) (state : Option ℕ) → commits_in (joined v) ≡ old → IsHistory (joined v) → CommitsFrom (old + 1) ops → new ≡ old + length ops
-    → IsHistory (joined log) → IsPrefix v log → (b : Bool) → (commits_in (joined log) == old) ≡ b
-    → Goes IsKept shown moved 0 (v, (no_nib, state)) (λ n. either (n == old) new n) (Adds (step 0 old new ops) (v, (no_nib, state))) ((commits_in (joined log), true) ∷ []) log
+adds_goes : (log v : List (List Op)) (ops : List Op) (old new : ℕ) (state : Option ℕ) → commits_in (operations_of v) ≡ old → IsHistory (operations_of v) → CommitsFrom (old + 1) ops → new ≡ old + length ops
+    → IsHistory (operations_of log) → IsPrefix v log → (b : Bool) → (commits_in (operations_of log) == old) ≡ b
+    → Goes CountsCommits shown moved 0 (v, (no_nib, state)) (λ n. either (n == old) new n) (Adds (step 0 old new ops) (v, (no_nib, state))) ((commits_in (operations_of log), true) ∷ []) log
 adds_goes log v ops old new state number hv next size hlog pre true is =
-    let here : commits_in (joined log) ≡ old = grind (arith, nat_tests) in
-    let same : joined v ≡ joined log = same_history (joined v) (joined log) (prefix_joined v log pre) hv hlog (here ∙ sym number) in
-    let longer : joined (log ++ ops ∷ []) ≡ joined log ++ ops = joined-snoc log ops in
-    let more : IsHistory (joined log ++ ops) = history_with (joined log) ops hlog (subst (λ n. CommitsFrom (n + 1) ops) (sym here) next) in
-    let n : either (commits_in (joined log) == old) new (commits_in (joined log)) ≡ commits_in (joined (log ++ ops ∷ [])) =
-    rw is (size ∙ sym (ap commits_in longer ∙ commits_in-with (joined log) ops hlog ∙ ap (λ m. m + length ops) here)) in (
+    let here : commits_in (operations_of log) ≡ old = grind (arith, nat_tests) in
+    let same : operations_of v ≡ operations_of log = same_history (operations_of v) (operations_of log) (prefix_of_operations v log pre) hv hlog (here ∙ sym number) in
+    let longer : operations_of (log ++ ops ∷ []) ≡ operations_of log ++ ops = operations_of-snoc log ops in
+    let more : IsHistory (operations_of log ++ ops) = history_with (operations_of log) ops hlog (subst (λ n. CommitsFrom (n + 1) ops) (sym here) next) in
+    let n : either (commits_in (operations_of log) == old) new (commits_in (operations_of log)) ≡ commits_in (operations_of (log ++ ops ∷ [])) =
+    rw is (size ∙ sym (ap commits_in longer ∙ commits_in-with (operations_of log) ops hlog ∙ ap (λ m. m + length ops) here)) in (
       keeps,
       ops ∷ [],
       state,
@@ -37,26 +37,26 @@ adds_goes log v ops old new state number hv next size hlog pre true is =
     )
 adds_goes log v ops old new state number hv next size hlog pre false is =
     let all : log ++ [] ≡ log = append-nil log in
-    let n : either (commits_in (joined log) == old) new (commits_in (joined log)) ≡ commits_in (joined (log ++ [])) = rw is (ap (λ l. commits_in (joined l)) (sym all)) in (
+    let n : either (commits_in (operations_of log) == old) new (commits_in (operations_of log)) ≡ commits_in (operations_of (log ++ [])) = rw is (ap (λ l. commits_in (operations_of l)) (sym all)) in (
       keeps,
       [],
       state,
       tt,
-      record { words = ap (λ (k : ℕ). (k, true) ∷ []) n; history = subst (λ l. IsHistory (joined l)) (sym all) hlog },
+      record { words = ap (λ (k : ℕ). (k, true) ∷ []) n; history = subst (λ l. IsHistory (operations_of l)) (sym all) hlog },
       inl (refl, refl),
       rw is tt,
     )
 
 -- whatever the history is, the exchange adds the operations to all that was seen, or finds that there are more
-pub adds_moves : (v : List (List Op)) (ops : List Op) (old new : ℕ) (state : Option ℕ) → commits_in (joined v) ≡ old → IsHistory (joined v) → CommitsFrom (old + 1) ops → new ≡ old + length ops
-    → Moves IsKept shown moved 0 (v, (no_nib, state)) (λ n. either (n == old) new n) (Adds (step 0 old new ops) (v, (no_nib, state)))
+pub adds_moves : (v : List (List Op)) (ops : List Op) (old new : ℕ) (state : Option ℕ) → commits_in (operations_of v) ≡ old → IsHistory (operations_of v) → CommitsFrom (old + 1) ops → new ≡ old + length ops
+    → Moves CountsCommits shown moved 0 (v, (no_nib, state)) (λ n. either (n == old) new n) (Adds (step 0 old new ops) (v, (no_nib, state)))
 adds_moves v ops old new state number hv next size cs log kept pre away =
-    let P : List Cell → Type 0 = λ c. (0 < length c) × ((cell c 0).1 ≡ true) × Goes IsKept shown moved 0 (v, (no_nib, state)) (λ n. either (n == old) new n) (Adds (step 0 old new ops) (v, (no_nib, state))) c log in
-    subst P (sym kept.words) (omega arith, refl, adds_goes log v ops old new state number hv next size kept.history pre (commits_in (joined log) == old) refl)
+    let P : List Cell → Type 0 = λ c. (0 < length c) × ((cell c 0).1 ≡ true) × Goes CountsCommits shown moved 0 (v, (no_nib, state)) (λ n. either (n == old) new n) (Adds (step 0 old new ops) (v, (no_nib, state))) c log in
+    subst P (sym kept.words) (omega arith, refl, adds_goes log v ops old new state number hv next size kept.history pre (commits_in (operations_of log) == old) refl)
 
 -- where the number found was the one expected, the operations were added
-pub added : (found old : ℕ) (v w : List (List Op)) (ops : List Op) → found ≡ old → OnTrue (found == old) (joined w ≡ joined v ++ ops) → joined w ≡ joined v ++ ops
-added found old v w ops same told = subst (λ b. OnTrue b (joined w ≡ joined v ++ ops)) (eq-eqb found old same) told
+pub added : (found old : ℕ) (v w : List (List Op)) (ops : List Op) → found ≡ old → OnTrue (found == old) (operations_of w ≡ operations_of v ++ ops) → operations_of w ≡ operations_of v ++ ops
+added found old v w ops same told = subst (λ b. OnTrue b (operations_of w ≡ operations_of v ++ ops)) (eq-eqb found old same) told
 
 pub number_after : (v w ops : List Op) (old new : ℕ) → old ≡ commits_in v → IsHistory v → new ≡ old + length ops → w ≡ v ++ ops → new ≡ commits_in w
 number_after v w ops old new number hv is longer = is ∙ ap (λ n. n + length ops) number ∙ sym (ap commits_in longer ∙ commits_in-with v ops hv)

@@ -9,7 +9,7 @@ use mathlib.Core.List.{IsPrefix}
 use Rattle.store_trait.specs.declared.Op.{Op}
 use Rattle.store_trait.specs.declared.Op.TheVariants.{Load, Commit}
 use Rattle.published.specs.History.{CommitsFrom, IsHistory, commits_in}
-use Rattle.published.specs.Book.{joined}
+use Rattle.published.specs.Book.{operations_of}
 
 -- of two beginnings of one list the shorter begins the longer
 prefix_shorter : (xs ys zs : List Op) → IsPrefix xs zs → IsPrefix ys zs → length xs ≤ length ys → IsPrefix xs ys
@@ -30,12 +30,12 @@ prefix_whole (x ∷ xs) (y ∷ ys) p le =
     let rest = prefix_whole xs ys (p.0, cc (p.1)) (omega arith) in cc (p.1, rest)
 
 -- the operations of a beginning are a beginning of the operations
-pub prefix_joined : (v log : List (List Op)) → IsPrefix v log → IsPrefix (joined v) (joined log)
-prefix_joined v log p = (joined p.0, sym (flat_map-append (λ (part : List Op). part) v p.0) ∙ ap joined p.1)
+pub prefix_of_operations : (v log : List (List Op)) → IsPrefix v log → IsPrefix (operations_of v) (operations_of log)
+prefix_of_operations v log p = (operations_of p.0, sym (flat_map-append (λ (part : List Op). part) v p.0) ∙ ap operations_of p.1)
 
 -- one more part
-pub joined-snoc : (log : List (List Op)) (part : List Op) → joined (log ++ part ∷ []) ≡ joined log ++ part
-joined-snoc log part = flat_map-append (λ (p : List Op). p) log (part ∷ []) ∙ ap (λ l. joined log ++ l) (append-nil part)
+pub operations_of-snoc : (log : List (List Op)) (part : List Op) → operations_of (log ++ part ∷ []) ≡ operations_of log ++ part
+operations_of-snoc log part = flat_map-append (λ (p : List Op). p) log (part ∷ []) ∙ ap (λ l. operations_of log ++ l) (append-nil part)
 
 pub history_length : (ops : List Op) → IsHistory ops → length ops ≡ commits_in ops + 1
 history_length [] h = absurd h

@@ -7,17 +7,17 @@ use Rattle.store_trait.specs.declared.Op.{Op}
 use Rattle.published.specs.History.{IsHistory, commits_in}
 
 -- the operations of all parts
-abbrev pub joined : List (List Op) → List Op
-joined parts = flat_map (λ part. part) parts
+abbrev pub operations_of : List (List Op) → List Op
+operations_of parts = flat_map (λ part. part) parts
 
 -- the one word is the number of commits
-pub record IsKept (cells : List Cell) (log : List (List Op)) : Type 0 where
-  pub words : cells ≡ (commits_in (joined log), true) ∷ []
-  pub history : IsHistory (joined log)
+pub record CountsCommits (cells : List Cell) (log : List (List Op)) : Type 0 where
+  pub words : cells ≡ (commits_in (operations_of log), true) ∷ []
+  pub history : IsHistory (operations_of log)
 
 abbrev pub head_of : Book → Named
 head_of b = record { tracked = true; key = 0; book = b }
 
 -- where the number found was the one expected, the operations were added to all that had been seen
 abbrev pub Adds : Step (List Op) → View (List Op) ℕ → ℕ → View (List Op) ℕ → Type 0
-Adds s v found w = OnTrue (found == s.old) (joined w.0 ≡ joined v.0 ++ s.ask)
+Adds s v found w = OnTrue (found == s.old) (operations_of w.0 ≡ operations_of v.0 ++ s.ask)

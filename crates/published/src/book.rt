@@ -21,9 +21,9 @@ pub struct Law;
 impl Rule<Part, u64> for Law {
     ghost use Rattle.std.specs.Prelude.{[]};
     ghost use base.Fml.{ftrue};
-    ghost use Rattle.published.specs.Book.{IsKept};
+    ghost use Rattle.published.specs.Book.{CountsCommits};
 
-    ghost holds = { λ cells log. IsKept cells log };
+    ghost holds = { λ cells log. CountsCommits cells log };
 
     ghost first = { [] };
 
@@ -151,13 +151,13 @@ impl<J: Naming> Model for Notice<J> {
     ghost use Rattle.std.specs.Prelude.{◌≡◌, List};
     ghost use Rattle.store_trait.specs.declared.Op.{Op};
     ghost use Rattle.published.specs.History.{IsHistory, commits_in};
-    ghost use Rattle.published.specs.Book.{joined};
+    ghost use Rattle.published.specs.Book.{operations_of};
 
     ghost Value = { List Op };
 
-    ghost view = { λ n. joined n.seen.log };
+    ghost view = { λ n. operations_of n.seen.log };
 
-    ghost invariant = { λ n. (n.upto ≡ commits_in (joined n.seen.log)) × (n.seen.book ≡ J.book) × IsHistory (joined n.seen.log) };
+    ghost invariant = { λ n. (n.upto ≡ commits_in (operations_of n.seen.log)) × (n.seen.book ≡ J.book) × IsHistory (operations_of n.seen.log) };
 }
 
 impl<J: Naming> Notice<J> {

@@ -8,7 +8,7 @@ use Rattle.std.proofs.lemmas.Slice.Eq.{bytes_eq-Decides}
 use Rattle.schema.specs.declared.Table.{Table}
 use Rattle.rows.specs.Shape.{is_shaped}
 use Rattle.record_codec.specs.declared.records.Record.{Record}
-use Rattle.record_codec.specs.Log.{touched}
+use Rattle.record_codec.specs.Log.{touched, place_of}
 use Rattle.relay.specs.declared.ReplicaFault.{ReplicaFault}
 use Rattle.relay.specs.declared.ReplicaFault.TheVariants.{Gap, ForeignSource, Malformed, BadParent}
 use Rattle.relay.specs.declared.Received.{Received}
@@ -21,7 +21,7 @@ use Rattle.relay.specs.Touches.{Marks, Notes}
 use Rattle.relay.specs.Kept.{IsKept}
 use Rattle.gtid_set.specs.Ids.{Ids, first_ids, Adds}
 use Rattle.gtid_set.proofs.Firsts.{next}
-use Rattle.relay.proofs.Covered.{passed_covers, covers_passes}
+use Rattle.schema.proofs.Covers.{passed_covers, covers_passes}
 use Rattle.relay.proofs.Last.{one_more_kept}
 
 -- the answer by its tests
@@ -97,7 +97,7 @@ accepted_is_acceptable r from new e =
         sequence = eq_from new.sequence new.gno w.same ∙ gno;
         bound = lt_from new.gno (2 ^ 63) w.few;
         below = lt_from new.parent new.sequence w.below;
-        covers = passed_covers r.accepted (touched new) new.parent p.covered;
+        covers = passed_covers place_of r.accepted (touched new) new.parent p.covered;
         shaped = f.shaped;
         flags = f.flags;
         parents = f.parents;
@@ -130,7 +130,7 @@ acceptable_is_accepted r from new same is =
       malformed = well_formed_record r.tables r.accepted new is;
       skipped = above_to new.gno (length r.accepted) (omega (arith, is.gno));
       next = eq_to new.gno (length r.accepted + 1) is.gno;
-      covered = covers_passes r.accepted (touched new) new.parent is.covers;
+      covered = covers_passes place_of r.accepted (touched new) new.parent is.covers;
     })
 
 pub accepts_the_acceptable : AcceptsTheAcceptable

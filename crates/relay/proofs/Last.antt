@@ -20,7 +20,8 @@ use Rattle.relay.specs.Relay.{is_covered, IsAcceptable}
 use Rattle.relay.specs.Touches.{Marks, last_of, writes_row, touches_row, written_at, touched_at, touch_at, untouched, AreLastTouches, Notes, is_behind}
 use Rattle.relay.specs.Kept.{IsKept}
 use Rattle.relay.proofs.Numbers.{le_from, le_to}
-use Rattle.relay.proofs.Covered.{AreBehind, passed_covers, covers_passes}
+use Rattle.relay.proofs.Covered.{AreBehind}
+use Rattle.schema.proofs.Covers.{passed_covers, covers_passes}
 use Rattle.relay.proofs.Acceptable.{next_is_acceptable, empty_is_acceptable, are_behind}
 
 -- ---- one more record
@@ -180,12 +181,12 @@ alike false false f g = refl
 pub behind_covers : (log : List Record) (marks : Marks) (new : Record) → AreLastTouches log marks → is_behind marks new ≡ is_covered log new
 behind_covers log marks new last = alike (is_behind marks new) (is_covered log new) (λ h.
     let parts = and_parts (list_all (λ row. nat_le (touched_at marks row) new.parent) (writes new.changes)) (list_all (λ row. nat_le (written_at marks row) new.parent) new.refs) h in
-    covers_passes log (touched new) new.parent (under_covers log new (record {
+    covers_passes place_of log (touched new) new.parent (under_covers log new (record {
       written = λ q is. subst (λ n. n ≤ new.parent) (last.touched q) (all_le (touched_at marks) new.parent (writes new.changes) parts.0 q is);
       referred = λ q is. subst (λ n. n ≤ new.parent) (last.written q) (all_le (written_at marks) new.parent new.refs parts.1 q is);
     })))
     (λ h.
-    let under = covers_under log new (passed_covers log (touched new) new.parent h) in
+    let under = covers_under log new (passed_covers place_of log (touched new) new.parent h) in
     and_from (list_all (λ row. nat_le (touched_at marks row) new.parent) (writes new.changes)) (list_all (λ row. nat_le (written_at marks row) new.parent) new.refs)
     (le_all (touched_at marks) new.parent (writes new.changes) (λ q is. subst (λ n. n ≤ new.parent) (sym (last.touched q)) (under.written q is)))
     (le_all (written_at marks) new.parent new.refs (λ q is. subst (λ n. n ≤ new.parent) (sym (last.written q)) (under.referred q is))))

@@ -1,12 +1,11 @@
 -- The map of last touches as a finite map, and as rows are noted in it.
-use Rattle.std.proofs.Common.{◌≡◌, ◌∙◌, sym, ap, refl, ℕ, ◌+◌, ◌<◌, Bool, true, false, true≢false, ◌&&◌, ◌||◌, cond, eqb, int_eq, List, [], ◌∷◌, ◌++◌, length, take, get_or, Option, Some, Result, Ok, Err, IsOk, OnOk, unwrap_or, nat_cmp, int_cmp}
-use Rattle.std.specs.Cmp.{unsigned_tied, tied_then, eq_by_cmp_equiv}
-use Rattle.std.specs.Map.{lookup}
-use Rattle.std.specs.FinMap.{get, find, insert, from_entries, get-from_entries, get-insert, same_map}
+use Rattle.std.proofs.Common.{◌≡◌, ◌∙◌, sym, ap, refl, ℕ, ◌+◌, ◌<◌, Bool, true, false, true≢false, ◌||◌, cond, List, [], ◌∷◌, ◌++◌, length, take, get_or, Option, Some, Result, Ok, Err, IsOk, OnOk, unwrap_or}
+use Rattle.std.specs.FinMap.{get, insert, get-insert}
 use Rattle.std.proofs.lemmas.List.{take_more, map_push}
 use Rattle.indexmap.specs.IndexMap.{IndexMap, Updates}
 use Rattle.schema.specs.declared.RowId.{RowId}
-use Rattle.schema.specs.RowId.{row_cmp, same_row, row_total, exact_row}
+use Rattle.schema.proofs.RowMaps.{row_eq, rows_of, rows-set}
+use Rattle.schema.specs.RowId.{same_row, row_total}
 use Rattle.schema.specs.Rows.{has_row}
 use Rattle.rows.specs.declared.Change.{Change}
 use Rattle.rows.specs.Database.{target, writes}
@@ -16,34 +15,9 @@ use Rattle.relay.specs.Touches.{Marks, untouched, touch_at, written_at, touched_
 
 -- ---- the map
 
--- what `==` answers of two row ids
-abbrev pub row_eq : RowId → RowId → Bool
-row_eq a b = eqb a.table b.table && int_eq a.key b.key
-
-row_eq-same_row : (a b : RowId) → row_eq a b ≡ same_row a b
-row_eq-same_row a b = ap (λ t. t && int_eq a.key b.key) (sym (unsigned_tied a.table b.table)) ∙ tied_then (nat_cmp a.table b.table) (int_cmp a.key b.key)
-
-turned : (a b : RowId) → row_eq a b ≡ same_row b a
-turned a b = row_eq-same_row a b ∙ (eq_by_cmp_equiv row_total).symm a b
-
-abbrev pub marks_of : List (RowId × Touch) → Marks
-marks_of es = from_entries {R = row_cmp} es
-
-lookup-find : (es : List (RowId × Touch)) (q : RowId) → lookup (row_eq q) es ≡ find row_cmp q es
-lookup-find [] q = refl
-lookup-find (e ∷ es) q = λ i. cond (row_eq-same_row q e.0 i) (Some e.1) (lookup-find es q i)
-
--- what the map has at a row
-pub get_row : (es : List (RowId × Touch)) (q : RowId) → get (marks_of es) q ≡ lookup (row_eq q) es
-get_row es q = get-from_entries row_total es q ∙ sym (lookup-find es q)
-
-marks-set : (es fs : List (RowId × Touch)) (k : RowId) (v : Touch) → ((q : RowId) → lookup (row_eq q) fs ≡ cond (row_eq k q) (Some v) (lookup (row_eq q) es)) → marks_of fs ≡ insert (marks_of es) k v
-marks-set es fs k v is = same_map row_total exact_row (marks_of fs) (insert (marks_of es) k v) (λ q.
-    get_row fs q ∙ is q ∙ (λ i. cond (turned k q i) (Some v) (sym (get_row es q) i)) ∙ sym (get-insert row_total (marks_of es) k v q))
-
 -- where the insert could not fail, the row is set
-pub marks-inserted : {S T E : Type 0} (m n : IndexMap RowId Touch S) (r : Result T E) (k : RowId) (v : Touch) → IsOk r → OnOk r (Updates row_eq m n k (Some v)) → marks_of n.entries ≡ insert (marks_of m.entries) k v
-marks-inserted m n (Ok x) k v h is = marks-set m.entries n.entries k v is.0
+pub marks-inserted : {S T E : Type 0} (m n : IndexMap RowId Touch S) (r : Result T E) (k : RowId) (v : Touch) → IsOk r → OnOk r (Updates row_eq m n k (Some v)) → rows_of n.entries ≡ insert (rows_of m.entries) k v
+marks-inserted m n (Ok x) k v h is = rows-set m.entries n.entries k v is.0
 marks-inserted m n (Err e) k v h is = absurd (true≢false (sym h))
 
 -- ---- a row is noted

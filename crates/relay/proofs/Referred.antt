@@ -22,7 +22,7 @@ use Rattle.rows.specs.declared.ChangeFault.{ChangeFault}
 use Rattle.rows.specs.declared.ChangeFault.TheVariants.{Columns}
 use Rattle.rows.specs.Change.{changed}
 use Rattle.rows.specs.Database.{Database, target, parent_of, parent_in, apply, effect, kin}
-use Rattle.rows.specs.Naming.{Naming, names_column, assigned, assigned_from}
+use Rattle.rows.specs.Naming.{NamedColumns, names_column, assigned, assigned_from}
 use Rattle.rows.proofs.Apply.{row_is, same_row_itself, has_row-left, has_row-right, apply_changes}
 use Rattle.rows.proofs.Assigned.{assigned_takes}
 use Rattle.rows.proofs.Effect.{effect_first, kin_then}
@@ -128,7 +128,7 @@ slice_alike [] w i x e = cc
 slice_alike (y ∷ v) w zero x e = e
 slice_alike (y ∷ v) w (suc i) x e = slice_alike v w i x e
 
-takes_value : (named : Naming) (there new : List ℤ) (c : ℕ) (key : ℤ) → assigned named there ≡ Some new → names_column named.mask c ≡ true → slice_get named.values (count_ones (named.mask % 2 ^ c)) ≡ Some key → slice_get new c ≡ Some key
+takes_value : (named : NamedColumns) (there new : List ℤ) (c : ℕ) (key : ℤ) → assigned named there ≡ Some new → names_column named.mask c ≡ true → slice_get named.values (count_ones (named.mask % 2 ^ c)) ≡ Some key → slice_get new c ≡ Some key
 takes_value named there new c key leaves names is =
     let n = count_ones named.mask in
     let wide = named.values ++ replicate n (pos 0) in

@@ -24,7 +24,7 @@ use Rattle.relay.specs.Relay.{IsAcceptable, AreAcceptable}
 use Rattle.relay.proofs.Acceptable.{next_is_acceptable}
 use Rattle.relay.proofs.Judged.{accepts_the_acceptable}
 use Rattle.scheduler.specs.Marks.{Marks, all_up_to}
-use Rattle.commit_order.specs.Turns.{Line, place_of, entered, with_result, turn, passed}
+use Rattle.commit_order.specs.Turns.{Line, result_at, entered, with_result, turn, passed}
 use Rattle.replica_core.specs.Replica.{Replica, dispatched, job_of}
 use Rattle.replica_core.specs.Sound.{IsUnderWay}
 use Rattle.replica_core.specs.Calls.{is_eligible, dispatched_next, finish_fault, IsHandedOut, with_finished, next_commit, committed_next}
@@ -141,19 +141,19 @@ module _ (v : relay.Relay) (base : List Entry) (marks : Marks) (published : ℕ)
     -- ---- a result that may be taken
 
     -- the place of a result, as it is in the line and as it is seen
-    pub place_seen : (gno : ℕ) → Keeps → get_or (map is_some line.places) (gno - marks.low - 1) false ≡ is_some (place_of line gno)
+    pub place_seen : (gno : ℕ) → Keeps → get_or (map is_some line.places) (gno - marks.low - 1) false ≡ is_some (result_at line gno)
     place_seen gno h =
         let place : gno - marks.low - 1 ≡ gno - line.first = (let first = h.first in omega arith) in
         ap (λ n. get_or (map is_some line.places) n false) place ∙ get_or-map is_some line.places (gno - line.first) None
 
     -- a result that nothing refuses is of a record that is dispatched and not committed, and none of it was taken
-    pub under_way_from : (gno : ℕ) → Keeps → finish_fault (seen_as v base marks published line workers stopped) gno ≡ None → IsUnderWay (seen_as v base marks published line workers stopped) gno × (place_of line gno ≡ None)
+    pub under_way_from : (gno : ℕ) → Keeps → finish_fault (seen_as v base marks published line workers stopped) gno ≡ None → IsUnderWay (seen_as v base marks published line workers stopped) gno × (result_at line gno ≡ None)
     under_way_from gno h is =
         let many = marks.low + length (map is_some line.places) in
         let so = no_cause stopped (nat_le 1 gno && nat_le gno many) (nat_le gno marks.low || get_or (map is_some line.places) (gno - marks.low - 1) false) is in
         let known = and_parts (nat_le 1 gno) (nat_le gno many) so.1 in
         let free = or_parts (nat_le gno marks.low) (get_or (map is_some line.places) (gno - marks.low - 1) false) so.2 in
-        ((leb-false gno marks.low free.0, leb-true gno many known.1), none_there (place_of line gno) (sym (place_seen gno h) ∙ free.1))
+        ((leb-false gno marks.low free.0, leb-true gno many known.1), none_there (result_at line gno) (sym (place_seen gno h) ∙ free.1))
 
     taken_from : (result : Finished) (left : List Entry) → IsHandedOut (seen_as v base marks published line workers stopped) result → IsResult result → result.outcome ≡ Output left → IsTaken (job_of (seen_as v base marks published line workers stopped) result.job.gno) result
     taken_from result left of made is = record { job = of; left = left; output = is; applies = came result.outcome (executed result.job) made is }
@@ -244,7 +244,7 @@ module _ (v : relay.Relay) (base : List Entry) (marks : Marks) (published : ℕ)
     -- ---- what is told of a result
 
     -- the tests of a number, as they are made over the line
-    pub refusal_seen : (now : Replica) (gno low many : ℕ) → Keeps → seen_as v base marks published line workers stopped ≡ now → stopped ≡ None → low ≡ marks.low → many ≡ dispatched now → refusal (nat_le 1 gno && nat_le gno many) (nat_le gno low || is_some (place_of line gno)) ≡ told_as (finish_fault now gno)
+    pub refusal_seen : (now : Replica) (gno low many : ℕ) → Keeps → seen_as v base marks published line workers stopped ≡ now → stopped ≡ None → low ≡ marks.low → many ≡ dispatched now → refusal (nat_le 1 gno && nat_le gno many) (nat_le gno low || is_some (result_at line gno)) ≡ told_as (finish_fault now gno)
     refusal_seen now gno low many h is running is_low is_many =
         let count : many ≡ marks.low + length (map is_some line.places) = is_many ∙ ap dispatched (sym is) in
         (λ i. refusal (nat_le 1 gno && nat_le gno (count i)) (nat_le gno (is_low i) || sym (place_seen gno h) i))

@@ -18,7 +18,7 @@ use Rattle.relay.specs.declared.ReplicaFault.TheVariants.{WrongInput}
 use Rattle.relay.specs.Relay as relay
 use Rattle.relay.specs.Relay.{AreAcceptable}
 use Rattle.scheduler.specs.Marks.{Marks, all_up_to}
-use Rattle.commit_order.specs.Turns.{Line, place_of, turn, passed}
+use Rattle.commit_order.specs.Turns.{Line, result_at, turn, passed}
 use Rattle.replica_core.specs.Replica.{Replica, dispatched, commits, job_of}
 use Rattle.replica_core.specs.Sound.{IsUnderWay, AreEligible}
 use Rattle.replica_core.specs.Calls.{finish_fault, IsHandedOut}
@@ -75,7 +75,7 @@ pub record IsKept (r : Replica) (marks : Marks) (line : Line) (inputs : List (Li
   pub places : r.under_way ≡ map is_some line.places
   pub count : length inputs ≡ length r.under_way
   pub kept : (gno : ℕ) → IsUnderWay r gno → slice_get inputs (gno - r.committed - 1) ≡ input_in (job_of r gno)
-  pub results : (gno : ℕ) (result : Finished) → IsUnderWay r gno → place_of line gno ≡ Some result → IsTaken (job_of r gno) result
+  pub results : (gno : ℕ) (result : Finished) → IsUnderWay r gno → result_at line gno ≡ Some result → IsTaken (job_of r gno) result
 
 -- the rows of the result whose turn has come, where it has any
 abbrev pub turn_output : Line → Option (List Entry)

@@ -1,7 +1,7 @@
 //! What is handed out, and what is refused.
 
 ghost use Rattle.std.specs.Prelude.{◌≡◌, ◌+◌, ◌&&◌, ◌||◌, nat_le, not, is_some, map, Ok, Err, IfOk, if◌then◌else◌};
-ghost use Rattle.commit_order.specs.Turns.{place_of};
+ghost use Rattle.commit_order.specs.Turns.{result_at};
 ghost use Rattle.std.specs.Option.{option_map_or};
 ghost use Rattle.std.specs.FinMap.{get as row_of};
 ghost use Rattle.rows.specs.Database.{Database, writes};
@@ -38,7 +38,7 @@ pub fn refuse_finish(
 ) -> Result<(), ReplicaFault>
     requires { turns.now.first ≡ committed + 1 }
     ensures { result ≡ (if not (nat_le 1 gno && nat_le gno dispatched) then Err ReplicaFault.Stranger
-        else if nat_le gno committed || is_some (place_of turns.now gno) then Err ReplicaFault.Double
+        else if nat_le gno committed || is_some (result_at turns.now gno) then Err ReplicaFault.Double
         else Ok tt) }
 {
     if gno == 0 || gno > dispatched {

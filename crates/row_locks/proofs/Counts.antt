@@ -11,7 +11,8 @@ use Rattle.row_locks.specs.declared.Mode.TheVariants.{Share, Exclusive}
 use Rattle.row_locks.specs.declared.tally.Count.{Count}
 use Rattle.row_locks.specs.Mode.{weight}
 use Rattle.row_locks.specs.Tally.{Counts, opposing, count_at, nobody, AllAreHeld}
-use Rattle.row_locks.proofs.Rows.{row_eq, rows_of, get_row, rows-inserted}
+use Rattle.row_locks.proofs.Rows.{rows-inserted}
+use Rattle.schema.proofs.RowMaps.{row_eq, rows_of, get_row}
 use Rattle.indexmap.specs.IndexMap.{IndexMap, Updates, spare, get as entry_of}
 
 abbrev of_option : Option Count → Mode → ℕ

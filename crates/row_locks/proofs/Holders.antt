@@ -11,7 +11,7 @@ use Rattle.row_locks.specs.declared.Mode.TheVariants.{Share, Exclusive}
 use Rattle.row_locks.specs.Mode.{is_exclusive, opposes}
 use Rattle.row_locks.specs.Locks.{Holding, Locks, held_by, also_held, locks_on, holding, NoClash}
 use Rattle.row_locks.specs.Laws.{HeldByRows, HoldsMoreRows, HoldersDoNotConflict}
-use Rattle.row_locks.proofs.Rows.{same_row_itself}
+use Rattle.schema.proofs.RowMaps.{same_row_itself}
 use Rattle.row_locks.proofs.Sessions.{held_as_listed, holders_share}
 
 -- ---- how a row is held

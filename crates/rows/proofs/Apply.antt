@@ -21,7 +21,7 @@ use Rattle.rows.specs.declared.Change.{Change}
 use Rattle.rows.specs.declared.Change.TheVariants.{Insert, Update, Delete}
 use Rattle.rows.specs.declared.ChangeFault.{ChangeFault}
 use Rattle.rows.specs.declared.ChangeFault.TheVariants.{Columns}
-use Rattle.rows.specs.Naming.{Naming, names_column, assigned}
+use Rattle.rows.specs.Naming.{NamedColumns, names_column, assigned}
 use Rattle.rows.specs.Change.{changed}
 use Rattle.rows.specs.Database.{Database, put_row, target, parent_of, parent_in, has_parent, names_parent, apply, ChildrenHaveParents, HasChild, DeletesNoParent}
 use Rattle.rows.specs.Effect.{row_has_parent, sets_parent, parent_stands, AppliesByRow, FitsWhereItApplies, ParentStandsWhereItApplies, HasParentWhereItApplies, AppliesWhereItFits}
@@ -80,11 +80,11 @@ insert_applied ts row columns db after None was h =
 insert_applied ts row columns db after (Some there) was h = cc
 
 -- what an update leaves of a database, given what it leaves of its row
-abbrev updated : List Table → RowId → Naming → Database → Option (List ℤ) → Option Database
+abbrev updated : List Table → RowId → NamedColumns → Database → Option (List ℤ) → Option Database
 updated ts row named db left =
     option_and_then (λ columns. cond (not (names_parent ts row.table named.mask) || has_parent ts db row.table columns) (Some (insert db row columns)) None) left
 
-update_applied : (ts : List Table) (row : RowId) (named : Naming) (db after : Database) (there : List ℤ) (left : Option (List ℤ)) → get db row ≡ Some there → assigned named there ≡ left →
+update_applied : (ts : List Table) (row : RowId) (named : NamedColumns) (db after : Database) (there : List ℤ) (left : Option (List ℤ)) → get db row ≡ Some there → assigned named there ≡ left →
     updated ts row named db left ≡ Some after → Applied ts (Update row named) db after
 update_applied ts row named db after there None was e h = cc
 update_applied ts row named db after there (Some columns) was e h =
@@ -96,7 +96,7 @@ update_applied ts row named db after there (Some columns) was e h =
       is = parts.1;
     }
 
-update_applied_at : (ts : List Table) (row : RowId) (named : Naming) (db after : Database) (before : Option (List ℤ)) → get db row ≡ before →
+update_applied_at : (ts : List Table) (row : RowId) (named : NamedColumns) (db after : Database) (before : Option (List ℤ)) → get db row ≡ before →
     updated ts row named db (option_and_then (assigned named) before) ≡ Some after → Applied ts (Update row named) db after
 update_applied_at ts row named db after None was h = cc
 update_applied_at ts row named db after (Some there) was h = update_applied ts row named db after there (assigned named there) was refl h
@@ -121,7 +121,7 @@ insert_applies ts row columns db None left fit stands =
     ap (λ b. cond b (Some (insert db row columns)) None) there ∙ ap (λ l. Some (put_row db row l)) e
 insert_applies ts row columns db (Some there) left fit stands = cc
 
-update_applies : (ts : List Table) (row : RowId) (named : Naming) (db : Database) (o left : Option (List ℤ)) → ◌≡◌ {A = Result (Option (List ℤ)) ChangeFault} (ok_or (option_map (λ columns. Some columns) o) Columns) (Ok left) → parent_stands ts (Update row named) db left ≡ true →
+update_applies : (ts : List Table) (row : RowId) (named : NamedColumns) (db : Database) (o left : Option (List ℤ)) → ◌≡◌ {A = Result (Option (List ℤ)) ChangeFault} (ok_or (option_map (λ columns. Some columns) o) Columns) (Ok left) → parent_stands ts (Update row named) db left ≡ true →
     updated ts row named db o ≡ Some (put_row db row left)
 update_applies ts row named db None left fit stands = cc
 update_applies ts row named db (Some columns) left fit stands =
@@ -129,7 +129,7 @@ update_applies ts row named db (Some columns) left fit stands =
     let there : (not (names_parent ts row.table named.mask) || has_parent ts db row.table columns) ≡ true = ap (parent_stands ts (Update row named) db) e ∙ stands in
     ap (λ b. cond b (Some (insert db row columns)) None) there ∙ ap (λ l. Some (put_row db row l)) e
 
-update_applies_at : (ts : List Table) (row : RowId) (named : Naming) (db : Database) (before left : Option (List ℤ)) → changed (Update row named) before ≡ Ok left → parent_stands ts (Update row named) db left ≡ true →
+update_applies_at : (ts : List Table) (row : RowId) (named : NamedColumns) (db : Database) (before left : Option (List ℤ)) → changed (Update row named) before ≡ Ok left → parent_stands ts (Update row named) db left ≡ true →
     updated ts row named db (option_and_then (assigned named) before) ≡ Some (put_row db row left)
 update_applies_at ts row named db None left fit stands = cc
 update_applies_at ts row named db (Some there) left fit stands = update_applies ts row named db (assigned named there) left fit stands
@@ -221,7 +221,7 @@ same_parent ts id mask there new same apart = by (link_of ts id) apart
         ap parent (same link.0 h)
 
 -- an update that does not name the parent column leaves the row with the parent that it had
-update_keeps : (ts : List Table) (row : RowId) (named : Naming) (db : Database) (there : List ℤ) (o left : Option (List ℤ)) → assigned named there ≡ o → ◌≡◌ {A = Result (Option (List ℤ)) ChangeFault} (ok_or (option_map (λ columns. Some columns) o) Columns) (Ok left) →
+update_keeps : (ts : List Table) (row : RowId) (named : NamedColumns) (db : Database) (there : List ℤ) (o left : Option (List ℤ)) → assigned named there ≡ o → ◌≡◌ {A = Result (Option (List ℤ)) ChangeFault} (ok_or (option_map (λ columns. Some columns) o) Columns) (Ok left) →
     names_parent ts row.table named.mask ≡ false → has_parent ts db row.table there ≡ true → row_has_parent ts db row.table left ≡ true
 update_keeps ts row named db there None left e fit apart had = cc
 update_keeps ts row named db there (Some new) left e fit apart had =
@@ -229,7 +229,7 @@ update_keeps ts row named db there (Some new) left e fit apart had =
     ap (row_has_parent ts db row.table) (sym (same_ok fit))
     ∙ ap (λ p. not (is_some (link_of ts row.table)) || option_map_or (contains_key db) p false) same ∙ had
 
-update_keeps_at : (ts : List Table) (row : RowId) (named : Naming) (db : Database) (before left : Option (List ℤ)) → ChildrenHaveParents ts db → get db row ≡ before → changed (Update row named) before ≡ Ok left →
+update_keeps_at : (ts : List Table) (row : RowId) (named : NamedColumns) (db : Database) (before left : Option (List ℤ)) → ChildrenHaveParents ts db → get db row ≡ before → changed (Update row named) before ≡ Ok left →
     names_parent ts row.table named.mask ≡ false → row_has_parent ts db row.table left ≡ true
 update_keeps_at ts row named db None left kept was fit apart = cc
 update_keeps_at ts row named db (Some there) left kept was fit apart = update_keeps ts row named db there (assigned named there) left refl fit apart (kept row there was)

@@ -1,5 +1,5 @@
 -- No child is left without its parent by one list of changes behind another, and which changes have kin.
-use Rattle.std.proofs.Common.{◌≡◌, sym, ap, subst, ◌∙◌, refl, inl, inr, true, false, true≢false, Bool, List, [], ◌∷◌, ◌++◌, ℕ, ◌*◌, ◌≤◌, length, length-append, Option, Some, None, is_some, ℤ, arith}
+use Rattle.std.proofs.Common.{◌≡◌, sym, ap, subst, ◌∙◌, refl, inl, inr, true, false, true≢false, Bool, List, [], ◌∷◌, ◌++◌, ◌*◌, ◌≤◌, length, length-append, Option, Some, None, is_some, ℤ, arith}
 use Rattle.std.specs.Prelude.{◌||◌, option_and_then, option_to_list}
 use Rattle.std.specs.Option.{option_map_or}
 use Rattle.std.specs.List.{list_any}

@@ -2,10 +2,10 @@
 use Rattle.std.specs.Prelude.{◌≡◌, ◌^◌, ◌<◌, ◌≤◌, count_ones, length, take}
 use Rattle.std.proofs.Common.{sym}
 use Rattle.rows.specs.Row.{padded}
-use Rattle.rows.specs.Naming.{Naming}
+use Rattle.rows.specs.Naming.{NamedColumns}
 use Rattle.rows.specs.declared.naming.Named.TheInside.{Inside}
 
-abbrev pub naming_of : Inside → Naming
+abbrev pub naming_of : Inside → NamedColumns
 naming_of named = record { mask = named.mask; values = take (count_ones named.mask) named.values }
 
 -- some column is named, one value for each, and zeros behind them

@@ -4,7 +4,7 @@ use Rattle.std.specs.Option.{option_map}
 use Rattle.std.specs.Int.{bit_at}
 
 -- Bit c of the mask names column c. There is a value for each named column, that of the lowest first.
-pub record Naming : Type 0 where
+pub record NamedColumns : Type 0 where
   pub mask : ℕ
   pub values : List ℤ
 
@@ -17,7 +17,7 @@ rise_from least [] = true
 rise_from least (pair ∷ pairs) = nat_le least pair.0 && nat_lt pair.0 16 && rise_from (pair.0 + 1) pairs
 
 -- the columns of these pairs, each with its value
-abbrev pub naming_from : List (ℕ × ℤ) → Naming
+abbrev pub naming_from : List (ℕ × ℤ) → NamedColumns
 naming_from pairs = record { mask = sum_by (λ pair. 2 ^ pair.0) pairs; values = map (λ pair. pair.1) pairs }
 
 -- the columns with the named ones replaced, from one column on: the mask begins there, and the values are those
@@ -29,24 +29,24 @@ assigned_from mask values (column ∷ columns) =
     else option_map (λ rest. column ∷ rest) (assigned_from (mask / 2) values columns)
 
 -- the columns of a row with the named ones replaced, where it has each of them
-abbrev pub assigned : Naming → List ℤ → Option (List ℤ)
+abbrev pub assigned : NamedColumns → List ℤ → Option (List ℤ)
 assigned named columns = assigned_from named.mask named.values columns
 
 -- an update fits a row that has each column named
 abbrev pub AssignsWhatIsThere : Type 0
-AssignsWhatIsThere = (named : Naming) (columns : List ℤ) → is_some (assigned named columns) ≡ nat_lt named.mask (2 ^ length columns)
+AssignsWhatIsThere = (named : NamedColumns) (columns : List ℤ) → is_some (assigned named columns) ≡ nat_lt named.mask (2 ^ length columns)
 
 -- the row has as many columns as before
 abbrev pub KeepsWidth : Type 0
-KeepsWidth = (named : Naming) (columns new : List ℤ) → assigned named columns ≡ Some new → length new ≡ length columns
+KeepsWidth = (named : NamedColumns) (columns new : List ℤ) → assigned named columns ≡ Some new → length new ≡ length columns
 
 -- the columns that are not named stay
 abbrev pub OthersStay : Type 0
-OthersStay = (named : Naming) (columns new : List ℤ) (c : ℕ) →
+OthersStay = (named : NamedColumns) (columns new : List ℤ) (c : ℕ) →
     assigned named columns ≡ Some new → names_column named.mask c ≡ false → slice_get new c ≡ slice_get columns c
 
 -- a named column takes its value, which stands behind those of the lower columns named
 abbrev pub NamedTakeTheirs : Type 0
-NamedTakeTheirs = (named : Naming) (columns new : List ℤ) (c : ℕ) →
+NamedTakeTheirs = (named : NamedColumns) (columns new : List ℤ) (c : ℕ) →
     length named.values ≡ count_ones named.mask → assigned named columns ≡ Some new → names_column named.mask c ≡ true →
     slice_get new c ≡ slice_get named.values (count_ones (named.mask % 2 ^ c))

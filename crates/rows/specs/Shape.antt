@@ -1,5 +1,5 @@
 -- Which changes a schema allows, whatever the rows are.
-use Rattle.std.specs.Prelude.{ℕ, ◌^◌, Bool, true, false, ◌==◌, nat_lt, List, length}
+use Rattle.std.specs.Prelude.{◌^◌, Bool, true, false, ◌==◌, nat_lt, List, length}
 use Rattle.std.specs.Option.{option_map_or}
 use Rattle.schema.specs.declared.Table.{Table}
 use Rattle.schema.specs.Schema.{table_at}

@@ -15,9 +15,9 @@ pub struct Named {
 }
 
 impl Model for Named {
-    ghost use Rattle.rows.specs.Naming.{Naming};
+    ghost use Rattle.rows.specs.Naming.{NamedColumns};
 
-    ghost Value = { Naming };
+    ghost Value = { NamedColumns };
 
     ghost use Rattle.rows.specs.Row.{padded};
     ghost use Rattle.rows.specs.Named.{naming_of, IsNamed, named_again};

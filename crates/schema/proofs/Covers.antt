@@ -1,6 +1,8 @@
 -- Which parents cover.
-use Rattle.std.proofs.Common.{◌≡◌, ◌∙◌, ℕ, ◌≤◌, List, [], ◌∷◌}
-use Rattle.std.specs.List.{AllByRecursion}
+use Rattle.std.proofs.Common.{◌≡◌, ◌∙◌, refl, ℕ, ◌≤◌, Bool, true, false, not, ◌||◌, nat_le, List, [], ◌∷◌, map, arith}
+use Rattle.std.specs.List.{AllByRecursion, list_all}
+use Rattle.std.proofs.lemmas.Bool.{and_parts}
+use Rattle.std.proofs.lemmas.Bool.Decides.{nat_tests}
 use Rattle.schema.specs.Rows.{Touched, SameRows, conflicts}
 use Rattle.schema.specs.Covering.{Covers}
 use Rattle.schema.proofs.Conflicts.{both_ways, by_sets}
@@ -18,3 +20,36 @@ covers_by_sets (before ∷ past) rows others parent writes refs all =
 pub covers_at_end : (past : List (ℕ × Touched)) (rows : Touched) (parent : ℕ) → AllByRecursion (λ before. before.0 ≤ parent) past → Covers past rows parent
 covers_at_end [] rows parent all = tt
 covers_at_end (before ∷ past) rows parent all = (λ _. all.0, covers_at_end past rows parent all.1)
+
+-- ---- the test of what has a place in a history
+
+-- the test of one, by its number and what it touches
+abbrev pub is_passed : {X : Type 0} → (X → ℕ × Touched) → Touched → ℕ → X → Bool
+is_passed place rows parent x = nat_le (place x).0 parent || not (conflicts (place x).1 rows)
+
+passed : (within conflict : Bool) → (within || not conflict) ≡ true → conflict ≡ true → within ≡ true
+passed true conflict e h = refl
+passed false true e h = e
+passed false false e h = h
+
+passes : (within conflict : Bool) → (conflict ≡ true → within ≡ true) → (within || not conflict) ≡ true
+passes true conflict h = refl
+passes false true h = h refl
+passes false false h = refl
+
+from_test : (m n : ℕ) → nat_le m n ≡ true → m ≤ n
+from_test m n e = grind (arith, nat_tests)
+
+to_test : (m n : ℕ) → m ≤ n → nat_le m n ≡ true
+to_test m n h = grind (arith, nat_tests)
+
+pub passed_covers : {X : Type 0} (place : X → ℕ × Touched) (log : List X) (rows : Touched) (parent : ℕ) → list_all (is_passed place rows parent) log ≡ true → Covers (map place log) rows parent
+passed_covers place [] rows parent e = tt
+passed_covers place (x ∷ log) rows parent e =
+    let parts = and_parts (is_passed place rows parent x) (list_all (is_passed place rows parent) log) e in
+    (λ h. from_test (place x).0 parent (passed (nat_le (place x).0 parent) (conflicts (place x).1 rows) parts.0 h), passed_covers place log rows parent parts.1)
+
+pub covers_passes : {X : Type 0} (place : X → ℕ × Touched) (log : List X) (rows : Touched) (parent : ℕ) → Covers (map place log) rows parent → list_all (is_passed place rows parent) log ≡ true
+covers_passes place [] rows parent all = refl
+covers_passes place (x ∷ log) rows parent all =
+    rw (passes (nat_le (place x).0 parent) (conflicts (place x).1 rows) (λ h. to_test (place x).0 parent (all.0 h))) (covers_passes place log rows parent all.1)

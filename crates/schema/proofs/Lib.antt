@@ -2,3 +2,4 @@ pub mod Faults
 pub mod Flat
 pub mod Conflicts
 pub mod Covers
+pub mod RowMaps

@@ -5,7 +5,7 @@ use Rattle.schema.specs.declared.Table.{Table}
 use Rattle.log_index.specs.declared.Entry.{Entry}
 use Rattle.log_index.specs.declared.Footprint.{Footprint}
 use Rattle.write_set.specs.Digest.{digest_set}
-use Rattle.tracker_trait.specs.declared.Mode.TheVariants.{CommitOrder, Writeset, WritesetSession}
+use Rattle.tracker_trait.specs.declared.Tracking.TheVariants.{CommitOrder, Writeset, WritesetSession}
 use Rattle.tracker_trait.specs.Kind.{Kind}
 use Rattle.tracker_trait.specs.History.{start_of, newest_of, last_of}
 

@@ -2,7 +2,7 @@
 //!
 //! A tracker gives each transaction of a log its parent: the sequence number up to which a replica has to have
 //! committed before it may apply the transaction. The smaller the parents, the more transactions a replica applies
-//! side by side. `Mode` has the three ways in which MySQL's `binlog_transaction_dependency_tracking` finds them.
+//! side by side. `Tracking` has the three ways in which MySQL's `binlog_transaction_dependency_tracking` finds them.
 //!
 //! `specs/Parent.antt` says which parent each mode gives, read off the log alone, and `specs/Law.antt` what every
 //! tracker promises: the parent covers each conflicting transaction of the whole log, and is at most the order parent.
@@ -25,7 +25,7 @@ use write_set::WriteSet;
 
 /// How parents are found: MySQL's `binlog_transaction_dependency_tracking`.
 #[derive(Clone, Copy, Debug, PartialEq, Eq)]
-pub enum Mode {
+pub enum Tracking {
     /// The parent is the order parent: the number of transactions committed when this one was prepared.
     CommitOrder,
     /// The parent is that of the last transaction that wrote one of the same rows, where the history of written rows

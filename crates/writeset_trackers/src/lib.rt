@@ -58,7 +58,7 @@ impl WriteSetTracker {
 
 impl Tracker for WriteSetTracker {
     ghost use Rattle.std.proofs.Common.{reverse};
-    ghost use Rattle.tracker_trait.specs.declared.Mode.TheVariants.{Writeset};
+    ghost use Rattle.tracker_trait.specs.declared.Tracking.TheVariants.{Writeset};
     ghost use Rattle.writeset_trackers.specs.Agreement.{IsHistoryOf};
 
     ghost kind = { λ history. record { mode = Writeset; limit = history.limit } };
@@ -118,7 +118,7 @@ impl WriteSetSession {
 
 impl Tracker for WriteSetSession {
     ghost use Rattle.std.proofs.Common.{reverse};
-    ghost use Rattle.tracker_trait.specs.declared.Mode.TheVariants.{WritesetSession};
+    ghost use Rattle.tracker_trait.specs.declared.Tracking.TheVariants.{WritesetSession};
     ghost use Rattle.writeset_trackers.specs.Agreement.{IsHistoryOf};
     ghost use Rattle.writeset_trackers.specs.Places.{AreLast};
 

@@ -1,7 +1,8 @@
 use Rattle.std.proofs.Common.{◌∙◌, sym, subst}
 use Rattle.std.specs.List.Sorted.{IsSorted}
 use Rattle.schema.specs.RowId.{row_cmp}
-use Rattle.executor.proofs.Sets.{rising_is_sorted, searched_both, searched_first}
+use Rattle.record_codec.proofs.Searching.{rising_is_sorted}
+use Rattle.executor.proofs.Sets.{searched_both, searched_first}
 use Rattle.executor.proofs.kin.are_exactly.Goals as goal
 use Rattle.executor.proofs.kin.are_exactly.Goals.{then-are_among, else-are_among}
 

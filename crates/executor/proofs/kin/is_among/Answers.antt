@@ -1,5 +1,5 @@
 use Rattle.std.proofs.Common.{◌∙◌}
-use Rattle.executor.proofs.Sets.{is_found}
+use Rattle.record_codec.proofs.Searching.{is_found}
 use Rattle.executor.proofs.kin.is_among.Goals as goal
 
 pub returns : goal.returns

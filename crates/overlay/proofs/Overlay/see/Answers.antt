@@ -1,7 +1,7 @@
 use Rattle.std.proofs.Common.{sym, ap, ◌∙◌}
 use Rattle.overlay.specs.Pending.{Pending, left_at}
 use Rattle.store_trait.proofs.Batches.{find-in_order, in_order_rises}
-use Rattle.overlay.proofs.Order.{lookup-find}
+use Rattle.schema.proofs.RowMaps.{lookup-find}
 use Rattle.overlay.proofs.Overlay.see.Goals as goal
 
 pub returns-clause-value : goal.returns-clause-value

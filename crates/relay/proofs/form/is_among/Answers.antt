@@ -2,7 +2,7 @@ use Rattle.std.proofs.Common.{◌∙◌, sym, ap, subst}
 use Rattle.std.specs.List.Sorted.{IsSorted}
 use Rattle.schema.specs.RowId.{row_cmp}
 use Rattle.schema.specs.Rows.{has_row}
-use Rattle.relay.proofs.Searching.{rising_is_sorted, is_found}
+use Rattle.record_codec.proofs.Searching.{rising_is_sorted, is_found}
 use Rattle.relay.proofs.form.is_among.Goals as goal
 
 pub returns : goal.returns

@@ -1,7 +1,7 @@
 use Rattle.std.proofs.Common.{◌∙◌, sym, ap, unwrap_or}
 use Rattle.std.specs.FinMap.{get}
 use Rattle.relay.specs.Touches.{Sheet, untouched}
-use Rattle.relay.proofs.Marks.{get_row}
+use Rattle.schema.proofs.RowMaps.{get_row}
 use Rattle.relay.proofs.touches.Touches.touch.Goals as goal
 
 pub returns : goal.returns

@@ -1,7 +1,7 @@
 use Rattle.std.proofs.Common.{◌∙◌, sym, ap}
 use Rattle.std.specs.FinMap.{get}
 use Rattle.row_locks.specs.Held.{Place}
-use Rattle.row_locks.proofs.Rows.{get_row}
+use Rattle.schema.proofs.RowMaps.{get_row}
 use Rattle.row_locks.proofs.held.Held.mode_of.Goals as goal
 
 pub returns : goal.returns

@@ -2,7 +2,7 @@ use Rattle.std.proofs.Common.{◌∙◌, sym, ap}
 use Rattle.std.specs.Prelude.{unwrap_or}
 use Rattle.std.specs.FinMap.{get}
 use Rattle.row_locks.specs.Tally.{Sheet, opposing, nobody}
-use Rattle.row_locks.proofs.Rows.{get_row}
+use Rattle.schema.proofs.RowMaps.{get_row}
 use Rattle.row_locks.proofs.Counts.{found_or_nobody}
 use Rattle.row_locks.proofs.tally.Tally.count.Goals as goal
 

@@ -1,7 +1,7 @@
 use Rattle.std.proofs.Common.{◌≡◌, ◌∙◌, ap, None}
 use Rattle.std.specs.FinMap.{get, get-empty}
 use Rattle.schema.specs.RowId.{row_cmp}
-use Rattle.row_locks.proofs.Rows.{rows_of}
+use Rattle.schema.proofs.RowMaps.{rows_of}
 use Rattle.row_locks.proofs.tally.Tally.new.Goals as goal
 
 pub invariant_of-result : goal.invariant_of-result

@@ -3,7 +3,7 @@ use Rattle.std.specs.FinMap.{insert, remove}
 use Rattle.row_locks.specs.declared.Mode.TheVariants.{Exclusive}
 use Rattle.row_locks.specs.Mode.{weight}
 use Rattle.row_locks.specs.Tally.{Sheet, count_at, opposing}
-use Rattle.row_locks.proofs.Rows.{rows_of, rows-removed}
+use Rattle.schema.proofs.RowMaps.{rows_of, rows-removed}
 use Rattle.row_locks.proofs.Counts.{count-set, count-removed, count-inserted, held-set, held-removed, is_nobody, not_nobody}
 use Rattle.indexmap.specs.IndexMap.{spare}
 use Rattle.row_locks.proofs.tally.Tally.recount.Goals as goal

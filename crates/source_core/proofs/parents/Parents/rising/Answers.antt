@@ -1,6 +1,6 @@
 use Rattle.std.proofs.Common.{◌∙◌, ap}
 use Rattle.std.proofs.lemmas.List.Filters.{dedup_is}
-use Rattle.overlay.proofs.Order.{row_eq}
+use Rattle.schema.proofs.RowMaps.{row_eq}
 use Rattle.source_core.specs.Refs.{rising}
 use Rattle.source_core.proofs.RisingRows.{sorted_once}
 use Rattle.source_core.proofs.parents.Parents.rising.Goals as goal
