@@ -19,7 +19,7 @@ use Rattle.log_file.specs.Calls.{confirmed, prepare_cause}
 use Rattle.source_core.proofs.FlushEnds.{group_ends, group_is_counted}
 use Rattle.source_core.specs.Calls.{flushed, Flushes, IsOldest, size_of, with_synced, all_committed, receipts, receipts_for}
 use Rattle.source_shared.specs.Engine.{State, Watch, nobody, count, IsReady, IsSyncing, AreLaidOut, IsSettled, ArePlaced, committed_receipts, emptied as emptied_at, failed, with_home, landed, given, laid}
-use Rattle.source_shared.proofs.Places.{placed_none, none_placed}
+use Rattle.source_shared.proofs.Places.{placed_none, none_placed, both_parts}
 
 -- ---- the groups that wait
 
@@ -208,12 +208,6 @@ is_written base tables s old t group groups is ring some h =
     let same : f.0 ≡ group = same_Some f.0 group (ap (λ (l : List GroupValue). slice_get l 0) (sym f.3 ∙ ring)) in
     record { is = is; ring = ring; prepared = f.2 ∙ ap (λ (x : GroupValue). Some x) same; last = f.4 ∙ ap (λ (x : GroupValue). x.last) same }
 
-parts : {A : Type 0} (n m : ℕ) (xs : List A) → n ≤ m → take n xs ++ drop n (take m xs) ≡ take m xs
-parts zero m xs le = refl
-parts (suc n) zero xs le = absurd (omega arith)
-parts (suc n) (suc m) [] le = refl
-parts (suc n) (suc m) (x ∷ xs) le = ap (λ l. x ∷ l) (parts n m xs (omega arith))
-
 -- the oldest group is synced
 module _ (base : List Entry) (tables : List Table) (s old : State) (t : Tail) (group : GroupValue) (groups : List GroupValue) (c : Source) (k : Kept) (h : IsSettled base tables s) (w : IsWritten s old t group groups)
     (core : c ≡ with_synced s.core group.last) (confirms : (g : GroupValue) (rs : List Record) → s.kept.prepared ≡ Some g → AreRecordsOf g rs → k ≡ confirmed g rs s.kept) where
@@ -221,7 +215,7 @@ module _ (base : List Entry) (tables : List Table) (s old : State) (t : Tail) (g
   landed_is =
       let at = oldest base tables s group groups w.ring h in
       let its = drop s.core.synced (take group.last s.core.log) in
-      let all : s.kept.records ++ its ≡ take group.last s.core.log = ap (λ (l : List Record). l ++ its) h.syncing.records ∙ parts s.core.synced group.last s.core.log at.later in
+      let all : s.kept.records ++ its ≡ take group.last s.core.log = ap (λ (l : List Record). l ++ its) h.syncing.records ∙ both_parts s.core.synced group.last s.core.log at.later in
       let kept : k ≡ record s.kept { records = take group.last s.core.log; groups = s.kept.groups ++ group ∷ []; prepared = None } =
       confirms group its w.prepared at.are ∙ (λ i. record s.kept { records = all i; groups = s.kept.groups ++ group ∷ []; prepared = None }) in
       let rest : groups ≡ drop 1 s.ring = sym (ap (drop 1) w.ring) in
