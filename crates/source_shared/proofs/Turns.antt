@@ -1,6 +1,5 @@
 -- Cells that are at home stay so, and the one who has the pen of the last entry's cell knows the history whole.
 use Rattle.std.proofs.Common.{◌≡◌, ◌≢◌, ℕ, zero, suc, ◌<◌, true, false, List, [], ◌∷◌, ◌++◌, length, set, refl, sym, ap, ◌∙◌, arith, append_assoc, Some, slice_get}
-use Rattle.std.proofs.lemmas.List.{append-nil}
 use Rattle.std.proofs.lemmas.List.Concat.{flat_map-append}
 use mathlib.Core.List.{IsPrefix}
 use Rattle.logbook.specs.Pages.{Cell, cell}
@@ -71,9 +70,6 @@ pub prefix_receipts : (v log : List Part) → IsPrefix v log → IsPrefix (recei
 prefix_receipts v log p = (receipts_in p.0, sym (flat_map-append (λ (part : Part). part.1) v p.0) ∙ ap receipts_in p.1)
 
 -- one more entry
-pub receipts-snoc : (log : List Part) (part : Part) → receipts_in (log ++ part ∷ []) ≡ receipts_in log ++ part.1
-receipts-snoc log part = flat_map-append (λ (p : Part). p.1) log (part ∷ []) ∙ ap (λ l. receipts_in log ++ l) (append-nil part.1)
-
 pub turn-snoc : (log : List Part) (part : Part) → turn_of (log ++ part ∷ []) ≡ part.0
 turn-snoc [] part = refl
 turn-snoc (x ∷ []) part = refl
