@@ -15,7 +15,7 @@ use Rattle.row_locks.specs.Locks.{Locks, held_by, holding}
 use Rattle.row_locks.proofs.Holders.{holders_do_not_conflict}
 use Rattle.source_core.specs.declared.transaction.Transaction.{Transaction}
 use Rattle.tracker_trait.specs.Kind.{Kind}
-use Rattle.source_core.specs.Source.{Open, EachApplies, IsSound, open_of, held_for, locks_over}
+use Rattle.source_core.specs.Source.{Source, Open, EachApplies, IsSound, open_of, held_for, locks_over}
 use Rattle.source_core.specs.Core.{Parts, IsCore, IsFlushedAs, AreFlushed, open_view, sessions_view, source_of, placed, touched_over}
 
 -- what the session of a place holds
@@ -111,6 +111,10 @@ is_sound p kind halted core = record {
   owned = core.owned;
   grouped = core.grouped;
 }
+
+-- and so is the source that they are seen as
+pub sound_as : (p : Parts) (kind : Kind) (halted : Bool) (s : Source) → source_of p kind halted ≡ s → IsCore p → IsSound s
+sound_as p kind halted s is core = subst (λ (x : Source). IsSound x) is (is_sound p kind halted core)
 
 -- a session's transaction, as callers see it
 pub open_at : (p : Parts) (kind : Kind) (halted : Bool) (i session : ℕ) → i + 1 ≡ session → open_of (source_of p kind halted) session ≡ option_map open_view (placed p.places i)

@@ -6,8 +6,8 @@ use mathlib.Core.List.{IsPrefix}
 use prog.Atomic.{either}
 use Rattle.source_core.specs.declared.transaction.Receipt.{Receipt}
 use Rattle.logbook.specs.Pages.{Cell, cell, keeps, gives, adds, Nib, may_write, step, Moves, Goes}
-use Rattle.source_shared.specs.Book.{Part, joined, turn_of, begun_word, ArePast, IsKept, IsTurn, IsNotPast, Reserves, Begins, Adds, Checks}
-use Rattle.source_shared.proofs.Turns.{home_set, home_more, home_now, first_set, first_more, first_other, past_still, past_more, not_past, whole, prefix_trans, prefix_joined, prefix_get, turn-snoc}
+use Rattle.source_shared.specs.Book.{Part, receipts_in, turn_of, begun_word, ArePast, IsLedger, IsTurn, IsNotPast, Reserves, Begins, Adds, Checks}
+use Rattle.source_shared.proofs.Turns.{home_set, home_more, home_now, first_set, first_more, first_other, past_still, past_more, not_past, whole, prefix_trans, prefix_receipts, prefix_get, turn-snoc}
 
 abbrev shown : List Part → List Part
 shown log = []
@@ -21,11 +21,11 @@ same_word [] n is = rw is refl
 same_word (part ∷ parts) n is = rw is refl
 
 -- the cells once the word is written
-written : (cs : List Cell) (log : List Part) (n : ℕ) → IsKept cs log → ArePast (set cs 0 (n, true)) log
+written : (cs : List Cell) (log : List Part) (n : ℕ) → IsLedger cs log → ArePast (set cs 0 (n, true)) log
 written cs log n kept = past_still cs (set cs 0 (n, true)) (λ k h. home_set cs 0 n k h) log kept.past
 
 -- and where that is what it was
-left_alone : (cs : List Cell) (log : List Part) → IsKept cs log → IsKept (set cs 0 (either ((cell cs 0).0 == 1) 1 (cell cs 0).0, true)) (log ++ [])
+left_alone : (cs : List Cell) (log : List Part) → IsLedger cs log → IsLedger (set cs 0 (either ((cell cs 0).0 == 1) 1 (cell cs 0).0, true)) (log ++ [])
 left_alone cs log kept =
     let f : ℕ → ℕ = λ n. either (n == 1) 1 n in
     let n = same_word log (cell cs 0).0 (ap (λ (c : Cell). c.0) kept.word) in
@@ -38,7 +38,7 @@ left_alone cs log kept =
     )
 
 pub reserves_moves : (v : List Part) (nib : Nib) (state : Option ℕ) (ask : Part)
-    → Moves IsKept shown moved 0 (v, (nib, state)) (λ n. either (n == 1) 1 n) (Reserves (step 0 1 1 ask) (v, (nib, state)))
+    → Moves IsLedger shown moved 0 (v, (nib, state)) (λ n. either (n == 1) 1 n) (Reserves (step 0 1 1 ask) (v, (nib, state)))
 reserves_moves v nib state ask cs log kept pre away =
     let same = left_alone cs log kept in
     let ds = set cs 0 (either ((cell cs 0).0 == 1) 1 (cell cs 0).0, true) in
@@ -61,15 +61,15 @@ reserves_moves v nib state ask cs log kept pre away =
     )
 
 pub checks_moves : (v : List Part) (nib : Nib) (state : Option ℕ) (ask : Part) → nib.right ≡ may_write
-    → Moves IsKept shown moved 0 (v, (nib, state)) (λ n. either (n == 1) 1 n) (Checks (step 0 1 1 ask) (v, (nib, state)))
+    → Moves IsLedger shown moved 0 (v, (nib, state)) (λ n. either (n == 1) 1 n) (Checks (step 0 1 1 ask) (v, (nib, state)))
 checks_moves v nib state ask right cs log kept pre away = (
   kept.some,
   ap (λ (c : Cell). c.1) kept.word,
   (keeps, [], state, tt, left_alone cs log kept, inl (refl, refl), (refl, rw (append-nil log) (not_past cs nib.key (away right).1 log kept.past))),
 )
 
-begins_goes : (log v : List Part) (nib : Nib) (state : Option ℕ) (ask : Part) (cs : List Cell) → IsKept cs log
-    → Goes IsKept shown moved 0 (v, (nib, state)) (λ n. either (n == 0) 1 n) (Begins (step 0 0 1 ask) (v, (nib, state))) cs log
+begins_goes : (log v : List Part) (nib : Nib) (state : Option ℕ) (ask : Part) (cs : List Cell) → IsLedger cs log
+    → Goes IsLedger shown moved 0 (v, (nib, state)) (λ n. either (n == 0) 1 n) (Begins (step 0 0 1 ask) (v, (nib, state))) cs log
 begins_goes [] v nib state ask cs kept =
     let n : (cell cs 0).0 ≡ 0 = ap (λ (c : Cell). c.0) kept.word in
     let f : ℕ → ℕ = λ n. either (n == 0) 1 n in (
@@ -103,7 +103,7 @@ begins_goes (part ∷ parts) v nib state ask cs kept =
     )
 
 pub begins_moves : (v : List Part) (nib : Nib) (state : Option ℕ) (ask : Part)
-    → Moves IsKept shown moved 0 (v, (nib, state)) (λ n. either (n == 0) 1 n) (Begins (step 0 0 1 ask) (v, (nib, state)))
+    → Moves IsLedger shown moved 0 (v, (nib, state)) (λ n. either (n == 0) 1 n) (Begins (step 0 0 1 ask) (v, (nib, state)))
 begins_moves v nib state ask cs log kept pre away = (kept.some, ap (λ (c : Cell). c.1) kept.word, begins_goes log v nib state ask cs kept)
 
 -- a longer history has begun
@@ -112,7 +112,7 @@ begun-more [] ask some = absurd (omega arith)
 begun-more (part ∷ parts) ask some = refl
 
 pub adds_moves : (v : List Part) (nib : Nib) (state : Option ℕ) (ask : Part) → IsTurn nib v
-    → Moves IsKept shown moved 0 (v, (nib, state)) (λ n. either (n == 1) 1 n) (Adds (step 0 1 1 ask) (v, (nib, state)))
+    → Moves IsLedger shown moved 0 (v, (nib, state)) (λ n. either (n == 1) 1 n) (Adds (step 0 1 1 ask) (v, (nib, state)))
 adds_moves v nib state ask turn cs log kept pre away =
     let there = away turn.right in
     let f : ℕ → ℕ = λ n. either (n == 1) 1 n in
@@ -155,7 +155,7 @@ next_turn v w ask nib receipts right asked is =
 
 -- a receipt is one of the whole history, which the one has seen who has the turn
 pub found : (own all w told : List Part) (nib : Nib) (k : ℕ) (x : Receipt) → IsTurn nib own → IsPrefix own all → IsPrefix told all → IsPrefix all w → IsNotPast nib.key w
-    → slice_get (joined told) k ≡ Some x → slice_get (joined own) k ≡ Some x
+    → slice_get (receipts_in told) k ≡ Some x → slice_get (receipts_in own) k ≡ Some x
 found own all w told nib k x turn mine its later away there =
     let same : own ≡ w = whole own w (prefix_trans own all w mine later) turn.some (subst (λ (n : ℕ). IsNotPast n w) turn.key away) in
-    rw same (prefix_get (joined told) (joined w) k x (prefix_joined told w (prefix_trans told all w its later)) there)
+    rw same (prefix_get (receipts_in told) (receipts_in w) k x (prefix_receipts told w (prefix_trans told all w its later)) there)

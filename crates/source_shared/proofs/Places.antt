@@ -88,20 +88,21 @@ get_behind (x ∷ front) given k d h =
     let e : suc (length front + k) ≡ length (x ∷ front) + k = omega arith in
     subst (λ (n : ℕ). slice_get (x ∷ (front ++ given)) n ≡ Some (slice_index_or given k d)) e (get_behind front given k d h)
 
+-- the first so many, and those behind them up to so many
+pub both_parts : {A : Type 0} (n m : ℕ) (xs : List A) → n ≤ m → take n xs ++ drop n (take m xs) ≡ take m xs
+both_parts zero m xs le = refl
+both_parts (suc n) zero xs le = absurd (omega arith)
+both_parts (suc n) (suc m) [] le = refl
+both_parts (suc n) (suc m) (x ∷ xs) le = ap (λ l. x ∷ l) (both_parts n m xs (omega arith))
+
 -- those of the committed records, once all that are synced are committed
 pub receipts_then : (s : Source) → IsSound s → receipts_for (take s.synced s.owners) (take s.synced s.log) ≡ committed_receipts s ++ receipts s
 receipts_then s sound =
-    let owners : take s.committed s.owners ++ drop s.committed (take s.synced s.owners) ≡ take s.synced s.owners = two s.committed s.synced s.owners sound.committed_within in
-    let log : take s.committed s.log ++ drop s.committed (take s.synced s.log) ≡ take s.synced s.log = two s.committed s.synced s.log sound.committed_within in
+    let owners : take s.committed s.owners ++ drop s.committed (take s.synced s.owners) ≡ take s.synced s.owners = both_parts s.committed s.synced s.owners sound.committed_within in
+    let log : take s.committed s.log ++ drop s.committed (take s.synced s.log) ≡ take s.synced s.log = both_parts s.committed s.synced s.log sound.committed_within in
     let long : length (take s.committed s.owners) ≡ length (take s.committed s.log) =
     length-take-le s.committed s.owners (omega (arith, sound.committed_within, sound.synced_within, sound.owned)) ∙ sym (length-take-le s.committed s.log (omega (arith, sound.committed_within, sound.synced_within))) in
     sym (λ i. receipts_for (owners i) (log i)) ∙ receipts-append (take s.committed s.owners) (drop s.committed (take s.synced s.owners)) (take s.committed s.log) (drop s.committed (take s.synced s.log)) long
-  where
-    two : {A : Type 0} (n m : ℕ) (xs : List A) → n ≤ m → take n xs ++ drop n (take m xs) ≡ take m xs
-    two zero m xs le = refl
-    two (suc n) zero xs le = absurd (omega arith)
-    two (suc n) (suc m) [] le = refl
-    two (suc n) (suc m) (x ∷ xs) le = ap (λ l. x ∷ l) (two n m xs (omega arith))
 
 -- a receipt of the synced records has the number of its place
 pub receipt_number : (s : Source) → IsSound s → (k : ℕ) (r : Receipt) → slice_get (receipts_for (take s.synced s.owners) (take s.synced s.log)) k ≡ Some r → r.gno ≡ k + 1

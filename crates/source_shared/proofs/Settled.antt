@@ -1,81 +1,88 @@
 -- What is true under the lock stays so, step by step.
-use Rattle.std.proofs.Common.{◌≡◌, ℕ, zero, suc, ◌+◌, ◌≤◌, Bool, true, false, List, [], ◌∷◌, ◌++◌, length, take, drop, replicate, Option, Some, None, IfSome, is_some, get_or, nat_lt, Bor, refl, sym, ap, ◌∙◌, subst, append_assoc, arith}
-use Rattle.std.specs.Prelude.{map, slice_get, IsSomeAnd, ◌&&◌, ◌==◌, not, if◌then◌else◌}
-use Rattle.std.proofs.lemmas.Bool.{eqb-true, false≢true}
+use Rattle.std.proofs.Common.{◌≡◌, ℕ, zero, suc, ◌+◌, ◌-◌, ◌≤◌, Bool, true, false, List, [], ◌∷◌, ◌++◌, length, take, drop, replicate, Option, Some, None, IfSome, is_some, get_or, nat_lt, Bor, refl, sym, ap, ◌∙◌, subst, append_assoc, arith}
+use Rattle.std.specs.Prelude.{map, slice_get, IsSomeAnd, ◌==◌, if◌then◌else◌}
+use Rattle.std.proofs.lemmas.Bool.{false≢true}
 use Rattle.std.proofs.lemmas.Bool.Decides.{nat_tests}
 use Rattle.std.specs.Option.{option_map}
 use Rattle.std.proofs.lemmas.Option.{IfSome_then, same_Some}
-use Rattle.std.proofs.lemmas.List.{append-nil, take-append-le, take-append-drop, take_at, drop_at, length-append, map-append, length-set, length-replicate, length-take-le}
+use Rattle.std.proofs.lemmas.List.{append-nil, take-append-le, take-append-drop, take_at, drop_at, length-append, map-append, length-set, length-replicate, length-take-le, length-drop}
 use Rattle.schema.specs.declared.Table.{Table}
 use Rattle.store_trait.specs.Batch.{Entry}
 use Rattle.record_codec.specs.declared.records.Record.{Record}
-use Rattle.record_codec.specs.Group.{GroupValue, AreRecordsOf, Hold}
+use Rattle.record_codec.specs.Group.{GroupValue, AreNumbered, AreRecordsOf, Hold}
+use Rattle.record_codec.proofs.Numbered.{numbered-append}
 use Rattle.log_file.specs.Log.{Log, Kept, Tail, waiting_of, log_of, AreHalves}
 use Rattle.source_core.specs.declared.transaction.Receipt.{Receipt}
-use Rattle.source_core.specs.Source.{Source, IsSound, new_source}
-use Rattle.log_file.specs.declared.fault.LogFault.{LogFault}
+use Rattle.source_core.specs.Source.{Source, Open, IsSound, new_source}
 use Rattle.log_file.specs.declared.fault.LogFault.TheVariants.{OutOfTurn}
 use Rattle.log_file.specs.Calls.{confirmed, prepare_cause}
-use Rattle.source_core.specs.declared.fault.SourceFault.{SourceFault}
-use Rattle.source_core.specs.declared.fault.SourceFault.TheVariants.{Halted}
-use Rattle.source_core.proofs.FlushEnds.{group_is_counted}
-use Rattle.source_core.specs.Calls.{cause, Flushes, IsOldest, size_of, with_synced, all_committed, receipts, receipts_for}
-use Rattle.source_shared.specs.Engine.{State, Watch, nobody, count, IsWatch, IsReady, IsSettled, ArePlaced, committed_receipts, emptied as emptied_at, failed, with_home, landed, given, laid, is_other, expects}
-use Rattle.source_shared.proofs.Places.{number_at, placed_none, none_placed}
+use Rattle.source_core.proofs.FlushEnds.{group_ends, group_is_counted}
+use Rattle.source_core.specs.Calls.{flushed, Flushes, IsOldest, size_of, with_synced, all_committed, receipts, receipts_for}
+use Rattle.source_shared.specs.Engine.{State, Watch, nobody, count, IsReady, IsSyncing, AreLaidOut, IsSettled, ArePlaced, committed_receipts, emptied as emptied_at, failed, with_home, landed, given, laid}
+use Rattle.source_shared.proofs.Places.{placed_none, none_placed, both_parts}
 
 -- ---- the groups that wait
 
-pub hold_push : (groups : List GroupValue) (records : List Record) (group : GroupValue) (its : List Record) → Hold groups records → AreRecordsOf group its → Hold (groups ++ group ∷ []) (records ++ its)
+hold_push : (groups : List GroupValue) (records : List Record) (group : GroupValue) (its : List Record) → Hold groups records → AreRecordsOf group its → Hold (groups ++ group ∷ []) (records ++ its)
 hold_push [] records group its h are = (its, [], ap (λ (l : List Record). l ++ its) h ∙ sym (append-nil its), are, refl)
 hold_push (g ∷ groups) records group its h are = (h.0, h.1 ++ its, ap (λ (l : List Record). l ++ its) h.2 ∙ append_assoc h.0 h.1 its, h.3, hold_push groups h.1 group its h.4 are)
 
-mid_get : {A : Type 0} (xs : List A) (x : A) (ys : List A) → slice_get (xs ++ x ∷ ys) (length xs) ≡ Some x
-mid_get [] x ys = refl
-mid_get (y ∷ xs) x ys = mid_get xs x ys
+-- the first group of numbered records begins with the first of them, and the rest are numbered on
+first_of : (gno : ℕ) (group : GroupValue) (its rest : List Record) → AreRecordsOf group its → AreNumbered gno (its ++ rest) → group.first ≡ gno
+first_of gno group [] rest are h = absurd (omega (arith, are.some))
+first_of gno group (r ∷ its) rest are h = sym are.numbered.0 ∙ h.0
 
--- the first record behind the synced ones has the next number
-first_of : (s : Source) (group : GroupValue) (its rest : List Record) → IsSound s → AreRecordsOf group its → drop s.synced s.log ≡ its ++ rest → group.first ≡ s.synced + 1
-first_of s group [] rest sound are e = absurd (omega (arith, are.some))
-first_of s group (r ∷ its) rest sound are e =
-    let front = take s.synced s.log in
-    let len : length front ≡ s.synced = length-take-le s.synced s.log sound.synced_within in
-    let log : s.log ≡ front ++ (r ∷ (its ++ rest)) = sym (take-append-drop s.synced s.log) ∙ ap (λ (l : List Record). front ++ l) e in
-    let at : slice_get s.log s.synced ≡ Some r = ap (λ (l : List Record). slice_get l s.synced) log ∙ ap (slice_get (front ++ (r ∷ (its ++ rest)))) (sym len) ∙ mid_get front r (its ++ rest) in
-    sym are.numbered.0 ∙ number_at s s.synced r sound at
+numbered_rest : (gno : ℕ) (its rest : List Record) → AreNumbered gno (its ++ rest) → AreNumbered (gno + length its) rest
+numbered_rest gno [] rest h = subst (λ (n : ℕ). AreNumbered n rest) (omega arith) h
+numbered_rest gno (r ∷ its) rest h = subst (λ (n : ℕ). AreNumbered n rest) (omega arith) (numbered_rest (gno + 1) its rest h.1)
 
 -- the oldest group has the first records behind the synced ones, and the others have the rest
-pub record Oldest (s : Source) (group : GroupValue) (groups : List GroupValue) : Type 0 where
-  pub first : group.first ≡ s.synced + 1
-  pub within : group.last ≤ length s.log
-  pub later : s.synced ≤ group.last
-  pub is_oldest : IsOldest s group
-  pub rest : Hold groups (drop group.last s.log)
-  pub sizes : drop 1 s.group_sizes ≡ map size_of groups
+pub record Oldest (log : List Record) (synced_ : ℕ) (flushed : List ℕ) (group : GroupValue) (groups : List GroupValue) : Type 0 where
+  pub first : group.first ≡ synced_ + 1
+  pub within : group.last ≤ length log
+  pub later : synced_ ≤ group.last
+  pub are : AreRecordsOf group (drop synced_ (take group.last log))
+  pub whole : slice_get flushed 0 ≡ Some (group.last - synced_)
+  pub rest : Hold groups (drop group.last log)
+  pub sizes : drop 1 flushed ≡ map size_of groups
+  pub numbered : AreNumbered (group.last + 1) (drop group.last log)
 
-oldest_in : (s : Source) (group : GroupValue) (groups : List GroupValue) → IsSound s → Hold (group ∷ groups) (drop s.synced s.log) → s.group_sizes ≡ map size_of (group ∷ groups) → Oldest s group groups
-oldest_in s group groups sound h sizes =
-    let its = h.0 in
-    let rest = h.1 in
-    let front = take s.synced s.log in
-    let len : length front ≡ s.synced = length-take-le s.synced s.log sound.synced_within in
-    let first = first_of s group its rest sound h.3 h.2 in
-    let log : s.log ≡ (front ++ its) ++ rest = sym (take-append-drop s.synced s.log) ∙ ap (λ (l : List Record). front ++ l) h.2 ∙ sym (append_assoc front its rest) in
-    let both : length (front ++ its) ≡ group.last = omega (arith, length-append front its, len, h.3.last, first) in
-    let until : take group.last s.log ≡ front ++ its = ap (take group.last) log ∙ take_at (front ++ its) rest group.last both in
-    let behind : drop s.synced (take group.last s.log) ≡ its = ap (drop s.synced) until ∙ drop_at front its s.synced len in
-    let left : drop group.last s.log ≡ rest = ap (drop group.last) log ∙ drop_at (front ++ its) rest group.last both in
+-- so many of the log are there
+synced_long : (log : List Record) (synced_ : ℕ) (flushed : List ℕ) (kept : Kept) (ring : List GroupValue) → IsSyncing log synced_ flushed kept ring → length (take synced_ log) ≡ synced_
+synced_long log synced_ flushed kept ring h = ap (λ (l : List Record). length l) (sym h.records) ∙ h.many
+
+oldest_in : (log : List Record) (synced_ : ℕ) (flushed : List ℕ) (kept : Kept) (group : GroupValue) (groups : List GroupValue) → IsSyncing log synced_ flushed kept (group ∷ groups) → Oldest log synced_ flushed group groups
+oldest_in log synced_ flushed kept group groups h =
+    let its = h.waiting.0 in
+    let rest = h.waiting.1 in
+    let are = h.waiting.3 in
+    let front = take synced_ log in
+    let len : length front ≡ synced_ = synced_long log synced_ flushed kept (group ∷ groups) h in
+    let numbered : AreNumbered (synced_ + 1) (its ++ rest) = subst (AreNumbered (synced_ + 1)) h.waiting.2 h.numbered in
+    let first = first_of (synced_ + 1) group its rest are numbered in
+    let all : log ≡ (front ++ its) ++ rest = sym (take-append-drop synced_ log) ∙ ap (λ (l : List Record). front ++ l) h.waiting.2 ∙ sym (append_assoc front its rest) in
+    let both : length (front ++ its) ≡ group.last = omega (arith, length-append front its, len, are.last, first) in
+    let until : take group.last log ≡ front ++ its = ap (take group.last) all ∙ take_at (front ++ its) rest group.last both in
+    let behind : drop synced_ (take group.last log) ≡ its = ap (drop synced_) until ∙ drop_at front its synced_ len in
+    let left : drop group.last log ≡ rest = ap (drop group.last) all ∙ drop_at (front ++ its) rest group.last both in
+    let next : synced_ + 1 + length its ≡ group.last + 1 = omega (arith, are.last, first) in
     record {
       first = first;
-      within = omega (arith, both, ap length log, length-append (front ++ its) rest);
+      within = omega (arith, both, ap length all, length-append (front ++ its) rest);
       later = omega (arith, both, length-append front its, len);
-      is_oldest = record { are = subst (AreRecordsOf group) (sym behind) h.3; whole = ap (λ (l : List ℕ). slice_get l 0) sizes ∙ ap (λ (n : ℕ). Some n) (omega (arith, first)) };
-      rest = subst (Hold groups) (sym left) h.4;
-      sizes = ap (drop 1) sizes;
+      are = subst (AreRecordsOf group) (sym behind) are;
+      whole = ap (λ (l : List ℕ). slice_get l 0) h.sizes ∙ ap (λ (n : ℕ). Some n) (omega (arith, first));
+      rest = subst (Hold groups) (sym left) h.waiting.4;
+      sizes = ap (drop 1) h.sizes;
+      numbered = subst (AreNumbered (group.last + 1)) (sym left) (subst (λ (n : ℕ). AreNumbered n rest) next (numbered_rest (synced_ + 1) its rest numbered));
     }
 
-pub oldest : (base : List Entry) (tables : List Table) (s : State) (group : GroupValue) (groups : List GroupValue) → IsSound s.core → s.ring ≡ group ∷ groups → IsSettled base tables s → Oldest s.core group groups
-oldest base tables s group groups sound ring h =
-    oldest_in s.core group groups sound (subst (λ (l : List GroupValue). Hold l (drop s.core.synced s.core.log)) ring h.waiting) (h.sizes ∙ ap (map size_of) ring)
+oldest : (base : List Entry) (tables : List Table) (s : State) (group : GroupValue) (groups : List GroupValue) → s.ring ≡ group ∷ groups → IsSettled base tables s → Oldest s.core.log s.core.synced s.core.group_sizes group groups
+oldest base tables s group groups ring h =
+    oldest_in s.core.log s.core.synced s.core.group_sizes s.kept group groups (subst (IsSyncing s.core.log s.core.synced s.core.group_sizes s.kept) ring h.syncing)
+
+pub is_oldest : (base : List Entry) (tables : List Table) (s : State) (group : GroupValue) (groups : List GroupValue) → s.ring ≡ group ∷ groups → IsSettled base tables s → IsOldest s.core group
+is_oldest base tables s group groups ring h = let at = oldest base tables s group groups ring h in record { are = at.are; whole = at.whole }
 
 -- the group that is lent is the oldest
 pub first_lent : (l : List GroupValue) (got : Option (Bor GroupValue)) (x : Bor GroupValue) → is_some got ≡ nat_lt 0 (length l) → IfSome got (λ y. y.now ≡ get_or l 0 y.now) → got ≡ Some x → slice_get l 0 ≡ Some x.now
@@ -85,12 +92,10 @@ first_lent l got x some here is = of l (sym (ap (λ (o : Option (Bor GroupValue)
   of (y ∷ l) e h = ap (λ (g : GroupValue). Some g) (sym h)
 
 -- and is the next behind those that are synced
-pub oldest_next : (base : List Entry) (tables : List Table) (s : State) (group : GroupValue) → IsSound s.core → slice_get s.ring 0 ≡ Some group → IsSettled base tables s → prepare_cause s.kept group ≡ None
-oldest_next base tables s group sound at h =
+pub oldest_next : (base : List Entry) (tables : List Table) (s : State) (group : GroupValue) → slice_get s.ring 0 ≡ Some group → IsSettled base tables s → prepare_cause s.kept group ≡ None
+oldest_next base tables s group at h =
     let parts = split s.ring at in
-    let o = oldest base tables s group parts.0 sound parts.1 h in
-    let long : length s.kept.records ≡ s.core.synced = ap (λ (l : List Record). length l) h.records ∙ length-take-le s.core.synced s.core.log sound.synced_within in
-    in_turn group.first (length s.kept.records) (omega (arith, o.first, long)) where
+    let o = oldest base tables s group parts.0 parts.1 h in in_turn group.first (length s.kept.records) (omega (arith, o.first, h.syncing.many)) where
       split : (l : List GroupValue) → slice_get l 0 ≡ Some group → (rest : List GroupValue) × (l ≡ group ∷ rest)
       split [] e = absurd (cc e)
       split (x ∷ l) e = (l, ap (λ (y : GroupValue). y ∷ l) (same_Some x group e))
@@ -100,165 +105,74 @@ oldest_next base tables s group sound at h =
 
 -- ---- steps
 
--- another core of the same log
-pub same_core : (base : List Entry) (tables : List Table) (s : State) (c : Source) → c.base ≡ s.core.base → c.tables ≡ s.core.tables → c.log ≡ s.core.log → c.owners ≡ s.core.owners → c.synced ≡ s.core.synced → c.group_sizes ≡ s.core.group_sizes
-    → c.committed ≡ s.core.committed → (c.halted ≡ false → s.core.halted ≡ false) → IsSettled base tables s → IsSettled base tables (record s { core = c })
-same_core base tables s c base_is tables_is log owners synced sizes committed halted h = record {
-  base_is = base_is ∙ h.base_is;
-  tables_is = tables_is ∙ h.tables_is;
-  records = h.records ∙ sym (λ i. take (synced i) (log i));
-  waiting = subst (Hold s.ring) (sym (λ i. drop (synced i) (log i))) h.waiting;
-  sizes = sizes ∙ h.sizes;
-  prepared = h.prepared;
-  ready = IfSome_then s.home h.ready (λ t ready e. subst (λ (n : ℕ). IsReady n t) (sym synced) (ready (halted e)));
-  placed = h.placed;
-  places = h.places;
-  seats = h.seats;
-  history_is = h.history_is ∙ sym (λ i. receipts_for (take (committed i) (owners i)) (take (committed i) (log i)));
-  watch = h.watch;
-}
+-- other sessions, and another queue
+pub sessions_settled : (base : List Entry) (tables : List Table) (s : State) (sessions : List (Option Open)) (queue : List ℕ) → IsSettled base tables s → IsSettled base tables (record s { core = record s.core { sessions = sessions; queue = queue } })
+sessions_settled base tables s sessions queue h = record { base_is = h.base_is; tables_is = h.tables_is; syncing = h.syncing; ready = h.ready; receipts = h.receipts; watch = h.watch }
+
+-- the source is halted
+pub failed_settled : (base : List Entry) (tables : List Table) (s : State) → IsSettled base tables s → IsSettled base tables (failed s)
+failed_settled base tables s h = record { base_is = h.base_is; tables_is = h.tables_is; syncing = h.syncing; ready = IfSome_then s.home h.ready (λ t ready e. absurd cc); receipts = h.receipts; watch = h.watch }
 
 -- a place is emptied
 pub emptied : (base : List Entry) (tables : List Table) (s : State) (k : ℕ) → IsSettled base tables s → IsSettled base tables (emptied_at s k)
-emptied base tables s k h = record {
-  base_is = h.base_is;
-  tables_is = h.tables_is;
-  records = h.records;
-  waiting = h.waiting;
-  sizes = h.sizes;
-  prepared = h.prepared;
-  ready = h.ready;
-  placed = placed_none s.history 1 s.places k h.placed;
-  places = length-set s.places k None ∙ h.places;
-  seats = h.seats;
-  history_is = h.history_is;
-  watch = h.watch;
-}
+emptied base tables s k h =
+    let laid_ = h.receipts in
+    record {
+      base_is = h.base_is;
+      tables_is = h.tables_is;
+      syncing = h.syncing;
+      ready = h.ready;
+      receipts = record { history_is = laid_.history_is; placed = placed_none s.history 1 s.places k laid_.placed; places = length-set s.places k None ∙ laid_.places; seats = laid_.seats };
+      watch = h.watch;
+    }
 
 -- the writer is here, and ready unless the source is halted
-pub home_settled : (base : List Entry) (tables : List Table) (s : State) (t : Tail) → (s.core.halted ≡ false → IsReady s.core.synced t) → IsSettled base tables s → IsSettled base tables (with_home t s)
-home_settled base tables s t ready h = record {
-  base_is = h.base_is;
-  tables_is = h.tables_is;
-  records = h.records;
-  waiting = h.waiting;
-  sizes = h.sizes;
-  prepared = h.prepared;
-  ready = ready;
-  placed = h.placed;
-  places = h.places;
-  seats = h.seats;
-  history_is = h.history_is;
-  watch = h.watch;
-}
-
--- the source is halted, with the writer here
-pub failed_settled : (base : List Entry) (tables : List Table) (s : State) (t : Tail) → IsSettled base tables s → IsSettled base tables (failed (with_home t s))
-failed_settled base tables s t h = record {
-  base_is = h.base_is;
-  tables_is = h.tables_is;
-  records = h.records;
-  waiting = h.waiting;
-  sizes = h.sizes;
-  prepared = h.prepared;
-  ready = λ e. absurd cc;
-  placed = h.placed;
-  places = h.places;
-  seats = h.seats;
-  history_is = h.history_is;
-  watch = h.watch;
-}
+home_settled : (base : List Entry) (tables : List Table) (s : State) (t : Tail) → (s.core.halted ≡ false → IsReady s.core.synced t) → IsSettled base tables s → IsSettled base tables (with_home t s)
+home_settled base tables s t ready h = record { base_is = h.base_is; tables_is = h.tables_is; syncing = h.syncing; ready = ready; receipts = h.receipts; watch = h.watch }
 
 front_push : (ring : List GroupValue) (first group : GroupValue) → slice_get ring 0 ≡ Some first → slice_get (ring ++ group ∷ []) 0 ≡ Some first
 front_push [] first group e = absurd cc
 front_push (g ∷ ring) first group e = e
 
 -- a flush
-pub flushed_settled : (base : List Entry) (tables : List Table) (s : State) (c : Source) (group : GroupValue) → IsSound s.core → Flushes s.core group c → IsSettled base tables s
-    → IsSettled base tables (record s { core = c; ring = s.ring ++ group ∷ [] })
-flushed_settled base tables s c group sound f h =
-    let core = s.core in
+flushed_syncing : (core c : Source) (group : GroupValue) (kept : Kept) (ring : List GroupValue) → IsSound core → (f : Flushes core group c) → IsSyncing core.log core.synced core.group_sizes kept ring
+    → IsSyncing (core.log ++ f.made) core.synced c.group_sizes kept (ring ++ group ∷ [])
+flushed_syncing core c group kept ring sound f h =
     let behind : drop core.synced (core.log ++ f.made) ≡ drop core.synced core.log ++ f.made = drop_front core.synced core.log f.made sound.synced_within in
-    let owners : take core.committed (core.owners ++ core.queue) ≡ take core.committed core.owners =
-    take-append-le core.committed core.owners core.queue (omega (arith, sound.committed_within, sound.synced_within, sound.owned)) in
-    let log : take core.committed (core.log ++ f.made) ≡ take core.committed core.log =
-    take-append-le core.committed core.log f.made (omega (arith, sound.committed_within, sound.synced_within)) in
-    subst (λ (k : Source). IsSettled base tables (record s { core = k; ring = s.ring ++ group ∷ [] })) (sym f.leaves)
-    (record {
-      base_is = h.base_is;
-      tables_is = h.tables_is;
+    let next : group.first ≡ core.synced + 1 + length (drop core.synced core.log) =
+    omega (arith, (group_ends core c group sound f).0, length-drop core.synced core.log, sound.synced_within) in
+    record {
       records = h.records ∙ sym (take-append-le core.synced core.log f.made sound.synced_within);
-      waiting = subst (Hold (s.ring ++ group ∷ [])) (sym behind) (hold_push s.ring (drop core.synced core.log) group f.made h.waiting f.group_of);
-      sizes = ap (λ (k : Source). k.group_sizes) (sym f.leaves) ∙ group_is_counted core c group sound f ∙ ap (λ (l : List ℕ). l ++ size_of group ∷ []) h.sizes ∙ sym (map-append size_of s.ring (group ∷ []));
-      prepared = IfSome_then s.kept.prepared h.prepared (λ first at. front_push s.ring first group at);
-      ready = h.ready;
-      placed = h.placed;
-      places = h.places;
-      seats = h.seats;
-      history_is = h.history_is ∙ sym (λ i. receipts_for (owners i) (log i));
-      watch = h.watch;
-    })
+      many = h.many;
+      waiting = subst (Hold (ring ++ group ∷ [])) (sym behind) (hold_push ring (drop core.synced core.log) group f.made h.waiting f.group_of);
+      sizes = group_is_counted core c group sound f ∙ ap (λ (l : List ℕ). l ++ size_of group ∷ []) h.sizes ∙ sym (map-append size_of ring (group ∷ []));
+      prepared = IfSome_then kept.prepared h.prepared (λ first at. front_push ring first group at);
+      numbered = subst (AreNumbered (core.synced + 1)) (sym behind) (numbered-append (core.synced + 1) (drop core.synced core.log) f.made h.numbered (subst (λ (n : ℕ). AreNumbered n f.made) next f.group_of.numbered));
+    }
   where
     drop_front : {A : Type 0} (n : ℕ) (xs ys : List A) → n ≤ length xs → drop n (xs ++ ys) ≡ drop n xs ++ ys
     drop_front n xs ys le =
         let all : xs ++ ys ≡ take n xs ++ (drop n xs ++ ys) = ap (λ l. l ++ ys) (sym (take-append-drop n xs)) ∙ append_assoc (take n xs) (drop n xs) ys in
         ap (drop n) all ∙ drop_at (take n xs) (drop n xs ++ ys) n (length-take-le n xs le)
 
--- the writer leaves with the oldest group
-pub departed : (base : List Entry) (tables : List Table) (s : State) (group : GroupValue) → slice_get s.ring 0 ≡ Some group → IsSettled base tables s
-    → IsSettled base tables (record s { kept = record s.kept { prepared = Some group }; home = None })
-departed base tables s group at h = record {
-  base_is = h.base_is;
-  tables_is = h.tables_is;
-  records = h.records;
-  waiting = h.waiting;
-  sizes = h.sizes;
-  prepared = at;
-  ready = tt;
-  placed = h.placed;
-  places = h.places;
-  seats = h.seats;
-  history_is = h.history_is;
-  watch = h.watch;
-}
-
--- the oldest group is synced
-pub landed_settled : (base : List Entry) (tables : List Table) (s : State) (t : Tail) (group : GroupValue) (groups : List GroupValue) → IsSound s.core → s.ring ≡ group ∷ groups → (s.core.halted ≡ false → IsReady group.last t) → IsSettled base tables s
-    → IsSettled base tables (landed group (with_home t s))
-landed_settled base tables s t group groups sound ring ready h =
-    let at = oldest base tables s group groups sound ring h in
-    record {
+pub flushed_settled : (base : List Entry) (tables : List Table) (s : State) (c : Source) (group : GroupValue) → IsSound s.core → Flushes s.core group c → IsSettled base tables s
+    → IsSettled base tables (record s { core = c; ring = s.ring ++ group ∷ [] })
+flushed_settled base tables s c group sound f h =
+    let core = s.core in
+    let owners : take core.committed (core.owners ++ core.queue) ≡ take core.committed core.owners =
+    take-append-le core.committed core.owners core.queue (omega (arith, sound.committed_within, sound.synced_within, sound.owned)) in
+    let log : take core.committed (core.log ++ f.made) ≡ take core.committed core.log =
+    take-append-le core.committed core.log f.made (omega (arith, sound.committed_within, sound.synced_within)) in
+    let sizes : c.group_sizes ≡ (flushed core f.made).group_sizes = ap (λ (k : Source). k.group_sizes) f.leaves in
+    subst (λ (k : Source). IsSettled base tables (record s { core = k; ring = s.ring ++ group ∷ [] })) (sym f.leaves)
+    (record {
       base_is = h.base_is;
       tables_is = h.tables_is;
-      records = refl;
-      waiting = subst (λ (l : List GroupValue). Hold l (drop group.last s.core.log)) (sym (ap (drop 1) ring)) at.rest;
-      sizes = at.sizes ∙ sym (ap (λ (l : List GroupValue). map size_of (drop 1 l)) ring);
-      prepared = tt;
-      ready = ready;
-      placed = h.placed;
-      places = h.places;
-      seats = h.seats;
-      history_is = h.history_is;
+      syncing = subst (λ (l : List ℕ). IsSyncing (core.log ++ f.made) core.synced l s.kept (s.ring ++ group ∷ [])) sizes (flushed_syncing core c group s.kept s.ring sound f h.syncing);
+      ready = h.ready;
+      receipts = subst (λ (l : List Receipt). AreLaidOut l s.history s.places s.out) (sym (λ i. receipts_for (owners i) (log i))) h.receipts;
       watch = h.watch;
-    }
-
-parts : {A : Type 0} (n m : ℕ) (xs : List A) → n ≤ m → take n xs ++ drop n (take m xs) ≡ take m xs
-parts zero m xs le = refl
-parts (suc n) zero xs le = absurd (omega arith)
-parts (suc n) (suc m) [] le = refl
-parts (suc n) (suc m) (x ∷ xs) le = ap (λ l. x ∷ l) (parts n m xs (omega arith))
-
-pub landed_is : (base : List Entry) (tables : List Table) (s : State) (t : Tail) (group : GroupValue) (groups : List GroupValue) (c : Source) (k : Kept) → IsSound s.core → IsSettled base tables s → s.ring ≡ group ∷ groups
-    → s.kept.prepared ≡ Some group → c ≡ with_synced s.core group.last → ((g : GroupValue) (rs : List Record) → s.kept.prepared ≡ Some g → AreRecordsOf g rs → k ≡ confirmed g rs s.kept)
-    → record s { core = c; kept = k; home = Some t; ring = groups } ≡ landed group (with_home t s)
-landed_is base tables s t group groups c k sound h ring p core confirms =
-    let at = oldest base tables s group groups sound ring h in
-    let its = drop s.core.synced (take group.last s.core.log) in
-    let all : s.kept.records ++ its ≡ take group.last s.core.log = ap (λ (l : List Record). l ++ its) h.records ∙ parts s.core.synced group.last s.core.log at.later in
-    let kept : k ≡ record s.kept { records = take group.last s.core.log; groups = s.kept.groups ++ group ∷ []; prepared = None } =
-    confirms group its p at.is_oldest.are ∙ (λ i. record s.kept { records = all i; groups = s.kept.groups ++ group ∷ []; prepared = None }) in
-    let rest : groups ≡ drop 1 s.ring = sym (ap (drop 1) ring) in
-    λ i. record s { core = core i; kept = kept i; home = Some t; ring = rest i }
+    })
 
 -- ---- what is prepared is the oldest
 
@@ -268,42 +182,70 @@ first_is None ring P at some = absurd some
 first_is (Some group) [] P at some = absurd cc
 first_is (Some group) (g ∷ groups) P at some = (group, groups, refl, cc, some)
 
-pub prepared_first : (base : List Entry) (tables : List Table) (s : State) (P : GroupValue → Type 0) → IsSettled base tables s → IsSomeAnd s.kept.prepared P
+prepared_first : (base : List Entry) (tables : List Table) (s old : State) (P : GroupValue → Type 0) → s ≡ old → IsSettled base tables s → IsSomeAnd old.kept.prepared P
     → (group : GroupValue) × (groups : List GroupValue) × (s.kept.prepared ≡ Some group) × (s.ring ≡ group ∷ groups) × P group
-prepared_first base tables s P h some = first_is s.kept.prepared s.ring P h.prepared some
+prepared_first base tables s old P is h some = first_is s.kept.prepared s.ring P h.syncing.prepared (subst (λ (x : State). IsSomeAnd x.kept.prepared P) (sym is) some)
 
 -- the writer that was to write it is ready again
-pub taken_back : (base : List Entry) (tables : List Table) (s : State) (t : Tail) → IsSound s.core → IsSettled base tables s → IsSomeAnd s.kept.prepared (λ group. group.first ≡ t.last + 1) → t.waiting ≡ None
-    → IsReady s.core.synced t
-taken_back base tables s t sound h some waiting =
-    let f = prepared_first base tables s (λ group. group.first ≡ t.last + 1) h some in
-    let at = oldest base tables s f.0 f.1 sound f.3 h in
-    record { waiting = waiting; last = omega (arith, f.4, at.first) }
+pub taken_back : (base : List Entry) (tables : List Table) (s old : State) (t : Tail) → s ≡ old → IsSettled base tables s → IsSomeAnd old.kept.prepared (λ group. group.first ≡ t.last + 1) → t.waiting ≡ None
+    → IsSettled base tables (with_home t s)
+taken_back base tables s old t is h some waiting =
+    let f = prepared_first base tables s old (λ group. group.first ≡ t.last + 1) is h some in
+    let at = oldest base tables s f.0 f.1 f.3 h in
+    home_settled base tables s t (λ running. record { waiting = waiting; last = omega (arith, f.4, at.first) }) h
 
--- the fault of a writer that comes with the expected group
-pub back_is : (halted_ other : Bool) (later : Option SourceFault) → (not halted_ && not other) ≡ true → cause halted_ Halted (cause other Halted later) ≡ later
-back_is true other later e = absurd cc
-back_is false true later e = absurd cc
-back_is false false later e = refl
+-- The oldest group of a state, which is seen as this one, is the prepared one, and this writer wrote it.
+pub record IsWritten (s old : State) (t : Tail) (group : GroupValue) (groups : List GroupValue) : Type 0 where
+  pub is : s ≡ old
+  pub ring : s.ring ≡ group ∷ groups
+  pub prepared : s.kept.prepared ≡ Some group
+  pub last : t.last ≡ group.last
 
-expected : (halted_ : Bool) (prepared_ : Option GroupValue) (group : GroupValue) → (not halted_ && not (is_other prepared_ group)) ≡ true
-    → (halted_ ≡ false) × IsSomeAnd prepared_ (λ p. (p.first ≡ group.first) × (p.last ≡ group.last))
-expected true prepared_ group e = absurd cc
-expected false None group e = absurd cc
-expected false (Some p) group e = (refl, both (p.first == group.first) (p.last == group.last) e (λ same. eqb-true _ _ same) (λ same. eqb-true _ _ same))
-  where
-    both : (a b : Bool) → not (not (a && b)) ≡ true → (a ≡ true → p.first ≡ group.first) → (b ≡ true → p.last ≡ group.last) → (p.first ≡ group.first) × (p.last ≡ group.last)
-    both true true w f g = (f refl, g refl)
-    both true false w f g = absurd cc
-    both false b w f g = absurd cc
+pub is_written : (base : List Entry) (tables : List Table) (s old : State) (t : Tail) (group : GroupValue) (groups : List GroupValue) → s ≡ old → s.ring ≡ group ∷ groups → IsSomeAnd old.kept.prepared (λ x. t.last ≡ x.last) → IsSettled base tables s
+    → IsWritten s old t group groups
+is_written base tables s old t group groups is ring some h =
+    let f = prepared_first base tables s old (λ x. t.last ≡ x.last) is h some in
+    let same : f.0 ≡ group = same_Some f.0 group (ap (λ (l : List GroupValue). slice_get l 0) (sym f.3 ∙ ring)) in
+    record { is = is; ring = ring; prepared = f.2 ∙ ap (λ (x : GroupValue). Some x) same; last = f.4 ∙ ap (λ (x : GroupValue). x.last) same }
 
--- where the writer comes with the expected group, that is the prepared one
-pub expected_is : (s : State) (group : GroupValue) → expects s group ≡ true → (s.core.halted ≡ false) × IsSomeAnd s.kept.prepared (λ p. (p.first ≡ group.first) × (p.last ≡ group.last))
-expected_is s group e = expected s.core.halted s.kept.prepared group e
+-- the oldest group is synced
+module _ (base : List Entry) (tables : List Table) (s old : State) (t : Tail) (group : GroupValue) (groups : List GroupValue) (c : Source) (k : Kept) (h : IsSettled base tables s) (w : IsWritten s old t group groups)
+    (core : c ≡ with_synced s.core group.last) (confirms : (g : GroupValue) (rs : List Record) → s.kept.prepared ≡ Some g → AreRecordsOf g rs → k ≡ confirmed g rs s.kept) where
+  landed_is : record s { core = c; kept = k; home = Some t; ring = groups } ≡ landed group (with_home t s)
+  landed_is =
+      let at = oldest base tables s group groups w.ring h in
+      let its = drop s.core.synced (take group.last s.core.log) in
+      let all : s.kept.records ++ its ≡ take group.last s.core.log = ap (λ (l : List Record). l ++ its) h.syncing.records ∙ both_parts s.core.synced group.last s.core.log at.later in
+      let kept : k ≡ record s.kept { records = take group.last s.core.log; groups = s.kept.groups ++ group ∷ []; prepared = None } =
+      confirms group its w.prepared at.are ∙ (λ i. record s.kept { records = all i; groups = s.kept.groups ++ group ∷ []; prepared = None }) in
+      let rest : groups ≡ drop 1 s.ring = sym (ap (drop 1) w.ring) in
+      λ i. record s { core = core i; kept = kept i; home = Some t; ring = rest i }
 
-pub then_some : (prepared_ : Option GroupValue) (P Q : GroupValue → Type 0) → IsSomeAnd prepared_ P → ((g : GroupValue) → P g → Q g) → IsSomeAnd prepared_ Q
-then_some None P Q some f = absurd some
-then_some (Some g) P Q some f = f g some
+  pub landed_as : (p : GroupValue) → old.kept.prepared ≡ Some p → record s { core = c; kept = k; home = Some t; ring = groups } ≡ landed p (with_home t old)
+  landed_as p at =
+      let same : group ≡ p = same_Some group p (sym w.prepared ∙ ap (λ (x : State). x.kept.prepared) w.is ∙ at) in
+      landed_is ∙ (λ i. landed (same i) (with_home t (w.is i)))
+
+  pub landed_settled : t.waiting ≡ None → IsSettled base tables (record s { core = c; kept = k; home = Some t; ring = groups })
+  landed_settled waiting =
+      let at = oldest base tables s group groups w.ring h in
+      let rest : drop 1 s.ring ≡ groups = ap (drop 1) w.ring in
+      subst (IsSettled base tables) (sym landed_is)
+      (record {
+        base_is = h.base_is;
+        tables_is = h.tables_is;
+        syncing = record {
+          records = refl;
+          many = length-take-le group.last s.core.log at.within;
+          waiting = subst (λ (l : List GroupValue). Hold l (drop group.last s.core.log)) (sym rest) at.rest;
+          sizes = at.sizes ∙ sym (ap (map size_of) rest);
+          prepared = tt;
+          numbered = at.numbered;
+        };
+        ready = λ running. record { waiting = waiting; last = w.last };
+        receipts = h.receipts;
+        watch = h.watch;
+      })
 
 -- a commit
 pub given_settled : (base : List Entry) (tables : List Table) (s : State) (c : Source) (places : List (Option Receipt)) (history : List Receipt) → c ≡ all_committed s.core → ArePlaced history 1 places → length places ≡ length s.places
@@ -313,44 +255,21 @@ given_settled base tables s c places history is placed long history_is h =
     (record {
       base_is = h.base_is;
       tables_is = h.tables_is;
-      records = h.records;
-      waiting = h.waiting;
-      sizes = h.sizes;
-      prepared = h.prepared;
+      syncing = h.syncing;
       ready = h.ready;
-      placed = placed;
-      places = long ∙ h.places;
-      seats = h.seats;
-      history_is = history_is;
+      receipts = record { history_is = history_is; placed = placed; places = long ∙ h.receipts.places; seats = h.receipts.seats };
       watch = h.watch;
     })
 
-pub given_is : (s : State) (c : Source) (places : List (Option Receipt)) (history : List Receipt) → c ≡ all_committed s.core → places ≡ laid (receipts s.core) s.places → history ≡ receipts_for (take s.core.synced s.core.owners) (take s.core.synced s.core.log)
-    → record s { core = c; places = places; history = history } ≡ given s
-given_is s c places history is places_are history_is = λ i. record s { core = is i; places = places_are i; history = history_is i }
+pub given_is : (s old : State) (c : Source) (places : List (Option Receipt)) (history : List Receipt) → s ≡ old → c ≡ all_committed s.core → places ≡ laid (receipts s.core) s.places → history ≡ receipts_for (take s.core.synced s.core.owners) (take s.core.synced s.core.log)
+    → record s { core = c; places = places; history = history } ≡ given old
+given_is s old c places history same is places_are history_is = (λ i. record s { core = is i; places = places_are i; history = history_is i }) ∙ ap (λ (x : State). given x) same
 
 -- ---- who waits
 
 count_none : (n : ℕ) → count (replicate n false) ≡ 0
 count_none zero = refl
 count_none (suc n) = count_none n
-
--- another watch, which is one too
-pub watch_settled : (base : List Entry) (tables : List Table) (s : State) (w : Watch) → IsWatch w → IsSettled base tables s → IsSettled base tables (record s { watch = w })
-watch_settled base tables s w watch h = record {
-  base_is = h.base_is;
-  tables_is = h.tables_is;
-  records = h.records;
-  waiting = h.waiting;
-  sizes = h.sizes;
-  prepared = h.prepared;
-  ready = h.ready;
-  placed = h.placed;
-  places = h.places;
-  seats = h.seats;
-  history_is = h.history_is;
-  watch = watch;
-}
 
 -- a source that was just made
 pub new_settled : (core : Source) (log : Log) (kept : Kept) (t : Tail) (ring : List GroupValue) (places : List (Option Receipt)) (out : List Bool) (history : List Receipt) (watch : Watch) → core ≡ new_source core.tables core.base core.limit core.kind
@@ -362,18 +281,25 @@ new_settled core log kept t ring places out history watch is both halves no_reco
     let new = made core is in
     let prepared : kept.prepared ≡ None = ap (λ (l : Log). l.waiting) both ∙ waiting in
     let records : kept.records ≡ [] = ap (λ (l : Log). l.records) both ∙ no_records in
+    let many : length kept.records ≡ core.synced = ap length records ∙ sym new.2 in
     record {
       base_is = refl;
       tables_is = refl;
-      records = records ∙ sym new.0;
-      waiting = subst (λ (l : List GroupValue). Hold l (drop core.synced core.log)) (sym none) new.1;
-      sizes = ap (λ (c : Source). c.group_sizes) is ∙ sym (ap (map size_of) none);
-      prepared = subst (λ (o : Option GroupValue). IfSome o (λ group. slice_get ring 0 ≡ Some group)) (sym prepared) tt;
-      ready = λ e. record { waiting = none_waits kept t halves prepared; last = halves.last ∙ ap length records ∙ sym new.2 };
-      placed = rw no_places (none_placed history 1 256);
-      places = ap length no_places ∙ length-replicate {A = Option Receipt} 256 None;
-      seats = ap length no_seats ∙ length-replicate 256 false;
-      history_is = no_history ∙ sym new.3;
+      syncing = record {
+        records = records ∙ sym new.0;
+        many = many;
+        waiting = subst (λ (l : List GroupValue). Hold l (drop core.synced core.log)) (sym none) new.1;
+        sizes = ap (λ (c : Source). c.group_sizes) is ∙ sym (ap (map size_of) none);
+        prepared = subst (λ (o : Option GroupValue). IfSome o (λ group. slice_get ring 0 ≡ Some group)) (sym prepared) tt;
+        numbered = subst (AreNumbered (core.synced + 1)) (sym new.1) tt;
+      };
+      ready = λ e. record { waiting = none_waits kept t halves prepared; last = halves.last ∙ many };
+      receipts = record {
+        history_is = no_history ∙ sym new.3;
+        placed = rw no_places (none_placed history 1 256);
+        places = ap length no_places ∙ length-replicate {A = Option Receipt} 256 None;
+        seats = ap length no_seats ∙ length-replicate 256 false;
+      };
       watch = rw none_watch (record { sessions = length-replicate 256 false; asleep = sym (count_none 256) });
     }
   where

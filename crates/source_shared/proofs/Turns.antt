@@ -1,11 +1,10 @@
 -- Cells that are at home stay so, and the one who has the pen of the last entry's cell knows the history whole.
 use Rattle.std.proofs.Common.{◌≡◌, ◌≢◌, ℕ, zero, suc, ◌<◌, true, false, List, [], ◌∷◌, ◌++◌, length, set, refl, sym, ap, ◌∙◌, arith, append_assoc, Some, slice_get}
-use Rattle.std.proofs.lemmas.List.{append-nil}
 use Rattle.std.proofs.lemmas.List.Concat.{flat_map-append}
 use mathlib.Core.List.{IsPrefix}
 use Rattle.logbook.specs.Pages.{Cell, cell}
 use Rattle.source_core.specs.declared.transaction.Receipt.{Receipt}
-use Rattle.source_shared.specs.Book.{Part, joined, turn_of, ArePast, IsNotPast}
+use Rattle.source_shared.specs.Book.{Part, receipts_in, turn_of, ArePast, IsNotPast}
 
 pub home_set : (cs : List Cell) (q n k : ℕ) → (cell cs k).1 ≡ true → (cell (set cs q (n, true)) k).1 ≡ true
 home_set [] q n k h = absurd (cc (h))
@@ -67,13 +66,10 @@ pub prefix_trans : (xs ys zs : List Part) → IsPrefix xs ys → IsPrefix ys zs 
 prefix_trans xs ys zs p q = (p.0 ++ q.0, sym (append_assoc xs p.0 q.0) ∙ (ap (λ w. w ++ q.0) p.1 ∙ q.1))
 
 -- the receipts of a beginning are a beginning of the receipts
-pub prefix_joined : (v log : List Part) → IsPrefix v log → IsPrefix (joined v) (joined log)
-prefix_joined v log p = (joined p.0, sym (flat_map-append (λ (part : Part). part.1) v p.0) ∙ ap joined p.1)
+pub prefix_receipts : (v log : List Part) → IsPrefix v log → IsPrefix (receipts_in v) (receipts_in log)
+prefix_receipts v log p = (receipts_in p.0, sym (flat_map-append (λ (part : Part). part.1) v p.0) ∙ ap receipts_in p.1)
 
 -- one more entry
-pub joined-snoc : (log : List Part) (part : Part) → joined (log ++ part ∷ []) ≡ joined log ++ part.1
-joined-snoc log part = flat_map-append (λ (p : Part). p.1) log (part ∷ []) ∙ ap (λ l. joined log ++ l) (append-nil part.1)
-
 pub turn-snoc : (log : List Part) (part : Part) → turn_of (log ++ part ∷ []) ≡ part.0
 turn-snoc [] part = refl
 turn-snoc (x ∷ []) part = refl

@@ -10,8 +10,8 @@ abbrev pub Part : Type 0
 Part = ℕ × List Receipt
 
 -- the receipts of all entries
-abbrev pub joined : List Part → List Receipt
-joined parts = flat_map (λ part. part.1) parts
+abbrev pub receipts_in : List Part → List Receipt
+receipts_in parts = flat_map (λ part. part.1) parts
 
 -- the key that the last entry names
 abbrev pub turn_of : List Part → ℕ
@@ -30,7 +30,9 @@ abbrev pub begun_word : List Part → ℕ
 begun_word [] = 0
 begun_word (part ∷ parts) = 1
 
-pub record IsKept (cells : List Cell) (log : List Part) : Type 0 where
+-- The cells are those of this history: the one word says whether it has begun, and each cell that an entry names is at home, but
+-- that of the last.
+pub record IsLedger (cells : List Cell) (log : List Part) : Type 0 where
   pub some : 0 < length cells
   pub word : cell cells 0 ≡ (begun_word log, true)
   pub past : ArePast cells log

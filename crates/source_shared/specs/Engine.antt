@@ -73,24 +73,40 @@ pub record IsWatch (w : Watch) : Type 0 where
   pub sessions : length w.sleeping ≡ 256
   pub asleep : w.asleep ≡ count w.sleeping
 
+-- What lies between flush and sync, of a log whose first so many records are synced, and of the sizes in which the others were
+-- flushed.
+pub record IsSyncing (log : List Record) (synced_ : ℕ) (flushed : List ℕ) (kept : Kept) (ring : List GroupValue) : Type 0 where
+  -- readers see just the records that are synced
+  pub records : kept.records ≡ take synced_ log
+  -- and that many
+  pub many : length kept.records ≡ synced_
+  -- the groups that wait hold what is flushed and not synced
+  pub waiting : Hold ring (drop synced_ log)
+  -- as they were flushed
+  pub sizes : flushed ≡ map size_of ring
+  -- the oldest of them is the one that is prepared, if one is
+  pub prepared : IfSome kept.prepared (λ group. slice_get ring 0 ≡ Some group)
+  -- the next of these records is that behind the synced ones, and so on
+  pub numbered : AreNumbered (synced_ + 1) (drop synced_ log)
+
+-- Where the receipts of the committed records lie: all of them in the history, and each that was not taken yet in its session's
+-- place too.
+pub record AreLaidOut (committed history : List Receipt) (places_ : List (Option Receipt)) (out : List Bool) : Type 0 where
+  pub history_is : history ≡ committed
+  pub placed : ArePlaced history 1 places_
+  -- each session has a place, and a seat
+  pub places : length places_ ≡ 256
+  pub seats : length out ≡ 256
+
 -- The core keeps of itself that its log is legal over its base, that its rows are those after the committed records, and
 -- that no more are committed than synced, and synced than flushed.
 pub record IsSettled (base : List Entry) (tables : List Table) (s : State) : Type 0 where
   pub base_is : s.core.base ≡ base
   pub tables_is : s.core.tables ≡ tables
-  -- readers see just the records that are synced
-  pub records : s.kept.records ≡ take s.core.synced s.core.log
-  -- the groups that wait hold what is flushed and not synced
-  pub waiting : Hold s.ring (drop s.core.synced s.core.log)
-  -- as they were flushed
-  pub sizes : s.core.group_sizes ≡ map size_of s.ring
-  -- the oldest of them is the one that is prepared, if one is
-  pub prepared : IfSome s.kept.prepared (λ group. slice_get s.ring 0 ≡ Some group)
+  pub syncing : IsSyncing s.core.log s.core.synced s.core.group_sizes s.kept s.ring
+  -- what writes the log file, where it is here, is behind the synced records
   pub ready : IfSome s.home (λ t. s.core.halted ≡ false → IsReady s.core.synced t)
-  pub placed : ArePlaced s.history 1 s.places
-  pub places : length s.places ≡ 256
-  pub seats : length s.out ≡ 256
-  pub history_is : s.history ≡ committed_receipts s.core
+  pub receipts : AreLaidOut (committed_receipts s.core) s.history s.places s.out
   pub watch : IsWatch s.watch
 
 -- the session has no seat yet

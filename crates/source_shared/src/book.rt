@@ -22,9 +22,9 @@ pub struct Law;
 impl Rule<Part, u64> for Law {
     ghost use Rattle.std.specs.Prelude.{[]};
     ghost use base.Fml.{ftrue};
-    ghost use Rattle.source_shared.specs.Book.{IsKept};
+    ghost use Rattle.source_shared.specs.Book.{IsLedger};
 
-    ghost holds = { λ cells log. IsKept cells log };
+    ghost holds = { λ cells log. IsLedger cells log };
 
     ghost first = { [] };
 
@@ -195,11 +195,11 @@ pub struct History<J: Naming> {
 impl<J: Naming> Model for History<J> {
     ghost use Rattle.std.specs.Prelude.{◌≡◌, List};
     ghost use Rattle.source_core.specs.declared.transaction.Receipt.{Receipt};
-    ghost use Rattle.source_shared.specs.Book.{head_of, joined, IsTurn};
+    ghost use Rattle.source_shared.specs.Book.{head_of, receipts_in, IsTurn};
 
     ghost Value = { List Receipt };
 
-    ghost view = { λ h. joined h.seen.log };
+    ghost view = { λ h. receipts_in h.seen.log };
 
     ghost invariant = { λ h. (h.word ≡ head_of J.book) × (h.seen.book ≡ J.book) × (h.pen.book ≡ J.book) × IsTurn h.pen.nib h.seen.log };
 }
@@ -261,13 +261,13 @@ pub struct Receipt<J: Naming> {
 impl<J: Naming> Model for Receipt<J> {
     ghost use Rattle.std.specs.Prelude.{◌≡◌, ◌-◌, ◌≤◌, Some, slice_get};
     ghost use Rattle.source_core.specs.declared.transaction.Receipt.{Receipt};
-    ghost use Rattle.source_shared.specs.Book.{joined};
+    ghost use Rattle.source_shared.specs.Book.{receipts_in};
 
     ghost Value = { Receipt };
 
     ghost view = { λ r. r.given };
 
-    ghost invariant = { λ r. (r.seen.book ≡ J.book) × (1 ≤ r.given.gno) × (slice_get (joined r.seen.log) (r.given.gno - 1) ≡ Some r.given) };
+    ghost invariant = { λ r. (r.seen.book ≡ J.book) × (1 ≤ r.given.gno) × (slice_get (receipts_in r.seen.log) (r.given.gno - 1) ≡ Some r.given) };
 }
 
 impl<J: Naming> Receipt<J> {

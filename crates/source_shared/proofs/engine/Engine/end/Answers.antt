@@ -12,4 +12,4 @@ loop-receipt-preserved g c =
 
 pub returns-clause-receipts : goal.returns-clause-receipts
 returns-clause-receipts g c = λ k d h.
-    is_committed _ _ _ c.self.invariant.history_is (c.loop-receipt.invariant.1 k d (omega (arith, h, c.loop-receipt-test.false)))
+    is_committed _ _ _ c.self.invariant.receipts.history_is (c.loop-receipt.invariant.1 k d (omega (arith, h, c.loop-receipt-test.false)))
