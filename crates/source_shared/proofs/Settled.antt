@@ -9,6 +9,7 @@ use Rattle.std.proofs.lemmas.List.{append-nil, take-append-le, take-append-drop,
 use Rattle.schema.specs.declared.Table.{Table}
 use Rattle.store_trait.specs.Batch.{Entry}
 use Rattle.record_codec.specs.declared.records.Record.{Record}
+use Rattle.record_codec.proofs.Holding.{Hold-push}
 use Rattle.record_codec.specs.Group.{GroupValue, AreNumbered, AreRecordsOf, Hold}
 use Rattle.record_codec.proofs.Numbered.{numbered-append}
 use Rattle.log_file.specs.Log.{Log, Kept, Tail, waiting_of, log_of, AreHalves}
@@ -22,10 +23,6 @@ use Rattle.source_shared.specs.Engine.{State, Watch, nobody, count, IsReady, IsS
 use Rattle.source_shared.proofs.Places.{placed_none, none_placed, both_parts}
 
 -- ---- the groups that wait
-
-hold_push : (groups : List GroupValue) (records : List Record) (group : GroupValue) (its : List Record) → Hold groups records → AreRecordsOf group its → Hold (groups ++ group ∷ []) (records ++ its)
-hold_push [] records group its h are = (its, [], ap (λ (l : List Record). l ++ its) h ∙ sym (append-nil its), are, refl)
-hold_push (g ∷ groups) records group its h are = (h.0, h.1 ++ its, ap (λ (l : List Record). l ++ its) h.2 ∙ append_assoc h.0 h.1 its, h.3, hold_push groups h.1 group its h.4 are)
 
 -- the first group of numbered records begins with the first of them, and the rest are numbered on
 first_of : (gno : ℕ) (group : GroupValue) (its rest : List Record) → AreRecordsOf group its → AreNumbered gno (its ++ rest) → group.first ≡ gno
@@ -144,7 +141,7 @@ flushed_syncing core c group kept ring sound f h =
     record {
       records = h.records ∙ sym (take-append-le core.synced core.log f.made sound.synced_within);
       many = h.many;
-      waiting = subst (Hold (ring ++ group ∷ [])) (sym behind) (hold_push ring (drop core.synced core.log) group f.made h.waiting f.group_of);
+      waiting = subst (Hold (ring ++ group ∷ [])) (sym behind) (Hold-push ring (drop core.synced core.log) group f.made h.waiting f.group_of);
       sizes = group_is_counted core c group sound f ∙ ap (λ (l : List ℕ). l ++ size_of group ∷ []) h.sizes ∙ sym (map-append size_of ring (group ∷ []));
       prepared = IfSome_then kept.prepared h.prepared (λ first at. front_push ring first group at);
       numbered = subst (AreNumbered (core.synced + 1)) (sym behind) (numbered-append (core.synced + 1) (drop core.synced core.log) f.made h.numbered (subst (λ (n : ℕ). AreNumbered n f.made) next f.group_of.numbered));
