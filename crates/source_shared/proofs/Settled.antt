@@ -9,7 +9,7 @@ use Rattle.std.proofs.lemmas.List.{append-nil, take-append-le, take-append-drop,
 use Rattle.schema.specs.declared.Table.{Table}
 use Rattle.store_trait.specs.Batch.{Entry}
 use Rattle.record_codec.specs.declared.records.Record.{Record}
-use Rattle.record_codec.proofs.Holding.{Hold-push}
+use Rattle.record_codec.proofs.Holding.{Hold-push, numbered_behind}
 use Rattle.record_codec.specs.Group.{GroupValue, AreNumbered, AreRecordsOf, Hold}
 use Rattle.record_codec.proofs.Numbered.{numbered-append}
 use Rattle.log_file.specs.Log.{Log, Kept, Tail, waiting_of, log_of, AreHalves}
@@ -28,10 +28,6 @@ use Rattle.source_shared.proofs.Places.{placed_none, none_placed, both_parts}
 first_of : (gno : ℕ) (group : GroupValue) (its rest : List Record) → AreRecordsOf group its → AreNumbered gno (its ++ rest) → group.first ≡ gno
 first_of gno group [] rest are h = absurd (omega (arith, are.some))
 first_of gno group (r ∷ its) rest are h = sym are.numbered.0 ∙ h.0
-
-numbered_rest : (gno : ℕ) (its rest : List Record) → AreNumbered gno (its ++ rest) → AreNumbered (gno + length its) rest
-numbered_rest gno [] rest h = subst (λ (n : ℕ). AreNumbered n rest) (omega arith) h
-numbered_rest gno (r ∷ its) rest h = subst (λ (n : ℕ). AreNumbered n rest) (omega arith) (numbered_rest (gno + 1) its rest h.1)
 
 -- the oldest group has the first records behind the synced ones, and the others have the rest
 pub record Oldest (log : List Record) (synced_ : ℕ) (flushed : List ℕ) (group : GroupValue) (groups : List GroupValue) : Type 0 where
@@ -71,7 +67,7 @@ oldest_in log synced_ flushed kept group groups h =
       whole = ap (λ (l : List ℕ). slice_get l 0) h.sizes ∙ ap (λ (n : ℕ). Some n) (omega (arith, first));
       rest = subst (Hold groups) (sym left) h.waiting.4;
       sizes = ap (drop 1) h.sizes;
-      numbered = subst (AreNumbered (group.last + 1)) (sym left) (subst (λ (n : ℕ). AreNumbered n rest) next (numbered_rest (synced_ + 1) its rest numbered));
+      numbered = subst (AreNumbered (group.last + 1)) (sym left) (subst (λ (n : ℕ). AreNumbered n rest) next (numbered_behind (synced_ + 1) its rest numbered));
     }
 
 oldest : (base : List Entry) (tables : List Table) (s : State) (group : GroupValue) (groups : List GroupValue) → s.ring ≡ group ∷ groups → IsSettled base tables s → Oldest s.core.log s.core.synced s.core.group_sizes group groups
