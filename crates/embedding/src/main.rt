@@ -21,7 +21,7 @@ use replica_shared::{NoGate, ReplicaNaming};
 use rows::{Change, Row};
 use schema::{RowId, Schema, Table};
 use sides::{Replica, SOURCE, Source, new_replica, send};
-use source_shared::{Naming, Receipt, SharedSource};
+use source_shared::{SourceNaming, Receipt, SharedSource};
 use std::alloc::Global;
 use std::io;
 use std::marker::Brand;
@@ -100,7 +100,7 @@ fn open<R: Threads + Wait + Sync>(rt: &R, alloc: Global) -> Result<Told, Trouble
 }
 
 /// Runs both sides, each under a name of its own, up to their end.
-fn run<J: Naming + Send + Sync, K: ReplicaNaming + Send + Sync, R: Threads + Wait + Sync>(
+fn run<J: SourceNaming + Send + Sync, K: ReplicaNaming + Send + Sync, R: Threads + Wait + Sync>(
     rt: &R,
     alloc: Global,
     pair: Pair<BTreeStore, CommitOrder, MemoryDevice>,
@@ -136,7 +136,7 @@ fn run<J: Naming + Send + Sync, K: ReplicaNaming + Send + Sync, R: Threads + Wai
 }
 
 /// What both sides do between their opening and their end. A source that ends wants the receipts that it gave.
-fn meet<J: Naming + Send + Sync, K: ReplicaNaming + Send + Sync, R: Threads + Wait + Sync>(
+fn meet<J: SourceNaming + Send + Sync, K: ReplicaNaming + Send + Sync, R: Threads + Wait + Sync>(
     rt: &R,
     alloc: Global,
     source: &Source<J>,
@@ -158,7 +158,7 @@ fn meet<J: Naming + Send + Sync, K: ReplicaNaming + Send + Sync, R: Threads + Wa
 }
 
 /// One session's transaction: an account, with its balance.
-fn commit<J: Naming>(
+fn commit<J: SourceNaming>(
     rt: &impl Wait,
     source: &Source<J>,
     session: u16,

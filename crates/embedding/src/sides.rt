@@ -10,7 +10,7 @@ use log_device::MemoryDevice;
 use published::{LeftRight, open};
 use replica_core::{ReplicaCore, Wire};
 use replica_shared::{ReplicaNaming, SharedReplica};
-use source_shared::{Naming, SharedSource};
+use source_shared::{SourceNaming, SharedSource};
 use std::alloc::Global;
 use std::sync::Wait;
 use uuid::Uuid;
@@ -51,7 +51,7 @@ pub fn new_replica<K: ReplicaNaming>(
 }
 
 /// Sends all that is synced, as bytes. The source was closed, so this ends.
-pub fn send<J: Naming, K: ReplicaNaming>(
+pub fn send<J: SourceNaming, K: ReplicaNaming>(
     rt: &impl Wait,
     alloc: Global,
     source: &Source<J>,

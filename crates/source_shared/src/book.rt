@@ -105,10 +105,10 @@ impl Play<Part, u64> for Check {
 }
 
 /// Which source a shared source, its seats and its receipts are of: a type stands for it, so that those of two sources
-/// can't be mixed. Write a function over `J: Naming` that takes a `Beginning` and the core, and requires
+/// can't be mixed. Write a function over `J: SourceNaming` that takes a `Beginning` and the core, and requires
 /// `beginning ≡ J.book`, `core.base ≡ J.base` and `core.tables ≡ J.tables`. Its caller passes the marker `Brand` for `J`, and
 /// says in its `Invariants.antt` that these are those of the arguments.
-pub trait Naming {
+pub trait SourceNaming {
     ghost use Rattle.std.specs.Prelude.{List};
     ghost use Rattle.logbook.specs.Pages.{Book};
     ghost use Rattle.schema.specs.declared.Table.{Table};
@@ -124,7 +124,7 @@ pub trait Naming {
     ghost tables: { List Table };
 }
 
-impl Naming for Brand {
+impl SourceNaming for Brand {
     ghost use Rattle.std.specs.Prelude.{[]};
 
     ghost book = { record { number = 0; log_name = 0; cells_name = 0 } };
@@ -162,7 +162,7 @@ impl Beginning {
     }
 
     // The history, begun. `None` where another began it, which nobody but its owner can.
-    pub(crate) fn begun<J: Naming>(self) -> Option<History<J>>
+    pub(crate) fn begun<J: SourceNaming>(self) -> Option<History<J>>
         requires named { self ≡ J.book }
         ensures { IfSome result (λ history. history ≡ []) }
     {
@@ -185,14 +185,14 @@ impl Beginning {
 
 /// The history, for the one who adds to it. Contracts see it as all receipts that were given.
 #[derive(Drop)]
-pub struct History<J: Naming> {
+pub struct History<J: SourceNaming> {
     word: Word<Part, u64, Law>,
     seen: Known,
     pen: Pen,
     of: PhantomData<J>,
 }
 
-impl<J: Naming> Model for History<J> {
+impl<J: SourceNaming> Model for History<J> {
     ghost use Rattle.std.specs.Prelude.{◌≡◌, List};
     ghost use Rattle.source_core.specs.declared.transaction.Receipt.{Receipt};
     ghost use Rattle.source_shared.specs.Book.{head_of, receipts_in, IsTurn};
@@ -204,7 +204,7 @@ impl<J: Naming> Model for History<J> {
     ghost invariant = { λ h. (h.word ≡ head_of J.book) × (h.seen.book ≡ J.book) × (h.pen.book ≡ J.book) × IsTurn h.pen.nib h.seen.log };
 }
 
-impl<J: Naming> History<J> {
+impl<J: SourceNaming> History<J> {
     // Adds what a commit gave, and answers it.
     pub(crate) fn add(&mut self, given: Vec<Given>) -> Vec<Given>
         ensures history { self.new ≡ self.old ++ given.items }
@@ -252,13 +252,13 @@ impl<J: Naming> History<J> {
 /// What a session is told of its committed transaction. Contracts see it as the receipt that the core gave. The core that
 /// `SharedSource::end` answers has its record. It may go to any thread.
 #[derive(Drop)]
-pub struct Receipt<J: Naming> {
+pub struct Receipt<J: SourceNaming> {
     given: Given,
     seen: Known,
     of: PhantomData<J>,
 }
 
-impl<J: Naming> Model for Receipt<J> {
+impl<J: SourceNaming> Model for Receipt<J> {
     ghost use Rattle.std.specs.Prelude.{◌≡◌, ◌-◌, ◌≤◌, Some, slice_get};
     ghost use Rattle.source_core.specs.declared.transaction.Receipt.{Receipt};
     ghost use Rattle.source_shared.specs.Book.{receipts_in};
@@ -270,7 +270,7 @@ impl<J: Naming> Model for Receipt<J> {
     ghost invariant = { λ r. (r.seen.book ≡ J.book) × (1 ≤ r.given.gno) × (slice_get (receipts_in r.seen.log) (r.given.gno - 1) ≡ Some r.given) };
 }
 
-impl<J: Naming> Receipt<J> {
+impl<J: SourceNaming> Receipt<J> {
     /// The receipt as the core gave it: session, gno, sequence number, parent and changes.
     pub fn given(&self) -> &Given
         ensures { result.now ≡ self.now }

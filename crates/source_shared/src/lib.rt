@@ -27,6 +27,6 @@ mod leading;
 mod seat;
 mod shared;
 
-pub use book::{Beginning, Naming, Receipt};
+pub use book::{Beginning, SourceNaming, Receipt};
 pub use seat::SessionSeat;
 pub use shared::SharedSource;

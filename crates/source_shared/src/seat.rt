@@ -2,7 +2,7 @@
 ghost use Rattle.std.specs.Prelude.{◌≡◌, ◌↔◌, ◌≤◌, ◌-◌, IsTrue, true, length, take, OnOk, OnErr, MatchBool};
 ghost use Rattle.source_shared.specs.Seat.{new_seat, begun_seat, wrote, aborted_seat, given_to, IsFor};
 
-use crate::book::{Naming, Receipt};
+use crate::book::{SourceNaming, Receipt};
 use record_codec::same_changes;
 use rows::Change;
 use schema::Memory;
@@ -13,7 +13,7 @@ use std::marker::{Model, PhantomData};
 /// The one seat of a session. It keeps the changes that the session wrote since it last began, to compare them with the
 /// receipt that it is given. It may go to any thread.
 #[derive(Drop)]
-pub struct SessionSeat<J: Naming> {
+pub struct SessionSeat<J: SourceNaming> {
     session: u16,
     changes: Vec<Change>,
     last: u64,
@@ -21,7 +21,7 @@ pub struct SessionSeat<J: Naming> {
     of: PhantomData<J>,
 }
 
-impl<J: Naming> Model for SessionSeat<J> {
+impl<J: SourceNaming> Model for SessionSeat<J> {
     ghost use Rattle.std.specs.Prelude.{◌≤◌};
     ghost use Rattle.source_shared.specs.Seat.{Seat};
 
@@ -32,7 +32,7 @@ impl<J: Naming> Model for SessionSeat<J> {
     ghost invariant = { λ s. (1 ≤ s.session) × (s.session ≤ 256) };
 }
 
-impl<J: Naming> SessionSeat<J> {
+impl<J: SourceNaming> SessionSeat<J> {
     // The seat of a session that wrote nothing.
     pub(crate) fn new(alloc: Global, session: u16) -> SessionSeat<J>
         requires { (1 ≤ session) × (session ≤ 256) }

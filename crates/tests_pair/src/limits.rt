@@ -10,7 +10,7 @@ use replica_shared::{NoGate, ReplicaNaming};
 use rows::{Change, Named, Row};
 use schema::RowId;
 use source_core::SourceFault;
-use source_shared::{Naming, Receipt, SessionSeat};
+use source_shared::{SourceNaming, Receipt, SessionSeat};
 use std::alloc::Global;
 use std::process::Abort;
 use std::sync::Wait;
@@ -31,7 +31,7 @@ const LEAST: RowId = RowId {
 };
 
 /// Session 256 fills the log, and the replica takes it; it answers the source's receipts.
-pub fn fill<J: Naming, K: ReplicaNaming + Send + Sync, R: Threads + Wait + Abort + Sync>(
+pub fn fill<J: SourceNaming, K: ReplicaNaming + Send + Sync, R: Threads + Wait + Abort + Sync>(
     rt: &R,
     alloc: Global,
     source: &Source<J>,
@@ -54,7 +54,7 @@ pub fn fill<J: Naming, K: ReplicaNaming + Send + Sync, R: Threads + Wait + Abort
 }
 
 /// As many transactions as the log may have.
-fn commits<J: Naming>(
+fn commits<J: SourceNaming>(
     rt: &(impl Wait + Abort),
     alloc: Global,
     source: &Source<J>,
@@ -72,7 +72,7 @@ fn commits<J: Naming>(
 
 /// What the transaction of this number writes: rows at both ends; as many rows as it may; no row where one was; and then column 15,
 /// again and again.
-fn writes<J: Naming>(
+fn writes<J: SourceNaming>(
     rt: &(impl Wait + Abort),
     source: &Source<J>,
     seat: &mut SessionSeat<J>,
@@ -93,7 +93,7 @@ fn writes<J: Naming>(
 }
 
 /// 1024 rows, the first with a key below 0, and no more.
-fn writes_most<J: Naming>(
+fn writes_most<J: SourceNaming>(
     rt: &(impl Wait + Abort),
     source: &Source<J>,
     seat: &mut SessionSeat<J>,
@@ -129,7 +129,7 @@ fn sets_last(gno: u64) -> Result<Change, Fail> {
 }
 
 /// The bytes of the log go to the replica, and it is told that no more come.
-fn sends<J: Naming, K: ReplicaNaming>(
+fn sends<J: SourceNaming, K: ReplicaNaming>(
     rt: &(impl Wait + Abort),
     alloc: Global,
     source: &Source<J>,

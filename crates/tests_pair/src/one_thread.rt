@@ -17,7 +17,7 @@ use relay::{Received, ReplicaFault};
 use replica_core::ReplicaCore;
 use replica_shared::{NoGate, ReplicaNaming, SharedReplica};
 use source_core::{Prepared, SourceFault};
-use source_shared::{Naming, Receipt, SessionSeat, SharedSource};
+use source_shared::{SourceNaming, Receipt, SessionSeat, SharedSource};
 use std::alloc::Global;
 use std::marker::Brand;
 use std::process::Abort;
@@ -71,7 +71,7 @@ fn runs<R: Threads + Wait + Abort + Sync>(
     )
 }
 
-fn story<J: Naming, K: ReplicaNaming + Send + Sync, R: Threads + Wait + Abort + Sync>(
+fn story<J: SourceNaming, K: ReplicaNaming + Send + Sync, R: Threads + Wait + Abort + Sync>(
     rt: &R,
     alloc: Global,
     sides: InMemory,
@@ -132,7 +132,7 @@ fn new_replica<K: ReplicaNaming>(
 }
 
 /// What happens between the opening and the end; it answers the source's receipts.
-fn meet<J: Naming, K: ReplicaNaming + Send + Sync, R: Threads + Wait + Abort + Sync>(
+fn meet<J: SourceNaming, K: ReplicaNaming + Send + Sync, R: Threads + Wait + Abort + Sync>(
     rt: &R,
     alloc: Global,
     source: &Source<J>,
@@ -146,7 +146,7 @@ fn meet<J: Naming, K: ReplicaNaming + Send + Sync, R: Threads + Wait + Abort + S
 }
 
 /// Two transactions that clash; it answers the source's receipts.
-fn clash<J: Naming, K: ReplicaNaming, R: Wait + Abort>(
+fn clash<J: SourceNaming, K: ReplicaNaming, R: Wait + Abort>(
     rt: &R,
     alloc: Global,
     source: &Source<J>,
@@ -158,7 +158,7 @@ fn clash<J: Naming, K: ReplicaNaming, R: Wait + Abort>(
 }
 
 /// Session 2 commits a row that session 1 held, and then session 1 sets a column of it.
-fn commits<J: Naming, R: Wait + Abort>(
+fn commits<J: SourceNaming, R: Wait + Abort>(
     rt: &R,
     alloc: Global,
     source: &Source<J>,
@@ -174,7 +174,7 @@ fn commits<J: Naming, R: Wait + Abort>(
 }
 
 /// Both insert the row. Session 1 gives it up, and session 2 prepares, and may write no more.
-fn clashes<J: Naming>(
+fn clashes<J: SourceNaming>(
     rt: &(impl Wait + Abort),
     source: &Source<J>,
     one: &mut SessionSeat<J>,
@@ -194,7 +194,7 @@ fn clashes<J: Naming>(
 }
 
 /// Session 1 sets column 0, and sees what it did.
-fn sets<J: Naming>(
+fn sets<J: SourceNaming>(
     rt: &(impl Wait + Abort),
     source: &Source<J>,
     one: &mut SessionSeat<J>,
@@ -207,7 +207,7 @@ fn sets<J: Naming>(
 }
 
 /// Commits, with this session, gno and parent.
-fn receipt<J: Naming>(
+fn receipt<J: SourceNaming>(
     rt: &(impl Wait + Abort),
     source: &Source<J>,
     seat: &mut SessionSeat<J>,
@@ -220,7 +220,7 @@ fn receipt<J: Naming>(
 }
 
 /// The replica takes the source's two records, and a reader sees them.
-fn applies<J: Naming, K: ReplicaNaming>(
+fn applies<J: SourceNaming, K: ReplicaNaming>(
     rt: &(impl Wait + Abort),
     alloc: Global,
     source: &Source<J>,

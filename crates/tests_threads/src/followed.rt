@@ -5,7 +5,7 @@ use crate::sources::{Shared, transact};
 use record_codec::{CodecFault, Record, decode, same_records};
 use schema::Memory;
 use source_core::SourceFault;
-use source_shared::{Naming, Receipt};
+use source_shared::{SourceNaming, Receipt};
 use std::alloc::Global;
 use std::process::Abort;
 use std::sync::{Mutex, Wait};
@@ -21,7 +21,7 @@ pub fn is_followed<J, R>(
     receipts: &Mutex<Vec<Receipt<J>>>,
 ) -> Result<usize, Fail>
 where
-    J: Naming + Send + Sync,
+    J: SourceNaming + Send + Sync,
     R: Threads + Wait + Abort + Clock + Sync,
 {
     // (The second closure is called first where no thread can be made: so what the first waits for stands there.)
@@ -41,7 +41,7 @@ where
 }
 
 /// Commits three inserts, and closes the source, whatever came of them.
-fn commit_three<J: Naming, R: Wait + Clock>(
+fn commit_three<J: SourceNaming, R: Wait + Clock>(
     rt: &R,
     source: &Shared<'_, J, R>,
     receipts: &Mutex<Vec<Receipt<J>>>,
@@ -51,7 +51,7 @@ fn commit_three<J: Naming, R: Wait + Clock>(
     done
 }
 
-fn commit_up_to<J: Naming, R: Wait + Clock>(
+fn commit_up_to<J: SourceNaming, R: Wait + Clock>(
     rt: &R,
     source: &Shared<'_, J, R>,
     receipts: &Mutex<Vec<Receipt<J>>>,
@@ -65,7 +65,7 @@ fn commit_up_to<J: Naming, R: Wait + Clock>(
 }
 
 /// The bytes of all records, from the first on, once no more come.
-pub fn follow<J: Naming, R: Wait + Clock>(
+pub fn follow<J: SourceNaming, R: Wait + Clock>(
     rt: &R,
     alloc: Global,
     source: &Shared<'_, J, R>,
@@ -83,7 +83,7 @@ pub fn follow<J: Naming, R: Wait + Clock>(
 }
 
 /// How many records come behind this one. They are asked for once more where that lacked memory.
-fn comes<J: Naming, R: Wait + Clock>(
+fn comes<J: SourceNaming, R: Wait + Clock>(
     rt: &R,
     source: &Shared<'_, J, R>,
     gno: u64,
@@ -96,7 +96,7 @@ fn comes<J: Naming, R: Wait + Clock>(
 }
 
 /// The bytes are those of the source's records, so many, and none come behind them or behind the greatest gno.
-pub fn are_bytes<J: Naming, R: Wait + Abort + Clock>(
+pub fn are_bytes<J: SourceNaming, R: Wait + Abort + Clock>(
     rt: &R,
     alloc: Global,
     source: &Shared<'_, J, R>,
@@ -119,7 +119,7 @@ pub fn are_bytes<J: Naming, R: Wait + Abort + Clock>(
 }
 
 /// One call gives the bytes of all records where there is room for them, and of all but the last where a byte is missing.
-fn fill_the_room<J: Naming, R: Wait + Abort + Clock>(
+fn fill_the_room<J: SourceNaming, R: Wait + Abort + Clock>(
     rt: &R,
     source: &Shared<'_, J, R>,
     mut bytes: Vec<u8>,
@@ -146,7 +146,7 @@ fn read(alloc: Global, bytes: &[u8]) -> Result<(Record, usize), Fail> {
 }
 
 /// Whether the source has this record of this gno.
-fn is_kept<J: Naming, R: Wait + Clock>(
+fn is_kept<J: SourceNaming, R: Wait + Clock>(
     rt: &R,
     source: &Shared<'_, J, R>,
     gno: u64,

@@ -5,7 +5,7 @@ use crate::makers::insert;
 use crate::sources::{Shared, beside, write};
 use schema::Memory;
 use source_core::SourceFault;
-use source_shared::{Naming, Receipt, SessionSeat};
+use source_shared::{SourceNaming, Receipt, SessionSeat};
 use std::alloc::Global;
 use std::process::Abort;
 use std::sync::atomic::Ordering;
@@ -16,7 +16,7 @@ use std::time::Clock;
 
 /// The first session's group finds no memory, twice: the second session, which was to write it then, stays queued. The third
 /// writes it, and the second's transaction with its own as one group.
-pub fn is_refused<J: Naming, R: Wait + Abort + Clock>(
+pub fn is_refused<J: SourceNaming, R: Wait + Abort + Clock>(
     rt: &R,
     source: &Shared<'_, J, R>,
     receipts: &Mutex<Vec<Receipt<J>>>,
@@ -42,7 +42,7 @@ pub fn is_refused<J: Naming, R: Wait + Abort + Clock>(
 }
 
 /// The seat of the session, whose insert is prepared.
-fn prepared<J: Naming, R: Wait + Clock>(
+fn prepared<J: SourceNaming, R: Wait + Clock>(
     rt: &R,
     source: &Shared<'_, J, R>,
     session: u16,
@@ -54,7 +54,7 @@ fn prepared<J: Naming, R: Wait + Clock>(
 }
 
 /// Commits what is prepared, and answers its number.
-fn committed<J: Naming, R: Wait + Clock>(
+fn committed<J: SourceNaming, R: Wait + Clock>(
     rt: &R,
     source: &Shared<'_, J, R>,
     receipts: &Mutex<Vec<Receipt<J>>>,
@@ -75,7 +75,7 @@ pub fn is_shared<J, R>(
     orders: &Orders<'_, R>,
 ) -> Result<usize, Fail>
 where
-    J: Naming + Send + Sync,
+    J: SourceNaming + Send + Sync,
     R: Threads + Wait + Clock + Sync,
 {
     let committed = beside(rt, alloc, source, receipts, 16, 20)?;

@@ -6,7 +6,7 @@ use crate::makers::insert;
 use crate::sources::{Shared, transact};
 use schema::Memory;
 use source_core::SourceFault;
-use source_shared::{Naming, Receipt};
+use source_shared::{SourceNaming, Receipt};
 use std::alloc::Global;
 use std::process::Abort;
 use std::sync::atomic::Ordering;
@@ -23,7 +23,7 @@ pub fn is_held<'a, J, R>(
     orders: &Orders<'a, R>,
 ) -> Result<usize, Fail>
 where
-    J: Naming + Send + Sync,
+    J: SourceNaming + Send + Sync,
     R: Threads + Wait + Abort + Clock + Sync,
 {
     // (It sleeps no more: to wake it in the place of those who are to lead would leave them asleep.)
@@ -60,7 +60,7 @@ pub fn are_told<'a, J, R>(
     orders: &Orders<'a, R>,
 ) -> Result<usize, Fail>
 where
-    J: Naming + Send + Sync,
+    J: SourceNaming + Send + Sync,
     R: Threads + Wait + Abort + Clock + Sync,
 {
     // (The second closure is called first where no thread can be made: so what the first waits for stands there.)
@@ -89,7 +89,7 @@ where
 }
 
 /// The first session's commit. Where that does not halt the source, this is closed.
-fn commit_or_close<J: Naming, R: Wait + Clock>(
+fn commit_or_close<J: SourceNaming, R: Wait + Clock>(
     rt: &R,
     source: &Shared<'_, J, R>,
     receipts: &Mutex<Vec<Receipt<J>>>,
@@ -102,7 +102,7 @@ fn commit_or_close<J: Naming, R: Wait + Clock>(
 }
 
 /// Commits an insert of the session, and answers its number.
-fn commit_one<J: Naming, R: Wait + Clock>(
+fn commit_one<J: SourceNaming, R: Wait + Clock>(
     rt: &R,
     source: &Shared<'_, J, R>,
     receipts: &Mutex<Vec<Receipt<J>>>,
@@ -115,7 +115,7 @@ fn commit_one<J: Naming, R: Wait + Clock>(
 
 /// The same, once the device is in its sync. It lacks memory where that does not come in time: then there was none for the first
 /// one's thread.
-fn commit_behind<J: Naming, R: Wait + Clock>(
+fn commit_behind<J: SourceNaming, R: Wait + Clock>(
     rt: &R,
     source: &Shared<'_, J, R>,
     receipts: &Mutex<Vec<Receipt<J>>>,
@@ -130,7 +130,7 @@ fn commit_behind<J: Naming, R: Wait + Clock>(
 
 /// Frees the device soon after a record behind this one is flushed, and answers whether this one was hidden then. `None` where
 /// none is flushed in time.
-fn look<J: Naming, R: Wait + Clock>(
+fn look<J: SourceNaming, R: Wait + Clock>(
     rt: &R,
     source: &Shared<'_, J, R>,
     orders: &Orders<'_, R>,

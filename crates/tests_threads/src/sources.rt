@@ -13,7 +13,7 @@ use log_device::{FaultyDevice, MemoryDevice};
 use log_file::LogFile;
 use rows::{Change, Row};
 use source_core::{Prepared, SourceCore, SourceFault};
-use source_shared::{Beginning, Naming, Receipt, SessionSeat, SharedSource};
+use source_shared::{Beginning, SourceNaming, Receipt, SessionSeat, SharedSource};
 use std::alloc::Global;
 use std::marker::Brand;
 use std::process::Abort;
@@ -141,7 +141,7 @@ fn has_run<R: Threads + Wait + Abort + Clock + Sync>(
     run_over::<Brand, R>(rt, alloc, core, log, Beginning::new(), course, &orders)
 }
 
-fn run_over<'a, J: Naming + Send + Sync, R: Threads + Wait + Abort + Clock + Sync>(
+fn run_over<'a, J: SourceNaming + Send + Sync, R: Threads + Wait + Abort + Clock + Sync>(
     rt: &R,
     alloc: Global,
     core: Core,
@@ -181,7 +181,7 @@ fn run_over<'a, J: Naming + Send + Sync, R: Threads + Wait + Abort + Clock + Syn
 }
 
 /// The gnos are the first ones, each once.
-fn are_numbered<J: Naming>(rt: &impl Abort, receipts: &[Receipt<J>]) {
+fn are_numbered<J: SourceNaming>(rt: &impl Abort, receipts: &[Receipt<J>]) {
     for gno in 1..receipts.len() as u64 + 1 {
         let same = receipts
             .iter()
@@ -192,7 +192,7 @@ fn are_numbered<J: Naming>(rt: &impl Abort, receipts: &[Receipt<J>]) {
 }
 
 /// A transaction of one change, from its begin to its receipt. It answers what was prepared, and the number.
-pub fn transact<J: Naming, R: Wait + Clock>(
+pub fn transact<J: SourceNaming, R: Wait + Clock>(
     rt: &R,
     source: &Shared<'_, J, R>,
     seat: &mut SessionSeat<J>,
@@ -208,7 +208,7 @@ pub fn transact<J: Naming, R: Wait + Clock>(
 }
 
 /// Commits, and once more where it lacked memory.
-fn commit<J: Naming, R: Wait + Clock>(
+fn commit<J: SourceNaming, R: Wait + Clock>(
     rt: &R,
     source: &Shared<'_, J, R>,
     seat: &mut SessionSeat<J>,
@@ -220,7 +220,7 @@ fn commit<J: Naming, R: Wait + Clock>(
 }
 
 /// Begins and writes, and writes once more where it lacked memory.
-pub fn write<J: Naming, R: Wait + Clock>(
+pub fn write<J: SourceNaming, R: Wait + Clock>(
     rt: &R,
     source: &Shared<'_, J, R>,
     seat: &mut SessionSeat<J>,
@@ -235,7 +235,7 @@ pub fn write<J: Naming, R: Wait + Clock>(
 
 /// The first session and the last: one aborts, the other inserts the row in its place, and then the first sets it. Then the
 /// source is closed, and its log followed.
-fn in_turn<J: Naming, R: Wait + Abort + Clock>(
+fn in_turn<J: SourceNaming, R: Wait + Abort + Clock>(
     rt: &R,
     alloc: Global,
     source: &Shared<'_, J, R>,
@@ -261,7 +261,7 @@ fn in_turn<J: Naming, R: Wait + Abort + Clock>(
 }
 
 /// A session commits in vain, and all is refused from then on.
-fn halts<J: Naming, R: Wait + Abort + Clock>(
+fn halts<J: SourceNaming, R: Wait + Abort + Clock>(
     rt: &R,
     source: &Shared<'_, J, R>,
     receipts: &Mutex<Vec<Receipt<J>>>,
@@ -294,7 +294,7 @@ pub fn beside<J, R>(
     rows: u16,
 ) -> Result<usize, Fail>
 where
-    J: Naming + Send + Sync,
+    J: SourceNaming + Send + Sync,
     R: Threads + Wait + Clock + Sync,
 {
     let each = map_indices(
@@ -310,7 +310,7 @@ where
 }
 
 /// Commits inserts of so many rows, by the session in front of so many others, which are the last.
-fn commit_each<J: Naming, R: Wait + Clock>(
+fn commit_each<J: SourceNaming, R: Wait + Clock>(
     rt: &R,
     source: &Shared<'_, J, R>,
     receipts: &Mutex<Vec<Receipt<J>>>,

@@ -1,8 +1,8 @@
 use Rattle.embedding.proofs.open.Given as goal
 
 -- the history of receipts that was just made, and the rows and the tables of the source
-abbrev pub ghosts-run-J-Naming : goal.ghosts-run-J-Naming
-ghosts-run-J-Naming g a = record { book = a.receipts; base = a.pair.source.base; tables = a.pair.source.tables }
+abbrev pub ghosts-run-J-SourceNaming : goal.ghosts-run-J-SourceNaming
+ghosts-run-J-SourceNaming g a = record { book = a.receipts; base = a.pair.source.base; tables = a.pair.source.tables }
 
 -- the tables, the source and the rows of the replica
 abbrev pub ghosts-run-K-ReplicaNaming : goal.ghosts-run-K-ReplicaNaming
