@@ -90,8 +90,8 @@ flushed_at p core n later there =
 -- what a session sees is defined: its changes apply to the committed rows
 sees_some : (p : Parts) → IsCore p → (i : ℕ) (o : Option Transaction) → placed p.places i ≡ o →
     IsSome (option_and_then (effect p.tables (option_map_or (λ (t : Open). t.changes) (option_map open_view o) [])) (after p.tables (put_batch p.base empty) (take p.committed p.log)))
-sees_some p core i None at = rw core.rows_are refl
-sees_some p core i (Some t) at = rw (core.rows_are, (core.applies i t at).follows.applied) refl
+sees_some p core i None at = rw core.stored.rows_are refl
+sees_some p core i (Some t) at = rw (core.stored.rows_are, (core.applies i t at).follows.applied) refl
 
 pub each_applies : (p : Parts) (kind : Kind) (halted : Bool) → IsCore p → EachApplies (source_of p kind halted)
 each_applies p kind halted core session =
@@ -102,13 +102,13 @@ each_applies p kind halted core session =
 pub is_sound : (p : Parts) (kind : Kind) (halted : Bool) → IsCore p → IsSound (source_of p kind halted)
 is_sound p kind halted core = record {
   sessions = length-map p.places _ ∙ core.sessions;
-  legal = core.legal;
-  shaped = core.shaped;
+  legal = core.logged.legal;
+  shaped = core.logged.shaped;
   few = omega (arith, core.few);
   bound = core.bound;
   synced_within = core.synced_within;
   committed_within = core.committed_within;
-  owned = core.owned;
+  owned = core.logged.owned;
   grouped = core.grouped;
 }
 

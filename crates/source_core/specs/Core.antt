@@ -141,23 +141,31 @@ abbrev pub AreQueued : List (Option Transaction) → List ℕ → Type 0
 AreQueued places [] = Unit {0}
 AreQueued places (session ∷ queue) = IsQueued places session × AreQueued places queue
 
--- The log is legal, and its changes are such as the schema allows; the store has the rows after the committed records,
--- which the schema allows. Each open transaction applies to these rows, refers to the kin of its changes there, and holds
--- its rows and their kin; no two sessions clash. The records that are not committed are those of the flushed transactions, and the queue those that are
--- queued, each once. Those that are not synced are those of the groups.
+-- The log is legal, and its changes are such as the schema allows; each record has the session that it came from, and trackers
+-- see it so.
+pub record IsTrackedLog (ts : List Table) (base : List Entry) (log : List Record) (owners : List ℕ) (entries : List Seen) : Type 0 where
+  pub legal : IsLegalLog ts (put_batch base empty) log
+  pub shaped : HasShape ts log
+  pub owned : length owners ≡ length log
+  pub seen : entries ≡ entries_of ts log owners
+
+-- The store has the rows after the committed records, which the schema allows.
+pub record IsStored (ts : List Table) (base : List Entry) (log : List Record) (committed : ℕ) (rows : Database) : Type 0 where
+  pub rows_are : after ts (put_batch base empty) (take committed log) ≡ Some rows
+  pub fits : Fits ts rows
+
+-- Each open transaction applies to the committed rows, refers to the kin of its changes there, and holds its rows and their
+-- kin; no two sessions clash. The records that are not committed are those of the flushed transactions, and the queue those that
+-- are queued, each once. Those that are not synced are those of the groups.
 pub record IsCore (p : Parts) : Type 0 where
-  pub legal : IsLegalLog p.tables (put_batch p.base empty) p.log
-  pub shaped : HasShape p.tables p.log
+  pub logged : IsTrackedLog p.tables p.base p.log p.owners p.entries
+  pub stored : IsStored p.tables p.base p.log p.committed p.rows
   pub few : length p.log + length p.queue ≤ p.limit
   pub bound : p.limit < 2 ^ 63
   pub synced_within : p.synced ≤ length p.log
   pub committed_within : p.committed ≤ p.synced
-  pub rows_are : after p.tables (put_batch p.base empty) (take p.committed p.log) ≡ Some p.rows
-  pub fits : Fits p.tables p.rows
-  pub sessions : length p.places ≡ 256
-  pub owned : length p.owners ≡ length p.log
   pub grouped : AreSizes p.group_sizes (length p.log - p.synced)
-  pub seen : p.entries ≡ entries_of p.tables p.log p.owners
+  pub sessions : length p.places ≡ 256
   pub locks : p.locks ≡ locks_over p.tables p.rows (sessions_view p.places)
   pub no_clash : NoClash p.locks
   pub applies : (i : ℕ) (t : Transaction) → placed p.places i ≡ Some t → Applies p.tables p.rows t.overlay
