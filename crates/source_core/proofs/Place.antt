@@ -48,7 +48,7 @@ pub other_place : (places : List (Option Transaction)) (i j : ℕ) (now : Option
 other_place places i j now ne = get_or-set_other places i j now None ne
 
 flushed_stay : (p : Parts) (i : ℕ) (now : Option Transaction) (queue : List ℕ) (locks : Locks) → IsFree (placed p.places i) → (number : ℕ) (log : List Record) (owners : List ℕ) →
-    AreFlushed p number log owners → AreFlushed (placing p i now queue locks) number log owners
+    AreFlushed p.tables p.rows p.places number log owners → AreFlushed p.tables p.rows (set p.places i now) number log owners
 flushed_stay p i now queue locks free number [] [] are = tt
 flushed_stay p i now queue locks free number [] (owner ∷ owners) are = absurd are
 flushed_stay p i now queue locks free number (made ∷ log) [] are = absurd are

@@ -114,20 +114,21 @@ StandsAs p session changes (Queued order) = IsReady p session changes order × I
 StandsAs p session changes (Flushed gno) = IsLogged p session gno
 
 -- The record of this number is that of the transaction in its session's place.
-pub record IsFlushedAs (p : Parts) (number : ℕ) (made : Record) (owner : ℕ) : Type 0 where
+pub record IsFlushedAs (ts : List Table) (rows : Database) (places : List (Option Transaction)) (number : ℕ) (made : Record) (owner : ℕ) : Type 0 where
   pub least : 1 ≤ owner
   pub t : Transaction
-  pub place : placed p.places (owner - 1) ≡ Some t
+  pub place : placed places (owner - 1) ≡ Some t
   pub phase : t.phase ≡ Flushed number
   pub changes : made.changes ≡ t.overlay.changes
-  pub refs : SameRows made.refs (kin p.tables t.overlay.changes p.rows)
+  pub refs : SameRows made.refs (kin ts t.overlay.changes rows)
 
 -- these records, the first of this number, are those of the transactions in their sessions' places
-abbrev pub AreFlushed : Parts → ℕ → List Record → List ℕ → Type 0
-AreFlushed p number [] [] = Unit {0}
-AreFlushed p number (made ∷ log) (owner ∷ owners) = IsFlushedAs p number made owner × AreFlushed p (number + 1) log owners
-AreFlushed p number [] (owner ∷ owners) = ⊥
-AreFlushed p number (made ∷ log) [] = ⊥
+abbrev pub AreFlushed : List Table → Database → List (Option Transaction) → ℕ → List Record → List ℕ → Type 0
+AreFlushed ts rows places number [] [] = Unit {0}
+AreFlushed ts rows places number (made ∷ log) (owner ∷ owners) =
+    IsFlushedAs ts rows places number made owner × AreFlushed ts rows places (number + 1) log owners
+AreFlushed ts rows places number [] (owner ∷ owners) = ⊥
+AreFlushed ts rows places number (made ∷ log) [] = ⊥
 
 -- the session's transaction is queued
 pub record IsQueued (places : List (Option Transaction)) (session : ℕ) : Type 0 where
@@ -171,7 +172,7 @@ pub record IsCore (p : Parts) : Type 0 where
   pub applies : (i : ℕ) (t : Transaction) → placed p.places i ≡ Some t → Applies p.tables p.rows t.overlay
   pub refers : (i : ℕ) (t : Transaction) → placed p.places i ≡ Some t → RefersTo p.tables p.rows t
   pub stands : (i : ℕ) (t : Transaction) → placed p.places i ≡ Some t → StandsAs p (i + 1) t.overlay.changes t.phase
-  pub flushed : AreFlushed p (p.committed + 1) (drop p.committed p.log) (drop p.committed p.owners)
+  pub flushed : AreFlushed p.tables p.rows p.places (p.committed + 1) (drop p.committed p.log) (drop p.committed p.owners)
   pub queued : AreQueued p.places p.queue
   pub distinct : IsDistinct eqb p.queue
 
