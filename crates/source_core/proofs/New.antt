@@ -63,18 +63,14 @@ new_core : (ts : List Table) (rows : Database) (base : List Entry) (limit : ℕ)
     IsCore (parts_over ts rows base limit [] [] (replicate 256 None) no_queues locks)
 unfolding no_locks
 new_core ts rows base limit locks bound loaded_is fits none clear = record {
-  legal = empty_is_legal ts (put_batch base empty);
-  shaped = λ n made is. absurd (cc is);
+  logged = record { legal = empty_is_legal ts (put_batch base empty); shaped = λ n made is. absurd (cc is); owned = refl; seen = refl };
   few = omega arith;
   bound = bound;
   synced_within = omega arith;
   committed_within = omega arith;
-  rows_are = ap Some loaded_is;
-  fits = fits;
+  stored = record { rows_are = ap Some loaded_is; fits = fits };
   sessions = long {X = Option Transaction} 256 None;
-  owned = refl;
   grouped = record { some = tt; whole = refl };
-  seen = refl;
   locks = none ∙ sym (ap (map (held_for ts rows)) views_none ∙ mapped (held_for ts rows) 256 None);
   no_clash = clear;
   applies = λ i t at. absurd (absent i t at);

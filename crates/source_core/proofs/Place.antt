@@ -48,7 +48,7 @@ pub other_place : (places : List (Option Transaction)) (i j : ℕ) (now : Option
 other_place places i j now ne = get_or-set_other places i j now None ne
 
 flushed_stay : (p : Parts) (i : ℕ) (now : Option Transaction) (queue : List ℕ) (locks : Locks) → IsFree (placed p.places i) → (number : ℕ) (log : List Record) (owners : List ℕ) →
-    AreFlushed p number log owners → AreFlushed (placing p i now queue locks) number log owners
+    AreFlushed p.tables p.rows p.places number log owners → AreFlushed p.tables p.rows (set p.places i now) number log owners
 flushed_stay p i now queue locks free number [] [] are = tt
 flushed_stay p i now queue locks free number [] (owner ∷ owners) are = absurd are
 flushed_stay p i now queue locks free number (made ∷ log) [] are = absurd are
@@ -114,18 +114,14 @@ pub place_set : (p : Parts) → IsCore p → (i : ℕ) → i < 256 → (now : Op
 place_set p core i within now free queue locks few queued distinct grows are clear here =
     let there : i < length p.places = omega (arith, within, core.sessions) in
     record {
-      legal = core.legal;
-      shaped = core.shaped;
+      logged = core.logged;
       few = few;
       bound = core.bound;
       synced_within = core.synced_within;
       committed_within = core.committed_within;
-      rows_are = core.rows_are;
-      fits = core.fits;
+      stored = core.stored;
       sessions = length-set p.places i now ∙ core.sessions;
-      owned = core.owned;
       grouped = core.grouped;
-      seen = core.seen;
       locks = are ∙ ap (λ l. set l i (held_for p.tables p.rows (option_map open_view now))) core.locks ∙ sym (locks_set p.tables p.rows p.places i now);
       no_clash = clear;
       applies = each_placed (λ j t. Applies p.tables p.rows t.overlay) p.places i now there (λ t is. (here t is).0) core.applies;

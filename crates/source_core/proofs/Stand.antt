@@ -49,16 +49,16 @@ record At (p : Parts) (first : ℕ) (log : List Record) (owners : List ℕ) (i :
   pub owner : ℕ
   pub is : slice_get log i ≡ Some made
   pub own : slice_get owners i ≡ Some owner
-  pub stands : IsFlushedAs p (first + i) made owner
+  pub stands : IsFlushedAs p.tables p.rows p.places (first + i) made owner
 
-at_place : (p : Parts) (first : ℕ) (log : List Record) (owners : List ℕ) (i : ℕ) → AreFlushed p first log owners → i < length log → At p first log owners i
+at_place : (p : Parts) (first : ℕ) (log : List Record) (owners : List ℕ) (i : ℕ) → AreFlushed p.tables p.rows p.places first log owners → i < length log → At p first log owners i
 at_place p first [] [] i are within = absurd (omega (arith, within))
 at_place p first [] (owner ∷ owners) i are within = absurd are
 at_place p first (made ∷ log) [] i are within = absurd are
-at_place p first (made ∷ log) (owner ∷ owners) zero are within = record { made = made; owner = owner; is = refl; own = refl; stands = subst (λ n. IsFlushedAs p n made owner) (omega arith) are.0 }
+at_place p first (made ∷ log) (owner ∷ owners) zero are within = record { made = made; owner = owner; is = refl; own = refl; stands = subst (λ n. IsFlushedAs p.tables p.rows p.places n made owner) (omega arith) are.0 }
 at_place p first (made ∷ log) (owner ∷ owners) (suc i) are within =
     let behind = at_place p (first + 1) log owners i are.1 (omega (arith, within)) in
-    record { made = behind.made; owner = behind.owner; is = behind.is; own = behind.own; stands = subst (λ n. IsFlushedAs p n behind.made behind.owner) (omega arith) behind.stands }
+    record { made = behind.made; owner = behind.owner; is = behind.is; own = behind.own; stands = subst (λ n. IsFlushedAs p.tables p.rows p.places n behind.made behind.owner) (omega arith) behind.stands }
 
 -- an element behind the first so many
 get_behind : {X : Type 0} (k : ℕ) (l : List X) (i : ℕ) → slice_get (drop k l) i ≡ slice_get l (k + i)
@@ -72,7 +72,7 @@ pub record IsOf (p : Parts) (n : ℕ) : Type 0 where
   pub owner : ℕ
   pub is : slice_get p.log (n - 1) ≡ Some made
   pub own : slice_get p.owners (n - 1) ≡ Some owner
-  pub stands : IsFlushedAs p n made owner
+  pub stands : IsFlushedAs p.tables p.rows p.places n made owner
 
 pub flushed_at : (p : Parts) → IsCore p → (n : ℕ) → p.committed < n → n ≤ length p.log → IsOf p n
 flushed_at p core n later there =
@@ -84,14 +84,14 @@ flushed_at p core n later there =
       owner = at.owner;
       is = sym (ap (λ k. slice_get p.log k) place) ∙ sym (get_behind p.committed p.log i) ∙ at.is;
       own = sym (ap (λ k. slice_get p.owners k) place) ∙ sym (get_behind p.committed p.owners i) ∙ at.own;
-      stands = subst (λ k. IsFlushedAs p k at.made at.owner) (omega (arith, later)) at.stands;
+      stands = subst (λ k. IsFlushedAs p.tables p.rows p.places k at.made at.owner) (omega (arith, later)) at.stands;
     }
 
 -- what a session sees is defined: its changes apply to the committed rows
 sees_some : (p : Parts) → IsCore p → (i : ℕ) (o : Option Transaction) → placed p.places i ≡ o →
     IsSome (option_and_then (effect p.tables (option_map_or (λ (t : Open). t.changes) (option_map open_view o) [])) (after p.tables (put_batch p.base empty) (take p.committed p.log)))
-sees_some p core i None at = rw core.rows_are refl
-sees_some p core i (Some t) at = rw (core.rows_are, (core.applies i t at).follows.applied) refl
+sees_some p core i None at = rw core.stored.rows_are refl
+sees_some p core i (Some t) at = rw (core.stored.rows_are, (core.applies i t at).follows.applied) refl
 
 pub each_applies : (p : Parts) (kind : Kind) (halted : Bool) → IsCore p → EachApplies (source_of p kind halted)
 each_applies p kind halted core session =
@@ -102,13 +102,13 @@ each_applies p kind halted core session =
 pub is_sound : (p : Parts) (kind : Kind) (halted : Bool) → IsCore p → IsSound (source_of p kind halted)
 is_sound p kind halted core = record {
   sessions = length-map p.places _ ∙ core.sessions;
-  legal = core.legal;
-  shaped = core.shaped;
+  legal = core.logged.legal;
+  shaped = core.logged.shaped;
   few = omega (arith, core.few);
   bound = core.bound;
   synced_within = core.synced_within;
   committed_within = core.committed_within;
-  owned = core.owned;
+  owned = core.logged.owned;
   grouped = core.grouped;
 }
 

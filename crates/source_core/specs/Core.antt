@@ -114,20 +114,21 @@ StandsAs p session changes (Queued order) = IsReady p session changes order × I
 StandsAs p session changes (Flushed gno) = IsLogged p session gno
 
 -- The record of this number is that of the transaction in its session's place.
-pub record IsFlushedAs (p : Parts) (number : ℕ) (made : Record) (owner : ℕ) : Type 0 where
+pub record IsFlushedAs (ts : List Table) (rows : Database) (places : List (Option Transaction)) (number : ℕ) (made : Record) (owner : ℕ) : Type 0 where
   pub least : 1 ≤ owner
   pub t : Transaction
-  pub place : placed p.places (owner - 1) ≡ Some t
+  pub place : placed places (owner - 1) ≡ Some t
   pub phase : t.phase ≡ Flushed number
   pub changes : made.changes ≡ t.overlay.changes
-  pub refs : SameRows made.refs (kin p.tables t.overlay.changes p.rows)
+  pub refs : SameRows made.refs (kin ts t.overlay.changes rows)
 
 -- these records, the first of this number, are those of the transactions in their sessions' places
-abbrev pub AreFlushed : Parts → ℕ → List Record → List ℕ → Type 0
-AreFlushed p number [] [] = Unit {0}
-AreFlushed p number (made ∷ log) (owner ∷ owners) = IsFlushedAs p number made owner × AreFlushed p (number + 1) log owners
-AreFlushed p number [] (owner ∷ owners) = ⊥
-AreFlushed p number (made ∷ log) [] = ⊥
+abbrev pub AreFlushed : List Table → Database → List (Option Transaction) → ℕ → List Record → List ℕ → Type 0
+AreFlushed ts rows places number [] [] = Unit {0}
+AreFlushed ts rows places number (made ∷ log) (owner ∷ owners) =
+    IsFlushedAs ts rows places number made owner × AreFlushed ts rows places (number + 1) log owners
+AreFlushed ts rows places number [] (owner ∷ owners) = ⊥
+AreFlushed ts rows places number (made ∷ log) [] = ⊥
 
 -- the session's transaction is queued
 pub record IsQueued (places : List (Option Transaction)) (session : ℕ) : Type 0 where
@@ -141,29 +142,37 @@ abbrev pub AreQueued : List (Option Transaction) → List ℕ → Type 0
 AreQueued places [] = Unit {0}
 AreQueued places (session ∷ queue) = IsQueued places session × AreQueued places queue
 
--- The log is legal, and its changes are such as the schema allows; the store has the rows after the committed records,
--- which the schema allows. Each open transaction applies to these rows, refers to the kin of its changes there, and holds
--- its rows and their kin; no two sessions clash. The records that are not committed are those of the flushed transactions, and the queue those that are
--- queued, each once. Those that are not synced are those of the groups.
+-- The log is legal, and its changes are such as the schema allows; each record has the session that it came from, and trackers
+-- see it so.
+pub record IsTrackedLog (ts : List Table) (base : List Entry) (log : List Record) (owners : List ℕ) (entries : List Seen) : Type 0 where
+  pub legal : IsLegalLog ts (put_batch base empty) log
+  pub shaped : HasShape ts log
+  pub owned : length owners ≡ length log
+  pub seen : entries ≡ entries_of ts log owners
+
+-- The store has the rows after the committed records, which the schema allows.
+pub record IsStored (ts : List Table) (base : List Entry) (log : List Record) (committed : ℕ) (rows : Database) : Type 0 where
+  pub rows_are : after ts (put_batch base empty) (take committed log) ≡ Some rows
+  pub fits : Fits ts rows
+
+-- Each open transaction applies to the committed rows, refers to the kin of its changes there, and holds its rows and their
+-- kin; no two sessions clash. The records that are not committed are those of the flushed transactions, and the queue those that
+-- are queued, each once. Those that are not synced are those of the groups.
 pub record IsCore (p : Parts) : Type 0 where
-  pub legal : IsLegalLog p.tables (put_batch p.base empty) p.log
-  pub shaped : HasShape p.tables p.log
+  pub logged : IsTrackedLog p.tables p.base p.log p.owners p.entries
+  pub stored : IsStored p.tables p.base p.log p.committed p.rows
   pub few : length p.log + length p.queue ≤ p.limit
   pub bound : p.limit < 2 ^ 63
   pub synced_within : p.synced ≤ length p.log
   pub committed_within : p.committed ≤ p.synced
-  pub rows_are : after p.tables (put_batch p.base empty) (take p.committed p.log) ≡ Some p.rows
-  pub fits : Fits p.tables p.rows
-  pub sessions : length p.places ≡ 256
-  pub owned : length p.owners ≡ length p.log
   pub grouped : AreSizes p.group_sizes (length p.log - p.synced)
-  pub seen : p.entries ≡ entries_of p.tables p.log p.owners
+  pub sessions : length p.places ≡ 256
   pub locks : p.locks ≡ locks_over p.tables p.rows (sessions_view p.places)
   pub no_clash : NoClash p.locks
   pub applies : (i : ℕ) (t : Transaction) → placed p.places i ≡ Some t → Applies p.tables p.rows t.overlay
   pub refers : (i : ℕ) (t : Transaction) → placed p.places i ≡ Some t → RefersTo p.tables p.rows t
   pub stands : (i : ℕ) (t : Transaction) → placed p.places i ≡ Some t → StandsAs p (i + 1) t.overlay.changes t.phase
-  pub flushed : AreFlushed p (p.committed + 1) (drop p.committed p.log) (drop p.committed p.owners)
+  pub flushed : AreFlushed p.tables p.rows p.places (p.committed + 1) (drop p.committed p.log) (drop p.committed p.owners)
   pub queued : AreQueued p.places p.queue
   pub distinct : IsDistinct eqb p.queue
 
