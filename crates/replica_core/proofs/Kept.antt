@@ -24,7 +24,7 @@ use Rattle.commit_order.specs.Turns.{Line, entered, with_result, turn, passed}
 use Rattle.replica_core.specs.Replica.{Replica, dispatched, rows_at, job_of, commits_from}
 use Rattle.replica_core.specs.Sound.{IsSound, IsUnderWay}
 use Rattle.replica_core.specs.Calls.{with_accepted, dispatched_next, with_finished, stopped_at, committed_next, with_published}
-use Rattle.replica_core.specs.Core.{IsKept, IsTaken, input_in}
+use Rattle.replica_core.specs.Core.{StandAtLowWater, IsLogKept, IsTaken, input_in}
 use Rattle.replica_core.proofs.Commits.{after-next, length-committed, waiting-next}
 use Rattle.replica_core.proofs.Jobs.{slice_get-push, hold_along, job_parts, job_stays, job_stays_behind}
 
@@ -55,7 +55,7 @@ pub record IsNext (r : Replica) (rec : Record) : Type 0 where
   pub free : length r.under_way < r.workers
 
 module _ (r : Replica) (marks : Marks) (line : Line) (inputs : List (List Entry)) (rows : Database) (ops : List Op) where
-  pub kept_sound : IsKept r marks line inputs rows ops → IsSound r
+  pub kept_sound : StandAtLowWater r marks line inputs rows ops → IsSound r
   kept_sound h = record {
     accepted = h.log.acceptable;
     published = h.log.published;
@@ -69,12 +69,16 @@ module _ (r : Replica) (marks : Marks) (line : Line) (inputs : List (List Entry)
     jobs = hold_along r h.log.acceptable h.eligible;
   }
 
-  pub length_places : IsKept r marks line inputs rows ops → length line.places ≡ length r.under_way
+  -- as what it is seen as
+  pub sound_as_seen : (now : Replica) → StandAtLowWater r marks line inputs rows ops → r ≡ now → IsSound now
+  sound_as_seen now h is = subst IsSound is (kept_sound h)
+
+  pub length_places : StandAtLowWater r marks line inputs rows ops → length line.places ≡ length r.under_way
   length_places h = sym (length-map line.places is_some) ∙ ap length (sym h.places)
 
   -- ---- one more record accepted
 
-  pub kept_accepted : (new : Record) → IsKept r marks line inputs rows ops → AreAcceptable r.tables (r.accepted ++ new ∷ []) → IsKept (with_accepted r new) marks line inputs rows ops
+  pub kept_accepted : (new : Record) → StandAtLowWater r marks line inputs rows ops → AreAcceptable r.tables (r.accepted ++ new ∷ []) → StandAtLowWater (with_accepted r new) marks line inputs rows ops
   kept_accepted new h acceptable =
       let all = h.dispatched in
       let within : r.committed ≤ length r.accepted = omega arith in
@@ -102,7 +106,7 @@ module _ (r : Replica) (marks : Marks) (line : Line) (inputs : List (List Entry)
 
   -- ---- the next record dispatched
 
-  pub kept_dispatched : (rec : Record) (job : Job) → IsKept r marks line inputs rows ops → IsNext r rec → job_of r (dispatched r + 1) ≡ Some job → IsKept (dispatched_next r) marks (entered line) (inputs ++ job.input ∷ []) rows ops
+  pub kept_dispatched : (rec : Record) (job : Job) → StandAtLowWater r marks line inputs rows ops → IsNext r rec → job_of r (dispatched r + 1) ≡ Some job → StandAtLowWater (dispatched_next r) marks (entered line) (inputs ++ job.input ∷ []) rows ops
   kept_dispatched rec job h next made =
       let lengths = length_places h in
       let free = next.free in
@@ -142,7 +146,7 @@ module _ (r : Replica) (marks : Marks) (line : Line) (inputs : List (List Entry)
 
   -- ---- a result taken
 
-  pub kept_finished : (gno : ℕ) (result : Finished) → IsKept r marks line inputs rows ops → IsUnderWay r gno → result.job.gno ≡ gno → IsTaken (job_of r gno) result → IsKept (with_finished r gno) marks (with_result line result) inputs rows ops
+  pub kept_finished : (gno : ℕ) (result : Finished) → StandAtLowWater r marks line inputs rows ops → IsUnderWay r gno → result.job.gno ≡ gno → IsTaken (job_of r gno) result → StandAtLowWater (with_finished r gno) marks (with_result line result) inputs rows ops
   kept_finished gno result h under number taken =
       let lengths = length_places h in
       let first = h.first in
@@ -180,10 +184,12 @@ module _ (r : Replica) (marks : Marks) (line : Line) (inputs : List (List Entry)
             ];
       }
 
-  pub kept_stopped : (gno : ℕ) → IsKept r marks line inputs rows ops → IsKept (stopped_at r gno) marks line inputs rows ops
-  kept_stopped gno h = record {
+  -- ---- a stop, or more published
+
+  kept_beside : (published : ℕ) (stopped : Option ℕ) (left : List Op) → IsLogKept r.tables r.base r.accepted r.committed published rows left → StandAtLowWater r marks line inputs rows ops → StandAtLowWater (record r { published = published; stopped = stopped }) marks line inputs rows left
+  kept_beside published stopped left log h = record {
     set_up = h.set_up;
-    log = h.log;
+    log = log;
     marks_are = h.marks_are;
     dispatched = h.dispatched;
     busy = h.busy;
@@ -195,6 +201,30 @@ module _ (r : Replica) (marks : Marks) (line : Line) (inputs : List (List Entry)
     results = h.results;
   }
 
+  pub kept_stopped : (gno : ℕ) → StandAtLowWater r marks line inputs rows ops → StandAtLowWater (stopped_at r gno) marks line inputs rows ops
+  kept_stopped gno h = kept_beside r.published (Some gno) ops h.log h
+
+  pub length_ops : StandAtLowWater r marks line inputs rows ops → length ops ≡ r.committed - r.published
+  length_ops h =
+      let all = h.dispatched in
+      let within : r.committed ≤ length r.accepted = omega arith in
+      ap length h.log.ops_are ∙ length-drop r.published (commits_from r.tables (loaded r.base) 1 (take r.committed r.accepted))
+      ∙ ap (λ n. n - r.published) (length-committed r.tables (loaded r.base) r.accepted r.committed rows within h.log.rows_are)
+
+  pub kept_published : (upto : ℕ) → StandAtLowWater r marks line inputs rows ops → r.published ≤ upto → upto ≤ r.committed → StandAtLowWater (with_published r upto) marks line inputs rows (drop (upto - r.published) ops)
+  kept_published upto h later done =
+      let sum : r.published + (upto - r.published) ≡ upto = omega arith in
+      let log : IsLogKept r.tables r.base r.accepted r.committed upto rows (drop (upto - r.published) ops) = record {
+        acceptable = h.log.acceptable;
+        rows_are = h.log.rows_are;
+        published = done;
+        ops_are =
+            ap (drop (upto - r.published)) h.log.ops_are
+            ∙ drop-drop (upto - r.published) r.published (commits_from r.tables (loaded r.base) 1 (take r.committed r.accepted))
+            ∙ ap (λ n. drop n (commits_from r.tables (loaded r.base) 1 (take r.committed r.accepted))) sum;
+      } in
+      kept_beside upto r.stopped (drop (upto - r.published) ops) log h
+
   -- ---- the next commit
 
   -- the record behind the committed ones applies to the working rows, and leaves these at what it writes
@@ -205,7 +235,7 @@ module _ (r : Replica) (marks : Marks) (line : Line) (inputs : List (List Entry)
     pub applies : effect r.tables rec.changes rows ≡ Some leaves
     pub left_is : left ≡ rows_in (writes rec.changes) leaves
 
-  leaves_next : (result : Finished) → IsKept r marks line inputs rows ops → (t : IsTaken (job_of r (r.committed + 1)) result) → LeavesNext t.left
+  leaves_next : (result : Finished) → StandAtLowWater r marks line inputs rows ops → (t : IsTaken (job_of r (r.committed + 1)) result) → LeavesNext t.left
   leaves_next result h t =
       let parts = job_parts r (r.committed + 1) result.job t.job in
       let here : r.committed + 1 - 1 ≡ r.committed = omega arith in
@@ -223,7 +253,7 @@ module _ (r : Replica) (marks : Marks) (line : Line) (inputs : List (List Entry)
         left_is = there.rows ∙ ap (λ (x : Record). rows_in (writes x.changes) there.after_) of;
       }
 
-  pub kept_committed : (result : Finished) (left : List Entry) → IsKept r marks line inputs rows ops → turn line ≡ Some result → result.outcome ≡ Output left → IsKept (committed_next r) (all_up_to (r.committed + 1)) (passed line) (drop 1 inputs) (put_batch left rows) (ops ++ Commit (r.committed + 1) left ∷ [])
+  pub kept_committed : (result : Finished) (left : List Entry) → StandAtLowWater r marks line inputs rows ops → turn line ≡ Some result → result.outcome ≡ Output left → StandAtLowWater (committed_next r) (all_up_to (r.committed + 1)) (passed line) (drop 1 inputs) (put_batch left rows) (ops ++ Commit (r.committed + 1) left ∷ [])
   kept_committed result left h is output =
       let lengths = length_places h in
       let first = h.first in
@@ -268,38 +298,4 @@ module _ (r : Replica) (marks : Marks) (line : Line) (inputs : List (List Entry)
             let low = u.0 in
             let place : 1 + (gno - (line.first + 1)) ≡ gno - line.first = omega arith in
             of_same_job (sym (stays gno u)) (h.results gno other (was gno u) (ap (λ n. get_or line.places n None) (sym place) ∙ sym (get_or-drop 1 line.places (gno - (line.first + 1)) None) ∙ at));
-      }
-
-  -- ---- publishing
-
-  pub length_ops : IsKept r marks line inputs rows ops → length ops ≡ r.committed - r.published
-  length_ops h =
-      let all = h.dispatched in
-      let within : r.committed ≤ length r.accepted = omega arith in
-      ap length h.log.ops_are ∙ length-drop r.published (commits_from r.tables (loaded r.base) 1 (take r.committed r.accepted))
-      ∙ ap (λ n. n - r.published) (length-committed r.tables (loaded r.base) r.accepted r.committed rows within h.log.rows_are)
-
-  pub kept_published : (upto : ℕ) → IsKept r marks line inputs rows ops → r.published ≤ upto → upto ≤ r.committed → IsKept (with_published r upto) marks line inputs rows (drop (upto - r.published) ops)
-  kept_published upto h later done =
-      let sum : r.published + (upto - r.published) ≡ upto = omega arith in
-      record {
-        set_up = h.set_up;
-        log = record {
-          acceptable = h.log.acceptable;
-          rows_are = h.log.rows_are;
-          published = done;
-          ops_are =
-              ap (drop (upto - r.published)) h.log.ops_are
-              ∙ drop-drop (upto - r.published) r.published (commits_from r.tables (loaded r.base) 1 (take r.committed r.accepted))
-              ∙ ap (λ n. drop n (commits_from r.tables (loaded r.base) 1 (take r.committed r.accepted))) sum;
-        };
-        marks_are = h.marks_are;
-        dispatched = h.dispatched;
-        busy = h.busy;
-        eligible = h.eligible;
-        first = h.first;
-        places = h.places;
-        count = h.count;
-        kept = h.kept;
-        results = h.results;
       }

@@ -28,7 +28,7 @@ use Rattle.commit_order.specs.Turns.{Line, result_at, entered, with_result, turn
 use Rattle.replica_core.specs.Replica.{Replica, dispatched, job_of}
 use Rattle.replica_core.specs.Sound.{IsUnderWay}
 use Rattle.replica_core.specs.Calls.{is_eligible, dispatched_next, finish_fault, IsHandedOut, with_finished, next_commit, committed_next}
-use Rattle.replica_core.specs.Core.{seen_as, IsKept, IsTaken, turn_output, TakesTurn, IsJudged}
+use Rattle.replica_core.specs.Core.{seen_as, StandAtLowWater, IsTaken, turn_output, TakesTurn, IsJudged}
 use Rattle.replica_core.proofs.Apart.{place_acceptable}
 use Rattle.replica_core.proofs.Jobs.{slice_get_some}
 use Rattle.replica_core.proofs.Kept.{IsNext, taken_within, kept_accepted, kept_dispatched, kept_finished, kept_stopped, kept_committed, kept_published, length_places}
@@ -45,7 +45,7 @@ few_accepted ts (x ∷ xs) h =
     let bound = is.bound in
     omega arith
 
-pub few_dispatched : (r : Replica) (marks : Marks) (line : Line) (inputs : List (List Entry)) (rows : Database) (ops : List Op) → IsKept r marks line inputs rows ops → dispatched r < 2 ^ 63
+pub few_dispatched : (r : Replica) (marks : Marks) (line : Line) (inputs : List (List Entry)) (rows : Database) (ops : List Op) → StandAtLowWater r marks line inputs rows ops → dispatched r < 2 ^ 63
 few_dispatched r marks line inputs rows ops h = let few = few_accepted r.tables r.accepted h.log.acceptable in let all = h.dispatched in omega arith
 
 -- ---- answers
@@ -122,18 +122,18 @@ module _ (v : relay.Relay) (base : List Entry) (marks : Marks) (published : ℕ)
 
   module _ (inputs : List (List Entry)) (rows : Database) (ops : List Op) where
     abbrev pub Keeps : Type 0
-    Keeps = IsKept (seen_as v base marks published line workers stopped) marks line inputs rows ops
+    Keeps = StandAtLowWater (seen_as v base marks published line workers stopped) marks line inputs rows ops
 
-    pub received_kept : (from : List ℕ) (new : Record) (result : Result Received ReplicaFault) (left : relay.Relay) → Keeps → (IsErrOf result NoMemory ⊎ (result ≡ relay.received v from new)) → IfOk result (λ answer. left ≡ relay.left_by_receive v new answer) → OnErr result (left ≡ v) → IsKept (seen_as left base marks published line workers stopped) marks line inputs rows ops
-    received_kept from new (Err fault) left h answer ok err = subst (λ (x : relay.Relay). IsKept (seen_as x base marks published line workers stopped) marks line inputs rows ops) (sym err) h
-    received_kept from new (Ok Skipped) left h answer ok err = subst (λ (x : relay.Relay). IsKept (seen_as x base marks published line workers stopped) marks line inputs rows ops) (sym ok) h
+    pub received_kept : (from : List ℕ) (new : Record) (result : Result Received ReplicaFault) (left : relay.Relay) → Keeps → (IsErrOf result NoMemory ⊎ (result ≡ relay.received v from new)) → IfOk result (λ answer. left ≡ relay.left_by_receive v new answer) → OnErr result (left ≡ v) → StandAtLowWater (seen_as left base marks published line workers stopped) marks line inputs rows ops
+    received_kept from new (Err fault) left h answer ok err = subst (λ (x : relay.Relay). StandAtLowWater (seen_as x base marks published line workers stopped) marks line inputs rows ops) (sym err) h
+    received_kept from new (Ok Skipped) left h answer ok err = subst (λ (x : relay.Relay). StandAtLowWater (seen_as x base marks published line workers stopped) marks line inputs rows ops) (sym ok) h
     received_kept from new (Ok Accepted) left h (inl lacks) ok err = cc
     received_kept from new (Ok Accepted) left h (inr is) ok err =
         let next : IsAcceptable v.tables v.accepted new = ((accepts_the_acceptable v from new).0 (sym is)).1 in
-        subst (λ (x : relay.Relay). IsKept (seen_as x base marks published line workers stopped) marks line inputs rows ops) (sym ok)
+        subst (λ (x : relay.Relay). StandAtLowWater (seen_as x base marks published line workers stopped) marks line inputs rows ops) (sym ok)
         (kept_accepted (seen_as v base marks published line workers stopped) marks line inputs rows ops new h (next_is_acceptable v.tables v.accepted new h.log.acceptable next))
 
-    pub dispatched_kept : (job : Job) (line_then : Line) (inputs_then : List (List Entry)) → Keeps → is_eligible (seen_as v base marks published line workers stopped) ≡ true → job_of (seen_as v base marks published line workers stopped) (dispatched (seen_as v base marks published line workers stopped) + 1) ≡ Some job → line_then ≡ entered line → inputs_then ≡ inputs ++ job.input ∷ [] → IsKept (seen_as v base marks published line_then workers stopped) marks line_then inputs_then rows ops
+    pub dispatched_kept : (job : Job) (line_then : Line) (inputs_then : List (List Entry)) → Keeps → is_eligible (seen_as v base marks published line workers stopped) ≡ true → job_of (seen_as v base marks published line workers stopped) (dispatched (seen_as v base marks published line workers stopped) + 1) ≡ Some job → line_then ≡ entered line → inputs_then ≡ inputs ++ job.input ∷ [] → StandAtLowWater (seen_as v base marks published line_then workers stopped) marks line_then inputs_then rows ops
     dispatched_kept job line_then inputs_then h may made is_line is_inputs =
         let next = eligible_next (seen_as v base marks published line workers stopped) may in
         rw (is_line, is_inputs, seen_entered) (kept_dispatched (seen_as v base marks published line workers stopped) marks line inputs rows ops next.0 job h next.1 made)
@@ -162,7 +162,7 @@ module _ (v : relay.Relay) (base : List Entry) (marks : Marks) (published : ℕ)
         came o e (inl lacks) is = cc
         came o e (inr same) is = sym same ∙ is
 
-    pub finished_kept : (result : Finished) (left : List Entry) (line_then : Line) → Keeps → finish_fault (seen_as v base marks published line workers stopped) result.job.gno ≡ None → IsHandedOut (seen_as v base marks published line workers stopped) result → IsResult result → result.outcome ≡ Output left → line_then ≡ with_result line result → IsKept (seen_as v base marks published line_then workers stopped) marks line_then inputs rows ops
+    pub finished_kept : (result : Finished) (left : List Entry) (line_then : Line) → Keeps → finish_fault (seen_as v base marks published line workers stopped) result.job.gno ≡ None → IsHandedOut (seen_as v base marks published line workers stopped) result → IsResult result → result.outcome ≡ Output left → line_then ≡ with_result line result → StandAtLowWater (seen_as v base marks published line_then workers stopped) marks line_then inputs rows ops
     finished_kept result left line_then h free of made is is_line =
         let under = under_way_from result.job.gno h free in
         rw (is_line, seen_finished result result.job.gno h.first refl)
@@ -171,10 +171,10 @@ module _ (v : relay.Relay) (base : List Entry) (marks : Marks) (published : ℕ)
     pub finished_seen : (result : Finished) (line_then : Line) → Keeps → line_then ≡ with_result line result → seen_as v base marks published line_then workers stopped ≡ with_finished (seen_as v base marks published line workers stopped) result.job.gno
     finished_seen result line_then h is_line = rw is_line (seen_finished result result.job.gno h.first refl)
 
-    pub stopped_kept : (gno : ℕ) → Keeps → IsKept (seen_as v base marks published line workers (Some gno)) marks line inputs rows ops
+    pub stopped_kept : (gno : ℕ) → Keeps → StandAtLowWater (seen_as v base marks published line workers (Some gno)) marks line inputs rows ops
     stopped_kept gno h = kept_stopped (seen_as v base marks published line workers stopped) marks line inputs rows ops gno h
 
-    pub published_kept : (upto : ℕ) (ops_then : List Op) → Keeps → published ≤ upto → upto ≤ marks.low → ops_then ≡ drop (upto - published) ops → IsKept (seen_as v base marks upto line workers stopped) marks line inputs rows ops_then
+    pub published_kept : (upto : ℕ) (ops_then : List Op) → Keeps → published ≤ upto → upto ≤ marks.low → ops_then ≡ drop (upto - published) ops → StandAtLowWater (seen_as v base marks upto line workers stopped) marks line inputs rows ops_then
     published_kept upto ops_then h later done is_ops =
         rw is_ops (kept_published (seen_as v base marks published line workers stopped) marks line inputs rows ops upto h later done)
 
@@ -190,7 +190,7 @@ module _ (v : relay.Relay) (base : List Entry) (marks : Marks) (published : ℕ)
         output_is WrongRefs out = absurd (none-some rows_left out)
         output_is Lacks out = absurd (none-some rows_left out)
 
-    pub committed_kept : (gno : ℕ) (done : Bool) (marks_then : Marks) (line_then : Line) (inputs_then : List (List Entry)) (rows_then : Database) (ops_then : List Op) → Keeps → gno ≡ marks.low + 1 → done ≡ true → TakesTurn gno line rows ops (Ok done) line_then rows_then ops_then → marks_then ≡ all_up_to gno → inputs_then ≡ drop 1 inputs → IsKept (seen_as v base marks_then published line_then workers stopped) marks_then line_then inputs_then rows_then ops_then
+    pub committed_kept : (gno : ℕ) (done : Bool) (marks_then : Marks) (line_then : Line) (inputs_then : List (List Entry)) (rows_then : Database) (ops_then : List Op) → Keeps → gno ≡ marks.low + 1 → done ≡ true → TakesTurn gno line rows ops (Ok done) line_then rows_then ops_then → marks_then ≡ all_up_to gno → inputs_then ≡ drop 1 inputs → StandAtLowWater (seen_as v base marks_then published line_then workers stopped) marks_then line_then inputs_then rows_then ops_then
     committed_kept gno false marks_then line_then inputs_then rows_then ops_then h number is put is_marks is_inputs = absurd (true≢false (sym is))
     committed_kept gno true marks_then line_then inputs_then rows_then ops_then h number is put is_marks is_inputs =
         let next = turn_taken put.left put.output in

@@ -61,10 +61,10 @@ pub record IsLogKept (ts : List Table) (base : List Entry) (accepted : List Reco
 abbrev pub input_in : Option Job → Option (List Entry)
 input_in job = option_map (λ (j : Job). j.input) job
 
--- The store contains the rows after the committed records, and the operations are the commits that
--- are not published. The rows that are kept are those of the jobs between dispatch and commit, in order, and each
+-- The parts of a replica stand at its low-water mark: the store contains the rows after the committed records, and the
+-- operations are the commits that are not published. The rows that are kept are those of the jobs between dispatch and commit, in order, and each
 -- result that was taken is of its record's job.
-pub record IsKept (r : Replica) (marks : Marks) (line : Line) (inputs : List (List Entry)) (rows : Database) (ops : List Op) : Type 0 where
+pub record StandAtLowWater (r : Replica) (marks : Marks) (line : Line) (inputs : List (List Entry)) (rows : Database) (ops : List Op) : Type 0 where
   pub set_up : IsSetUp r.workers
   pub log : IsLogKept r.tables r.base r.accepted r.committed r.published rows ops
   pub marks_are : marks ≡ all_up_to r.committed

@@ -12,7 +12,7 @@
 //! ids.
 #![tactic(auto)]
 
-ghost use Rattle.std.specs.Prelude.{◌≡◌, ◌≤◌, ◌<◌, ◌⊎◌, ◌↔◌, IsTrue, IfOk, IfSome, OnOk, OnErr, IfErr, IsErrOf, IsSome, None, Err, Ok, is_some, true, ◌+◌, if◌then◌else◌};
+ghost use Rattle.std.specs.Prelude.{◌≡◌, ◌≤◌, ◌<◌, ◌⊎◌, ◌↔◌, IsTrue, IfOk, IfSome, OnOk, OnErr, IfErr, IsErrOf, IsSome, None, Err, Ok, is_some, true, false, ◌+◌, if◌then◌else◌};
 ghost use Rattle.std.specs.Option.{option_map_or};
 ghost use Rattle.store_trait.specs.Batch.{all_rows};
 ghost use Rattle.store_trait.specs.Fits.{Fits};
@@ -61,7 +61,7 @@ pub struct ReplicaCore<S: RowStore> {
 
 impl<S: RowStore> Model for ReplicaCore<S> {
     ghost use Rattle.replica_core.specs.Replica.{Replica};
-    ghost use Rattle.replica_core.specs.Core.{seen_as, IsKept};
+    ghost use Rattle.replica_core.specs.Core.{seen_as, StandAtLowWater};
 
     ghost Value = { Replica };
 
@@ -69,7 +69,7 @@ impl<S: RowStore> Model for ReplicaCore<S> {
         seen_as c.relay c.base c.scheduler c.published c.turns c.workers c.stopped };
 
     ghost invariant = { λ c.
-        IsKept (seen_as c.relay c.base c.scheduler c.published c.turns c.workers c.stopped)
+        StandAtLowWater (seen_as c.relay c.base c.scheduler c.published c.turns c.workers c.stopped)
         c.scheduler c.turns c.inputs.items (S.contents c.store) c.waiting.items };
 }
 
@@ -134,6 +134,7 @@ impl<S: RowStore> ReplicaCore<S> {
         ensures memory { IsErrOf result ReplicaFault.Memory → (self.old.stopped ≡ None) × IsSome (next_job self.old) }
         ensures ok { IfOk result (λ job.
             self.new ≡ (if is_some job then dispatched_next self.old else self.old)) }
+        ensures none { result ≡ Ok None → is_eligible self.old ≡ false }
         ensures err { OnErr result (self.new ≡ self.old) }
     {
         refuse_stopped(self.stopped)?;
@@ -160,6 +161,7 @@ impl<S: RowStore> ReplicaCore<S> {
         ensures ok { OnOk result (self.new ≡ with_finished self.old done.job.gno) }
         ensures back { IfErr result (λ e. e.1 ≡ done) }
         ensures err { IfErr result (λ e. self.new ≡ left_by_fault self.old e.0) }
+        ensures sound { IsSound self.old }
     {
         if let Err(fault) = self.judge(&done) {
             return Err((fault, done));
@@ -268,7 +270,8 @@ impl<S: RowStore> ReplicaCore<S> {
 
     /// The number of the record that could not be applied, once the replica is stopped.
     pub fn stopped(&self) -> Option<u64>
-        ensures { result ≡ self.now.stopped }
+        ensures value { result ≡ self.now.stopped }
+        ensures sound { IsSound self.now }
     {
         self.stopped
     }

@@ -13,7 +13,7 @@ use Rattle.published.specs.History.{IsCommit, CommitsFrom}
 use Rattle.record_codec.specs.declared.records.Record.{Record}
 use Rattle.replica_core.specs.Replica.{commits_from, commits, operations}
 use Rattle.record_codec.specs.Log.{after}
-use Rattle.replica_core.specs.Laws.{FirstCommits, OneCommitEach}
+use Rattle.replica_core.proofs.Commits.{length-commits_from, take-commits_from}
 
 -- ---- lists
 
@@ -88,9 +88,9 @@ number_at n zero (x ∷ ops) op h is = let same : x ≡ op = cc (is) in subst (�
 number_at n (suc k) (x ∷ ops) op h is = subst (IsCommit op) (omega arith) (number_at (n + 1) k ops op h.1 is)
 
 -- records that apply have a commit each
-pub each_commit : OneCommitEach → (ts : List Table) (base : Database) (accepted : List Record) (n : ℕ) (rows : Database) → n ≤ length accepted → after ts base (take n accepted) ≡ Some rows
+pub each_commit : (ts : List Table) (base : Database) (accepted : List Record) (n : ℕ) (rows : Database) → n ≤ length accepted → after ts base (take n accepted) ≡ Some rows
     → length (commits ts base accepted n) ≡ n
-each_commit each ts base accepted n rows within is = each ts base 1 (take n accepted) rows is ∙ length-take-le n accepted within
+each_commit ts base accepted n rows within is = length-commits_from ts base 1 (take n accepted) rows is ∙ length-take-le n accepted within
 
 -- ---- operations
 
@@ -101,16 +101,16 @@ length_operations ts base accepted n within =
     omega arith
 
 -- those of fewer records are the first of them
-pub first_operations : FirstCommits → (ts : List Table) (base : List Entry) (accepted : List Record) (n m : ℕ) → n ≤ m → operations ts base accepted n ≡ take (n + 1) (operations ts base accepted m)
-first_operations first ts base accepted n m le =
+pub first_operations : (ts : List Table) (base : List Entry) (accepted : List Record) (n m : ℕ) → n ≤ m → operations ts base accepted n ≡ take (n + 1) (operations ts base accepted m)
+first_operations ts base accepted n m le =
     let same : commits ts (loaded base) accepted n ≡ take n (commits ts (loaded base) accepted m) =
-    ap (commits_from ts (loaded base) 1) (sym (take-take n m accepted le)) ∙ sym (first ts (loaded base) 1 n (take m accepted)) in
+    ap (commits_from ts (loaded base) 1) (sym (take-take n m accepted le)) ∙ sym (take-commits_from ts (loaded base) 1 n (take m accepted)) in
     let number : suc n ≡ n + 1 = omega arith in
     ap (λ l. Load base ∷ l) same ∙ ap (λ k. take k (operations ts base accepted m)) number
 
-pub prefix_operations : FirstCommits → (ts : List Table) (base : List Entry) (accepted : List Record) (n m : ℕ) → n ≤ m → IsPrefix (operations ts base accepted n) (operations ts base accepted m)
-prefix_operations first ts base accepted n m le =
-    subst (λ l. IsPrefix l (operations ts base accepted m)) (sym (first_operations first ts base accepted n m le)) (prefix_take (n + 1) (operations ts base accepted m))
+pub prefix_operations : (ts : List Table) (base : List Entry) (accepted : List Record) (n m : ℕ) → n ≤ m → IsPrefix (operations ts base accepted n) (operations ts base accepted m)
+prefix_operations ts base accepted n m le =
+    subst (λ l. IsPrefix l (operations ts base accepted m)) (sym (first_operations ts base accepted n m le)) (prefix_take (n + 1) (operations ts base accepted m))
 
 -- more accepted records leave them
 pub same_operations : (ts : List Table) (base : List Entry) (accepted more : List Record) (n : ℕ) → n ≤ length accepted → operations ts base (accepted ++ more) n ≡ operations ts base accepted n

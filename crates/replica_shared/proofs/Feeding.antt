@@ -14,7 +14,6 @@ use Rattle.relay.specs.declared.ReplicaFault.{ReplicaFault}
 use Rattle.relay.specs.declared.ReplicaFault.TheVariants as faults
 use Rattle.relay.specs.declared.Received.{Received}
 use Rattle.replica_core.specs.Replica.{Replica}
-use Rattle.replica_core.specs.Sound.{IsSound}
 use Rattle.replica_core.specs.Calls.{new_over}
 use Rattle.replica_core.specs.Wire.{Wire, HandsAll, Gathers, IsCodecCause, Takes, piece_taken}
 use Rattle.replica_core.specs.declared.wire.WireFault.{WireFault}
@@ -23,7 +22,6 @@ use Rattle.replica_core.proofs.Handing.{Grows, takes_grow, hands_on_grow, takes_
 use Rattle.replica_shared.specs.Together.{State, IsWhole, words_of}
 use Rattle.replica_shared.specs.Feeding.{IsNamed, left_by_take, SettlesOrLacks, told_behind, TakesAndSettles, HandsAs, HandsAndSettles, Feeds}
 use Rattle.replica_shared.proofs.Commits.{same_operations}
-use Rattle.replica_shared.proofs.Standing.{committed_within}
 use Rattle.replica_shared.proofs.Whole.{unsettled}
 
 -- ---- more is accepted, or nothing changed
@@ -88,8 +86,8 @@ words_rise r then stored g words =
 
 module _ (tables : List Table) (source : List ℕ) (base : List Entry) where
   -- more records are accepted, and the words are stored
-  pub whole_grown : (s : State) (r : Replica) (appended : ℕ) (before after : List Counts) → IsSound s.core → Grows s.core r → latest after ≡ words_of r → IsWhole tables source base s appended before → IsWhole tables source base (record s { core = r; behind = true }) appended after
-  whole_grown s r appended before after sound g words h =
+  pub whole_grown : (s : State) (r : Replica) (appended : ℕ) (before after : List Counts) → Grows s.core r → latest after ≡ words_of r → IsWhole tables source base s appended before → IsWhole tables source base (record s { core = r; behind = true }) appended after
+  whole_grown s r appended before after g words h =
       let more : Replica = record s.core { accepted = s.core.accepted ++ g.more } in
       let t = h.stand in
       let p = s.publication in
@@ -98,8 +96,9 @@ module _ (tables : List Table) (source : List ℕ) (base : List Entry) where
           tables_are = t.tables_are;
           source_is = t.source_is;
           base_is = t.base_is;
+          within = (let few = t.within in omega (arith, length-append s.core.accepted g.more));
           history = t.history;
-          begins = subst (IsPrefix (p.published ++ p.waiting)) (sym (same_operations s.core.tables s.core.base s.core.accepted g.more s.core.committed (committed_within s.core sound))) t.begins;
+          begins = subst (IsPrefix (p.published ++ p.waiting)) (sym (same_operations s.core.tables s.core.base s.core.accepted g.more s.core.committed t.within)) t.begins;
           shown = t.shown;
           words = words ∙ ap words_of g.is;
           number = t.number;

@@ -42,8 +42,8 @@ settles_then s t u a b = record {
 }
 
 -- whether something is left to do does not count
-pub settles_from : (s : State) (behind : Bool) (t : State) → Settles (record s { behind = behind }) t → Settles s t
-settles_from s behind t h = record {
+settles_beside : (s t : State) (before after : Bool) → Settles (record s { behind = before }) t → Settles s (record t { behind = after })
+settles_beside s t before after h = record {
   later = record { tables = h.later.tables; source = h.later.source; base = h.later.base; accepted = h.later.accepted; committed = h.later.committed; published = h.later.published; closed = h.later.closed };
   stopped = h.stopped;
   kept = h.kept;
@@ -51,14 +51,11 @@ settles_from s behind t h = record {
   told = h.told;
 }
 
+pub settles_from : (s : State) (behind : Bool) (t : State) → Settles (record s { behind = behind }) t → Settles s t
+settles_from s behind t h = settles_beside s t behind t.behind h
+
 pub settles_to : (s t : State) (behind : Bool) → Settles s t → Settles s (record t { behind = behind })
-settles_to s t behind h = record {
-  later = record { tables = h.later.tables; source = h.later.source; base = h.later.base; accepted = h.later.accepted; committed = h.later.committed; published = h.later.published; closed = h.later.closed };
-  stopped = h.stopped;
-  kept = h.kept;
-  claimed = h.claimed;
-  told = h.told;
-}
+settles_to s t behind h = settles_beside s t s.behind behind h
 
 pub dispatching_settles : (s t : State) → DispatchesMore s t → Settles s t
 dispatching_settles s t h = record {

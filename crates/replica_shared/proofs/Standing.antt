@@ -6,101 +6,76 @@ use Rattle.schema.specs.declared.Table.{Table}
 use Rattle.store_trait.specs.Batch.{Entry}
 use Rattle.store_trait.specs.Operation.{loaded}
 use Rattle.store_trait.specs.declared.Op.{Op}
-use Rattle.record_codec.specs.declared.records.Record.{Record}
 use Rattle.published.specs.declared.counts.Counts.{Counts}
 use Rattle.published.specs.History.{IsCommit, commits_in}
 use Rattle.published.specs.Publication.{Publishing}
 use Rattle.published.specs.Status.{latest}
 use Rattle.published.proofs.Histories.{history_length}
 use Rattle.replica_core.specs.Replica.{Replica, operations, commits, waiting}
-use Rattle.replica_core.specs.Calls.{new_over, left_by_receive, committed_next}
-use Rattle.replica_core.specs.Laws.{FirstCommits, OneCommitEach}
+use Rattle.replica_core.specs.Calls.{new_over, committed_next}
 use Rattle.replica_core.specs.Sound.{IsSound}
-use Rattle.relay.specs.declared.Received.{Received}
-use Rattle.relay.specs.declared.Received.TheVariants.{Accepted, Skipped}
 use Rattle.replica_shared.specs.Together.{State, StandTogether, IsAppended, words_of}
-use Rattle.replica_shared.proofs.Commits.{prefix_joins, prefix_length, prefix_whole, prefix_is, prefix_next, prefix_operations, first_operations, same_operations, length_operations, numbered, number_at, slice_get-drop, looked_up, each_commit}
-
--- a record is accepted or skipped, and the words are stored
-pub stand_received : (tables : List Table) (source : List ℕ) (base : List Entry) (r : Replica) (p : Publishing) (appended : ℕ) (before after : List Counts) (new : Record) (answer : Received) → r.committed ≤ length r.accepted
-    → StandTogether tables source base r p appended before → latest after ≡ words_of (left_by_receive r new answer) → StandTogether tables source base (left_by_receive r new answer) p appended after
-stand_received tables source base r p appended before after new Accepted within t words = record {
-  tables_are = t.tables_are;
-  source_is = t.source_is;
-  base_is = t.base_is;
-  history = t.history;
-  begins = subst (IsPrefix (p.published ++ p.waiting)) (sym (same_operations r.tables r.base r.accepted (new ∷ []) r.committed within)) t.begins;
-  shown = t.shown;
-  words = words;
-  number = t.number;
-}
-stand_received tables source base r p appended before after new Skipped within t words = record {
-  tables_are = t.tables_are;
-  source_is = t.source_is;
-  base_is = t.base_is;
-  history = t.history;
-  begins = t.begins;
-  shown = t.shown;
-  words = words;
-  number = t.number;
-}
+use Rattle.replica_shared.proofs.Commits.{prefix_joins, prefix_length, prefix_whole, prefix_is, prefix_next, prefix_operations, first_operations, length_operations, numbered, number_at, slice_get-drop, looked_up, each_commit}
 
 -- what is left where a number was answered
 pub left_committed : (r next : Replica) (gno : Option ℕ) → true ≡ is_some gno → next ≡ (if is_some gno then committed_next r else r) → next ≡ committed_next r
 left_committed r next gno some is = is ∙ ap (λ b. if b then committed_next r else r) (sym some)
 
 -- one more record is committed, and the words are stored
-pub stand_committed : FirstCommits → (tables : List Table) (source : List ℕ) (base : List Entry) (r : Replica) (p : Publishing) (appended : ℕ) (before after : List Counts)
-    → StandTogether tables source base r p appended before → latest after ≡ words_of (committed_next r) → StandTogether tables source base (committed_next r) p appended after
-stand_committed first tables source base r p appended before after t words = record {
+pub stand_committed : (tables : List Table) (source : List ℕ) (base : List Entry) (r : Replica) (p : Publishing) (appended : ℕ) (before after : List Counts)
+    → IsSound (committed_next r) → StandTogether tables source base r p appended before → latest after ≡ words_of (committed_next r) → StandTogether tables source base (committed_next r) p appended after
+stand_committed tables source base r p appended before after sound t words = record {
   tables_are = t.tables_are;
   source_is = t.source_is;
   base_is = t.base_is;
+  within = (let all = sound.dispatched in omega arith);
   history = t.history;
-  begins = prefix_joins (p.published ++ p.waiting) (operations r.tables r.base r.accepted r.committed) (operations r.tables r.base r.accepted (r.committed + 1)) t.begins (prefix_operations first r.tables r.base r.accepted r.committed (r.committed + 1) (omega arith));
+  begins = prefix_joins (p.published ++ p.waiting) (operations r.tables r.base r.accepted r.committed) (operations r.tables r.base r.accepted (r.committed + 1)) t.begins (prefix_operations r.tables r.base r.accepted r.committed (r.committed + 1) (omega arith));
   shown = t.shown;
   words = words;
   number = t.number;
 }
 
 -- no more is appended than committed
-pub appended_within : (tables : List Table) (source : List ℕ) (base : List Entry) (r : Replica) (p : Publishing) (appended : ℕ) (stored : List Counts) → r.committed ≤ length r.accepted → StandTogether tables source base r p appended stored → appended ≤ r.committed
-appended_within tables source base r p appended stored within t =
+pub appended_within : (tables : List Table) (source : List ℕ) (base : List Entry) (r : Replica) (p : Publishing) (appended : ℕ) (stored : List Counts) → StandTogether tables source base r p appended stored → appended ≤ r.committed
+appended_within tables source base r p appended stored t =
     let sizes = prefix_length (p.published ++ p.waiting) (operations r.tables r.base r.accepted r.committed) t.begins in
-    let all = length_operations r.tables r.base r.accepted r.committed within in
+    let all = length_operations r.tables r.base r.accepted r.committed t.within in
     let some = history_length p.published t.history in
     let number = t.number in
     omega (arith, length-append p.published p.waiting)
 
--- no more is committed than accepted
-pub committed_within : (r : Replica) → IsSound r → r.committed ≤ length r.accepted
-committed_within r sound = let d = sound.dispatched in omega arith
-
 -- where as much is appended as committed, all is
-pub all_appended : (tables : List Table) (source : List ℕ) (base : List Entry) (s : State) (appended : ℕ) (stored : List Counts) → IsSound s.core → s.core.committed ≤ appended → StandTogether tables source base s.core s.publication appended stored → IsAppended s
-all_appended tables source base s appended stored sound enough t =
+pub all_appended : (tables : List Table) (source : List ℕ) (base : List Entry) (s : State) (appended : ℕ) (stored : List Counts) → s.core.committed ≤ appended → StandTogether tables source base s.core s.publication appended stored → IsAppended s
+all_appended tables source base s appended stored enough t =
     let r = s.core in
     let p = s.publication in
-    let within = committed_within r sound in
-    let sizes = length_operations r.tables r.base r.accepted r.committed within in
+    let sizes = length_operations r.tables r.base r.accepted r.committed t.within in
     let some = history_length p.published t.history in
     let number = t.number in
-    let least = appended_within tables source base r p appended stored within t in
+    let least = appended_within tables source base r p appended stored t in
     record {
       all = prefix_whole (p.published ++ p.waiting) (operations r.tables r.base r.accepted r.committed) t.begins (omega (arith, length-append p.published p.waiting));
       number = omega arith;
     }
 
--- the next of the waiting operations
-pub next_operation : OneCommitEach → (tables : List Table) (source : List ℕ) (base : List Entry) (r : Replica) (p : Publishing) (appended : ℕ) (stored : List Counts) (pending : List Op) (op : Op) → IsSound r → appended < r.committed → StandTogether tables source base r p appended stored
-    → pending ≡ waiting r → op ≡ get_or pending (appended - r.published) op → slice_get (commits r.tables (loaded r.base) r.accepted r.committed) appended ≡ Some op
-next_operation each tables source base r p appended stored pending op sound more t are is =
+-- where less is appended than committed, the next of the waiting operations is there
+pub next_within : (tables : List Table) (source : List ℕ) (base : List Entry) (r : Replica) (p : Publishing) (appended : ℕ) (stored : List Counts) → IsSound r → appended < r.committed → StandTogether tables source base r p appended stored → appended - r.published < length (waiting r)
+next_within tables source base r p appended stored sound more t =
     let all = commits r.tables (loaded r.base) r.accepted r.committed in
-    let size = each_commit each r.tables (loaded r.base) r.accepted r.committed sound.rows (committed_within r sound) sound.rows_are in
+    let size = each_commit r.tables (loaded r.base) r.accepted r.committed sound.rows t.within sound.rows_are in
+    let shown = t.shown in
+    let number = t.number in
+    omega (arith, length-drop r.published all, size)
+
+pub next_operation : (tables : List Table) (source : List ℕ) (base : List Entry) (r : Replica) (p : Publishing) (appended : ℕ) (stored : List Counts) (pending : List Op) (op : Op) → IsSound r → appended < r.committed → StandTogether tables source base r p appended stored
+    → pending ≡ waiting r → op ≡ get_or pending (appended - r.published) op → slice_get (commits r.tables (loaded r.base) r.accepted r.committed) appended ≡ Some op
+next_operation tables source base r p appended stored pending op sound more t are is =
+    let all = commits r.tables (loaded r.base) r.accepted r.committed in
     let shown = t.shown in
     let number = t.number in
     let place : r.published + (appended - r.published) ≡ appended = omega arith in
-    let within : appended - r.published < length (drop r.published all) = omega (arith, length-drop r.published all, size) in
+    let within : appended - r.published < length (drop r.published all) = next_within tables source base r p appended stored sound more t in
     let at : op ≡ get_or (drop r.published all) (appended - r.published) op = is ∙ ap (λ l. get_or l (appended - r.published) op) are in
     sym (slice_get-drop r.published (appended - r.published) all ∙ ap (slice_get all) place) ∙ looked_up (drop r.published all) (appended - r.published) op within at
 
@@ -124,6 +99,7 @@ stand_appended tables source base r p appended stored op t is =
       tables_are = t.tables_are;
       source_is = t.source_is;
       base_is = t.base_is;
+      within = t.within;
       history = t.history;
       begins = subst (λ l. IsPrefix l all) (append_assoc p.published p.waiting (op ∷ [])) (prefix_next (p.published ++ p.waiting) all op t.begins at);
       shown = t.shown;
@@ -136,21 +112,21 @@ stand_appended tables source base r p appended stored op t is =
 pub front : (xs ys zs : List Op) → IsPrefix (xs ++ ys) zs → IsPrefix xs zs
 front xs ys zs p = (ys ++ p.0, sym (append_assoc xs ys p.0) ∙ p.1)
 
-pub published_within : (tables : List Table) (source : List ℕ) (base : List Entry) (r : Replica) (p : Publishing) (appended : ℕ) (stored : List Counts) → IsSound r → StandTogether tables source base r p appended stored → commits_in p.published ≤ r.committed
-published_within tables source base r p appended stored sound t =
-    let all = appended_within tables source base r p appended stored (committed_within r sound) t in
+pub published_within : (tables : List Table) (source : List ℕ) (base : List Entry) (r : Replica) (p : Publishing) (appended : ℕ) (stored : List Counts) → StandTogether tables source base r p appended stored → commits_in p.published ≤ r.committed
+published_within tables source base r p appended stored t =
+    let all = appended_within tables source base r p appended stored t in
     let number = t.number in
     omega arith
 
 -- what is published are the operations of the first records
-pub published_is : FirstCommits → (tables : List Table) (source : List ℕ) (base : List Entry) (r : Replica) (p : Publishing) (appended : ℕ) (stored : List Counts) → IsSound r → StandTogether tables source base r p appended stored
+pub published_is : (tables : List Table) (source : List ℕ) (base : List Entry) (r : Replica) (p : Publishing) (appended : ℕ) (stored : List Counts) → StandTogether tables source base r p appended stored
     → p.published ≡ operations r.tables r.base r.accepted (commits_in p.published)
-published_is first tables source base r p appended stored sound t =
+published_is tables source base r p appended stored t =
     let all = operations r.tables r.base r.accepted r.committed in
     let size = history_length p.published t.history in
     prefix_is p.published all (front p.published p.waiting all t.begins)
     ∙ ap (λ n. take n all) size
-    ∙ sym (first_operations first r.tables r.base r.accepted (commits_in p.published) r.committed (published_within tables source base r p appended stored sound t))
+    ∙ sym (first_operations r.tables r.base r.accepted (commits_in p.published) r.committed (published_within tables source base r p appended stored t))
 
 -- a new replica is new over what it shows
 pub new_is_new : (r : Replica) (ts : List Table) (source : List ℕ) (base : List Entry) (workers : ℕ) → r ≡ new_over ts source base workers → r ≡ new_over r.tables r.source r.base r.workers

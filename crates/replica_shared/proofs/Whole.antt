@@ -1,6 +1,6 @@
 -- What is true under the lock, as each step leaves its parts.
-use Rattle.std.proofs.Common.{◌≡◌, ◌∙◌, sym, ap, subst, refl, ℕ, ◌+◌, ◌-◌, ◌<◌, ◌≤◌, ◌⊎◌, ◌^◌, inl, inr, Bool, true, false, true≢false, List, [], ◌∷◌, ◌++◌, length, drop, Option, Some, None, is_some, Ok, Err, IsErrOf, arith, slice_get, get_or, if◌then◌else◌}
-use Rattle.std.specs.Option.{option_map_or, option_map, option_and_then}
+use Rattle.std.proofs.Common.{◌≡◌, ◌∙◌, sym, ap, subst, refl, ℕ, ◌+◌, ◌<◌, ◌≤◌, ◌⊎◌, ◌^◌, inl, inr, Bool, true, false, true≢false, List, [], ◌∷◌, ◌++◌, length, drop, Option, Some, None, is_some, Ok, Err, IsErrOf, arith, get_or, if◌then◌else◌}
+use Rattle.std.specs.Option.{option_map_or}
 use Rattle.std.proofs.lemmas.Option.{none-some}
 use Rattle.std.proofs.lemmas.List.{length_push}
 use Rattle.schema.specs.declared.Table.{Table}
@@ -8,24 +8,24 @@ use Rattle.store_trait.specs.Batch.{Entry}
 use Rattle.executor.specs.declared.Job.{Job}
 use Rattle.published.specs.declared.counts.Counts.{Counts}
 use Rattle.relay.specs.declared.ReplicaFault.TheVariants as faults
-use Rattle.replica_core.specs.Replica.{Replica, dispatched, job_of, job_over}
+use Rattle.replica_core.specs.Replica.{Replica, dispatched, job_of}
 use Rattle.replica_core.specs.Calls.{new_over, next_commit, next_job, is_eligible, unless_stopped, committed_next, dispatched_next}
-use Rattle.replica_core.specs.Laws.{JobIsOfItsRecord}
 use Rattle.replica_core.specs.Sound.{IsSound}
-use Rattle.replica_core.proofs.Steps.{few_accepted, eligible_next}
+use Rattle.replica_core.proofs.Jobs.{job_is_of_its_record}
+use Rattle.replica_core.proofs.Steps.{few_accepted}
 use Rattle.replica_shared.specs.declared.news.Outlook.{Outlook}
 use Rattle.replica_shared.specs.Outlet.{Queued, AreInLine, IsLastOut, pushed_aside, empty_outlet}
-use Rattle.replica_shared.specs.Together.{State, AreKept, IsWhole, IsSettled, IsBehindOrSettled}
+use Rattle.replica_shared.specs.Together.{State, AreKept, IsWhole, IsCaughtUp, IsBehindOrCaughtUp}
 use Rattle.replica_shared.proofs.Places.{kept_later, dispatched_more}
 
 -- ---- what is left to do
 
 -- where the state says that something is, nothing is promised
-pub unsettled : (s : State) → s.behind ≡ true → IsBehindOrSettled s
+pub unsettled : (s : State) → s.behind ≡ true → IsBehindOrCaughtUp s
 unsettled s is running not = absurd (true≢false (sym is ∙ not))
 
 -- what a new replica has to do
-pub new_settled : (s : State) (ts : List Table) (source : List ℕ) (b : List Entry) (workers : ℕ) → s.core ≡ new_over ts source b workers → s.outlet ≡ empty_outlet → IsSettled s
+pub new_settled : (s : State) (ts : List Table) (source : List ℕ) (b : List Entry) (workers : ℕ) → s.core ≡ new_over ts source b workers → s.outlet ≡ empty_outlet → IsCaughtUp s
 new_settled s ts source b workers core outlet = record {
   committed = subst (λ (r : Replica). next_commit r ≡ None) (sym core) refl;
   published = subst (λ (r : Replica). r.published ≡ r.committed) (sym core) refl;
@@ -83,22 +83,22 @@ pub commit_stays : (r : Replica) → next_commit (dispatched_next r) ≡ next_co
 commit_stays r = ap (λ (b : Bool). if b then Some (r.committed + 1) else None) (first_stays r.under_way)
 
 -- the job that is dispatched may be pushed
-pub number_of_next : JobIsOfItsRecord → (r : Replica) (job : Job) → next_job r ≡ Some job → job.gno ≡ dispatched r + 1
-number_of_next law r job is = of_eligible (is_eligible r) is
+pub number_of_next : (r : Replica) (job : Job) → next_job r ≡ Some job → job.gno ≡ dispatched r + 1
+number_of_next r job is = of_eligible (is_eligible r) is
   where
     of_eligible : (b : Bool) → (if b then job_of r (dispatched r + 1) else None) ≡ Some job → job.gno ≡ dispatched r + 1
-    of_eligible true made = (law r (dispatched r + 1) job made).gno
+    of_eligible true made = (job_is_of_its_record r (dispatched r + 1) job made).gno
     of_eligible false made = absurd (none-some job made)
 
-pub next_above : JobIsOfItsRecord → (r : Replica) (q : Queued) (job : Job) → next_job r ≡ Some job → AreInLine (dispatched r) q → q.aside ≡ None → q.pushed < job.gno
-next_above law r q job is line free =
-    let number = number_of_next law r job is in
+pub next_above : (r : Replica) (q : Queued) (job : Job) → next_job r ≡ Some job → AreInLine (dispatched r) q → q.aside ≡ None → q.pushed < job.gno
+next_above r q job is line free =
+    let number = number_of_next r job is in
     let all : q.pushed ≡ dispatched r = subst (IsLastOut (dispatched r) q.pushed) free line in
     omega arith
 
-pub next_in_line : JobIsOfItsRecord → (r : Replica) (q : Queued) (job : Job) → next_job r ≡ Some job → AreInLine (dispatched r) q → q.aside ≡ None → AreInLine (dispatched (dispatched_next r)) (record q { aside = Some job })
-next_in_line law r q job is line free =
-    let number = number_of_next law r job is in
+pub next_in_line : (r : Replica) (q : Queued) (job : Job) → next_job r ≡ Some job → AreInLine (dispatched r) q → q.aside ≡ None → AreInLine (dispatched (dispatched_next r)) (record q { aside = Some job })
+next_in_line r q job is line free =
+    let number = number_of_next r job is in
     let more = dispatched_next_is r in
     let all : q.pushed ≡ dispatched r = subst (IsLastOut (dispatched r) q.pushed) free line in
     (omega arith, omega arith)
@@ -113,33 +113,18 @@ told_next r told (inr is) = of_stop r.stopped (next_job r) is
     of_stop (Some at) next is = cc
 
 -- one more is dispatched, and its job waits for its push
-pub whole_dispatched : JobIsOfItsRecord → (tables : List Table) (source : List ℕ) (base : List Entry) (s : State) (r : Replica) (q : Queued) (told : Option Job) (job : Job) (appended : ℕ) (stored : List Counts) → s.behind ≡ true → s.outlet.aside ≡ None → next_job s.core ≡ told → told ≡ Some job
+pub whole_dispatched : (tables : List Table) (source : List ℕ) (base : List Entry) (s : State) (r : Replica) (q : Queued) (told : Option Job) (job : Job) (appended : ℕ) (stored : List Counts) → s.behind ≡ true → s.outlet.aside ≡ None → next_job s.core ≡ told → told ≡ Some job
     → r ≡ (if is_some told then dispatched_next s.core else s.core) → q ≡ record s.outlet { aside = Some job } → IsWhole tables source base s appended stored → IsWhole tables source base (record s { core = r; outlet = q }) appended stored
-whole_dispatched law tables source base s r q told job appended stored behind free is some left put h =
+whole_dispatched tables source base s r q told job appended stored behind free is some left put h =
     let next : r ≡ dispatched_next s.core = left ∙ ap (λ (o : Option Job). if is_some o then dispatched_next s.core else s.core) some in
     let t = h.stand in
     rw (next, put) record {
-      stand = record { tables_are = t.tables_are; source_is = t.source_is; base_is = t.base_is; history = t.history; begins = t.begins; shown = t.shown; words = t.words; number = t.number };
+      stand = record { tables_are = t.tables_are; source_is = t.source_is; base_is = t.base_is; within = t.within; history = t.history; begins = t.begins; shown = t.shown; words = t.words; number = t.number };
       kept = kept_later (dispatched s.core) (dispatched (dispatched_next s.core)) s.kept (dispatched_more s.core) h.kept;
-      line = next_in_line law s.core s.outlet job (is ∙ some) h.line free;
+      line = next_in_line s.core s.outlet job (is ∙ some) h.line free;
       claims = h.claims;
       rest = unsettled (record s { core = dispatched_next s.core; outlet = record s.outlet { aside = Some job } }) behind;
     }
-
--- nothing was dispatched where there was no job
-pub none_eligible : (r : Replica) → IsSound r → next_job r ≡ None → is_eligible r ≡ false
-none_eligible r sound is = of_eligible (is_eligible r) refl
-  where
-    some_job : is_eligible r ≡ true → (job : Job) × (job_of r (dispatched r + 1) ≡ Some job)
-    some_job may =
-        let next = eligible_next r may in
-        let place : dispatched r + 1 - 1 ≡ dispatched r = omega arith in
-        let got : slice_get r.accepted (dispatched r + 1 - 1) ≡ Some next.0 = ap (slice_get r.accepted) place ∙ next.1.got in
-        (job_over r.tables (dispatched r + 1) next.0 sound.rows, (λ i. option_and_then (λ rec. option_map (job_over r.tables (dispatched r + 1) rec) (sound.rows_are i)) (got i)))
-
-    of_eligible : (b : Bool) → is_eligible r ≡ b → is_eligible r ≡ false
-    of_eligible false at = at
-    of_eligible true at = absurd (none-some (some_job at).0 (sym is ∙ ap (λ (b : Bool). if b then job_of r (dispatched r + 1) else None) at ∙ (some_job at).1))
 
 -- the job that waited is pushed
 pub pushed_in_line : (n : ℕ) (q : Queued) → AreInLine n q → AreInLine n (pushed_aside q)

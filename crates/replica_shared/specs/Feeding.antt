@@ -10,7 +10,7 @@ use Rattle.replica_core.specs.Replica.{Replica}
 use Rattle.replica_core.specs.Wire.{Wire, Hands, Gathers, Takes, piece_taken}
 use Rattle.replica_core.specs.declared.wire.WireFault.{WireFault}
 use Rattle.replica_core.specs.declared.wire.WireFault.TheVariants as wire
-use Rattle.replica_shared.specs.Together.{State, Settles, IsSettled}
+use Rattle.replica_shared.specs.Together.{State, Settles, IsCaughtUp}
 
 -- a core of this replica
 abbrev pub IsNamed : List Table → List ℕ → List Entry → Replica → Type 0
@@ -22,7 +22,7 @@ left_by_take s core = record s { core = core; behind = s.behind || nat_lt (lengt
 
 -- all is done that can be, or memory ran out
 abbrev pub SettlesOrLacks : State → Result (Unit {0}) ReplicaFault → State → Type 0
-SettlesOrLacks s result then = Settles s then × MatchResult result (λ done. IsSettled then) (λ fault. (fault ≡ faults.Memory) × (then.behind ≡ true))
+SettlesOrLacks s result then = Settles s then × MatchResult result (λ done. IsCaughtUp then) (λ fault. (fault ≡ faults.Memory) × (then.behind ≡ true))
 
 -- What is told of a piece: what the wire's `take` answers, and, where that is Ok, the fault of what was to be done behind it. That
 -- is told as one of the piece's records, since the piece is taken.

@@ -64,6 +64,8 @@ pub record StandTogether (tables : List Table) (source : List ℕ) (base : List 
   pub tables_are : r.tables ≡ tables
   pub source_is : r.source ≡ source
   pub base_is : r.base ≡ base
+  -- no more are committed than accepted
+  pub within : r.committed ≤ length r.accepted
   pub history : IsHistory p.published
   -- the operations that are published, and behind them those that are appended, are the first of those of the committed records
   pub begins : IsPrefix (p.published ++ p.waiting) (operations r.tables r.base r.accepted r.committed)
@@ -135,15 +137,15 @@ pub record IsLater (old new : State) : Type 0 where
   pub closed : new.closed ≡ old.closed
 
 -- all is committed that can be, published and dispatched
-pub record IsSettled (s : State) : Type 0 where
+pub record IsCaughtUp (s : State) : Type 0 where
   pub committed : next_commit s.core ≡ None
   pub published : s.core.published ≡ s.core.committed
   pub dispatched : is_eligible s.core ≡ false
   pub pushed : s.outlet.aside ≡ None
 
 -- something is left to do only where the state says so, or where the replica is stopped
-abbrev pub IsBehindOrSettled : State → Type 0
-IsBehindOrSettled s = s.core.stopped ≡ None → s.behind ≡ false → IsSettled s
+abbrev pub IsBehindOrCaughtUp : State → Type 0
+IsBehindOrCaughtUp s = s.core.stopped ≡ None → s.behind ≡ false → IsCaughtUp s
 
 -- no more records come, and all that did are committed and published
 abbrev pub is_ended : State → Bool
@@ -155,7 +157,7 @@ pub record IsWhole (tables : List Table) (source : List ℕ) (base : List Entry)
   pub kept : AreKept (dispatched s.core) s.kept
   pub line : AreInLine (dispatched s.core) s.outlet
   pub claims : s.claimed ≤ s.outlet.pushed
-  pub rest : IsBehindOrSettled s
+  pub rest : IsBehindOrCaughtUp s
 
 -- ---- what those who wait are told
 
@@ -289,6 +291,6 @@ Finds s found.Ended then = NoneIsLeft s × (is_ended s ≡ true) × (then ≡ s)
 pub record FindsBehind (old : State) (next : Next) (new : State) : Type 0 where
   pub between : State
   pub settles : Settles old between
-  pub settled : IsSettled between
+  pub caught_up : IsCaughtUp between
   pub behind : between.behind ≡ false
   pub finds : Finds between next new

@@ -7,11 +7,11 @@ ghost use Rattle.published.specs.History.{IsHistory, commits_in};
 ghost use Rattle.published.specs.Status.{NoneFalls, latest};
 ghost use Rattle.replica_core.specs.Replica.{operations};
 ghost use Rattle.replica_core.specs.Calls.{new_over, received, left_by_receive, is_eligible, finish_fault, IsHandedOut, with_finished, left_by_fault, next_commit, committed_next, unless_stopped, with_published};
-ghost use Rattle.replica_core.specs.Sound.{IsUnderWay};
+ghost use Rattle.replica_core.specs.Sound.{IsSound, IsUnderWay};
 ghost use Rattle.replica_core.specs.Wire.{Takes};
 ghost use Rattle.replica_shared.specs.Feeding.{IsNamed, left_by_take, SettlesOrLacks, told_behind, TakesAndSettles, HandsAs, HandsAndSettles};
 ghost use Rattle.replica_shared.specs.Outlet.{empty_outlet, pushed_aside};
-ghost use Rattle.replica_shared.specs.Together.{State, words_of, is_awaited, IsStopBehind, IsLater, IsSettled, Settles, IsFaultOf, new_state, left_by_accept, AcceptsAndSettles, left_by_finish, refused_so, HandsIn, NoneIsKept, Finds, FindsBehind, DispatchesOne, DispatchesMore, is_ended, is_idle, offers, outlook_of, news_between, answered, with_waiting, IsAppended, shown, NoneLost, laid, taken_back, TakesOut};
+ghost use Rattle.replica_shared.specs.Together.{State, words_of, is_awaited, IsStopBehind, IsLater, IsCaughtUp, Settles, IsFaultOf, new_state, left_by_accept, AcceptsAndSettles, left_by_finish, refused_so, HandsIn, NoneIsKept, Finds, FindsBehind, DispatchesOne, DispatchesMore, is_ended, is_idle, offers, outlook_of, news_between, answered, with_waiting, IsAppended, shown, NoneLost, laid, taken_back, TakesOut};
 
 use crate::kept::Kept;
 use crate::naming::ReplicaNaming;
@@ -22,7 +22,6 @@ use left_right::Absorb;
 use published::{Common, Counts, Notice, Publisher, Status, Step, Version, Watch};
 use record_codec::Record;
 use relay::{Received, ReplicaFault};
-use replica_core::laws::{commits, jobs};
 use replica_core::{ReplicaCore, Wire, WireFault};
 use schema::Memory;
 use std::alloc::Global;
@@ -118,7 +117,7 @@ impl<S: RowStore + Drop, J: ReplicaNaming> Coordinator<S, J> {
         ensures answer { IsErrOf result ReplicaFault.Memory ⊎ (result ≡ received self.old.core from new.now) }
         ensures memory { IsErrOf result ReplicaFault.Memory
             → received self.old.core from new.now ≡ Ok Received.Accepted }
-        ensures accepted { result ≡ Ok Received.Accepted → AcceptsAndSettles self.old new.now self.new × IsSettled self.new }
+        ensures accepted { result ≡ Ok Received.Accepted → AcceptsAndSettles self.old new.now self.new × IsCaughtUp self.new }
         ensures skipped { result ≡ Ok Received.Skipped → self.new ≡ self.old }
         ensures lacking { IsErrOf result ReplicaFault.Memory → (self.new ≡ self.old) ⊎ AcceptsAndSettles self.old new.now self.new }
         ensures refused { IfErr result (λ fault. (fault ≡ ReplicaFault.Memory → ⊥) → self.new ≡ self.old) }
@@ -138,7 +137,6 @@ impl<S: RowStore + Drop, J: ReplicaNaming> Coordinator<S, J> {
         ensures ok { IfOk result (λ answer. self.new ≡ left_by_accept self.old new.now answer) }
         ensures err { OnErr result (self.new ≡ self.old) }
     {
-        let _sound = self.core.committed();
         let answer = self.core.receive(from, new)?;
         if answer == Received::Accepted {
             store_words(rt, &self.core, &mut self.status);
@@ -187,7 +185,6 @@ impl<S: RowStore + Drop, J: ReplicaNaming> Coordinator<S, J> {
         ensures left { self.new ≡ left_by_take self.old self.new.core }
         ensures named { IsNamed J.tables J.source J.base self.old.core }
     {
-        let _sound = self.core.committed();
         let before = self.core.accepted().len();
         let taken = wire.take(&mut self.core, piece);
         if before < self.core.accepted().len() {
@@ -203,7 +200,6 @@ impl<S: RowStore + Drop, J: ReplicaNaming> Coordinator<S, J> {
         ensures left { self.new ≡ left_by_take self.old self.new.core }
         ensures named { IsNamed J.tables J.source J.base self.old.core }
     {
-        let _sound = self.core.committed();
         let before = self.core.accepted().len();
         let handed = wire.hand(&mut self.core);
         if before < self.core.accepted().len() {
@@ -296,7 +292,7 @@ impl<S: RowStore + Drop, J: ReplicaNaming> Coordinator<S, J> {
             → (result ≡ Err ReplicaFault.WrongInput) × (self.new ≡ self.old) }
         ensures taken { finish_fault self.old.core done.job.gno ≡ None → IsHandedOut self.old.core done
             → HandsIn self.old done.job done.outcome result self.new }
-        ensures ok { OnOk result (IsSettled self.new) }
+        ensures ok { OnOk result (IsCaughtUp self.new) }
     {
         self.finish(done)?;
         self.settle(rt)
@@ -326,7 +322,7 @@ impl<S: RowStore + Drop, J: ReplicaNaming> Coordinator<S, J> {
 
     // Keeps the job of a refused result where memory ran out.
     fn take_back(&mut self, fault: ReplicaFault, done: JobResult)
-        requires { fault ≡ ReplicaFault.Memory → IsUnderWay self.old.core done.job.gno }
+        requires { fault ≡ ReplicaFault.Memory → IsSound self.old.core × IsUnderWay self.old.core done.job.gno }
         ensures kept { self.new ≡ record self.old { kept = taken_back fault done.job self.old.kept } }
         ensures none_lost { NoneLost self.old.core self.old.kept self.new.kept }
     {
@@ -337,11 +333,11 @@ impl<S: RowStore + Drop, J: ReplicaNaming> Coordinator<S, J> {
 
     // Lays a job into its place. What lay there has its number, or is committed: those between are fewer than the places.
     fn keep(&mut self, job: Job)
-        requires { IsUnderWay self.old.core job.gno }
+        requires sound { IsSound self.old.core }
+        requires under { IsUnderWay self.old.core job.gno }
         ensures kept { self.new ≡ record self.old { kept = laid job self.old.kept } }
         ensures none_lost { NoneLost self.old.core self.old.kept self.new.kept }
     {
-        let _sound = self.core.committed();
         self.kept.lay(job);
     }
 
@@ -356,7 +352,7 @@ impl<S: RowStore + Drop, J: ReplicaNaming> Coordinator<S, J> {
     // Commits what can be committed, publishes it, and dispatches what then may be.
     fn settle(&mut self, rt: &impl Wait) -> Result<(), ReplicaFault>
         ensures settles { Settles self.old self.new }
-        ensures ok { OnOk result (IsSettled self.new × (self.new.behind ≡ false) × (self.old.core.stopped ≡ None)) }
+        ensures ok { OnOk result (IsCaughtUp self.new × (self.new.behind ≡ false) × (self.old.core.stopped ≡ None)) }
         ensures stopped { IfSome self.old.core.stopped (λ at. result ≡ Err (ReplicaFault.Stopped at)) }
         ensures err { IfErr result (λ fault. IsFaultOf self.old fault × (self.new.behind ≡ true)) }
     {
@@ -393,7 +389,6 @@ impl<S: RowStore + Drop, J: ReplicaNaming> Coordinator<S, J> {
             self.new ≡ record self.old { core = if is_some gno then committed_next self.old.core else self.old.core }) }
         ensures err { OnErr result (self.new ≡ self.old) }
     {
-        commits();
         let next = self.core.commit_next()?;
         if next.is_some() {
             store_words(rt, &self.core, &mut self.status);
@@ -437,7 +432,6 @@ impl<S: RowStore + Drop, J: ReplicaNaming> Coordinator<S, J> {
         ensures all { IfOk result (λ more. more ≡ false → IsAppended self.new) }
         ensures err { IfErr result (λ fault. (fault ≡ ReplicaFault.Memory) × (self.new ≡ self.old)) }
     {
-        commits();
         let (published, committed) = (self.core.published(), self.core.committed());
         if self.appended >= committed {
             return Ok(false);
@@ -456,7 +450,6 @@ impl<S: RowStore + Drop, J: ReplicaNaming> Coordinator<S, J> {
         ensures err { IfErr result (λ fault. (fault ≡ ReplicaFault.Memory) × (self.new ≡ record self.old { publication = self.new.publication })) }
         ensures later { IsPrefix self.old.publication.published self.new.publication.published }
     {
-        let _sound = self.core.committed();
         let upto = self.publisher.publish(rt)?;
         self.core.publish(upto)?;
         store_words(rt, &self.core, &mut self.status);
@@ -498,8 +491,6 @@ impl<S: RowStore + Drop, J: ReplicaNaming> Coordinator<S, J> {
         ensures none { result ≡ Ok false → (is_eligible self.old.core ≡ false) × (self.new ≡ self.old) }
         ensures err { IfErr result (λ fault. (fault ≡ ReplicaFault.Memory) × (self.new ≡ self.old)) }
     {
-        jobs();
-        let _sound = self.core.committed();
         match self.core.dispatch()? {
             Some(job) => {
                 self.outlet.put(job);
@@ -525,7 +516,6 @@ impl<S: RowStore + Drop, J: ReplicaNaming> Coordinator<S, J> {
         ensures published { IfOk result (λ notice. notice ≡ self.now.publication.published) }
         ensures stopped { IfErr result (λ fault. IsStopBehind self.now gno fault) }
     {
-        let _sound = self.core.committed();
         let notice = self.publisher.tell();
         if gno <= notice.upto() {
             return Ok(notice);
@@ -560,8 +550,6 @@ impl<S: RowStore + Drop, J: ReplicaNaming> Coordinator<S, J> {
             told: _,
             sleepers: _,
         } = self;
-        commits();
-        let _sound = core.committed();
         (core, publisher)
     }
 
@@ -584,19 +572,20 @@ impl<S: RowStore + Drop, J: ReplicaNaming> Coordinator<S, J> {
     fn outlook(&self) -> Outlook
         ensures { result ≡ outlook_of self.now }
     {
+        let stopped = self.core.stopped().is_some();
         Outlook {
             offers: self.offers(),
             behind: self.behind,
             published: self.publisher.tell().upto(),
-            over: self.core.stopped().is_some() || self.is_ended(),
+            over: stopped || self.is_ended(),
         }
     }
 
     // How many jobs there are that no worker has.
     fn offers(&self) -> u64
+        requires { IsSound self.now.core }
         ensures { result ≡ offers self.now }
     {
-        let _sound = self.core.committed();
         (self.outlet.pushed() - self.claimed) + self.kept.count()
     }
 
@@ -660,7 +649,8 @@ fn told_of(
 // Stores how far the core is.
 fn store_words<S: RowStore>(rt: &impl Wait, core: &ReplicaCore<S>, status: &mut Status)
     requires { NoneFalls (latest status.old.stored) (words_of core.now) }
-    ensures { latest status.new.stored ≡ words_of core.now }
+    ensures stored { latest status.new.stored ≡ words_of core.now }
+    ensures sound { IsSound core.now }
 {
     let counts = Counts {
         received: core.accepted().len() as u64,

@@ -1,6 +1,7 @@
 use Rattle.std.proofs.Common.{◌≡◌, ◌∙◌, sym, ap, subst, None}
 use Rattle.replica_core.specs.Replica.{Replica}
 use Rattle.replica_core.specs.Calls.{finish_fault, IsHandedOut, with_finished}
+use Rattle.replica_core.proofs.Kept.{sound_as_seen}
 use Rattle.replica_core.proofs.Steps.{under_way_from, finished_kept, finished_seen, stopped_kept}
 use Rattle.replica_core.proofs.ReplicaCore.finish.Goals as goal
 
@@ -27,3 +28,15 @@ returns-in-Output-clause-ok g c =
     let was = c.self.inside in
     finished_seen was.relay was.base was.scheduler was.published was.turns was.workers was.stopped was.inputs.items _ was.waiting.items c.args.done c.finish.new.self c.self.invariant c.finish.ensures
     ∙ ap (λ (r : Replica). with_finished r c.args.done.job.gno) c.self.view_is
+
+pub returns-in-Err-clause-sound : goal.returns-in-Err-clause-sound
+returns-in-Err-clause-sound g c = sound_as_seen _ _ _ _ _ _ _ c.self.invariant c.self.view_is
+
+pub returns-in-Output-clause-sound : goal.returns-in-Output-clause-sound
+returns-in-Output-clause-sound g c = sound_as_seen _ _ _ _ _ _ _ c.self.invariant c.self.view_is
+
+pub returns-in-Memory-clause-sound : goal.returns-in-Memory-clause-sound
+returns-in-Memory-clause-sound g c = sound_as_seen _ _ _ _ _ _ _ c.self.invariant c.self.view_is
+
+pub returns-in-Undefined-clause-sound : goal.returns-in-Undefined-clause-sound
+returns-in-Undefined-clause-sound g c = sound_as_seen _ _ _ _ _ _ _ c.self.invariant c.self.view_is

@@ -1,7 +1,5 @@
-use Rattle.std.proofs.Common.{subst}
-use Rattle.replica_core.specs.Sound.{IsSound}
-use Rattle.replica_core.proofs.Kept.{kept_sound}
+use Rattle.replica_core.proofs.Kept.{sound_as_seen}
 use Rattle.replica_core.proofs.ReplicaCore.store.Goals as goal
 
 pub returns-clause-sound : goal.returns-clause-sound
-returns-clause-sound g c = subst IsSound c.self.view_is (kept_sound _ _ _ _ _ _ c.self.invariant)
+returns-clause-sound g c = sound_as_seen _ _ _ _ _ _ _ c.self.invariant c.self.view_is

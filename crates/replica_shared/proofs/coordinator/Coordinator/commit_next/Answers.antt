@@ -1,5 +1,6 @@
 use Rattle.std.proofs.Common.{◌≡◌, ◌∙◌, sym, ap, subst}
 use Rattle.replica_core.specs.Replica.{dispatched}
+use Rattle.replica_core.specs.Sound.{IsSound}
 use Rattle.replica_core.specs.Calls.{committed_next}
 use Rattle.replica_shared.specs.Outlet.{AreInLine}
 use Rattle.replica_shared.specs.Together.{State, words_of, AreKept}
@@ -13,7 +14,7 @@ invariant_of-self-then-is_some g c =
     let left = left_committed was _ _ c.if-is_some.ensures c.in_ok-next.ensures.ok in
     let same : dispatched (committed_next was) ≡ dispatched was = dispatched_stays was (commit_had was _ c.in_ok-next.ensures.answer c.if-is_some.ensures) in
     rw left record {
-      stand = stand_committed c.commits.ensures.first _ _ _ _ _ _ _ _ c.self.invariant.stand (c.store_words.ensures ∙ ap words_of left);
+      stand = stand_committed _ _ _ _ _ _ _ _ (subst IsSound left c.store_words.ensures.sound) c.self.invariant.stand (c.store_words.ensures.stored ∙ ap words_of left);
       kept = subst (λ n. AreKept n c.self.inside.kept) (sym same) c.self.invariant.kept;
       line = subst (λ n. AreInLine n c.self.inside.outlet) (sym same) c.self.invariant.line;
       claims = c.self.invariant.claims;

@@ -1,13 +1,13 @@
-use Rattle.std.proofs.Common.{◌≡◌, ◌∙◌, ap, subst, false, None, Option, is_some, if◌then◌else◌}
+use Rattle.std.proofs.Common.{◌≡◌, ◌∙◌, ap, subst, false, None, Ok, Option, is_some, if◌then◌else◌}
 use Rattle.executor.specs.declared.Job.{Job}
 use Rattle.replica_core.specs.Calls.{is_eligible, dispatched_next}
 use Rattle.replica_shared.specs.Together.{State}
-use Rattle.replica_shared.proofs.Whole.{told_next, whole_dispatched, none_eligible}
+use Rattle.replica_shared.proofs.Whole.{told_next, whole_dispatched}
 use Rattle.replica_shared.proofs.coordinator.Coordinator.dispatch.Goals as goal
 
 pub invariant_of-self-in-Some : goal.invariant_of-self-in-Some
 invariant_of-self-in-Some g c =
-    whole_dispatched c.jobs.ensures.of_record _ _ _ _ _ _ _ _ _ _ (ap (λ (s : State). s.behind) c.self.view_is ∙ c.requires.behind)
+    whole_dispatched _ _ _ _ _ _ _ _ _ _ (ap (λ (s : State). s.behind) c.self.view_is ∙ c.requires.behind)
     (ap (λ (s : State). s.outlet.aside) c.self.view_is ∙ c.requires.free)
     (told_next c.self.inside.core c.in_ok-job.field-0 c.in_ok-job.ensures.answer) c.in-Some.is c.in_ok-job.ensures.ok c.put.ensures c.self.invariant
 
@@ -16,6 +16,6 @@ returns-in-None-clause-none g c = λ _.
     let was = c.self.inside.core in
     let none : c.in_ok-job.field-0 ≡ None = c.in-None.is in
     let left : c.dispatch.new.self ≡ was = c.in_ok-job.ensures.ok ∙ ap (λ (o : Option Job). if is_some o then dispatched_next was else was) none in (
-      subst (λ (s : State). is_eligible s.core ≡ false) c.self.view_is (none_eligible was c.committed-sound.ensures.sound (told_next was c.in_ok-job.field-0 c.in_ok-job.ensures.answer ∙ none)),
+      subst (λ (s : State). is_eligible s.core ≡ false) c.self.view_is (c.in_ok-job.ensures.none (ap Ok none)),
       rw left c.self.view_is,
     )

@@ -8,4 +8,4 @@ take_back-requires g c lacks =
     let was = c.self.inside.core in
     let left : c.finish.new.self ≡ was = c.in-Err.ensures.err ∙ ap (left_by_fault was) lacks in
     let back = c.in-Err.ensures.back in
-    rw (left, back) (still_out was c.in-Err.fault c.args.done c.in-Err.done (Err (c.in-Err.fault, c.in-Err.done)) refl lacks c.in-Err.ensures.refused)
+    rw (left, back) (c.finish.ensures.sound, still_out was c.in-Err.fault c.args.done c.in-Err.done (Err (c.in-Err.fault, c.in-Err.done)) refl lacks c.in-Err.ensures.refused)
