@@ -121,6 +121,7 @@ impl<S: RowStore + Drop, J: ReplicaNaming> Coordinator<S, J> {
         ensures skipped { result ≡ Ok Received.Skipped → self.new ≡ self.old }
         ensures lacking { IsErrOf result ReplicaFault.Memory → (self.new ≡ self.old) ⊎ AcceptsAndSettles self.old new.now self.new }
         ensures refused { IfErr result (λ fault. (fault ≡ ReplicaFault.Memory → ⊥) → self.new ≡ self.old) }
+        ensures named { IsNamed J.tables J.source J.base self.old.core }
     {
         let answer = self.accept(rt, from, new)?;
         if answer == Received::Accepted {
@@ -136,6 +137,7 @@ impl<S: RowStore + Drop, J: ReplicaNaming> Coordinator<S, J> {
             → received self.old.core from new.now ≡ Ok Received.Accepted }
         ensures ok { IfOk result (λ answer. self.new ≡ left_by_accept self.old new.now answer) }
         ensures err { OnErr result (self.new ≡ self.old) }
+        ensures named { IsNamed J.tables J.source J.base self.old.core }
     {
         let answer = self.core.receive(from, new)?;
         if answer == Received::Accepted {
