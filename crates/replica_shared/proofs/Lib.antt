@@ -5,3 +5,4 @@ pub mod Later
 pub mod Queues
 pub mod Whole
 pub mod Feeding
+pub mod Receiving

@@ -1,12 +1,16 @@
--- What a piece of a wire's bytes does to what lies under the lock, and to the wire; and sets of ids.
-use Rattle.std.specs.Prelude.{◌≡◌, ◌⊎◌, ℕ, ◌<◌, ◌≤◌, ◌||◌, nat_lt, true, List, [], length, Result, Ok, Err, IsOk, MatchResult}
+-- What is answered to a record; what a piece of a wire's bytes does to what lies under the lock, and to the wire; and sets of ids.
+use Rattle.std.specs.Prelude.{◌≡◌, ◌⊎◌, ℕ, ◌<◌, ◌≤◌, ◌||◌, nat_lt, true, List, [], length, Result, Ok, Err, IsOk, IsErrOf, MatchResult}
 use Rattle.schema.specs.declared.Table.{Table}
 use Rattle.store_trait.specs.Batch.{Entry}
 use Rattle.gtid_set.specs.Ids.{Ids}
 use Rattle.gtid_set.specs.Numbers.{has_number}
 use Rattle.relay.specs.declared.ReplicaFault.{ReplicaFault}
 use Rattle.relay.specs.declared.ReplicaFault.TheVariants as faults
+use Rattle.relay.specs.declared.Received.{Received}
+use Rattle.relay.specs.declared.Received.TheVariants.{Accepted}
+use Rattle.record_codec.specs.declared.records.Record.{Record}
 use Rattle.replica_core.specs.Replica.{Replica}
+use Rattle.replica_core.specs.Calls.{received}
 use Rattle.replica_core.specs.Wire.{Wire, Hands, Gathers, Takes, piece_taken}
 use Rattle.replica_core.specs.declared.wire.WireFault.{WireFault}
 use Rattle.replica_core.specs.declared.wire.WireFault.TheVariants as wire
@@ -15,6 +19,14 @@ use Rattle.replica_shared.specs.Together.{State, Settles, IsCaughtUp}
 -- a core of this replica
 abbrev pub IsNamed : List Table → List ℕ → List Entry → Replica → Type 0
 IsNamed tables source base r = (r.tables ≡ tables) × (r.source ≡ source) × (r.base ≡ base)
+
+-- What is answered to a record: what the core's `receive` answers over a core of this replica, or that memory ran out in the place
+-- of an acceptance.
+pub record Receives (tables : List Table) (source : List ℕ) (base : List Entry) (from : List ℕ) (new : Record) (answer : Result Received ReplicaFault) : Type 0 where
+  pub before : Replica
+  pub named : IsNamed tables source base before
+  pub told : IsErrOf answer faults.Memory ⊎ (answer ≡ received before from new)
+  pub memory : IsErrOf answer faults.Memory → received before from new ≡ Ok Accepted
 
 -- what a wire's `take` over the core leaves: where more is accepted, something may be left to do
 abbrev pub left_by_take : State → Replica → State

@@ -75,6 +75,12 @@ pub record StandTogether (tables : List Table) (source : List ℕ) (base : List 
   pub words : latest stored ≡ words_of r
   pub number : appended ≡ commits_in p.published + length p.waiting
 
+-- whatever the words were, and the number of those appended
+pub record StoodTogether (tables : List Table) (source : List ℕ) (base : List Entry) (r : Replica) (p : Publishing) : Type 0 where
+  pub appended : ℕ
+  pub stored : List Counts
+  pub stand : StandTogether tables source base r p appended stored
+
 -- There are 64 places, and each job that is kept lies in its own, that of its number modulo 64. So many are dispatched, and it
 -- is one of these.
 abbrev pub LieInPlace : ℕ → List (Option Job) → Type 0

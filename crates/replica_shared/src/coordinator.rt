@@ -5,13 +5,12 @@ ghost use mathlib.Core.List.{IsPrefix};
 ghost use Rattle.store_trait.specs.declared.Op.TheVariants.{Load};
 ghost use Rattle.published.specs.History.{IsHistory, commits_in};
 ghost use Rattle.published.specs.Status.{NoneFalls, latest};
-ghost use Rattle.replica_core.specs.Replica.{operations};
 ghost use Rattle.replica_core.specs.Calls.{new_over, received, left_by_receive, is_eligible, finish_fault, IsHandedOut, with_finished, left_by_fault, next_commit, committed_next, unless_stopped, with_published};
 ghost use Rattle.replica_core.specs.Sound.{IsSound, IsUnderWay};
 ghost use Rattle.replica_core.specs.Wire.{Takes};
 ghost use Rattle.replica_shared.specs.Feeding.{IsNamed, left_by_take, SettlesOrLacks, told_behind, TakesAndSettles, HandsAs, HandsAndSettles};
 ghost use Rattle.replica_shared.specs.Outlet.{empty_outlet, pushed_aside};
-ghost use Rattle.replica_shared.specs.Together.{State, words_of, is_awaited, IsStopBehind, IsLater, IsCaughtUp, Settles, IsFaultOf, new_state, left_by_accept, AcceptsAndSettles, left_by_finish, refused_so, HandsIn, NoneIsKept, Finds, FindsBehind, DispatchesOne, DispatchesMore, is_ended, is_idle, offers, outlook_of, news_between, answered, with_waiting, IsAppended, shown, NoneLost, laid, taken_back, TakesOut};
+ghost use Rattle.replica_shared.specs.Together.{State, StoodTogether, words_of, is_awaited, IsStopBehind, IsLater, IsCaughtUp, Settles, IsFaultOf, new_state, left_by_accept, AcceptsAndSettles, left_by_finish, refused_so, HandsIn, NoneIsKept, Finds, FindsBehind, DispatchesOne, DispatchesMore, is_ended, is_idle, offers, outlook_of, news_between, answered, with_waiting, IsAppended, shown, NoneLost, laid, taken_back, TakesOut};
 
 use crate::kept::Kept;
 use crate::naming::ReplicaNaming;
@@ -121,6 +120,7 @@ impl<S: RowStore + Drop, J: ReplicaNaming> Coordinator<S, J> {
         ensures skipped { result ≡ Ok Received.Skipped → self.new ≡ self.old }
         ensures lacking { IsErrOf result ReplicaFault.Memory → (self.new ≡ self.old) ⊎ AcceptsAndSettles self.old new.now self.new }
         ensures refused { IfErr result (λ fault. (fault ≡ ReplicaFault.Memory → ⊥) → self.new ≡ self.old) }
+        ensures named { IsNamed J.tables J.source J.base self.old.core }
     {
         let answer = self.accept(rt, from, new)?;
         if answer == Received::Accepted {
@@ -136,6 +136,7 @@ impl<S: RowStore + Drop, J: ReplicaNaming> Coordinator<S, J> {
             → received self.old.core from new.now ≡ Ok Received.Accepted }
         ensures ok { IfOk result (λ answer. self.new ≡ left_by_accept self.old new.now answer) }
         ensures err { OnErr result (self.new ≡ self.old) }
+        ensures named { IsNamed J.tables J.source J.base self.old.core }
     {
         let answer = self.core.receive(from, new)?;
         if answer == Received::Accepted {
@@ -529,13 +530,7 @@ impl<S: RowStore + Drop, J: ReplicaNaming> Coordinator<S, J> {
     // The core and the publisher.
     pub(crate) fn end(self) -> (ReplicaCore<S>, Publisher<S, J>)
         ensures state { (result.0 ≡ self.core) × (result.1 ≡ self.publication) }
-        ensures tables { result.0.tables ≡ J.tables }
-        ensures source { result.0.source ≡ J.source }
-        ensures base { result.0.base ≡ J.base }
-        ensures published { result.1.published ≡ operations result.0.tables result.0.base result.0.accepted (commits_in result.1.published) }
-        ensures within { commits_in result.1.published ≤ result.0.committed }
-        ensures begins { IsPrefix (result.1.published ++ result.1.waiting) (operations result.0.tables result.0.base result.0.accepted result.0.committed) }
-        ensures shown { result.0.published ≤ commits_in result.1.published }
+        ensures together { StoodTogether J.tables J.source J.base result.0 result.1 }
     {
         let Coordinator {
             core,

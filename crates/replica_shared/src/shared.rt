@@ -1,5 +1,6 @@
 //! The replica that threads share.
-ghost use Rattle.std.specs.Prelude.{◌≡◌, ◌≤◌, ◌++◌, ◌∷◌, [], true, false, All, Err, IfOk, IfErr, IfSome};
+ghost use Rattle.std.specs.Prelude.{◌≡◌, ◌⊎◌, ◌≤◌, ◌++◌, ◌∷◌, [], true, false, All, Err, IfOk, IfErr, IfSome, IsErrAnd};
+ghost use Rattle.std.specs.Str.{bytes_eq};
 ghost use Rattle.std.specs.Arc.{arc_value};
 ghost use mathlib.Core.List.{IsPrefix};
 ghost use Rattle.store_trait.specs.declared.Op.TheVariants.{Load};
@@ -10,7 +11,7 @@ ghost use Rattle.replica_core.specs.Replica.{operations};
 ghost use Rattle.replica_core.specs.Calls.{new_over};
 ghost use Rattle.replica_shared.specs.Queue.{IsPassOf};
 ghost use Rattle.replica_shared.specs.Together.{IsStop};
-ghost use Rattle.replica_shared.specs.Feeding.{Feeds, AreUpTo};
+ghost use Rattle.replica_shared.specs.Feeding.{Receives, Feeds, AreUpTo};
 
 use crate::coordinator::{Coordinator, parts};
 use crate::gate::WorkerGate;
@@ -111,7 +112,11 @@ impl<S: RowStore + Drop, J: ReplicaNaming> SharedReplica<S, J> {
         rt: &impl Wait,
         from: Uuid,
         new: &Record,
-    ) -> Result<Received, ReplicaFault> {
+    ) -> Result<Received, ReplicaFault>
+        ensures answer { Receives J.tables J.source J.base from new.now result }
+        ensures foreign { bytes_eq from J.source ≡ false → IsErrAnd result (λ fault. (fault ≡ ReplicaFault.ForeignSource) ⊎ IsStop fault) }
+        ensures own { result ≡ Err ReplicaFault.ForeignSource → bytes_eq from J.source ≡ false }
+    {
         let mut held = self.lock_soon(rt);
         let answer = held.receive(rt, from, new);
         self.let_go(held);

@@ -1,8 +1,4 @@
-use Rattle.replica_shared.proofs.Standing.{published_is, published_within}
 use Rattle.replica_shared.proofs.coordinator.Coordinator.end.Goals as goal
 
-pub returns-clause-published : goal.returns-clause-published
-returns-clause-published g c = published_is _ _ _ _ _ _ _ c.self.invariant.stand
-
-pub returns-clause-within : goal.returns-clause-within
-returns-clause-within g c = published_within _ _ _ _ _ _ _ c.self.invariant.stand
+pub returns-clause-together : goal.returns-clause-together
+returns-clause-together g c = record { appended = c.self.inside.appended; stored = c.self.inside.status.stored; stand = c.self.invariant.stand }

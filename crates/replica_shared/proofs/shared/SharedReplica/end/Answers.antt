@@ -1,0 +1,8 @@
+use Rattle.replica_shared.proofs.Standing.{published_is, published_within}
+use Rattle.replica_shared.proofs.shared.SharedReplica.end.Goals as goal
+
+pub returns-clause-published : goal.returns-clause-published
+returns-clause-published g c = published_is _ _ _ _ _ _ _ c.end.ensures.together.stand
+
+pub returns-clause-within : goal.returns-clause-within
+returns-clause-within g c = published_within _ _ _ _ _ _ _ c.end.ensures.together.stand
