@@ -10,7 +10,7 @@ use Rattle.std.proofs.lemmas.List.Sums.{sum_by_push, sum_by-cons}
 use Rattle.std.proofs.lemmas.Bool.Decides.{nat_tests}
 use Rattle.world.specs.declared.events.Event.{Event}
 use Rattle.mtr.specs.declared.kept.Kept.{Kept}
-use Rattle.mtr.specs.Events.{AreWhole, IsWhole, Keeps, one_or_none, width_of, event_of, events_of, joined}
+use Rattle.mtr.specs.Events.{AreWhole, IsWhole, Keeps, one_or_none, width_of, event_of, events_of, events_in}
 
 and_true : (b : Bool) → (b && true) ≡ b
 and_true true = refl
@@ -92,13 +92,13 @@ first_put kept i d columns done all below h =
     ∙ ap (λ l. done ++ events_of l columns) (sym (drop-cons kept i d below)) ∙ h
 
 -- more events of the last piece
-pub joined_set : (pieces : List (List Event)) (i : ℕ) (d new more : List Event) → i + 1 ≡ length pieces → new ≡ get_or pieces i d ++ more → joined (set pieces i new) ≡ joined pieces ++ more
-joined_set [] i d new more e h = absurd (omega arith)
-joined_set (p ∷ []) zero d new more e h = append-nil new ∙ h ∙ ap (λ x. x ++ more) (sym (append-nil p))
-joined_set (p ∷ []) (suc i) d new more e h = absurd (omega arith)
-joined_set (p ∷ (q ∷ qs)) zero d new more e h = absurd (omega arith)
-joined_set (p ∷ (q ∷ qs)) (suc i) d new more e h = ap (λ x. p ++ x) (joined_set (q ∷ qs) i d new more (omega arith) h) ∙ sym (append_assoc p (joined (q ∷ qs)) more)
+pub events_in_set : (pieces : List (List Event)) (i : ℕ) (d new more : List Event) → i + 1 ≡ length pieces → new ≡ get_or pieces i d ++ more → events_in (set pieces i new) ≡ events_in pieces ++ more
+events_in_set [] i d new more e h = absurd (omega arith)
+events_in_set (p ∷ []) zero d new more e h = append-nil new ∙ h ∙ ap (λ x. x ++ more) (sym (append-nil p))
+events_in_set (p ∷ []) (suc i) d new more e h = absurd (omega arith)
+events_in_set (p ∷ (q ∷ qs)) zero d new more e h = absurd (omega arith)
+events_in_set (p ∷ (q ∷ qs)) (suc i) d new more e h = ap (λ x. p ++ x) (events_in_set (q ∷ qs) i d new more (omega arith) h) ∙ sym (append_assoc p (events_in (q ∷ qs)) more)
 
-pub last_grown : {T E : Type 0} (r : Result T E) (pieces : List (List Event)) (n : ℕ) (piece new more : List Event) → n ≡ length pieces → 1 ≤ n → piece ≡ get_or pieces (n - 1) piece → OnOk r (new ≡ piece ++ more) → OnOk r (joined (set pieces (n - 1) new) ≡ joined pieces ++ more)
-last_grown (Ok v) pieces n piece new more e some is h = joined_set pieces (n - 1) piece new more (omega arith) (h ∙ ap (λ p. p ++ more) is)
+pub last_grown : {T E : Type 0} (r : Result T E) (pieces : List (List Event)) (n : ℕ) (piece new more : List Event) → n ≡ length pieces → 1 ≤ n → piece ≡ get_or pieces (n - 1) piece → OnOk r (new ≡ piece ++ more) → OnOk r (events_in (set pieces (n - 1) new) ≡ events_in pieces ++ more)
+last_grown (Ok v) pieces n piece new more e some is h = events_in_set pieces (n - 1) piece new more (omega arith) (h ∙ ap (λ p. p ++ more) is)
 last_grown (Err x) pieces n piece new more e some is h = h

@@ -118,6 +118,29 @@ number_reads bound text (Some n) low e = (number_spelled bound text n low (sym e
 number_reads bound text None low e =
     λ n h written. let again : number bound text ≡ Some n = rw written (number_again bound n low h) in cc
 
+-- what a number is where it is cast to fewer bits
+pub number_narrowed : {E : Type 0} (small bound : ℕ) (text : List ℕ) (n : ℕ) (r : Result ℕ E) → Some n ≡ number bound text → OkIff r (n < small) n → result_ok r ≡ number small text
+unfolding number
+number_narrowed small bound text n r e h =
+    let v : ℕ = digits_value 10 text in
+    let found : (is_number text && ltb v bound ≡ true) × (v ≡ n) = cond_some _ v n (sym e) in
+    let test : is_number text ≡ true = (both_true _ _ found.0).0 in
+    let same : number small text ≡ cond (ltb n small) (Some n) None = rw (test, found.1) refl in
+    ok_by_test r (ltb n small) (n < small) n h (λ t. ltb-true n small t) (λ w. lt-ltb n small w) ∙ sym same
+
+past : (v small : ℕ) → (v < small → ⊥) → ltb v small ≡ false
+past v small h = grind (arith, nat_tests)
+
+none_below : (b : Bool) (v small bound : ℕ) → small ≤ bound → None ≡ cond (b && ltb v bound) (Some v) None → cond (b && ltb v small) (Some v) None ≡ None
+none_below false v small bound low e = refl
+none_below true v small bound low e =
+    ap (λ (t : Bool). cond t (Some v) None) (past v small (λ h. let yes : ltb v bound ≡ true = lt-ltb v bound (omega arith) in let bad = rw yes at e in cc))
+
+-- and where there is none below the greater bound there is none
+pub number_none : (small bound : ℕ) (text : List ℕ) → small ≤ bound → None ≡ number bound text → number small text ≡ None
+unfolding number
+number_none small bound text low e = none_below (is_number text) (digits_value 10 text) small bound low e
+
 map_cond : {A B : Type 0} (f : A → B) (b : Bool) (x : A) → option_map f (cond b (Some x) None) ≡ cond b (Some (f x)) None
 map_cond f true x = refl
 map_cond f false x = refl

@@ -32,6 +32,10 @@ line_of_bytes line h = sym (ap (λ b. cond b (text_line line) None) (refused (is
 pub said_with_text : (s : Said) (line text : List ℕ) → IsUtf8 line → text ≡ line → said_with s line ≡ (text_line text >>= added s)
 said_with_text s line text h same = ap (λ o. o >>= added s) (sym (line_of_text line h)) ∙ ap (λ l. text_line l >>= added s) (sym same)
 
+-- where its first word tells what the line is about
+pub line_said : (s : Said) (line text : List ℕ) (found : Option Line) (told about : Line) → IsUtf8 line → text ≡ line → found ≡ text_line text → found ≡ Some told → told ≡ about → said_with s line ≡ added s about
+line_said s line text found told about h same e some is = said_with_text s line text h same ∙ ap (λ o. o >>= added s) (sym e ∙ some) ∙ ap (added s) is
+
 pub said_with_bytes : (s : Said) (line : List ℕ) → ¬ (IsUtf8 line) → said_with s line ≡ None
 said_with_bytes s line h = ap (λ o. o >>= added s) (sym (line_of_bytes line h))
 

@@ -38,21 +38,26 @@ grown front x (Some r) = ap Some (append_assoc front (x ∷ []) r)
 abbrev pub then_rest : {A : Type 0} → (Word → Option A) → List A → List Word → Option (List A)
 then_rest {A} read front words = option_map (λ (r : List A). front ++ r) (all_in read words)
 
+-- the same once the first of these was taken off
+then_first : {A : Type 0} (read : Word → Option A) (front : List A) (words rest : List Word) (word : Word) → first_word words ≡ Some (word, rest) → then_rest read front (word ∷ rest) ≡ then_rest read front words
+then_first read front words rest word first = ap (λ (ws : List Word). then_rest read front ws) (sym (words_are words rest word first))
+
 -- one item more
-pub item_more : {A : Type 0} (read : Word → Option A) (items : List A) (count : ℕ) (word : Word) (x written : A) (rest : List Word) → count < length items → written ≡ x → read word ≡ Some x → then_rest read (take (count + 1) (set items count written)) rest ≡ then_rest read (take count items) (word ∷ rest)
+pub item_more : {A : Type 0} (read : Word → Option A) (items : List A) (count : ℕ) (words rest : List Word) (word : Word) (x written : A) → count < length items → written ≡ x → first_word words ≡ Some (word, rest) → read word ≡ Some x → then_rest read (take (count + 1) (set items count written)) rest ≡ then_rest read (take count items) words
 unfolding all_in
-item_more {A} read items count word x written rest below same e =
+item_more {A} read items count words rest word x written below same first e =
     let front : take (count + 1) (set items count written) ≡ take count items ++ x ∷ [] = rw (same, add-one, take-suc-set items count x below) refl in
     ap (λ f. option_map (λ (r : List A). f ++ r) (all_in read rest)) front
     ∙ grown (take count items) x (all_in read rest)
     ∙ ap (λ o. option_map (λ (r : List A). take count items ++ r) (o >>= λ x'. all_in read rest >>= λ xs. Some (x' ∷ xs))) (sym e)
+    ∙ then_first read (take count items) words rest word first
 
 -- a word that is no item
-pub no_item : {A : Type 0} (read : Word → Option A) (front : List A) (words rest : List Word) (word : Word) → read word ≡ None → then_rest read front (word ∷ rest) ≡ all_in read words → all_in read words ≡ None
+pub no_item : {A : Type 0} (read : Word → Option A) (front : List A) (initial words rest : List Word) (word : Word) → read word ≡ None → first_word words ≡ Some (word, rest) → then_rest read front words ≡ all_in read initial → all_in read initial ≡ None
 unfolding all_in
-no_item {A} read front words rest word none e =
+no_item {A} read front initial words rest word none first e =
     let refused : all_in read (word ∷ rest) ≡ None = rw none refl in
-    sym e ∙ ap (option_map (λ (r : List A). front ++ r)) refused
+    sym e ∙ sym (then_first read front words rest word first) ∙ ap (option_map (λ (r : List A). front ++ r)) refused
 
 past : {A : Type 0} (front : List A) (first : Option A) (o : Option (List A)) (all : List A) → option_map (λ r. front ++ r) (first >>= λ x. o >>= λ xs. Some (x ∷ xs)) ≡ Some all → length front < length all
 past front None o all e = cc
@@ -63,9 +68,10 @@ past {A} front (Some x) (Some r) all e =
     omega (arith, length-append front (x ∷ r), wide)
 
 -- an item behind these
-pub item_past : {A : Type 0} (read : Word → Option A) (front : List A) (words rest : List Word) (word : Word) (all : List A) → then_rest read front (word ∷ rest) ≡ all_in read words → all_in read words ≡ Some all → length front < length all
+pub item_past : {A : Type 0} (read : Word → Option A) (front : List A) (initial words rest : List Word) (word : Word) (all : List A) → first_word words ≡ Some (word, rest) → then_rest read front words ≡ all_in read initial → all_in read initial ≡ Some all → length front < length all
 unfolding all_in
-item_past read front words rest word all e is = past front (read word) (all_in read rest) all (e ∙ is)
+item_past read front initial words rest word all first e is =
+    past front (read word) (all_in read rest) all (then_first read front words rest word first ∙ e ∙ is)
 
 -- no word is left
 pub all_read : {A : Type 0} (read : Word → Option A) (front : List A) (words initial : List Word) → words ≡ [] → then_rest read front words ≡ all_in read initial → all_in read initial ≡ Some front

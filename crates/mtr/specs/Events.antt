@@ -75,5 +75,5 @@ pub record AreWhole (kept : List Kept) (columns : List ℤ) : Type 0 where
   pub width : sum_by width_of kept ≡ length columns
 
 -- those of pieces that follow one another
-abbrev pub joined : List (List Event) → List Event
-joined pieces = flat_map (λ piece. piece) pieces
+abbrev pub events_in : List (List Event) → List Event
+events_in pieces = flat_map (λ piece. piece) pieces

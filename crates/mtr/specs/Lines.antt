@@ -24,8 +24,8 @@ abbrev pub named_parent : Option (Word × List Word) → Option (Option (ℕ × 
 named_parent found = found >>= λ name. if bytes_eq name.0 (codes "parent") then option_map (λ link. Some link) (link_in name.1) else None
 
 -- the parent of a table, where words are left
-unfoldable pub parent_of : List Word → Option (Option (ℕ × ℕ))
-parent_of words = if length words == 0 then Some None else named_parent (first_word words)
+unfoldable pub reference_of : List Word → Option (Option (ℕ × ℕ))
+reference_of words = if length words == 0 then Some None else named_parent (first_word words)
 
 -- a table: its id, its number of columns, its kind, and its parent
 unfoldable pub table_of : List Word → Option Table
@@ -34,7 +34,7 @@ table_of words = do
   columns ← number_in (2 ^ 8) id.1
   kind ← first_word columns.1
   keyed ← keyed_of kind.0
-  parent ← parent_of kind.1
+  parent ← reference_of kind.1
   Some (record { id = id.0; columns = columns.0; keyed = keyed; parent = parent })
 
 -- a row of the base: its table, its key, and its columns

@@ -12,8 +12,8 @@ use Rattle.clap.specs.declared.error.kind.ErrorKind.TheVariants as kinds
 use Rattle.mtr.specs.Words.{◌>>=◌}
 use Rattle.commit_order_tracker.specs.Tracker.{by_order}
 use Rattle.tracker_trait.specs.Kind.{Kind}
-use Rattle.tracker_trait.specs.declared.Mode.{Mode}
-use Rattle.tracker_trait.specs.declared.Mode.TheVariants as modes
+use Rattle.tracker_trait.specs.declared.Tracking.{Tracking}
+use Rattle.tracker_trait.specs.declared.Tracking.TheVariants as modes
 use Rattle.mtr.specs.declared.command_line.Names.{Names}
 use Rattle.mtr.specs.declared.options.LineFault.{LineFault}
 use Rattle.mtr.specs.declared.options.LineFault.TheVariants as faults
@@ -87,7 +87,7 @@ number_of name greatest rows = do
   if is_unsigned_in 1 greatest text then Some (digits_value 10 (without_leading_plus text)) else None
 
 -- the mode of this name
-abbrev pub mode_named : Text → Option Mode
+abbrev pub mode_named : Text → Option Tracking
 mode_named name =
     if bytes_eq name (codes "commit-order") then Some modes.CommitOrder
     else if bytes_eq name (codes "writeset") then Some modes.Writeset
@@ -95,7 +95,7 @@ mode_named name =
     else None
 
 -- the mode that the words name, or the one by default
-abbrev pub mode_of : List Row → Option Mode
+abbrev pub mode_of : List Row → Option Tracking
 mode_of rows = option_and_then mode_named (first_of (codes "tracker") rows)
 
 -- the store of this name

@@ -3,7 +3,7 @@ use Rattle.std.specs.Prelude.{◌≡◌, ℕ, ◌^◌, ℤ, ◌==◌, ◌&&◌, 
 use Rattle.std.specs.Borrow.{Bor}
 use Rattle.std.specs.List.{slice_split}
 use Rattle.schema.specs.declared.RowId.{RowId}
-use Rattle.rows.specs.Naming.{Naming, rise_from, naming_from}
+use Rattle.rows.specs.Naming.{NamedColumns, rise_from, naming_from}
 use Rattle.mtr.specs.Number.{number, integer}
 
 abbrev pub Word : Type 0
@@ -82,7 +82,7 @@ assignment word = do
   Some (column, value)
 
 -- at least one column with its value, to the end of the line; the columns strictly rise, and are at most 15
-unfoldable pub naming_in : List Word → Option Naming
+unfoldable pub naming_in : List Word → Option NamedColumns
 naming_in words = do
   pairs ← all_in assignment words
   if nat_le 1 (length pairs) && rise_from 0 pairs then Some (naming_from pairs) else None

@@ -110,7 +110,7 @@ fn sides(found: &ArgMatches) -> Option<Sides>
 }
 
 /// How parents are found.
-fn tracker(found: &ArgMatches) -> Option<Mode>
+fn tracker(found: &ArgMatches) -> Option<Tracking>
     ensures { result ≡ mode_of (rows_of (found_of found.now)) }
 {
     mode_named(found.get_str("tracker")?)

@@ -2,7 +2,7 @@
 
 ghost use Rattle.std.specs.Prelude.{◌≡◌, ◌≤◌, ◌++◌, [], ◌==◌, length, is_some, IfOk, OnOk, OnErr};
 ghost use Rattle.mtr.specs.Command.{event_of};
-ghost use Rattle.mtr.specs.Events.{AreWhole, events_of, one_or_none, joined};
+ghost use Rattle.mtr.specs.Events.{AreWhole, events_of, one_or_none, events_in};
 
 use crate::command::{Verb, keep};
 use crate::kept::Kept;
@@ -101,13 +101,13 @@ pub struct EventList {
 impl Model for EventList {
     ghost use Rattle.std.specs.Prelude.{◌≡◌, ◌==◌, List, length};
     ghost use Rattle.world.specs.declared.events.Event.{Event};
-    ghost use Rattle.mtr.specs.Events.{joined};
+    ghost use Rattle.mtr.specs.Events.{events_in};
 
     ghost Value = { List Event };
 
-    ghost view = { λ events. joined events.pieces.items };
+    ghost view = { λ events. events_in events.pieces.items };
 
-    ghost invariant = { λ events. events.is_empty ≡ (length (joined events.pieces.items) == 0) };
+    ghost invariant = { λ events. events.is_empty ≡ (length (events_in events.pieces.items) == 0) };
 }
 
 impl EventList {
@@ -143,7 +143,7 @@ impl EventList {
 
     /// The pieces, of which all events together are these.
     pub fn into_pieces(self) -> Vec<Piece>
-        ensures { joined result.items ≡ self }
+        ensures { events_in result.items ≡ self }
     {
         let EventList { pieces, .. } = self;
         pieces
@@ -152,7 +152,7 @@ impl EventList {
 
 /// Adds a piece where the last is full, or there is none.
 fn make_room(pieces: &mut Vec<Piece>) -> Result<(), Memory>
-    ensures same { joined pieces.new.items ≡ joined pieces.old.items }
+    ensures same { events_in pieces.new.items ≡ events_in pieces.old.items }
     ensures some { OnOk result (1 ≤ length pieces.new.items) }
 {
     let has_room = match pieces.last() {
@@ -170,8 +170,8 @@ fn make_room(pieces: &mut Vec<Piece>) -> Result<(), Memory>
 fn push_last(pieces: &mut Vec<Piece>, verb: Verb, words: Words) -> Result<bool, Memory>
     requires { 1 ≤ length pieces.old.items }
     ensures good { IfOk result (λ is_good. is_good ≡ is_some (event_of verb words.entry)) }
-    ensures ok { OnOk result (joined pieces.new.items ≡ joined pieces.old.items ++ one_or_none (event_of verb words.entry)) }
-    ensures err { OnErr result (joined pieces.new.items ≡ joined pieces.old.items) }
+    ensures ok { OnOk result (events_in pieces.new.items ≡ events_in pieces.old.items ++ one_or_none (event_of verb words.entry)) }
+    ensures err { OnErr result (events_in pieces.new.items ≡ events_in pieces.old.items) }
 {
     let last = pieces.len() - 1;
     pieces[last].push(verb, words)

@@ -11,11 +11,7 @@ pub fn u8_of(text: &str) -> Option<u8>
     ensures exact { result ≡ number (2 ^ 8) text.now }
     ensures reads { ReadsNumber (2 ^ 8) text.now result }
 {
-    if is_number(text) {
-        text.parse::<u8>().ok()
-    } else {
-        None
-    }
+    u8::try_from(u64_of(text)?).ok()
 }
 
 /// The same at 16 bits.
@@ -23,11 +19,7 @@ pub fn u16_of(text: &str) -> Option<u16>
     ensures exact { result ≡ number (2 ^ 16) text.now }
     ensures reads { ReadsNumber (2 ^ 16) text.now result }
 {
-    if is_number(text) {
-        text.parse::<u16>().ok()
-    } else {
-        None
-    }
+    u16::try_from(u64_of(text)?).ok()
 }
 
 /// The same at 64 bits.

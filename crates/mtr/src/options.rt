@@ -22,7 +22,7 @@ pub enum Options {
 #[derive(Clone, Copy)]
 pub struct Sides {
     /// How the source finds parents.
-    pub tracker: Mode,
+    pub tracker: Tracking,
     /// The store of the source's rows, of the replica's, and of both copies that readers see.
     pub store: Store,
     /// The greatest number of digests of written rows that a tracker keeps, 1 to 1000000: MySQL's
@@ -33,13 +33,13 @@ pub struct Sides {
 }
 
 /// How the source finds the parents of transactions, by its name.
-pub fn mode_named(name: &str) -> Option<Mode>
+pub fn mode_named(name: &str) -> Option<Tracking>
     ensures { result ≡ mode_named name.now }
 {
     match name {
-        "commit-order" => Some(Mode::CommitOrder),
-        "writeset" => Some(Mode::Writeset),
-        "writeset-session" => Some(Mode::WritesetSession),
+        "commit-order" => Some(Tracking::CommitOrder),
+        "writeset" => Some(Tracking::Writeset),
+        "writeset-session" => Some(Tracking::WritesetSession),
         _ => None,
     }
 }

@@ -4,7 +4,7 @@ ghost use Rattle.std.specs.Prelude.{◌≡◌, ◌≤◌, ◌++◌, [], IfOk, If
 ghost use Rattle.std.specs.Io.KnownBytes.{Appends};
 ghost use Rattle.world.specs.State.{IsWorld};
 ghost use Rattle.world.specs.Seen.{seen};
-ghost use Rattle.mtr.specs.Events.{joined};
+ghost use Rattle.mtr.specs.Events.{events_in};
 ghost use Rattle.mtr.specs.Script.{said};
 ghost use Rattle.mtr.specs.Printing.{lines_of};
 ghost use Rattle.mtr.specs.Ending.{IsCutOff, PrintsNoReply};
@@ -23,18 +23,21 @@ use log_device::Device;
 use rows::Row;
 use schema::{RowId, Schema, Table};
 use std::alloc::Global;
-use std::io::{BufRead, Write};
+use std::io::{BufReader, Read, Write};
 use store_trait::RowStore;
-use tracker_trait::{Mode, Tracker};
+use tracker_trait::{Tracking, Tracker};
 use uuid::Uuid;
 use vector_store::VectorStore;
 use world::{Reply, World, pair_of};
 use writeset_trackers::{WriteSetSession, WriteSetTracker};
 
+/// As many bytes of a script are read at once.
+const CHUNK: usize = 65536;
+
 /// Reads a script, and runs it over a new pair that is made of these parts. The whole of it is read and checked before the
 /// first event: the first bad line, then the tables, then the rows at the start. Each event's reply is a line of the output;
 /// where the work stops after a beginning of the events, so does the output, after a whole line.
-pub fn run_text<R: BufRead, W: Write>(
+pub fn run_text<R: Read, W: Write>(
     alloc: Global,
     sides: Sides,
     input: &mut R,
@@ -44,7 +47,8 @@ pub fn run_text<R: BufRead, W: Write>(
     ensures prints { OnOk result (IfSome (R.remaining input.old) (λ text. PrintsText (kind_for sides) sides.workers text (W.contents output.old) (W.contents output.new))) }
     ensures refused { IfErr result (PrintsNoReply (W.contents output.old) (W.contents output.new)) }
 {
-    run_by_mode(alloc, sides, Script::read(alloc, input)?, output)
+    let mut input = BufReader::with_capacity(alloc, CHUNK, input)?;
+    run_by_mode(alloc, sides, Script::read(alloc, &mut input)?, output)
 }
 
 /// Runs a script over a new pair whose source finds parents in the way that is asked for.
@@ -60,12 +64,12 @@ fn run_by_mode<W: Write>(
 {
     let limit = sides.history as u32;
     match sides.tracker {
-        Mode::CommitOrder => run_by(alloc, CommitOrder, sides, script, output),
-        Mode::Writeset => {
+        Tracking::CommitOrder => run_by(alloc, CommitOrder, sides, script, output),
+        Tracking::Writeset => {
             let tracker = WriteSetTracker::with_limit(alloc, limit)?;
             run_by(alloc, tracker, sides, script, output)
         }
-        Mode::WritesetSession => {
+        Tracking::WritesetSession => {
             let tracker = WriteSetSession::with_limit(alloc, limit)?;
             run_by(alloc, tracker, sides, script, output)
         }
@@ -150,7 +154,7 @@ fn run_pieces<S: RowStore, T: Tracker, D: Device, R: RowStore, W: Write>(
     output: &mut W,
 ) -> Result<(), Stop>
     requires { IsWorld R.contents (seen world.old) }
-    ensures goes_on { OnOk result (GoesOn R.contents (seen world.old) (seen world.new) (joined pieces.items) (W.contents output.old) (W.contents output.new)) }
+    ensures goes_on { OnOk result (GoesOn R.contents (seen world.old) (seen world.new) (events_in pieces.items) (W.contents output.old) (W.contents output.new)) }
     ensures stop { IfErr result IsCutOff }
 {
     let mut events = Vec::new(alloc);

@@ -8,7 +8,7 @@
 ghost use Rattle.std.specs.Prelude.{◌≡◌, ◌++◌, ◌∷◌, [], ◌==◌, true, false, length, IfOk, IfSome, OnOk, Some};
 ghost use Rattle.std.specs.Bool.{then_some};
 ghost use Rattle.std.specs.List.{All};
-ghost use Rattle.mtr.specs.Lines.{table_of, keyed_of, link_in, parent_of, base_of, command_of, is_skipped, text_line};
+ghost use Rattle.mtr.specs.Lines.{table_of, keyed_of, link_in, reference_of, base_of, command_of, is_skipped, text_line};
 ghost use Rattle.mtr.specs.Script.{said, said_with, added, Says, LeavesLines, TakesEnd};
 
 use crate::command::{Verb, alone};
@@ -190,7 +190,7 @@ fn table_of(words: Words) -> Option<Table>
     let (columns, words) = words.u8()?;
     let (kind, words) = words.first()?;
     let keyed = is_keyed(kind)?;
-    let parent = parent_of(words)?;
+    let parent = reference_of(words)?;
     Some(Table {
         id,
         columns,
@@ -211,9 +211,9 @@ fn is_keyed(kind: &str) -> Option<bool>
 }
 
 /// The parent that a table has where words are left: the column, and the parent's id.
-#[tactic(auto, unfolding(crate::specs::Lines::parent_of))]
-fn parent_of(words: Words) -> Option<Option<(u8, u16)>>
-    ensures { result ≡ parent_of words.entry }
+#[tactic(auto, unfolding(crate::specs::Lines::reference_of))]
+fn reference_of(words: Words) -> Option<Option<(u8, u16)>>
+    ensures { result ≡ reference_of words.entry }
 {
     if words.is_empty() {
         return Some(None);

@@ -1,15 +1,15 @@
 //! The program's work, over any reader and two writers. Only `threads` uses the handle.
 
-ghost use Rattle.std.specs.Prelude.{◌≡◌, ◌≢◌, ◌≤◌, ◌∷◌, [], ◌++◌, IfOk, IfErr, IfSome, OnOk};
+ghost use Rattle.std.specs.Prelude.{◌≡◌, ◌≢◌, ◌≤◌, ◌∷◌, [], ◌++◌, IfOk, IfErr, OnOk};
 ghost use Rattle.std.specs.Io.KnownBytes.{Appends};
 ghost use Rattle.mtr.specs.Ending.{ending_of, stop_text};
-ghost use Rattle.mtr.specs.Options.{AreSides, IsInRange, kind_for};
-ghost use Rattle.mtr.specs.Pair.{IsNewTracker, PrintsText};
+ghost use Rattle.mtr.specs.Options.{IsInRange};
+ghost use Rattle.mtr.specs.Pair.{IsNewTracker};
 
 use crate::command_line::{NOT_UTF8, asked};
 use crate::decode::decode;
 use crate::ending::{Ending, Stop};
-use crate::options::{LineFault, Options, Plan, Sides, Store};
+use crate::options::{LineFault, Options, Plan, Store};
 use crate::run::run_text;
 use crate::threads::run_threads;
 use btree_store::BTreeStore;
@@ -18,15 +18,12 @@ use schema::Memory;
 use std::alloc::Global;
 use std::env::Args;
 use std::io;
-use std::io::{BufReader, ErrorKind, Read, Write};
+use std::io::{ErrorKind, Read, Write};
 use std::sync::Wait;
 use std::thread::Threads;
-use tracker_trait::{Mode, Tracker};
+use tracker_trait::{Tracking, Tracker};
 use vector_store::VectorStore;
 use writeset_trackers::{WriteSetSession, WriteSetTracker};
-
-/// As many bytes are read at once.
-const CHUNK: usize = 65536;
 
 /// Does what the words of a command line ask for, of which the first is the program's name, and answers the exit
 /// status. Help and the version go to the output, and faults of the command line to `errors`.
@@ -84,7 +81,7 @@ fn serve<H: Threads + Wait + Sync, R: Read, W: Write, E: Write>(
     requires { IsInRange options.now }
 {
     match options {
-        Options::Run(sides) => tell(run(alloc, *sides, input, output), errors),
+        Options::Run(sides) => tell(run_text(alloc, *sides, input, output), errors),
         Options::Threads(plan) => threads(rt, alloc, plan, output, errors),
         Options::Decode => tell(decode(alloc, input, output), errors),
     }
@@ -102,12 +99,12 @@ fn threads<H: Threads + Wait + Sync, W: Write, E: Write>(
 {
     let limit = plan.sides.history as u32;
     match plan.sides.tracker {
-        Mode::CommitOrder => threads_by(rt, alloc, Ok(CommitOrder), plan, output, errors),
-        Mode::Writeset => {
+        Tracking::CommitOrder => threads_by(rt, alloc, Ok(CommitOrder), plan, output, errors),
+        Tracking::Writeset => {
             let tracker = WriteSetTracker::with_limit(alloc, limit);
             threads_by(rt, alloc, tracker, plan, output, errors)
         }
-        Mode::WritesetSession => {
+        Tracking::WritesetSession => {
             let tracker = WriteSetSession::with_limit(alloc, limit);
             threads_by(rt, alloc, tracker, plan, output, errors)
         }
@@ -164,18 +161,4 @@ fn tell<E: Write>(done: Result<(), Stop>, errors: &mut E) -> Ending
         Ok(()) => Ending::Done,
         Err(stop) => stop.tell(errors),
     }
-}
-
-/// Runs the script of a reader, over both sides that are made of these parts.
-fn run<R: Read, W: Write>(
-    alloc: Global,
-    sides: Sides,
-    input: &mut R,
-    output: &mut W,
-) -> Result<(), Stop>
-    requires { AreSides sides }
-    ensures { OnOk result (IfSome (R.remaining input.old) (λ text. PrintsText (kind_for sides) sides.workers text (W.contents output.old) (W.contents output.new))) }
-{
-    let mut input = BufReader::with_capacity(alloc, CHUNK, input)?;
-    run_text(alloc, sides, &mut input, output)
 }

@@ -3,7 +3,7 @@
 //! Each session, each worker and each reader has a thread of its own, and so has the wire that sends the source's log to the
 //! replica, as bytes in pieces. `changes` is what a session writes and what its rows are in the end; `feeding` is the work of the
 //! sessions and of the wire, `serving` that of the workers and the readers. Once all threads have ended `comparing` reads each
-//! row on both sides, and `sides` opens and ends these. `reading` keeps what a reader saw, and `ended` judges what came of both
+//! row on both sides, and `lifecycle` opens and ends these. `reading` keeps what a reader saw, and `ended` judges what came of both
 //! sides.
 //!
 //! No thread waits for one that may never come: the wire is told when the sessions have ended, whatever they came to, and
@@ -15,7 +15,7 @@ mod ended;
 mod feeding;
 mod reading;
 mod serving;
-mod sides;
+mod lifecycle;
 mod trouble;
 
 ghost use Rattle.std.specs.Prelude.{◌≡◌, ◌++◌, ◌∷◌, [], IfOk, IfSome, OnOk};
@@ -28,7 +28,7 @@ use crate::ending::{Ending, Stop};
 use crate::options::{Options, Plan};
 use crate::pair::NewStore;
 use ended::Ended;
-use sides::open_and_run;
+use lifecycle::open_and_run;
 use std::alloc::Global;
 use std::io;
 use std::io::Write;

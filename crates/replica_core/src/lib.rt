@@ -116,6 +116,7 @@ impl<S: RowStore> ReplicaCore<S> {
         // Memory runs out only in the place of an acceptance.
         ensures memory { IsErrOf result ReplicaFault.Memory
             → received self.old from new.now ≡ Ok Received.Accepted }
+        ensures sound { IsSound self.old }
         ensures ok { IfOk result (λ answer. self.new ≡ left_by_receive self.old new.now answer) }
         ensures err { OnErr result (self.new ≡ self.old) }
     {
@@ -189,6 +190,7 @@ impl<S: RowStore> ReplicaCore<S> {
         // Memory runs out only in the place of a commit.
         ensures memory { IsErrOf result ReplicaFault.Memory
             → (self.old.stopped ≡ None) × IsSome (next_commit self.old) }
+        ensures sound { IsSound self.old }
         ensures ok { IfOk result (λ gno.
             self.new ≡ (if is_some gno then committed_next self.old else self.old)) }
         ensures err { OnErr result (self.new ≡ self.old) }

@@ -5,7 +5,7 @@ use Rattle.std.proofs.lemmas.Bool.{false≢true}
 use Rattle.std.proofs.lemmas.Bool.Decides.{nat_tests}
 use Rattle.std.specs.Option.{option_map}
 use Rattle.std.proofs.lemmas.Option.{IfSome_then, same_Some}
-use Rattle.std.proofs.lemmas.List.{append-nil, take-append-le, take-append-drop, take_at, drop_at, length-append, map-append, length-set, length-replicate, length-take-le, length-drop}
+use Rattle.std.proofs.lemmas.List.{take-append-le, take-append-drop, take_at, drop_at, length-append, map-append, length-set, length-replicate, length-take-le, length-drop}
 use Rattle.schema.specs.declared.Table.{Table}
 use Rattle.store_trait.specs.Batch.{Entry}
 use Rattle.record_codec.specs.declared.records.Record.{Record}

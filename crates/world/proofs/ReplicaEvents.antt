@@ -161,13 +161,6 @@ dispatch_idle contents w h idle =
     stays contents w events.Dispatch replies.Nothing h refl (λ setup past st. untold setup past w events.Dispatch replies.Nothing (λ k. refl) st)
     (λ setup past log st longer. inr (sym (reply_as contents setup past w log false h st longer idle)))
 
-pub dispatch_nothing : {R : Type 0} (contents : R → Database) (w : World R) (next : Replica) (jobs : List (Option Job)) → IsWorld contents w → IsSound w.replica → next_job w.replica ≡ None → next ≡ w.replica → jobs ≡ w.jobs → Goes contents w events.Dispatch replies.Nothing (with_jobs w next jobs)
-dispatch_nothing {R} contents w next jobs h sound is same kept =
-    subst (λ (r : Replica). Goes {R = R} contents w events.Dispatch replies.Nothing (with_jobs w r jobs)) (sym same)
-    (subst (λ (l : List (Option Job)). Goes {R = R} contents w events.Dispatch replies.Nothing (with_jobs w w.replica l)) (sym kept)
-    (stays contents w events.Dispatch replies.Nothing h refl (λ setup past st. untold setup past w events.Dispatch replies.Nothing (λ k. refl) st)
-    (λ setup past log st longer. inr (sym (reply_as contents setup past w log false h st longer (not_handed_out w.replica sound is))))))
-
 -- of what is accepted, the first n records are those of the log
 pub accepted_front : {R : Type 0} (contents : R → Database) (w : World R) (n : ℕ) → IsWorld contents w → n ≤ length w.replica.accepted → take n w.replica.accepted ≡ take n w.source.log
 accepted_front contents w n h within = ap (take n) h.wire.front ∙ take-take n (length w.replica.accepted) w.source.log within

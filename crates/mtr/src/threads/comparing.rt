@@ -5,18 +5,18 @@ ghost use Rattle.mtr.specs.Options.{IsInRange};
 
 use super::changes::{row_left, row_of};
 use super::reading::Reader;
-use super::sides::{Replica, Source};
+use super::lifecycle::{Replica, Source};
 use super::trouble::Trouble;
 use crate::options::{Options, Plan};
 use crate::pair::NewStore;
 use replica_shared::ReplicaNaming;
-use source_shared::{Naming, Receipt, SessionSeat};
+use source_shared::{SourceNaming, Receipt, SessionSeat};
 use std::sync::Wait;
 use tracker_trait::Tracker;
 
 /// Reads each row at the source and by a reader that learnt of the last commit, and compares both with what the sessions
 /// left.
-pub fn compare<S: NewStore, T: Tracker + Drop + Send + Sync, J: Naming, K: ReplicaNaming, H: Wait>(
+pub fn compare<S: NewStore, T: Tracker + Drop + Send + Sync, J: SourceNaming, K: ReplicaNaming, H: Wait>(
     rt: &H,
     plan: &Plan,
     source: &Source<S, T, J>,
@@ -39,7 +39,7 @@ pub fn compare<S: NewStore, T: Tracker + Drop + Send + Sync, J: Naming, K: Repli
 fn compare_session<
     S: NewStore,
     T: Tracker + Drop + Send + Sync,
-    J: Naming,
+    J: SourceNaming,
     K: ReplicaNaming,
     H: Wait,
 >(
@@ -64,7 +64,7 @@ fn compare_session<
 }
 
 /// The greatest gno of receipts; 0 where there are none.
-fn last_gno<J: Naming>(receipts: &[Receipt<J>]) -> u64 {
+fn last_gno<J: SourceNaming>(receipts: &[Receipt<J>]) -> u64 {
     let mut last = 0;
     for receipt in receipts {
         last = receipt.given().gno.max(last);

@@ -35,11 +35,11 @@ impl<S: RowStore, T: Tracker> Ended<S, T> {
         ensures { Holds result self.now }
     {
         let published = self.published;
-        let _legal = self.source.log();
         if self.replica.published() == published
             && begins(&self.source, &self.replica)
             && are_all_within(&self.readings, published)
         {
+            prove!(self.replica.accepted().len() <= self.source.log().len());
             let log = last_gno(&self.receipts);
             Verdict::Equal { log, published }
         } else {

@@ -4,13 +4,13 @@ ghost use Rattle.std.specs.Prelude.{◌<◌, ◌≤◌};
 ghost use Rattle.mtr.specs.Options.{IsInRange};
 
 use super::changes::{inserted, set_before};
-use super::sides::{Replica, Source};
+use super::lifecycle::{Replica, Source};
 use super::trouble::Trouble;
 use crate::options::{Options, Plan};
 use crate::pair::{NewStore, SOURCE};
 use replica_core::Wire;
 use replica_shared::ReplicaNaming;
-use source_shared::{Naming, Receipt, SessionSeat};
+use source_shared::{SourceNaming, Receipt, SessionSeat};
 use std::alloc::{AllocError, Global};
 use std::sync::Wait;
 use std::thread::{Threads, join, map_indices};
@@ -31,7 +31,7 @@ type Receipts<J> = Result<Vec<Receipt<J>>, Trouble>;
 pub fn feed<
     S: NewStore,
     T: Tracker + Drop + Send + Sync,
-    J: Naming + Send + Sync,
+    J: SourceNaming + Send + Sync,
     K: ReplicaNaming + Send + Sync,
     H: Threads + Wait + Sync,
 >(
@@ -61,7 +61,7 @@ pub fn feed<
 fn commit_all<
     S: NewStore,
     T: Tracker + Drop + Send + Sync,
-    J: Naming + Send + Sync,
+    J: SourceNaming + Send + Sync,
     H: Threads + Wait + Sync,
 >(rt: &H, alloc: Global, plan: &Plan, source: &Source<S, T, J>) -> Result<Vec<Receipt<J>>, Trouble>
     requires { IsInRange (Options.Threads plan.now) }
@@ -76,11 +76,11 @@ fn commit_all<
         { commit_session(rt, alloc, source, place, transactions) },
     );
     source.close(rt);
-    joined(alloc, each?)
+    all_receipts(alloc, each?)
 }
 
 /// The receipts of all sessions, in one list.
-fn joined<J: Naming>(alloc: Global, each: Vec<Receipts<J>>) -> Result<Vec<Receipt<J>>, Trouble> {
+fn all_receipts<J: SourceNaming>(alloc: Global, each: Vec<Receipts<J>>) -> Result<Vec<Receipt<J>>, Trouble> {
     let mut all = Vec::new(alloc);
     for receipts in each {
         all.append(&mut receipts?)?;
@@ -89,7 +89,7 @@ fn joined<J: Naming>(alloc: Global, each: Vec<Receipts<J>>) -> Result<Vec<Receip
 }
 
 /// Commits so many transactions of the session behind as many others, one after another.
-fn commit_session<S: NewStore, T: Tracker + Drop + Send + Sync, J: Naming, H: Wait>(
+fn commit_session<S: NewStore, T: Tracker + Drop + Send + Sync, J: SourceNaming, H: Wait>(
     rt: &H,
     alloc: Global,
     source: &Source<S, T, J>,
@@ -108,7 +108,7 @@ fn commit_session<S: NewStore, T: Tracker + Drop + Send + Sync, J: Naming, H: Wa
 }
 
 /// Writes and commits one transaction of the seat's session.
-fn commit_one<S: NewStore, T: Tracker + Drop + Send + Sync, J: Naming, H: Wait>(
+fn commit_one<S: NewStore, T: Tracker + Drop + Send + Sync, J: SourceNaming, H: Wait>(
     rt: &H,
     source: &Source<S, T, J>,
     seat: &mut SessionSeat<J>,
@@ -125,7 +125,7 @@ fn commit_one<S: NewStore, T: Tracker + Drop + Send + Sync, J: Naming, H: Wait>(
 
 /// Sends the source's log to the replica until the sessions have ended and all was sent. It sleeps while there is nothing to send.
 /// The bytes are kept of as many records as there is room for, and of one at least.
-fn carry_all<S: NewStore, T: Tracker + Drop + Send + Sync, J: Naming, K: ReplicaNaming, H: Wait>(
+fn carry_all<S: NewStore, T: Tracker + Drop + Send + Sync, J: SourceNaming, K: ReplicaNaming, H: Wait>(
     rt: &H,
     alloc: Global,
     source: &Source<S, T, J>,

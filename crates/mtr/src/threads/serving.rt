@@ -2,7 +2,7 @@
 
 use super::changes::row_of;
 use super::reading::Reader;
-use super::sides::Replica;
+use super::lifecycle::Replica;
 use super::trouble::Trouble;
 use crate::pair::NewStore;
 use replica_shared::{NoGate, ReplicaNaming};

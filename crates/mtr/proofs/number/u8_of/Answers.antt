@@ -1,16 +1,12 @@
-use Rattle.std.proofs.Common.{◌∙◌, sym, arith}
-use Rattle.mtr.proofs.NumberTexts.{number_parsed, no_number, number_reads}
+use Rattle.std.proofs.Common.{◌∙◌, ◌^◌, sym, arith}
+use Rattle.mtr.proofs.NumberTexts.{number_none, number_narrowed, number_reads}
 use Rattle.mtr.proofs.number.u8_of.Goals as goal
 
-pub returns-then-is_number-clause-exact : goal.returns-then-is_number-clause-exact
-returns-then-is_number-clause-exact c =
-    c.ok.ensures.value ∙ number_parsed 8 _ c.parse.result c.parse.ensures.value.0 (sym c.is_number.ensures ∙ c.if-is_number.true)
+pub returns-in_err-u64_of-clause-exact : goal.returns-in_err-u64_of-clause-exact
+returns-in_err-u64_of-clause-exact c = rw c.from_residual.ensures (sym (number_none (2 ^ 8) (2 ^ 64) _ (omega arith) c.in_err-u64_of.ensures.exact))
 
-pub returns-else-is_number-clause-exact : goal.returns-else-is_number-clause-exact
-returns-else-is_number-clause-exact c = sym (no_number _ _ (sym c.is_number.ensures ∙ c.if-is_number.false))
+pub returns-clause-exact : goal.returns-clause-exact
+returns-clause-exact c = c.ok.ensures.value ∙ number_narrowed (2 ^ 8) (2 ^ 64) _ c.in_ok-u64_of.field-0 c.try_from.result c.in_ok-u64_of.ensures.exact c.try_from.ensures
 
-pub returns-then-is_number-clause-reads : goal.returns-then-is_number-clause-reads
-returns-then-is_number-clause-reads c = number_reads _ _ _ (omega arith) (returns-then-is_number-clause-exact c)
-
-pub returns-else-is_number-clause-reads : goal.returns-else-is_number-clause-reads
-returns-else-is_number-clause-reads c = number_reads _ _ _ (omega arith) (returns-else-is_number-clause-exact c)
+pub returns-clause-reads : goal.returns-clause-reads
+returns-clause-reads c = number_reads _ _ _ (omega arith) (returns-clause-exact c)

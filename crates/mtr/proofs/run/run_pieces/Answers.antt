@@ -2,7 +2,7 @@ use Rattle.std.proofs.Common.{◌≡◌, ◌∙◌, sym, ap, ◌++◌, []}
 use Rattle.world.specs.Seen.{seen}
 use Rattle.mtr.proofs.Runs.{goes_nowhere, goes_further, behind_piece}
 use Rattle.mtr.specs.Printing.{lines_of}
-use Rattle.mtr.specs.Events.{joined}
+use Rattle.mtr.specs.Events.{events_in}
 use Rattle.std.specs.Vec.Iter.{into_iter_items}
 use Rattle.mtr.proofs.Pieces.{along}
 use Rattle.mtr.proofs.run.run_pieces.Goals as goal
@@ -12,7 +12,7 @@ loop-piece-init g c =
     let all : into_iter_items c.into_iter-piece-iterator.result ≡ c.args.pieces.items = c.into_iter-piece-iterator.ensures.into_iter_gives.0 in
     record {
       world = c.requires;
-      done = ([], ap joined all, goes_nowhere g.R.RowStore.contents (seen c.args.world.now) (g.W.Write.contents c.args.output.now));
+      done = ([], ap events_in all, goes_nowhere g.R.RowStore.contents (seen c.args.world.now) (g.W.Write.contents c.args.output.now));
     }
 
 pub loop-piece-preserved : goal.loop-piece-preserved
@@ -25,8 +25,8 @@ loop-piece-preserved g c =
       world = c.in_ok-replies.ensures.world;
       done = (
         done.0 ++ c.deref.result.now,
-        behind_piece done.0 (joined (into_iter_items c.loop-piece.piece-iterator)) c.deref.result.now (joined rest) (joined c.args.pieces.items) done.1
-            (ap joined c.in-Some.ensures.steps.0 ∙ ap (λ piece. piece ++ joined rest) (sym read)),
+        behind_piece done.0 (events_in (into_iter_items c.loop-piece.piece-iterator)) c.deref.result.now (events_in rest) (events_in c.args.pieces.items) done.1
+            (ap events_in c.in-Some.ensures.steps.0 ∙ ap (λ piece. piece ++ events_in rest) (sym read)),
         goes_further contents (seen c.args.world.now) (seen c.loop-piece.world) (seen c.run.new.self) done.0 c.deref.result.now c.in_ok-replies.replies.items
             (g.W.Write.contents c.args.output.now) (g.W.Write.contents c.loop-piece.output) (g.W.Write.contents c.print.new.output)
             done.2 c.in_ok-replies.ensures.goes_on

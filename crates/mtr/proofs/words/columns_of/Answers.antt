@@ -1,36 +1,29 @@
-use Rattle.std.proofs.Common.{◌≡◌, ◌∙◌, sym, ap, ◌<◌, ◌∷◌, ℤ, List, length, take, rules, arith, FitsSigned, w64}
+use Rattle.std.proofs.Common.{◌∙◌, sym, ◌<◌, ℤ, length, take, rules, arith, FitsSigned, w64}
 use Rattle.std.proofs.lemmas.List.{length-take-le}
 use Rattle.std.proofs.lemmas.Int.{to_z-of_z}
 use Rattle.std.proofs.Math.ListN.{length-set}
 use Rattle.mtr.specs.Number.{integer}
-use Rattle.mtr.specs.Words.{Word}
-use Rattle.mtr.proofs.WordLists.{words_are, none_are, then_rest, item_more, no_item, item_past, all_read}
+use Rattle.mtr.proofs.WordLists.{none_are, item_more, no_item, item_past, all_read}
 use Rattle.mtr.proofs.words.columns_of.Goals as goal
 
 pub returns-then-count-columns : goal.returns-then-count-columns
 returns-then-count-columns c = λ all is.
-    let words : c.loop-word.words ≡ c.in-Some.word.now ∷ c.in-Some.rest = words_are _ _ _ (sym c.in-Some.ensures) in
-    let past = item_past integer (take c.loop-word.count c.loop-word.columns) c.args.words c.in-Some.rest c.in-Some.word.now all
-    (ap (λ (ws : List Word). then_rest integer (take c.loop-word.count c.loop-word.columns) ws) (sym words) ∙ c.loop-word.invariant.so_far) is in
+    let past = item_past integer (take c.loop-word.count c.loop-word.columns) c.args.words c.loop-word.words c.in-Some.rest c.in-Some.word.now all (sym c.in-Some.ensures) c.loop-word.invariant.so_far is in
     omega (arith, length-take-le c.loop-word.count c.loop-word.columns (omega arith), past)
 
 pub returns-in_err-columns : goal.returns-in_err-columns
 returns-in_err-columns c =
-    let words : c.loop-word.words ≡ c.in-Some.word.now ∷ c.in-Some.rest = words_are _ _ _ (sym c.in-Some.ensures) in
-    let none = no_item integer (take c.loop-word.count c.loop-word.columns) c.args.words c.in-Some.rest c.in-Some.word.now (sym c.in_err-columns.ensures.exact)
-    (ap (λ (ws : List Word). then_rest integer (take c.loop-word.count c.loop-word.columns) ws) (sym words) ∙ c.loop-word.invariant.so_far) in
+    let none = no_item integer (take c.loop-word.count c.loop-word.columns) c.args.words c.loop-word.words c.in-Some.rest c.in-Some.word.now (sym c.in_err-columns.ensures.exact) (sym c.in-Some.ensures) c.loop-word.invariant.so_far in
     rw c.from_residual.ensures (λ all is. absurd (cc (none, is)))
 
 pub loop-word-preserved : goal.loop-word-preserved
 loop-word-preserved c =
-    let words : c.loop-word.words ≡ c.in-Some.word.now ∷ c.in-Some.rest = words_are _ _ _ (sym c.in-Some.ensures) in
     let fits : FitsSigned w64 c.in_ok-columns.field-0 = search rules in
     let below : c.loop-word.count < length c.loop-word.columns = omega arith in
     record {
       few = omega (arith, length-set {A = ℤ});
       so_far =
-          item_more integer c.loop-word.columns c.loop-word.count c.in-Some.word.now c.in_ok-columns.field-0 _ c.in-Some.rest below (to_z-of_z w64 _ fits) (sym c.in_ok-columns.ensures.exact)
-          ∙ ap (λ (ws : List Word). then_rest integer (take c.loop-word.count c.loop-word.columns) ws) (sym words)
+          item_more integer c.loop-word.columns c.loop-word.count c.loop-word.words c.in-Some.rest c.in-Some.word.now c.in_ok-columns.field-0 _ below (to_z-of_z w64 _ fits) (sym c.in-Some.ensures) (sym c.in_ok-columns.ensures.exact)
           ∙ c.loop-word.invariant.so_far;
     }
 

@@ -1,3 +1,4 @@
+use Rattle.replica_core.proofs.Kept.{sound_as_seen}
 use Rattle.std.proofs.Common.{◌∙◌, ◌+◌, sym, ap, inr, Ok, Err, arith}
 use Rattle.std.specs.Option.{option_map_or}
 use Rattle.relay.specs.declared.ReplicaFault.TheVariants.{Stopped}
@@ -24,3 +25,15 @@ invariant_of-self-2 g c =
     let number = ap (λ n. n + 1) c.low_water-gno.ensures.value in
     committed_kept was.relay was.base was.scheduler was.published was.turns was.workers was.stopped was.inputs.items _ was.waiting.items _ c.in_ok-commit_turn.field-0 c.committed.new.self c.commit_turn.new.turns c.drop_first.new.list.items _ c.commit_turn.new.waiting.items
     c.self.invariant number c.if-not-branch.false c.in_ok-commit_turn.ensures (c.committed.ensures.in_turn c.self.invariant.marks_are number) c.drop_first.ensures
+
+pub returns-in_err-refuse_stopped-clause-sound : goal.returns-in_err-refuse_stopped-clause-sound
+returns-in_err-refuse_stopped-clause-sound g c = sound_as_seen _ _ _ _ _ _ _ c.self.invariant c.self.view_is
+
+pub returns-in_err-commit_turn-clause-sound : goal.returns-in_err-commit_turn-clause-sound
+returns-in_err-commit_turn-clause-sound g c = sound_as_seen _ _ _ _ _ _ _ c.self.invariant c.self.view_is
+
+pub returns-then-not-branch-clause-sound : goal.returns-then-not-branch-clause-sound
+returns-then-not-branch-clause-sound g c = sound_as_seen _ _ _ _ _ _ _ c.self.invariant c.self.view_is
+
+pub returns-clause-sound : goal.returns-clause-sound
+returns-clause-sound g c = sound_as_seen _ _ _ _ _ _ _ c.self.invariant c.self.view_is

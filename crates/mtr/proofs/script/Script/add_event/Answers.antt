@@ -1,6 +1,4 @@
-use Rattle.std.proofs.Common.{refl}
 use Rattle.mtr.specs.Script.{said}
-use Rattle.mtr.specs.Command.{event_of}
 use Rattle.mtr.proofs.ScriptLines.{event_added}
 use Rattle.mtr.proofs.script.Script.add_event.Goals as goal
 

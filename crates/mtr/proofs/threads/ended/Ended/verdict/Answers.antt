@@ -10,7 +10,7 @@ pub returns-then-are_all_within : goal.returns-then-are_all_within
 returns-then-are_all_within g c =
     let e = c.args.self.now in
     let told = c.begins.ensures.0 c.if-begins.true in
-    equal_sides e c.last_gno-log.result c.requires c.log-legal.ensures.sound c.published.ensures.sound
+    equal_sides e c.last_gno-log.result c.requires c.log.ensures.sound c.published.ensures.sound
     (record {
       counted = sym c.published.ensures.value ∙ c.if-published.true;
       rows = told.0;

@@ -1,6 +1,6 @@
 use Rattle.std.specs.List.{All}
 use Rattle.mtr.specs.Reading.{AreTold}
-use Rattle.mtr.proofs.threads.sides.tell_all.Given as goal
+use Rattle.mtr.proofs.threads.lifecycle.tell_all.Given as goal
 
 -- each list so far is of answers of what was published
 abbrev pub invariant-loop-reader : goal.invariant-loop-reader

@@ -1,8 +1,8 @@
-use Rattle.mtr.proofs.threads.sides.open_and_run.Given as goal
+use Rattle.mtr.proofs.threads.lifecycle.open_and_run.Given as goal
 
 -- the history of receipts that was just made, and the rows and the tables of the source
-abbrev pub ghosts-run_named-J-Naming : goal.ghosts-run_named-J-Naming
-ghosts-run_named-J-Naming g a = record { book = a.receipts; base = a.cores.source.base; tables = a.cores.source.tables }
+abbrev pub ghosts-run_named-J-SourceNaming : goal.ghosts-run_named-J-SourceNaming
+ghosts-run_named-J-SourceNaming g a = record { book = a.receipts; base = a.cores.source.base; tables = a.cores.source.tables }
 
 -- the tables, the source and the rows of the replica
 abbrev pub ghosts-run_named-K-ReplicaNaming : goal.ghosts-run_named-K-ReplicaNaming

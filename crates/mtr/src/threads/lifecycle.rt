@@ -24,7 +24,7 @@ use replica_core::ReplicaCore;
 use replica_shared::{ReplicaNaming, SharedReplica};
 use schema::{Schema, SchemaFault, Table};
 use source_core::Receipt as Given;
-use source_shared::{Naming, Receipt, SharedSource};
+use source_shared::{SourceNaming, Receipt, SharedSource};
 use std::alloc::{AllocError, Global};
 use std::marker::Brand;
 use std::sync::Wait;
@@ -113,7 +113,7 @@ fn new_cores<S: NewStore, T: Tracker + Drop>(
 fn run_named<
     S: NewStore,
     T: Tracker + Drop + Send + Sync,
-    J: Naming + Send + Sync,
+    J: SourceNaming + Send + Sync,
     K: ReplicaNaming + Send + Sync,
     H: Threads + Wait + Sync,
 >(
@@ -164,7 +164,7 @@ fn run_named<
 }
 
 /// What all readers saw, once they learnt all that was published; and the receipts.
-fn tell_all<S: NewStore, J: Naming, K: ReplicaNaming>(
+fn tell_all<S: NewStore, J: SourceNaming, K: ReplicaNaming>(
     alloc: Global,
     met: Result<Met<S, J, K>, Trouble>,
     publisher: &Publisher<S, K>,
@@ -180,7 +180,7 @@ fn tell_all<S: NewStore, J: Naming, K: ReplicaNaming>(
 }
 
 /// The receipts, as the core gave them.
-fn given_all<J: Naming>(alloc: Global, receipts: Vec<Receipt<J>>) -> Result<Vec<Given>, AllocError>
+fn given_all<J: SourceNaming>(alloc: Global, receipts: Vec<Receipt<J>>) -> Result<Vec<Given>, AllocError>
     ensures { IfOk result (λ all. all.items ≡ receipts.items) }
 {
     let mut all = Vec::with_capacity(alloc, receipts.len())?;
@@ -220,7 +220,7 @@ fn new_replica<S: NewStore, K: ReplicaNaming, H: Wait>(
 fn meet<
     S: NewStore,
     T: Tracker + Drop + Send + Sync,
-    J: Naming + Send + Sync,
+    J: SourceNaming + Send + Sync,
     K: ReplicaNaming + Send + Sync,
     H: Threads + Wait + Sync,
 >(
@@ -252,7 +252,7 @@ fn meet<
 fn apply<
     S: NewStore,
     T: Tracker + Drop + Send + Sync,
-    J: Naming + Send + Sync,
+    J: SourceNaming + Send + Sync,
     K: ReplicaNaming + Send + Sync,
     H: Threads + Wait + Sync,
 >(

@@ -4,7 +4,7 @@ use Rattle.std.proofs.lemmas.List.Elements.{All-replicate}
 use Rattle.store_trait.specs.Batch.{Entry}
 use Rattle.store_trait.specs.declared.Op.{Op}
 use Rattle.store_trait.specs.declared.Op.TheVariants.{Load}
-use Rattle.mtr.proofs.threads.sides.new_replica.Goals as goal
+use Rattle.mtr.proofs.threads.lifecycle.new_replica.Goals as goal
 
 pub new-requires-clause-seats : goal.new-requires-clause-seats
 new-requires-clause-seats g c =

@@ -1,6 +1,6 @@
 use Rattle.std.proofs.Common.{◌≡◌, ◌++◌}
 use Rattle.std.specs.Vec.Iter.{into_iter_items}
-use Rattle.mtr.proofs.threads.sides.given_all.Given as goal
+use Rattle.mtr.proofs.threads.lifecycle.given_all.Given as goal
 
 -- the receipts so far, and those that are still to come
 abbrev pub invariant-loop-receipt : goal.invariant-loop-receipt

@@ -4,7 +4,7 @@ use Rattle.std.proofs.lemmas.List.Elements.{All-push}
 use Rattle.store_trait.specs.declared.Op.{Op}
 use Rattle.mtr.specs.declared.threads.reading.Shown.{Shown}
 use Rattle.mtr.specs.Reading.{AreTold}
-use Rattle.mtr.proofs.threads.sides.tell_all.Goals as goal
+use Rattle.mtr.proofs.threads.lifecycle.tell_all.Goals as goal
 
 pub loop-reader-preserved : goal.loop-reader-preserved
 loop-reader-preserved g c =

@@ -4,7 +4,7 @@ use Rattle.source_shared.specs.Engine.{IsCommitted}
 use Rattle.replica_core.specs.Replica.{Replica}
 use Rattle.mtr.specs.Threads.{IsEnded}
 use Rattle.mtr.specs.declared.threads.ended.Ended.{Ended}
-use Rattle.mtr.proofs.threads.sides.run_named.Goals as goal
+use Rattle.mtr.proofs.threads.lifecycle.run_named.Goals as goal
 
 pub returns-clause-ended : goal.returns-clause-ended
 returns-clause-ended g c =
