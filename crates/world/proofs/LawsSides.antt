@@ -1,6 +1,6 @@
 -- What seats saw of a replica whose records are a beginning of the source's log.
 use mathlib.Core.List.{IsPrefix}
-use Rattle.std.proofs.Common.{◌≡◌, ◌∙◌, sym, ap, subst, ℕ, suc, ◌+◌, ◌-◌, ◌≤◌, List, [], ◌∷◌, ◌++◌, length, take, drop, Some, arith}
+use Rattle.std.proofs.Common.{◌≡◌, ◌∙◌, sym, ap, subst, ℕ, suc, ◌≤◌, List, [], ◌∷◌, length, take, drop, Some, arith}
 use Rattle.std.proofs.lemmas.List.{take-append-le, take-append-drop, take-take}
 use Rattle.std.proofs.Math.Seq.{take-length}
 use Rattle.schema.specs.declared.Table.{Table}
@@ -11,10 +11,9 @@ use Rattle.store_trait.specs.Operation.{loaded, left_by}
 use Rattle.record_codec.specs.declared.records.Record.{Record}
 use Rattle.record_codec.specs.Log.{after, IsLegalLog}
 use Rattle.record_codec.proofs.Logs.{beginning_leaves}
-use Rattle.source_core.specs.Source.{Source}
-use Rattle.replica_core.specs.Replica.{Replica, operations, commits, commits_from}
+use Rattle.replica_core.specs.Replica.{operations, commits, commits_from}
 use Rattle.replica_core.proofs.Commits.{take-commits_from, left_by-operations}
-use Rattle.published.specs.History.{IsHistory, commits_in}
+use Rattle.published.specs.History.{commits_in}
 use Rattle.world.specs.Laws.{SeatsSeeTheSource}
 use Rattle.world.proofs.Parts.{take_longer}
 

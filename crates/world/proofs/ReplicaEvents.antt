@@ -7,7 +7,7 @@ use Rattle.std.specs.Option.{option_map_or, IsSome}
 use Rattle.std.specs.Result.{IsErrOf}
 use Rattle.std.specs.FinMap.{get}
 use Rattle.std.proofs.lemmas.List.{take-append-drop, take-take, length-drop}
-use Rattle.std.proofs.lemmas.Bool.{false≢true, and_parts}
+use Rattle.std.proofs.lemmas.Bool.{false≢true}
 use Rattle.std.proofs.lemmas.Bool.Decides.{nat_tests}
 use Rattle.std.proofs.lemmas.Option.{none-some, same_Some}
 use Rattle.rows.specs.Database.{Database}
@@ -32,7 +32,7 @@ use Rattle.world.specs.Legal.{Setup, replica_at, rows_after, may_dispatch, dispa
 use Rattle.world.specs.State.{World, IsWorld, Stands, Goes}
 use Rattle.world.specs.Run.{ShowsOperations}
 use Rattle.world.proofs.Parts.{replica_is, take_longer, stays, with_replica, untold, source_untold, unfailed, both_true, is_below}
-use Rattle.world.proofs.Jobs.{gno_of_job, job_of_parts, jobs_dispatched, jobs_committed}
+use Rattle.world.proofs.Jobs.{gno_of_job, jobs_dispatched, jobs_committed}
 use Rattle.store_trait.specs.Operation.{loaded, left_by}
 
 -- a replica that runs answers what it is asked
@@ -116,23 +116,6 @@ handed_out r job is = by (is_eligible r) refl is where
   by : (b : Bool) → is_eligible r ≡ b → (if b then job_of r (dispatched_at r + 1) else None) ≡ Some job → (is_eligible r ≡ true) × (job_of r (dispatched_at r + 1) ≡ Some job)
   by true e k = (e, k)
   by false e k = absurd (none-some job k)
-
--- and none where it is not
-not_handed_out : (r : Replica) → IsSound r → next_job r ≡ None → is_eligible r ≡ false
-not_handed_out r sound is = by (is_eligible r) refl is where
-  some_at : (o : Option Record) (test : Record → Bool) → option_map_or test o false ≡ true → (x : Record) × (o ≡ Some x)
-  some_at None test e = absurd (cc e)
-  some_at (Some x) test e = (x, refl)
-
-  less : (n : ℕ) → n ≡ n + 1 - 1
-  less n = omega arith
-
-  by : (b : Bool) → is_eligible r ≡ b → (if b then job_of r (dispatched_at r + 1) else None) ≡ None → is_eligible r ≡ false
-  by false e k = e
-  by true e k =
-      let got = some_at (slice_get r.accepted (dispatched_at r)) (λ next. nat_le next.parent r.committed) (and_parts _ _ e).0 in
-      let job = job_of_parts r (dispatched_at r + 1) got.0 sound.rows (ap (slice_get r.accepted) (sym (less (dispatched_at r))) ∙ got.1) sound.rows_are in
-      absurd (none-some _ (sym k ∙ job))
 
 pub dispatch_goes : {R : Type 0} (contents : R → Database) (w : World R) (job : Job) (next : Replica) (jobs : List (Option Job)) (gno : ℕ) → IsWorld contents w → next_job w.replica ≡ Some job → next ≡ dispatched_next w.replica → jobs ≡ w.jobs ++ Some job ∷ [] → gno ≡ job.gno →
     Goes contents w events.Dispatch (replies.Job gno) (with_jobs w next jobs)

@@ -1,6 +1,6 @@
 -- How the parts of a world stand together, and to the pairs of event and reply so far.
 use mathlib.Core.List.{IsPrefix}
-use Rattle.std.specs.Prelude.{◌≡◌, ℕ, ◌+◌, ◌≤◌, Bool, true, false, if◌then◌else◌, List, [], ◌∷◌, ◌++◌, length, map, take, drop, slice_index_or, Option, Some, None}
+use Rattle.std.specs.Prelude.{◌≡◌, ℕ, ◌+◌, ◌≤◌, Bool, true, false, if◌then◌else◌, List, ◌∷◌, length, map, take, drop, slice_index_or, Option, Some, None}
 use Rattle.rows.specs.Database.{Database}
 use Rattle.store_trait.specs.Operation.{batch_of, loaded}
 use Rattle.record_codec.specs.declared.records.Record.{Record}
