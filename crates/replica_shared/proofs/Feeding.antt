@@ -1,5 +1,5 @@
 -- What the core, and what stands with it, are once a wire took a piece.
-use Rattle.std.proofs.Common.{◌≡◌, ◌∙◌, sym, ap, subst, refl, ℕ, ◌<◌, ◌≤◌, ◌⊎◌, inl, inr, Bool, true, false, ◌||◌, nat_eq, nat_lt, List, [], ◌∷◌, ◌++◌, length, length-append, Option, Some, None, Result, Ok, Err, IfErr, arith}
+use Rattle.std.proofs.Common.{◌≡◌, ◌∙◌, sym, ap, subst, refl, ℕ, ◌<◌, ◌≤◌, ◌⊎◌, inl, inr, Bool, true, false, ◌||◌, nat_eq, nat_lt, List, [], ◌∷◌, ◌++◌, length, length-append, append-nil, Option, Some, None, Result, Ok, Err, IfErr, arith}
 use Rattle.std.specs.Prelude.{IsOk}
 use Rattle.std.specs.Option.{option_map_or}
 use Rattle.std.proofs.lemmas.Bool.{false≢true, false_from_ne_true, eqb-true, ltb-true, ltb-false}
@@ -13,8 +13,9 @@ use Rattle.published.specs.Status.{NoneFalls, latest}
 use Rattle.relay.specs.declared.ReplicaFault.{ReplicaFault}
 use Rattle.relay.specs.declared.ReplicaFault.TheVariants as faults
 use Rattle.relay.specs.declared.Received.{Received}
+use Rattle.relay.specs.declared.Received.TheVariants.{Accepted, Skipped}
 use Rattle.replica_core.specs.Replica.{Replica}
-use Rattle.replica_core.specs.Calls.{new_over}
+use Rattle.replica_core.specs.Calls.{new_over, left_by_receive}
 use Rattle.replica_core.specs.Wire.{Wire, HandsAll, Gathers, IsCodecCause, Takes, piece_taken}
 use Rattle.replica_core.specs.declared.wire.WireFault.{WireFault}
 use Rattle.replica_core.specs.declared.wire.WireFault.TheVariants as wire
@@ -29,6 +30,11 @@ use Rattle.replica_shared.proofs.Whole.{unsettled}
 not_more : (r then : Replica) → Grows r then → length then.accepted ≤ length r.accepted → then ≡ r
 not_more r then h few =
     grows_none r then h (let all = ap (λ (q : Replica). length q.accepted) h.is in omega (arith, length-append r.accepted h.more))
+
+-- what a record leaves that is received
+pub receive_grows : (r then : Replica) (new : Record) (answer : Received) → then ≡ left_by_receive r new answer → Grows r then
+receive_grows r then new Accepted is = record { more = new ∷ []; is = is }
+receive_grows r then new Skipped is = record { more = []; is = is ∙ ap (λ (l : List Record). record r { accepted = l }) (sym (append-nil r.accepted)) }
 
 -- where no more are accepted than before, nothing changed
 pub same_core : (r then : Replica) (before after : List Record) → Grows r then → before ≡ r.accepted → after ≡ then.accepted → length after ≤ length before → then ≡ r
