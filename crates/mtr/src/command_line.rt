@@ -10,7 +10,7 @@ use clap::error::ErrorKind;
 use clap::{Arg, ArgMatches, Command, value_parser};
 use std::alloc::{AllocError, Global};
 use std::env::Args;
-use tracker_trait::Mode;
+use tracker_trait::Tracking;
 
 /// What `--version` prints behind the program's name.
 const VERSION: &str = "1.0.0";

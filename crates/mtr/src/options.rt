@@ -5,7 +5,7 @@ ghost use Rattle.mtr.specs.Options.{mode_named};
 
 use std::alloc::AllocError;
 use thiserror::Error;
-use tracker_trait::Mode;
+use tracker_trait::Tracking;
 
 /// What the words behind the program's name ask for.
 #[derive(Clone, Copy)]
