@@ -21,7 +21,7 @@ use replica_shared::{NoGate, ReplicaNaming};
 use rows::{Change, Row};
 use schema::{RowId, Schema, Table};
 use sides::{Replica, SOURCE, Source, new_replica, send};
-use source_shared::{SourceNaming, Receipt, SharedSource};
+use source_shared::{Receipt, SharedSource, SourceNaming};
 use std::alloc::Global;
 use std::io;
 use std::marker::Brand;

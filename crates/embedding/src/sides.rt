@@ -10,7 +10,7 @@ use log_device::MemoryDevice;
 use published::{LeftRight, open};
 use replica_core::{ReplicaCore, Wire};
 use replica_shared::{ReplicaNaming, SharedReplica};
-use source_shared::{SourceNaming, SharedSource};
+use source_shared::{SharedSource, SourceNaming};
 use std::alloc::Global;
 use std::sync::Wait;
 use uuid::Uuid;

@@ -25,7 +25,7 @@ use schema::{RowId, Schema, Table};
 use std::alloc::Global;
 use std::io::{BufReader, Read, Write};
 use store_trait::RowStore;
-use tracker_trait::{Tracking, Tracker};
+use tracker_trait::{Tracker, Tracking};
 use uuid::Uuid;
 use vector_store::VectorStore;
 use world::{Reply, World, pair_of};

@@ -21,7 +21,7 @@ use std::io;
 use std::io::{ErrorKind, Read, Write};
 use std::sync::Wait;
 use std::thread::Threads;
-use tracker_trait::{Tracking, Tracker};
+use tracker_trait::{Tracker, Tracking};
 use vector_store::VectorStore;
 use writeset_trackers::{WriteSetSession, WriteSetTracker};
 

@@ -13,9 +13,9 @@ mod changes;
 mod comparing;
 mod ended;
 mod feeding;
+mod lifecycle;
 mod reading;
 mod serving;
-mod lifecycle;
 mod trouble;
 
 ghost use Rattle.std.specs.Prelude.{◌≡◌, ◌++◌, ◌∷◌, [], IfOk, IfSome, OnOk};

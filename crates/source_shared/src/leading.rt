@@ -2,7 +2,7 @@
 ghost use Rattle.std.specs.Prelude.{◌≡◌, All, length};
 ghost use Rattle.source_shared.specs.Engine.{ArePlaced, IsKnown, laid, laid_one};
 
-use crate::book::{History, SourceNaming, Receipt};
+use crate::book::{History, Receipt, SourceNaming};
 use source_core::Receipt as Given;
 
 // Lays each receipt into its session's place.
@@ -23,7 +23,11 @@ pub(crate) fn place_all<J: SourceNaming>(
 }
 
 // Lays a receipt into its session's place, where there is one.
-fn place_one<J: SourceNaming>(history: &History<J>, places: &mut Vec<Option<Receipt<J>>>, receipt: Given)
+fn place_one<J: SourceNaming>(
+    history: &History<J>,
+    places: &mut Vec<Option<Receipt<J>>>,
+    receipt: Given,
+)
     requires known { IsKnown history.now receipt }
     requires placed { ArePlaced history.now 1 places.old.items }
     ensures laid { places.new.items ≡ laid_one receipt places.old.items }

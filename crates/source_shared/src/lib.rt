@@ -27,6 +27,6 @@ mod leading;
 mod seat;
 mod shared;
 
-pub use book::{Beginning, SourceNaming, Receipt};
+pub use book::{Beginning, Receipt, SourceNaming};
 pub use seat::SessionSeat;
 pub use shared::SharedSource;

@@ -2,7 +2,7 @@
 ghost use Rattle.std.specs.Prelude.{◌≡◌, ◌↔◌, ◌≤◌, ◌-◌, IsTrue, true, length, take, OnOk, OnErr, MatchBool};
 ghost use Rattle.source_shared.specs.Seat.{new_seat, begun_seat, wrote, aborted_seat, given_to, IsFor};
 
-use crate::book::{SourceNaming, Receipt};
+use crate::book::{Receipt, SourceNaming};
 use record_codec::same_changes;
 use rows::Change;
 use schema::Memory;

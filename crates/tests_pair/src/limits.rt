@@ -10,7 +10,7 @@ use replica_shared::{NoGate, ReplicaNaming};
 use rows::{Change, Named, Row};
 use schema::RowId;
 use source_core::SourceFault;
-use source_shared::{SourceNaming, Receipt, SessionSeat};
+use source_shared::{Receipt, SessionSeat, SourceNaming};
 use std::alloc::Global;
 use std::process::Abort;
 use std::sync::Wait;

@@ -17,7 +17,7 @@ use relay::{Received, ReplicaFault};
 use replica_core::ReplicaCore;
 use replica_shared::{NoGate, ReplicaNaming, SharedReplica};
 use source_core::{Prepared, SourceFault};
-use source_shared::{SourceNaming, Receipt, SessionSeat, SharedSource};
+use source_shared::{Receipt, SessionSeat, SharedSource, SourceNaming};
 use std::alloc::Global;
 use std::marker::Brand;
 use std::process::Abort;

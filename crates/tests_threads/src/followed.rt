@@ -5,7 +5,7 @@ use crate::sources::{Shared, transact};
 use record_codec::{CodecFault, Record, decode, same_records};
 use schema::Memory;
 use source_core::SourceFault;
-use source_shared::{SourceNaming, Receipt};
+use source_shared::{Receipt, SourceNaming};
 use std::alloc::Global;
 use std::process::Abort;
 use std::sync::{Mutex, Wait};

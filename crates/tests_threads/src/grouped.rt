@@ -5,7 +5,7 @@ use crate::makers::insert;
 use crate::sources::{Shared, beside, write};
 use schema::Memory;
 use source_core::SourceFault;
-use source_shared::{SourceNaming, Receipt, SessionSeat};
+use source_shared::{Receipt, SessionSeat, SourceNaming};
 use std::alloc::Global;
 use std::process::Abort;
 use std::sync::atomic::Ordering;

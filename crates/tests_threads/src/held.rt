@@ -6,7 +6,7 @@ use crate::makers::insert;
 use crate::sources::{Shared, transact};
 use schema::Memory;
 use source_core::SourceFault;
-use source_shared::{SourceNaming, Receipt};
+use source_shared::{Receipt, SourceNaming};
 use std::alloc::Global;
 use std::process::Abort;
 use std::sync::atomic::Ordering;

@@ -13,7 +13,7 @@ use log_device::{FaultyDevice, MemoryDevice};
 use log_file::LogFile;
 use rows::{Change, Row};
 use source_core::{Prepared, SourceCore, SourceFault};
-use source_shared::{Beginning, SourceNaming, Receipt, SessionSeat, SharedSource};
+use source_shared::{Beginning, Receipt, SessionSeat, SharedSource, SourceNaming};
 use std::alloc::Global;
 use std::marker::Brand;
 use std::process::Abort;

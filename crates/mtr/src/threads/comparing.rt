@@ -4,19 +4,25 @@ ghost use Rattle.std.specs.Prelude.{◌≤◌};
 ghost use Rattle.mtr.specs.Options.{IsInRange};
 
 use super::changes::{row_left, row_of};
-use super::reading::Reader;
 use super::lifecycle::{Replica, Source};
+use super::reading::Reader;
 use super::trouble::Trouble;
 use crate::options::{Options, Plan};
 use crate::pair::NewStore;
 use replica_shared::ReplicaNaming;
-use source_shared::{SourceNaming, Receipt, SessionSeat};
+use source_shared::{Receipt, SessionSeat, SourceNaming};
 use std::sync::Wait;
 use tracker_trait::Tracker;
 
 /// Reads each row at the source and by a reader that learnt of the last commit, and compares both with what the sessions
 /// left.
-pub fn compare<S: NewStore, T: Tracker + Drop + Send + Sync, J: SourceNaming, K: ReplicaNaming, H: Wait>(
+pub fn compare<
+    S: NewStore,
+    T: Tracker + Drop + Send + Sync,
+    J: SourceNaming,
+    K: ReplicaNaming,
+    H: Wait,
+>(
     rt: &H,
     plan: &Plan,
     source: &Source<S, T, J>,

@@ -10,7 +10,7 @@ use crate::options::{Options, Plan};
 use crate::pair::{NewStore, SOURCE};
 use replica_core::Wire;
 use replica_shared::ReplicaNaming;
-use source_shared::{SourceNaming, Receipt, SessionSeat};
+use source_shared::{Receipt, SessionSeat, SourceNaming};
 use std::alloc::{AllocError, Global};
 use std::sync::Wait;
 use std::thread::{Threads, join, map_indices};
@@ -80,7 +80,10 @@ fn commit_all<
 }
 
 /// The receipts of all sessions, in one list.
-fn all_receipts<J: SourceNaming>(alloc: Global, each: Vec<Receipts<J>>) -> Result<Vec<Receipt<J>>, Trouble> {
+fn all_receipts<J: SourceNaming>(
+    alloc: Global,
+    each: Vec<Receipts<J>>,
+) -> Result<Vec<Receipt<J>>, Trouble> {
     let mut all = Vec::new(alloc);
     for receipts in each {
         all.append(&mut receipts?)?;
@@ -125,12 +128,13 @@ fn commit_one<S: NewStore, T: Tracker + Drop + Send + Sync, J: SourceNaming, H: 
 
 /// Sends the source's log to the replica until the sessions have ended and all was sent. It sleeps while there is nothing to send.
 /// The bytes are kept of as many records as there is room for, and of one at least.
-fn carry_all<S: NewStore, T: Tracker + Drop + Send + Sync, J: SourceNaming, K: ReplicaNaming, H: Wait>(
-    rt: &H,
-    alloc: Global,
-    source: &Source<S, T, J>,
-    replica: &Replica<S, K>,
-) -> Result<(), Trouble> {
+fn carry_all<
+    S: NewStore,
+    T: Tracker + Drop + Send + Sync,
+    J: SourceNaming,
+    K: ReplicaNaming,
+    H: Wait,
+>(rt: &H, alloc: Global, source: &Source<S, T, J>, replica: &Replica<S, K>) -> Result<(), Trouble> {
     let mut wire = Wire::new(alloc, Uuid::from_bytes(SOURCE));
     let mut bytes = Vec::with_capacity(alloc, ROOM)?;
     let mut sent = 0u64;

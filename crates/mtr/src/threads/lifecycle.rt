@@ -24,7 +24,7 @@ use replica_core::ReplicaCore;
 use replica_shared::{ReplicaNaming, SharedReplica};
 use schema::{Schema, SchemaFault, Table};
 use source_core::Receipt as Given;
-use source_shared::{SourceNaming, Receipt, SharedSource};
+use source_shared::{Receipt, SharedSource, SourceNaming};
 use std::alloc::{AllocError, Global};
 use std::marker::Brand;
 use std::sync::Wait;
@@ -180,7 +180,10 @@ fn tell_all<S: NewStore, J: SourceNaming, K: ReplicaNaming>(
 }
 
 /// The receipts, as the core gave them.
-fn given_all<J: SourceNaming>(alloc: Global, receipts: Vec<Receipt<J>>) -> Result<Vec<Given>, AllocError>
+fn given_all<J: SourceNaming>(
+    alloc: Global,
+    receipts: Vec<Receipt<J>>,
+) -> Result<Vec<Given>, AllocError>
     ensures { IfOk result (λ all. all.items ≡ receipts.items) }
 {
     let mut all = Vec::with_capacity(alloc, receipts.len())?;

@@ -1,8 +1,8 @@
 //! The workers' threads, and the readers'.
 
 use super::changes::row_of;
-use super::reading::Reader;
 use super::lifecycle::Replica;
+use super::reading::Reader;
 use super::trouble::Trouble;
 use crate::pair::NewStore;
 use replica_shared::{NoGate, ReplicaNaming};
