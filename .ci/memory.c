@@ -1,12 +1,12 @@
 // What is loaded before the C library (`.ci/preload`). Of the calls that CALL names, `memory`, `read` or `write`, it refuses the one whose
-// number REFUSE is, a read or a write with the error ERROR, and says so to descriptor 9. Where CALL is `count` it tells descriptor 9
-// at the end how many requests for memory there were, and of how many bytes in all.
+// number REFUSE is and as many behind it as BEHIND says, a read or a write with the error ERROR, and says so to descriptor 9. Where CALL
+// is `count` it tells descriptor 9 at the end how many requests for memory there were, and of how many bytes in all.
 extern void *__libc_malloc(unsigned long);
 extern void *__libc_realloc(void *, unsigned long);
 extern char *getenv(const char *);
 extern int *__errno_location(void);
 extern long syscall(long, ...);
-static unsigned long wanted, met, requests, bytes;
+static unsigned long wanted, behind, met, requests, bytes;
 static char call;
 static int error;
 
@@ -21,6 +21,7 @@ __attribute__((constructor)) static void start(void) {
     call = name ? *name : 0;
     error = number("ERROR");
     wanted = number("REFUSE");
+    behind = number("BEHIND");
 }
 
 static char *spelled(char *end, unsigned long value) {
@@ -45,7 +46,9 @@ void _exit(int status) {
 }
 
 static int is_refused(char which) {
-    if (which != call || __atomic_add_fetch(&met, 1, __ATOMIC_SEQ_CST) != wanted) return 0;
+    if (which != call) return 0;
+    unsigned long at = __atomic_add_fetch(&met, 1, __ATOMIC_SEQ_CST);
+    if (at < wanted || at - wanted > behind) return 0;
     syscall(1, 9, "refused\n", 8);
     return 1;
 }
