@@ -1,22 +1,22 @@
 -- Batches that load the same rows, and beginnings of logs.
 use mathlib.Core.List.{IsPrefix}
-use Rattle.std.proofs.Common.{◌≡◌, ◌∙◌, sym, ap, subst, refl, ℕ, ℤ, zero, suc, ◌<◌, ◌≤◌, Bool, true, false, cond, ◌↔◌, IsTrue, get_or, unwrap_or, List, [], ◌∷◌, ◌++◌, length, length-append, take, drop, Option, Some, None, Ordering, Less, Equal, Greater, is_lt, is_eq, arith, inl, inr, ◌⊎◌}
+use Rattle.std.proofs.Common.{◌≡◌, ◌∙◌, sym, ap, subst, refl, ℕ, ℤ, zero, suc, ◌<◌, ◌≤◌, Bool, true, false, cond, ◌↔◌, IsTrue, get_or, unwrap_or, List, [], ◌∷◌, ◌++◌, length, take, drop, Option, Some, None, Ordering, Less, Equal, Greater, is_lt, is_eq, arith, inl, inr, eq-or-lt_of_le}
 use Rattle.std.specs.Ordering.{ordering_index, ordering_reverse}
 use Rattle.std.specs.List.{AllByRecursion}
 use Rattle.std.specs.List.Sorted.{IsNonDecreasingBy, IsPartitionPoint}
 use Rattle.std.specs.FinMap.{get, find, is_sorted, get-empty, same_map}
 use Rattle.std.specs.FinMap.Entries.{below_all}
 use Rattle.std.specs.Cmp.{tied_itself}
-use Rattle.std.proofs.lemmas.Bool.{and_parts, false≢true}
-use Rattle.std.proofs.lemmas.Bool.Decides.{nat_tests}
+use Rattle.std.proofs.lemmas.Bool.{and_parts, false≢true, cases_lt}
 use Rattle.std.proofs.lemmas.List.{take-append-drop, take_all}
+use Rattle.std.proofs.lemmas.Option.{same_Some}
 use Rattle.schema.specs.declared.RowId.{RowId}
 use Rattle.schema.specs.RowId.{row_cmp, row_total, exact_row}
+use Rattle.schema.proofs.Telling.{is_less}
 use Rattle.rows.specs.Database.{Database}
 use Rattle.store_trait.specs.Batch.{Entry, IsRising}
 use Rattle.store_trait.specs.Operation.{loaded}
 use Rattle.store_trait.proofs.Batches.{get-put_batch}
-use Rattle.store_trait.proofs.Rising.{is_less}
 use Rattle.record_codec.specs.declared.records.Record.{Record}
 
 -- ---- a row among those of a batch
@@ -48,12 +48,10 @@ rank_rises a b id less = by (row_cmp b id) refl where
   by Greater e = omega (arith, at_most (row_cmp a id), ap ordering_index e)
 
 pub ranks_rise : (es : List Entry) (id : RowId) → IsRising es → IsNonDecreasingBy (λ (y : Entry). ordering_index (row_cmp y.0 id)) es
-ranks_rise es id h i j d le within = elim (same_or_less i j le) [
+ranks_rise es id h i j d le within = elim (eq-or-lt_of_le le) [
   | inl same ↦ omega (arith, ap (λ (n : ℕ). ordering_index (row_cmp (get_or es n d).0 id)) same)
   | inr less ↦ rank_rises (get_or es i d).0 (get_or es j d).0 id (rises_at es i j d h less within)
-] where
-  same_or_less : (a b : ℕ) → a ≤ b → (a ≡ b) ⊎ (a < b)
-  same_or_less a b le = grind (arith, nat_tests)
+]
 
 -- the other way round
 before_not_eq : (a b : RowId) → row_cmp a b ≡ Less → is_eq (row_cmp b a) ≡ false
@@ -82,12 +80,10 @@ absent (e ∷ es) id none =
 
 -- nor one that would stand between two
 pub none_between : (es : List Entry) (id : RowId) (at : ℕ) → IsPartitionPoint (λ (y : Entry). row_cmp y.0 id ≡ Less) (λ (y : Entry). row_cmp y.0 id ≡ Greater) es at → find row_cmp id es ≡ None
-none_between es id at parted = absent es id (λ i d within. elim (before_or i at) [
+none_between es id at parted = absent es id (λ i d within. elim (cases_lt i at) [
   | inl before ↦ before_not_eq (get_or es i d).0 id (parted.0 i d (omega arith) before)
   | inr behind ↦ behind_not_eq (get_or es i d).0 id (parted.1 i d behind within)
-]) where
-  before_or : (a b : ℕ) → (a < b) ⊎ (b ≤ a)
-  before_or a b = grind (arith, nat_tests)
+])
 
 -- ---- what a batch loads
 
@@ -111,11 +107,8 @@ AreLoaded es batch = AllByRecursion (λ (e : Entry). get (loaded batch) e.0 ≡ 
 loaded_so : (es batch : List Entry) (q : RowId) (row : Option (List ℤ)) → AreLoaded es batch → find row_cmp q es ≡ Some row → get (loaded batch) q ≡ row
 loaded_so [] batch q row all is = absurd (cc is)
 loaded_so (e ∷ es) batch q row all is = by (row_cmp q e.0) refl (loaded_so es batch q row all.1) where
-  the_same : (a b : Option (List ℤ)) → ◌≡◌ {A = Option (Option (List ℤ))} (Some a) (Some b) → a ≡ b
-  the_same a b p = cc p
-
   by : (r : Ordering) → row_cmp q e.0 ≡ r → (find row_cmp q es ≡ Some row → get (loaded batch) q ≡ row) → get (loaded batch) q ≡ row
-  by Equal k rest = ap (get (loaded batch)) (exact_row q e.0 k) ∙ all.0 ∙ the_same e.1 row (sym (ap (λ (o : Ordering). cond (is_eq o) (Some e.1) (find row_cmp q es)) k) ∙ is)
+  by Equal k rest = ap (get (loaded batch)) (exact_row q e.0 k) ∙ all.0 ∙ same_Some e.1 row (sym (ap (λ (o : Ordering). cond (is_eq o) (Some e.1) (find row_cmp q es)) k) ∙ is)
   by Less k rest = rest (sym (ap (λ (o : Ordering). cond (is_eq o) (Some e.1) (find row_cmp q es)) k) ∙ is)
   by Greater k rest = rest (sym (ap (λ (o : Ordering). cond (is_eq o) (Some e.1) (find row_cmp q es)) k) ∙ is)
 
@@ -170,14 +163,3 @@ pub prefix_walked : (xs ys : List Record) (i : ℕ) → i ≤ length xs → leng
 prefix_walked xs ys i within all le same =
     let whole : i ≡ length xs = omega (arith, within, all) in
     prefix_of xs ys le (subst (λ (n : ℕ). take n xs ≡ take n ys) whole same)
-
-pub not_longer : (xs ys : List Record) → length ys < length xs → IsPrefix xs ys → ⊥
-not_longer xs ys longer p = omega (arith, longer, ap (λ (l : List Record). length l) p.1, length-append xs p.0)
-
--- what a record's place in a beginning is in the log
-pub same_place : (xs ys : List Record) (i : ℕ) (d : Record) → IsPrefix xs ys → i < length xs → get_or xs i d ≡ get_or ys i d
-same_place xs ys i d p within = sym (front xs p.0 i d within) ∙ ap (λ (l : List Record). get_or l i d) p.1 where
-  front : (xs more : List Record) (i : ℕ) (d : Record) → i < length xs → get_or (xs ++ more) i d ≡ get_or xs i d
-  front [] more i d lt = absurd (omega (arith, lt))
-  front (x ∷ xs) more zero d lt = refl
-  front (x ∷ xs) more (suc i) d lt = front xs more i d (omega (arith, lt))

@@ -1,10 +1,9 @@
 -- The jobs that wait in the world, as the replica goes on.
 use Rattle.std.proofs.Common.{◌≡◌, ◌∙◌, sym, ap, subst, refl, ℕ, zero, suc, ◌+◌, ◌-◌, ◌<◌, ◌≤◌, Bool, true, false, if◌then◌else◌, get_or, set, List, [], ◌∷◌, ◌++◌, length, length-append, drop, Option, Some, None, arith, inl, inr, ◌⊎◌}
-use Rattle.std.specs.Prelude.{slice_get, option_and_then}
-use Rattle.std.specs.Option.{option_map}
-use Rattle.std.proofs.lemmas.List.{get_or_append_left, get_or-set_same, get_or-set_other, length-set, take-append-le}
+use Rattle.std.specs.Prelude.{slice_get}
+use Rattle.std.proofs.lemmas.Bool.{cases_lt, cases_eq, cases_order}
+use Rattle.std.proofs.lemmas.List.{get_or_append_left, get_or-set_same, get_or-set_other, length-set, take-append-le, get_or_past}
 use Rattle.std.proofs.Math.Seq.{get_or-append_seam}
-use Rattle.std.proofs.lemmas.Option.{slice_get_cases, same_Some}
 use Rattle.rows.specs.Database.{Database}
 use Rattle.store_trait.specs.Operation.{loaded}
 use Rattle.record_codec.specs.declared.records.Record.{Record}
@@ -13,28 +12,16 @@ use Rattle.executor.specs.declared.Job.{Job}
 use Rattle.replica_core.specs.Replica.{Replica, dispatched, rows_at, working_rows, job_over, job_of}
 use Rattle.replica_core.specs.Calls.{with_accepted, dispatched_next, with_finished, committed_next, with_published}
 use Rattle.replica_core.specs.Sound.{IsSound, IsUnderWay}
+use Rattle.replica_core.proofs.Jobs.{slice_get_some, job_at as job_of_parts}
 use Rattle.world.specs.State.{HasJobs}
 use Rattle.world.proofs.Received.{still_at}
 
 -- ---- places
 
--- behind a list there is what is said to be there
-pub beyond : {A : Type 0} (xs : List A) (n : ℕ) (d : A) → length xs ≤ n → get_or xs n d ≡ d
-beyond [] n d h = refl
-beyond (x ∷ xs) zero d h = absurd (omega (arith, h))
-beyond (x ∷ xs) (suc n) d h = beyond xs n d (omega (arith, h))
-
--- and behind the first of a list what is behind it
+-- what stands behind the first of a list
 after_first : {A : Type 0} (xs : List A) (n : ℕ) (d : A) → get_or (drop 1 xs) n d ≡ get_or xs (suc n) d
 after_first [] n d = refl
 after_first (x ∷ xs) n d = refl
-
--- a place before another, that place, or one behind it
-pub order_of : (n m : ℕ) → (n < m) ⊎ ((n ≡ m) ⊎ (m < n))
-order_of zero zero = inr (inl refl)
-order_of zero (suc m) = inl (omega arith)
-order_of (suc n) zero = inr (inr (omega arith))
-order_of (suc n) (suc m) = elim (order_of n m) [ inl l ↦ inl (omega (arith, l)) | inr (inl e) ↦ inr (inl (ap suc e)) | inr (inr g) ↦ inr (inr (omega (arith, g))) ]
 
 -- these stand for some things under way, in order: where one is not finished, what is said of it
 pub record AreLeft {J : Type 0} (under : List Bool) (jobs : List (Option J)) (job : ℕ → Option J) : Type 0 where
@@ -48,42 +35,40 @@ none_left job = record { each = refl; are = λ n. refl }
 pub left_pushed : {J : Type 0} (under : List Bool) (jobs : List (Option J)) (job : ℕ → Option J) (x : J) → AreLeft under jobs job → job (length under) ≡ Some x → AreLeft (under ++ false ∷ []) (jobs ++ Some x ∷ []) job
 left_pushed {J} under jobs job x h is = record {
   each = length-append jobs (Some x ∷ []) ∙ ap (λ n. n + 1) h.each ∙ sym (length-append under (false ∷ []));
-  are = λ n. at n (order_of n (length under));
+  are = λ n. at n (cases_order n (length under));
 } where
-  at : (n : ℕ) → (n < length under) ⊎ ((n ≡ length under) ⊎ (length under < n)) → get_or (jobs ++ Some x ∷ []) n None ≡ (if get_or (under ++ false ∷ []) n true then None else job n)
-  at n (inl l) =
-      get_or_append_left jobs (Some x ∷ []) None n (omega (arith, l, h.each)) ∙ h.are n
-      ∙ ap (λ (b : Bool). if b then None else job n) (sym (get_or_append_left under (false ∷ []) true n l))
-  at n (inr (inl e)) =
+  at : (n : ℕ) → (n ≡ length under) ⊎ ((n < length under) ⊎ (length under < n)) → get_or (jobs ++ Some x ∷ []) n None ≡ (if get_or (under ++ false ∷ []) n true then None else job n)
+  at n (inl e) =
       ap (λ k. get_or (jobs ++ Some x ∷ []) k None) (e ∙ sym h.each) ∙ get_or-append_seam jobs (Some x) [] None ∙ sym is ∙ ap job (sym e)
       ∙ ap (λ (b : Bool). if b then None else job n) (sym (ap (λ k. get_or (under ++ false ∷ []) k true) e ∙ get_or-append_seam under false [] true))
+  at n (inr (inl l)) =
+      get_or_append_left jobs (Some x ∷ []) None n (omega (arith, l, h.each)) ∙ h.are n
+      ∙ ap (λ (b : Bool). if b then None else job n) (sym (get_or_append_left under (false ∷ []) true n l))
   at n (inr (inr g)) =
-      beyond (jobs ++ Some x ∷ []) n None (omega (arith, g, h.each, length-append jobs (Some x ∷ [])))
-      ∙ ap (λ (b : Bool). if b then None else job n) (sym (beyond (under ++ false ∷ []) n true (omega (arith, g, length-append under (false ∷ [])))))
+      get_or_past (jobs ++ Some x ∷ []) n None (omega (arith, g, h.each, length-append jobs (Some x ∷ [])))
+      ∙ ap (λ (b : Bool). if b then None else job n) (sym (get_or_past (under ++ false ∷ []) n true (omega (arith, g, length-append under (false ∷ [])))))
 
 -- one is finished
 pub left_taken : {J : Type 0} (under : List Bool) (jobs : List (Option J)) (job : ℕ → Option J) (place : ℕ) → AreLeft under jobs job → AreLeft (set under place true) (set jobs place None) job
 left_taken under jobs job place h = record {
   each = length-set jobs place None ∙ h.each ∙ sym (length-set under place true);
-  are = λ n. at n (order_of n place);
+  are = λ n. at n (cases_eq n place);
 } where
   other : (n : ℕ) → (n ≡ place → ⊥) → get_or (set jobs place None) n None ≡ (if get_or (set under place true) n true then None else job n)
   other n apart =
       get_or-set_other jobs place n None None apart ∙ h.are n
       ∙ ap (λ (b : Bool). if b then None else job n) (sym (get_or-set_other under place n true true apart))
 
-  here : (n : ℕ) → (n < length under) ⊎ ((n ≡ length under) ⊎ (length under < n)) → get_or (set jobs n None) n None ≡ (if get_or (set under n true) n true then None else job n)
+  here : (n : ℕ) → (n < length under) ⊎ (length under ≤ n) → get_or (set jobs n None) n None ≡ (if get_or (set under n true) n true then None else job n)
   here n (inl l) =
       get_or-set_same jobs n None None (omega (arith, l, h.each)) ∙ ap (λ (b : Bool). if b then None else job n) (sym (get_or-set_same under n true true l))
-  here n (inr o) =
-      let out : length under ≤ n = elim o [ inl e ↦ omega (arith, e) | inr g ↦ omega (arith, g) ] in
-      beyond (set jobs n None) n None (omega (arith, out, h.each, length-set jobs n None))
-      ∙ ap (λ (b : Bool). if b then None else job n) (sym (beyond (set under n true) n true (omega (arith, out, length-set under n true))))
+  here n (inr out) =
+      get_or_past (set jobs n None) n None (omega (arith, out, h.each, length-set jobs n None))
+      ∙ ap (λ (b : Bool). if b then None else job n) (sym (get_or_past (set under n true) n true (omega (arith, out, length-set under n true))))
 
-  at : (n : ℕ) → (n < place) ⊎ ((n ≡ place) ⊎ (place < n)) → get_or (set jobs place None) n None ≡ (if get_or (set under place true) n true then None else job n)
-  at n (inl l) = other n (λ e. omega (arith, l, e))
-  at n (inr (inl e)) = subst (λ (p : ℕ). get_or (set jobs p None) n None ≡ (if get_or (set under p true) n true then None else job n)) e (here n (order_of n (length under)))
-  at n (inr (inr g)) = other n (λ e. omega (arith, g, e))
+  at : (n : ℕ) → (n ≡ place) ⊎ (n ≡ place → ⊥) → get_or (set jobs place None) n None ≡ (if get_or (set under place true) n true then None else job n)
+  at n (inl e) = subst (λ (p : ℕ). get_or (set jobs p None) n None ≡ (if get_or (set under p true) n true then None else job n)) e (here n (cases_lt n (length under)))
+  at n (inr apart) = other n apart
 
 -- the first is passed
 pub left_passed : {J : Type 0} (under : List Bool) (jobs : List (Option J)) (job : ℕ → Option J) → AreLeft under jobs job → AreLeft (drop 1 under) (drop 1 jobs) (λ n. job (suc n))
@@ -137,18 +122,6 @@ as_left r jobs h = record { each = h.each; are = h.are }
 pub as_jobs : (r : Replica) (jobs : List (Option Job)) → AreLeft r.under_way jobs (job_at r) → HasJobs r jobs
 as_jobs r jobs h = record { each = h.each; are = h.are }
 
-pub job_of_parts : (r : Replica) (gno : ℕ) (rec : Record) (rows : Database) → slice_get r.accepted (gno - 1) ≡ Some rec → working_rows r ≡ Some rows → job_of r gno ≡ Some (job_over r.tables gno rec rows)
-job_of_parts r gno rec rows at are =
-    ap (option_and_then (λ (x : Record). option_map (job_over r.tables gno x) (working_rows r))) at ∙ ap (option_map (job_over r.tables gno rec)) are
-
--- it has its number
-pub gno_of_job : (r : Replica) (gno : ℕ) (job : Job) → job_of r gno ≡ Some job → job.gno ≡ gno
-gno_of_job r gno job is = by (slice_get r.accepted (gno - 1)) (working_rows r) is where
-  by : (o : Option Record) (rows : Option Database) → option_and_then (λ (x : Record). option_map (job_over r.tables gno x) rows) o ≡ Some job → job.gno ≡ gno
-  by None rows e = absurd (cc e)
-  by (Some rec) None e = absurd (cc e)
-  by (Some rec) (Some db) e = ap (λ (j : Job). j.gno) (sym (same_Some (job_over r.tables gno rec db) job e))
-
 -- the record and the rows of a job under way
 pub record IsThere (r : Replica) (gno : ℕ) : Type 0 where
   pub rec : Record
@@ -159,10 +132,8 @@ pub record IsThere (r : Replica) (gno : ℕ) : Type 0 where
 
 pub job_there : (r : Replica) (gno : ℕ) → IsSound r → IsUnderWay r gno → IsThere r gno
 job_there r gno sound under =
-    let got = found r.accepted (gno - 1) (omega (arith, under.0, under.1, sound.dispatched)) in
-    record { rec = got.0; at = got.1; rows = sound.rows; rows_are = sound.rows_are; job = job_of_parts r gno got.0 sound.rows got.1 sound.rows_are } where
-      found : (xs : List Record) (k : ℕ) → k < length xs → (x : Record) × (slice_get xs k ≡ Some x)
-      found xs k k_in = elim (slice_get_cases xs k).1 [ inl v ↦ (v.0, v.2) | inr v ↦ absurd (omega (arith, v.0)) ]
+    let got = slice_get_some r.accepted (gno - 1) (omega (arith, under.0, under.1, sound.dispatched)) in
+    record { rec = got.0; at = got.1; rows = sound.rows; rows_are = sound.rows_are; job = job_of_parts r gno got.0 sound.rows got.1 sound.rows_are }
 
 under_at : (r : Replica) (place : ℕ) → get_or r.under_way place true ≡ false → IsUnderWay r (r.committed + place + 1)
 under_at r place going = let within = within_under r.under_way place going in (omega arith, omega (arith, within))

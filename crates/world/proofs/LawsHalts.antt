@@ -1,7 +1,7 @@
 -- A source is halted for good.
-use Rattle.std.proofs.Common.{◌≡◌, ◌∙◌, ap, subst, refl, ℕ, zero, suc, ◌<◌, Bool, true, false, not, ◌&&◌, ◌||◌, List, [], ◌∷◌, take, Option, Some, slice_get, inl, inr, arith}
+use Rattle.std.proofs.Common.{◌≡◌, ◌∙◌, ap, subst, ℕ, zero, suc, ◌<◌, Bool, true, false, not, ◌&&◌, ◌||◌, List, [], ◌∷◌, take, Option, Some, slice_get, inl, inr, arith}
 use Rattle.std.specs.Option.{is_none}
-use Rattle.std.proofs.lemmas.Bool.{false≢true, and_parts}
+use Rattle.std.proofs.lemmas.Bool.{false≢true, and_parts, or_right}
 use Rattle.std.proofs.lemmas.Option.{none-some, same_Some}
 use Rattle.record_codec.specs.declared.records.Record.{Record}
 use Rattle.source_core.specs.declared.fault.SourceFault.{SourceFault}
@@ -17,17 +17,13 @@ use Rattle.world.specs.Legal.{Setup, refused_or, FlushAnswers, SyncAnswers, Answ
 use Rattle.world.specs.Laws.{pairs_after, past_at, asks_source, HaltsForGood}
 use Rattle.world.proofs.LawsRuns.{answered_at}
 
-stays_true : (a b : Bool) → b ≡ true → (a || b) ≡ true
-stays_true true b e = refl
-stays_true false b e = e
-
 -- a halted source stays so
 halted_on : (setup : Setup) (log : List Record) (past : Past) (es : List Event) (rs : List Reply) → AreAllowed setup log past es rs → halted past ≡ true → (n : ℕ) → halted (pairs_after past (take n es) (take n rs)) ≡ true
 halted_on setup log past es rs allowed h zero = h
 halted_on setup log past [] [] allowed h (suc n) = h
 halted_on setup log past [] (r ∷ rs) allowed h (suc n) = absurd allowed
 halted_on setup log past (e ∷ es) [] allowed h (suc n) = absurd allowed
-halted_on setup log past (e ∷ es) (r ∷ rs) allowed h (suc n) = halted_on setup log ((e, r) ∷ past) es rs allowed.1 (stays_true (is_failure r) (halted past) h) n
+halted_on setup log past (e ∷ es) (r ∷ rs) allowed h (suc n) = halted_on setup log ((e, r) ∷ past) es rs allowed.1 (or_right (is_failure r) (halted past) h) n
 
 -- it is, behind a failure
 halted_behind : (setup : Setup) (log : List Record) (past : Past) (es : List Event) (rs : List Reply) → AreAllowed setup log past es rs → (before later : ℕ) → before < later → slice_get rs before ≡ Some (replies.Log log_file.Device) →

@@ -4,8 +4,7 @@ use Rattle.std.specs.Prelude.{Ok, option_and_then, nat_lt, ◌⊎◌}
 use Rattle.std.specs.List.{AllByRecursion, list_any, flat_map}
 use Rattle.std.specs.Option.{option_map_or}
 use Rattle.std.specs.FinMap.{get}
-use Rattle.std.proofs.lemmas.Bool.{false≢true, and_parts, or_parts, or_cases}
-use Rattle.std.proofs.lemmas.Bool.Decides.{nat_tests}
+use Rattle.std.proofs.lemmas.Bool.{false≢true, and_parts, or_parts, or_cases, ltb-true}
 use Rattle.std.proofs.lemmas.List.{length-map, take-append-drop, take-take}
 use Rattle.std.proofs.Math.Seq.{take-add}
 use Rattle.rows.specs.Database.{Database}
@@ -18,6 +17,7 @@ use Rattle.source_core.specs.Source.{Source, seen_row}
 use Rattle.source_core.specs.Calls.{begin_fault, write_fault, read_fault, prepare_fault, prepare_answer, queue_fault, abort_fault, halted_fault, AreNextRecords, seen_log}
 use Rattle.source_core.proofs.FlushLists.{all_push, all_by}
 use Rattle.log_file.specs.Text.{text}
+use Rattle.replica_core.proofs.Apart.{slice_get-take}
 use Rattle.world.specs.declared.events.Event.{Event}
 use Rattle.world.specs.declared.events.Event.TheVariants as events
 use Rattle.world.specs.declared.events.Reply.{Reply}
@@ -35,14 +35,8 @@ use Rattle.world.proofs.LawsRecords.{MayStand, one_group}
 take_fewer : (n f : ℕ) (xs ys : List Record) → n ≤ f → take f xs ≡ take f ys → take n xs ≡ take n ys
 take_fewer n f xs ys le same = sym (take-take n f xs le) ∙ ap (take n) same ∙ take-take n f ys le
 
-get_taken : (n f : ℕ) (xs : List Record) → n < f → slice_get (take f xs) n ≡ slice_get xs n
-get_taken n zero xs lt = absurd (omega (arith, lt))
-get_taken n (suc f) [] lt = refl
-get_taken zero (suc f) (x ∷ xs) lt = refl
-get_taken (suc n) (suc f) (x ∷ xs) lt = get_taken n f xs (omega (arith, lt))
-
 get_below : (n f : ℕ) (xs ys : List Record) → n < f → take f xs ≡ take f ys → slice_get xs n ≡ slice_get ys n
-get_below n f xs ys lt same = sym (get_taken n f xs lt) ∙ ap (λ (l : List Record). slice_get l n) same ∙ get_taken n f ys lt
+get_below n f xs ys lt same = sym (slice_get-take xs f n lt) ∙ ap (λ (l : List Record). slice_get l n) same ∙ slice_get-take ys f n lt
 
 take_own : (n : ℕ) (xs : List Record) → take (length (take n xs)) xs ≡ take n xs
 take_own zero xs = refl
@@ -105,7 +99,7 @@ module _ (setup : Setup) (log other : List Record) (past : Past) (agree : Agree 
   same_dispatch =
       let now = in_order log past agree.holds in
       let next : nat_lt (dispatched past) (accepted past) ≡ true → slice_get log (dispatched past) ≡ slice_get other (dispatched past) =
-      λ is. get_below (dispatched past) (flushed past) log other (omega (arith, below _ _ is, now.accepted_within, now.synced_within)) agree.same in
+      λ is. get_below (dispatched past) (flushed past) log other (omega (arith, ltb-true _ _ is, now.accepted_within, now.synced_within)) agree.same in
       when (nat_lt (dispatched past) (accepted past)) (may log) (may other) (nat_lt (dispatched past - replica_committed past) setup.workers) (λ is. ap may_at (next is))
     where
       may_at : Option Record → Bool
@@ -113,9 +107,6 @@ module _ (setup : Setup) (log other : List Record) (past : Past) (agree : Agree 
 
       may : List Record → Bool
       may l = may_at (slice_get l (dispatched past))
-
-      below : (a b : ℕ) → nat_lt a b ≡ true → a < b
-      below a b e = grind (arith, nat_tests)
 
       when : (first here there last : Bool) → (first ≡ true → here ≡ there) → (first && here && last) ≡ (first && there && last)
       when true here there last same = ap (λ b. b && last) (same refl)

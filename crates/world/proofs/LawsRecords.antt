@@ -46,20 +46,20 @@ one_record ts base s front before session made other a b spelled other_spelled m
     (λ i. record { gno = gno i; sequence = sequence i; parent = parent i; flags = flags i; refs = refs i; changes = changes i })
 
 -- the next records behind one log, of one queue
-pub one_group : (ts : List Table) (base : Database) (s : Source) (front : List Record) (before : List Seen) (sessions : List ℕ) (made others rest other_rest : List Record) →
-    MayStand ts base (front ++ (made ++ rest)) → MayStand ts base (front ++ (others ++ other_rest)) → AreNextRecords s before sessions made → AreNextRecords s before sessions others → made ≡ others
+pub one_group : (ts : List Table) (base : Database) (s : Source) (front : List Record) (before : List Seen) (sessions : List ℕ) (records others rest other_rest : List Record) →
+    MayStand ts base (front ++ (records ++ rest)) → MayStand ts base (front ++ (others ++ other_rest)) → AreNextRecords s before sessions records → AreNextRecords s before sessions others → records ≡ others
 one_group ts base s front before [] [] [] rest other_rest left right m o = refl
 one_group ts base s front before [] [] (y ∷ others) rest other_rest left right m o = absurd o
-one_group ts base s front before [] (x ∷ made) others rest other_rest left right m o = absurd m
+one_group ts base s front before [] (x ∷ records) others rest other_rest left right m o = absurd m
 one_group ts base s front before (session ∷ sessions) [] others rest other_rest left right m o = absurd m
-one_group ts base s front before (session ∷ sessions) (x ∷ made) [] rest other_rest left right m o = absurd o
-one_group ts base s front before (session ∷ sessions) (x ∷ made) (y ∷ others) rest other_rest left right m o =
+one_group ts base s front before (session ∷ sessions) (x ∷ records) [] rest other_rest left right m o = absurd o
+one_group ts base s front before (session ∷ sessions) (x ∷ records) (y ∷ others) rest other_rest left right m o =
     let same : x ≡ y =
-    one_record ts base s front before session x y (left.legal front x (made ++ rest) refl) (right.legal front y (others ++ other_rest) refl)
-    (spelled_at front x (made ++ rest) left.spelled) (spelled_at front y (others ++ other_rest) right.spelled) m.0 o.0 in
-    let next_left = subst (λ (l : List Record). MayStand ts base l) (sym (append_assoc front (x ∷ []) (made ++ rest))) left in
+    one_record ts base s front before session x y (left.legal front x (records ++ rest) refl) (right.legal front y (others ++ other_rest) refl)
+    (spelled_at front x (records ++ rest) left.spelled) (spelled_at front y (others ++ other_rest) right.spelled) m.0 o.0 in
+    let next_left = subst (λ (l : List Record). MayStand ts base l) (sym (append_assoc front (x ∷ []) (records ++ rest))) left in
     let from_x = subst (λ (r : Record). MayStand ts base (front ++ r ∷ (others ++ other_rest))) (sym same) right in
     let next_right = subst (λ (l : List Record). MayStand ts base l) (sym (append_assoc front (x ∷ []) (others ++ other_rest))) from_x in
     let behind_x = subst (λ (r : Record). AreNextRecords s (before ++ entry_of s.tables r session ∷ []) sessions others) (sym same) o.1 in
-    let more : made ≡ others = one_group ts base s (front ++ x ∷ []) (before ++ entry_of s.tables x session ∷ []) sessions made others rest other_rest next_left next_right m.1 behind_x in
+    let more : records ≡ others = one_group ts base s (front ++ x ∷ []) (before ++ entry_of s.tables x session ∷ []) sessions records others rest other_rest next_left next_right m.1 behind_x in
     (λ i. same i ∷ more i)

@@ -6,8 +6,8 @@ use Rattle.std.proofs.lemmas.Bool.{false≢true, and_parts, or_cases, or_left}
 use Rattle.schema.specs.declared.RowId.{RowId}
 use Rattle.schema.specs.RowId.{row_cmp, row_total, same_row}
 use Rattle.schema.specs.Rows.{has_row, SameRows}
+use Rattle.schema.proofs.Telling.{is_less}
 use Rattle.rows.proofs.Apply.{row_is, same_row_itself}
-use Rattle.store_trait.proofs.Rising.{is_less}
 use Rattle.store_trait.proofs.Batches.{less_apart}
 use Rattle.record_codec.specs.Record.{is_rising}
 

@@ -1,9 +1,8 @@
 -- What a reply that the pairs so far allow says of them.
-use Rattle.std.proofs.Common.{◌≡◌, sym, subst, refl, ℕ, ◌+◌, ◌<◌, ◌≤◌, Bool, true, false, not, ◌&&◌, ◌==◌, nat_le, List, [], ◌∷◌, map, length, Option, Some, None, Ok, ◌⊎◌, inl, inr, if◌then◌else◌, arith}
-use Rattle.std.specs.Prelude.{ℤ, option_and_then, nat_lt, slice_index_or}
+use Rattle.std.proofs.Common.{◌≡◌, sym, subst, refl, ℕ, ◌+◌, ◌<◌, ◌≤◌, Bool, true, false, not, ◌&&◌, ◌==◌, nat_le, List, [], ◌∷◌, map, length, Option, Some, None, Ok, ◌⊎◌, inl, inr, if◌then◌else◌}
+use Rattle.std.specs.Prelude.{ℤ, option_and_then, slice_index_or}
 use Rattle.std.specs.FinMap.{get}
-use Rattle.std.proofs.lemmas.Bool.{false≢true, or_cases, and_parts, leb-true, eqb-true}
-use Rattle.std.proofs.lemmas.Bool.Decides.{nat_tests}
+use Rattle.std.proofs.lemmas.Bool.{false≢true, or_cases, and_parts, leb-true, eqb-true, ltb-true}
 use Rattle.gtid_set.specs.Ids.{first_ids}
 use Rattle.record_codec.specs.declared.records.Record.{Record}
 use Rattle.source_core.specs.declared.fault.SourceFault.{SourceFault}
@@ -129,10 +128,6 @@ next_says : (setup : Setup) (log : List Record) (past : Past) (done : Bool) → 
 next_says setup log past false h = tt
 next_says setup log past true h = (refl, h refl)
 
--- a record that may be dispatched is accepted
-below : (a b : ℕ) → nat_lt a b ≡ true → a < b
-below a b e = grind (arith, nat_tests)
-
 answers_say : (setup : Setup) (log : List Record) (past : Past) (event : Event) (reply : Reply) → Answers setup log past event reply → Says setup log past event reply
 answers_say setup log past (events.Begin session) reply h =
     by setup log past _ reply _ h (refused_says setup log past _ (begin_fault (source_at setup log past) session) replies.Done tt)
@@ -153,7 +148,7 @@ answers_say setup log past (events.Deliver gno) reply h =
     by setup log past _ reply _ h (deliver_says setup log past gno (nat_le 1 gno && nat_le gno (synced past)) (nat_le gno (accepted past)) (gno == accepted past + 1)
     (λ t. leb-true gno (synced past) (and_parts _ _ t).1) (eqb-true gno (accepted past + 1)))
 answers_say setup log past events.Dispatch reply h =
-    by setup log past _ reply _ h (dispatch_says setup log past (may_dispatch setup log past) (λ t. below (dispatched past) (accepted past) (and_parts _ _ (and_parts _ _ t).0).0))
+    by setup log past _ reply _ h (dispatch_says setup log past (may_dispatch setup log past) (λ t. ltb-true (dispatched past) (accepted past) (and_parts _ _ (and_parts _ _ t).0).0))
 answers_say setup log past (events.Finish gno) reply h = by setup log past _ reply _ h (finish_says setup log past gno (is_out past gno))
 answers_say setup log past events.Next reply h = by setup log past _ reply _ h (next_says setup log past (slice_index_or (under_way past) 0 false) (some_under (under_way past)))
 answers_say setup log past events.Publish reply h = by setup log past _ reply _ h refl

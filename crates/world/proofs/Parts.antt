@@ -1,7 +1,7 @@
 -- Facts of the parts of a world that every event uses.
 use mathlib.Core.List.{IsPrefix}
 use base.Growing.{prefix_refl}
-use Rattle.std.proofs.Common.{◌≡◌, ◌∙◌, sym, ap, refl, ℕ, ◌<◌, ◌≤◌, nat_lt, Bool, true, false, not, ◌&&◌, Some, IsSome, Result, List, ◌∷◌, length, take, Option, arith}
+use Rattle.std.proofs.Common.{◌≡◌, ◌∙◌, sym, ap, refl, ℕ, ◌≤◌, Bool, true, false, not, ◌&&◌, Some, IsSome, Result, List, ◌∷◌, length, take, Option, arith}
 use Rattle.std.proofs.lemmas.List.{take-append-le}
 use Rattle.rows.specs.Database.{Database}
 use Rattle.record_codec.specs.declared.records.Record.{Record}
@@ -14,8 +14,7 @@ use Rattle.world.specs.declared.events.Event.{Event}
 use Rattle.world.specs.declared.events.Reply.{Reply}
 use Rattle.log_file.specs.Log.{Log}
 use Rattle.std.specs.Result.{result_err, IsErrOf}
-use Rattle.std.proofs.lemmas.Bool.{false≢true}
-use Rattle.std.proofs.lemmas.Bool.Decides.{nat_tests}
+use Rattle.std.proofs.lemmas.Bool.{false≢true, and_from}
 use Rattle.world.specs.Past.{Past, flushed, unsynced, synced_groups, halted, is_failure, accepted, dispatched, transaction_of, transaction_after, transactions}
 use Rattle.world.specs.Legal.{Setup, source_at, replica_at, Allowed}
 use Rattle.world.specs.State.{World, SourceIs, SidesAre, IsWorld, Stands, TellsFailure, Goes}
@@ -54,17 +53,9 @@ stays contents w event reply h none stands allowed = record { world = h; grows =
 pub halted_as : {R : Type 0} (setup : Setup) (past : Past) (w : World R) (b : Bool) → Stands setup past w → w.source.halted ≡ b → halted past ≡ b
 halted_as setup past w b st e = ap (λ (s : Source). s.halted) (sym st.source.is) ∙ e
 
-pub both_true : (a b : Bool) → a ≡ true → b ≡ true → (a && b) ≡ true
-both_true true true p q = refl
-both_true true false p q = absurd (false≢true q)
-both_true false b p q = absurd (false≢true p)
-
-pub is_below : (a b : ℕ) → a < b → nat_lt a b ≡ true
-is_below a b h = grind (arith, nat_tests)
-
 -- of a source that runs, and of what is there, memory may be asked
 pub asks_of : {R : Type 0} (setup : Setup) (past : Past) (w : World R) (b : Bool) → Stands setup past w → w.source.halted ≡ false → b ≡ true → (not (halted past) && b) ≡ true
-asks_of setup past w b st runs is = both_true _ b (ap not (halted_as setup past w false st runs)) is
+asks_of setup past w b st runs is = and_from _ b (ap not (halted_as setup past w false st runs)) is
 
 -- a call that lacks memory was made of a source that runs
 pub runs_if_lacking : {T : Type 0} (halts : Bool) (later : Option SourceFault) (answer : Result T SourceFault) → (IsSome (cause halts faults.Halted later) → result_err answer ≡ cause halts faults.Halted later) → IsErrOf answer faults.Memory → halts ≡ false

@@ -6,8 +6,9 @@ use Rattle.std.specs.Prelude.{ℤ, option_and_then, slice_get}
 use Rattle.std.specs.Option.{option_map_or, IsSome}
 use Rattle.std.specs.Result.{IsErrOf}
 use Rattle.std.specs.FinMap.{get}
+use Rattle.std.proofs.Math.Bool.{and-false}
 use Rattle.std.proofs.lemmas.List.{take-append-drop, take-take, length-drop}
-use Rattle.std.proofs.lemmas.Bool.{false≢true}
+use Rattle.std.proofs.lemmas.Bool.{false≢true, and_from, lt-ltb}
 use Rattle.std.proofs.lemmas.Bool.Decides.{nat_tests}
 use Rattle.std.proofs.lemmas.Option.{none-some, same_Some}
 use Rattle.rows.specs.Database.{Database}
@@ -23,6 +24,7 @@ use Rattle.relay.specs.declared.ReplicaFault.TheVariants as faults
 use Rattle.replica_core.specs.Replica.{Replica, dispatched as dispatched_at, job_of, operations}
 use Rattle.replica_core.specs.Sound.{IsSound}
 use Rattle.replica_core.proofs.Commits.{left_by-operations}
+use Rattle.replica_core.proofs.Jobs.{job_is_of_its_record}
 use Rattle.replica_core.specs.Calls.{unless_stopped, is_eligible, next_job, dispatched_next, next_commit, committed_next, executed_ids}
 use Rattle.world.specs.declared.events.Event.{Event}
 use Rattle.world.specs.declared.events.Event.TheVariants as events
@@ -31,8 +33,8 @@ use Rattle.world.specs.Past.{Past, published, accepted, dispatched, replica_comm
 use Rattle.world.specs.Legal.{Setup, replica_at, rows_after, may_dispatch, dispatch_reply, next_reply, asks_memory, tells_memory}
 use Rattle.world.specs.State.{World, IsWorld, Stands, Goes}
 use Rattle.world.specs.Run.{ShowsOperations}
-use Rattle.world.proofs.Parts.{replica_is, take_longer, stays, with_replica, untold, source_untold, unfailed, both_true, is_below}
-use Rattle.world.proofs.Jobs.{gno_of_job, jobs_dispatched, jobs_committed}
+use Rattle.world.proofs.Parts.{replica_is, take_longer, stays, with_replica, untold, source_untold, unfailed}
+use Rattle.world.proofs.Jobs.{jobs_dispatched, jobs_committed}
 use Rattle.store_trait.specs.Operation.{loaded, left_by}
 
 -- a replica that runs answers what it is asked
@@ -73,7 +75,7 @@ pub lacks : {R : Type 0} (contents : R → Database) (w : World R) (event : Even
 lacks {R} contents w event next jobs h asks tells stands same kept =
     subst (λ (r : Replica). Goes {R = R} contents w event (replies.Replica faults.Memory) (with_jobs w r jobs)) (sym same)
     (subst (λ (l : List (Option Job)). Goes {R = R} contents w event (replies.Replica faults.Memory) (with_jobs w w.replica l)) (sym kept)
-    (stays contents w event (replies.Replica faults.Memory) h refl stands (λ setup past log st longer. inl (both_true _ _ (asks setup past log st longer) tells))))
+    (stays contents w event (replies.Replica faults.Memory) h refl stands (λ setup past log st longer. inl (and_from _ _ (asks setup past log st longer) tells))))
 
 -- ---- dispatch
 
@@ -82,10 +84,7 @@ front_has : (a d : ℕ) (log : List Record) (test : Record → Bool) → (nat_lt
 front_has zero d log test = ap (λ (b : Bool). b && option_map_or test (slice_get log d) false) (below d) where
   below : (n : ℕ) → nat_lt n 0 ≡ false
   below n = grind (arith, nat_tests)
-front_has (suc a) d [] test = neither (nat_lt d (suc a)) where
-  neither : (b : Bool) → (b && false) ≡ false
-  neither true = refl
-  neither false = refl
+front_has (suc a) d [] test = and-false (nat_lt d (suc a))
 front_has (suc a) zero (r ∷ log) test = ap (λ (b : Bool). b && test r) (above a) where
   above : (n : ℕ) → nat_lt 0 (suc n) ≡ true
   above n = grind (arith, nat_tests)
@@ -117,19 +116,19 @@ handed_out r job is = by (is_eligible r) refl is where
   by true e k = (e, k)
   by false e k = absurd (none-some job k)
 
-pub dispatch_goes : {R : Type 0} (contents : R → Database) (w : World R) (job : Job) (next : Replica) (jobs : List (Option Job)) (gno : ℕ) → IsWorld contents w → next_job w.replica ≡ Some job → next ≡ dispatched_next w.replica → jobs ≡ w.jobs ++ Some job ∷ [] → gno ≡ job.gno →
-    Goes contents w events.Dispatch (replies.Job gno) (with_jobs w next jobs)
-dispatch_goes {R} contents w job next jobs gno h is leaves kept number =
+pub dispatch_goes : {R : Type 0} (contents : R → Database) (w : World R) (job : Job) (next : Replica) (jobs : List (Option Job)) → IsWorld contents w → next_job w.replica ≡ Some job → next ≡ dispatched_next w.replica → jobs ≡ w.jobs ++ Some job ∷ [] →
+    Goes contents w events.Dispatch (replies.Job job.gno) (with_jobs w next jobs)
+dispatch_goes {R} contents w job next jobs h is leaves kept =
     let out = handed_out w.replica job is in
-    let its : gno ≡ dispatched_at w.replica + 1 = number ∙ gno_of_job w.replica (dispatched_at w.replica + 1) job out.1 in
-    subst (λ (r : Replica). Goes {R = R} contents w events.Dispatch (replies.Job gno) (with_jobs w r jobs)) (sym leaves)
-    (subst (λ (l : List (Option Job)). Goes {R = R} contents w events.Dispatch (replies.Job gno) (with_jobs w (dispatched_next w.replica) l)) (sym kept)
+    let its = (job_is_of_its_record w.replica (dispatched_at w.replica + 1) job out.1).gno in
+    subst (λ (r : Replica). Goes {R = R} contents w events.Dispatch (replies.Job job.gno) (with_jobs w r jobs)) (sym leaves)
+    (subst (λ (l : List (Option Job)). Goes {R = R} contents w events.Dispatch (replies.Job job.gno) (with_jobs w (dispatched_next w.replica) l)) (sym kept)
     (record {
       world = record { source = h.source; wire = h.wire; replica = h.replica; jobs = jobs_dispatched w.replica w.jobs job h.jobs out.1; readers = h.readers };
       grows = prefix_refl w.source.log;
       device = unfailed _ w.wire.log refl;
       stands = λ setup past st. record {
-        source = source_untold setup past w.source.log w.source events.Dispatch (replies.Job gno) (λ k. refl) st.source;
+        source = source_untold setup past w.source.log w.source events.Dispatch (replies.Job job.gno) (λ k. refl) st.source;
         wire = st.wire;
         replica = record { accepted = st.replica.accepted; dispatched = omega (arith, st.replica.dispatched, length-append w.replica.under_way (false ∷ [])); is = ap dispatched_next st.replica.is };
       };
@@ -185,13 +184,12 @@ executed_goes contents w ids h is = stays contents w _ _ h refl (λ setup past s
 pub executed_lacks : {R : Type 0} (contents : R → Database) (w : World R) → IsWorld contents w → 0 < w.replica.committed → Goes contents w events.Executed (replies.Replica faults.Memory) w
 executed_lacks contents w h some = stays contents w _ _ h refl (λ setup past st. untold setup past w events.Executed (replies.Replica faults.Memory) (λ k. refl) st) (λ setup past log st longer.
     let said : replica_committed past ≡ w.replica.committed = ap (λ (r : Replica). r.committed) (sym st.replica.is) in
-    inl (both_true _ true (is_below 0 (replica_committed past) (omega (arith, said, some))) refl))
+    inl (and_from _ true (lt-ltb 0 (replica_committed past) (omega (arith, said, some))) refl))
 
 -- want of memory leaves the replica as it was
 pub no_memory : {R : Type 0} (contents : R → Database) (w : World R) (event : Event) (next : Replica) → IsWorld contents w → Asks w event → tells_memory event (replies.Replica faults.Memory) ≡ true →
     ((setup : Setup) (past : Past) → Stands setup past w → Stands setup ((event, replies.Replica faults.Memory) ∷ past) w) → next ≡ w.replica → Goes contents w event (replies.Replica faults.Memory) (with_replica w next)
-no_memory {R} contents w event next h asks tells stands same =
-    subst (λ (r : Replica). Goes {R = R} contents w event (replies.Replica faults.Memory) (with_replica w r)) (sym same) (stays contents w event (replies.Replica faults.Memory) h refl stands (λ setup past log st longer. inl (both_true _ _ (asks setup past log st longer) tells)))
+no_memory contents w event next h asks tells stands same = lacks contents w event next w.jobs h asks tells stands same refl
 
 -- the rows after each beginning of a source's log are there
 beginning_leaves_rows : (s : Source) → IsLegalLog s.tables (loaded s.base) s.log → (n : ℕ) → (db : Database) × (after s.tables (loaded s.base) (take n s.log) ≡ Some db)

@@ -1,8 +1,9 @@
 -- The transactions of all sessions, as the pairs say that they stand.
-use Rattle.std.proofs.Common.{◌≡◌, ◌∙◌, sym, ap, refl, ℕ, zero, suc, ◌+◌, ◌-◌, ◌≤◌, ◌<◌, true, false, ◌==◌, if◌then◌else◌, List, [], ◌∷◌, length, map, get_or, set, replicate, Option, None, arith}
+use Rattle.std.proofs.Common.{◌≡◌, ◌∙◌, sym, ap, refl, ℕ, zero, suc, ◌+◌, ◌-◌, ◌≤◌, ◌<◌, false, ◌==◌, if◌then◌else◌, List, [], ◌∷◌, length, map, get_or, set, replicate, Option, None, arith}
 use Rattle.std.specs.List.{range_with_len}
+use Rattle.std.proofs.lemmas.Bool.{eq-eqb}
 use Rattle.std.proofs.lemmas.Bool.Decides.{nat_tests}
-use Rattle.std.proofs.lemmas.List.FromFn.{length-map-range_with_len, get_or-map-range_with_len}
+use Rattle.std.proofs.lemmas.List.FromFn.{length-map-range_with_len}
 use Rattle.source_core.specs.Source.{Open}
 use Rattle.source_core.specs.Calls.{each_session}
 use Rattle.world.specs.declared.events.Event.{Event}
@@ -35,10 +36,7 @@ set_each : {X : Type 0} (f : ℕ → X) (h : X → X) (d : X) (one a n place : �
     set (map f (range_with_len a n)) place (h (get_or (map f (range_with_len a n)) place d)) ≡ map (λ k. if one == k then h (f k) else f k) (range_with_len a n)
 set_each f h d one a zero place is within = absurd (omega (arith, within))
 set_each f h d one a (suc n) zero is within =
-    λ i. (if sym (equal one a (omega (arith, is))) i then h (f a) else f a) ∷ same_each f (λ k. if one == k then h (f k) else f k) (a + 1) n later i where
-      equal : (x y : ℕ) → x ≡ y → (x == y) ≡ true
-      equal x y q = grind (arith, nat_tests)
-
+    λ i. (if sym (eq-eqb one a (omega (arith, is))) i then h (f a) else f a) ∷ same_each f (λ k. if one == k then h (f k) else f k) (a + 1) n later i where
       apart : (x y : ℕ) → x < y → (x == y) ≡ false
       apart x y q = grind (arith, nat_tests)
 
@@ -64,12 +62,6 @@ pub none_at_first : replicate 256 None ≡ transactions []
 none_at_first =
     ap (λ (n : ℕ). replicate {A = Option Open} n None) (sym counted.1) ∙ none_each {X = Option Open} None 1 counted.0
     ∙ same_each (λ k. None) (transaction_of []) 1 counted.0 (λ k le. refl) ∙ sym (counted.2 [])
-
--- a session's transaction
-pub transaction_at : (past : Past) (session : ℕ) → 1 ≤ session → session ≤ 256 → get_or (transactions past) (session - 1) None ≡ transaction_of past session
-transaction_at past session least greatest =
-    ap (λ (ts : List (Option Open)). get_or ts (session - 1) None) (counted.2 past)
-    ∙ get_or-map-range_with_len (transaction_of past) 1 counted.0 (session - 1) session None (omega (arith, least, greatest, counted.1)) (omega (arith, least))
 
 -- a pair that says nothing of any
 pub none_told : (past : Past) (event : Event) (reply : Reply) → ((k : ℕ) → transaction_after past k event reply (transaction_of past k) ≡ transaction_of past k) →

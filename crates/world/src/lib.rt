@@ -11,13 +11,16 @@
 //! `published` alone.
 #![tactic(auto)]
 
+mod comparing;
 mod events;
 pub mod laws;
+mod log_events;
 mod machine;
 mod pair;
-mod sides;
+mod replica_events;
+mod replies;
 
+pub use comparing::begins;
 pub use events::{Event, LogText, Reply, Stamps};
 pub use machine::World;
 pub use pair::{Pair, PairParts, pair_of};
-pub use sides::begins;

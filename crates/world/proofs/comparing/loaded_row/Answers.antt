@@ -2,7 +2,7 @@ use Rattle.std.proofs.Common.{rules}
 use Rattle.std.proofs.lemmas.List.Sorted.{answers_always}
 use Rattle.store_trait.specs.Batch.{Entry}
 use Rattle.world.proofs.Alike.{ranks_rise, loads_found, loads_none}
-use Rattle.world.proofs.sides.loaded_row.Goals as goal
+use Rattle.world.proofs.comparing.loaded_row.Goals as goal
 
 pub returns-in-Ok : goal.returns-in-Ok
 returns-in-Ok c =

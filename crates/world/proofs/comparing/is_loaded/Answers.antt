@@ -2,7 +2,7 @@ use Rattle.std.proofs.Common.{refl, sym, subst, Bool, ◌≡◌}
 use Rattle.std.specs.Bool.{Decides}
 use Rattle.record_codec.proofs.Comparing.{along}
 use Rattle.executor.proofs.Comparing.{option_Decides, columns_Decides}
-use Rattle.world.proofs.sides.is_loaded.Goals as goal
+use Rattle.world.proofs.comparing.is_loaded.Goals as goal
 
 pub returns : goal.returns
 returns c =

@@ -1,5 +1,5 @@
 use Rattle.world.proofs.Alike.{alike_then, alike_else}
-use Rattle.world.proofs.sides.load_alike.Goals as goal
+use Rattle.world.proofs.comparing.load_alike.Goals as goal
 
 pub returns-then-all_loaded : goal.returns-then-all_loaded
 returns-then-all_loaded c =

@@ -1,5 +1,5 @@
 use Rattle.std.proofs.Common.{◌≡◌, take}
-use Rattle.world.proofs.sides.is_beginning.Given as goal
+use Rattle.world.proofs.comparing.is_beginning.Given as goal
 
 -- so far they are the same
 abbrev pub invariant-loop-i : goal.invariant-loop-i

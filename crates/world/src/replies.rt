@@ -1,0 +1,70 @@
+//! What the calls of the two sides are replied.
+
+ghost use Rattle.std.specs.Prelude.{◌≡◌};
+ghost use Rattle.std.specs.Result.{result_err};
+ghost use Rattle.world.specs.Legal.{refused_or};
+ghost use Rattle.world.specs.Replies.{receipts_reply, received_reply, seen_reply, prepared_reply};
+
+use crate::events::Reply;
+use relay::{Received, ReplicaFault};
+use rows::Row;
+use source_core::{Prepared, Receipt, SourceFault};
+
+/// What a call that answers nothing is replied.
+pub(crate) fn done(answer: Result<(), SourceFault>) -> Reply
+    ensures { result ≡ refused_or (result_err answer) Reply.Done }
+{
+    match answer {
+        Ok(()) => Reply::Done,
+        Err(fault) => Reply::Source(fault),
+    }
+}
+
+/// What a read at the source is replied.
+pub(crate) fn seen(answer: Result<Option<Row>, SourceFault>) -> Reply
+    ensures { result ≡ seen_reply answer }
+{
+    match answer {
+        Ok(row) => Reply::Seen { row },
+        Err(fault) => Reply::Source(fault),
+    }
+}
+
+/// What a prepare is replied.
+pub(crate) fn prepared(answer: Result<Prepared, SourceFault>) -> Reply
+    ensures { result ≡ prepared_reply answer }
+{
+    match answer {
+        Ok(Prepared::Parent(parent)) => Reply::Prepared { parent },
+        Ok(Prepared::Empty) => Reply::Empty,
+        Err(fault) => Reply::Source(fault),
+    }
+}
+
+/// What a commit with these receipts is replied.
+pub(crate) fn committed(receipts: &[Receipt]) -> Reply
+    ensures { result ≡ receipts_reply receipts.now }
+{
+    match receipts {
+        [] => Reply::Nothing,
+        [only] => Reply::Committed {
+            first: only.gno,
+            last: only.gno,
+        },
+        [first, .., last] => Reply::Committed {
+            first: first.gno,
+            last: last.gno,
+        },
+    }
+}
+
+/// What a record that was received is replied.
+pub(crate) fn received(answer: Result<Received, ReplicaFault>) -> Reply
+    ensures { result ≡ received_reply answer }
+{
+    match answer {
+        Ok(Received::Accepted) => Reply::Accepted,
+        Ok(Received::Skipped) => Reply::Skipped,
+        Err(fault) => Reply::Replica(fault),
+    }
+}
