@@ -17,7 +17,6 @@ pub mod Preparing
 pub mod Queueing
 pub mod Causes
 pub mod StepFacts
-pub mod WriteCauses
 pub mod Writing
 pub mod Waiting
 pub mod Syncing

@@ -50,8 +50,7 @@ parts_over ts rows base limit log entries places stages locks = record {
   owners = map (λ (e : Seen). e.session) entries;
   entries = entries;
   places = places;
-  queue = stages.flush;
-  group_sizes = stages.sizes;
+  stages = stages;
   locks = locks;
 }
 
@@ -83,9 +82,9 @@ new_core ts rows base limit locks bound loaded_is fits none clear = record {
 
 pub new_holds : (ts : List Table) (rows : Database) (base : List Entry) (limit : ℕ) (locks : Locks) → limit < 2 ^ 63 → put_batch base empty ≡ rows → Fits ts rows → locks ≡ no_locks → NoClash locks →
     (log : List Record) (entries : List Seen) (places : List (Option Transaction)) (stages : Queues) → log ≡ [] → entries ≡ [] → places ≡ replicate 256 None → stages ≡ no_queues →
-    (IsSo : List Seen → Type 0) → IsSo [] → Holds (parts_over ts rows base limit log entries places stages locks) stages (IsSo entries)
+    (IsSo : List Seen → Type 0) → IsSo [] → Holds (parts_over ts rows base limit log entries places stages locks) (IsSo entries)
 new_holds ts rows base limit locks bound loaded_is fits none clear log entries places stages no_log no_entries no_places no_stages IsSo so =
-    rw (no_log, no_entries, no_places, no_stages) (record { core = new_core ts rows base limit locks bound loaded_is fits none clear; syncing = refl; committing = refl; tracked = so })
+    rw (no_log, no_entries, no_places, no_stages) (record { core = new_core ts rows base limit locks bound loaded_is fits none clear; waits = record { syncing = refl; committing = refl }; tracked = so })
 
 pub new_view : (ts : List Table) (rows : Database) (base : List Entry) (limit : ℕ) (locks : Locks) (kind : Kind) → (log : List Record) (entries : List Seen) (places : List (Option Transaction)) (stages : Queues) →
     log ≡ [] → entries ≡ [] → places ≡ replicate 256 None → stages ≡ no_queues → source_of (parts_over ts rows base limit log entries places stages locks) kind false ≡ new_source ts base limit kind

@@ -1,7 +1,7 @@
 -- What stands once one session's transaction is another that is not queued, or none.
 use Rattle.std.specs.List.{list_any, IsDistinct}
 use Rattle.tracker_trait.specs.Kind.{Kind}
-use Rattle.std.proofs.Common.{IsTrue, is_some, false, Bool, eqb, ◌≡◌, ◌≢◌, ◌∙◌, sym, ap, subst, refl, ℕ, ◌+◌, ◌-◌, ◌<◌, ◌≤◌, List, [], ◌∷◌, length, map, take, drop, get_or, set, Option, Some, None, inl, inr, arith}
+use Rattle.std.proofs.Common.{IsTrue, is_some, false, Bool, eqb, ◌≡◌, ◌≢◌, ◌∙◌, sym, ap, subst, refl, ℕ, ◌+◌, ◌-◌, ◌<◌, ◌≤◌, List, [], ◌∷◌, length, map, get_or, set, Option, Some, None, inl, inr, arith}
 use Rattle.std.specs.Option.{option_map}
 use Rattle.std.specs.FinMap.{empty}
 use Rattle.std.proofs.lemmas.Bool.Decides.{eqb_tells}
@@ -17,8 +17,8 @@ use Rattle.source_core.specs.declared.transaction.Transaction.{Transaction}
 use Rattle.source_core.specs.Source.{held_for, locks_over}
 use Rattle.source_core.specs.Calls.{with_open}
 use Rattle.source_core.proofs.Stand.{held_at}
-use Rattle.commit_stages.specs.Queues.{Queues}
-use Rattle.source_core.specs.Core.{Parts, IsCore, Applies, RefersTo, IsReady, StandsAs, AreFlushed, AreQueued, Holds, open_view, sessions_view, source_of, placed}
+use Rattle.commit_stages.specs.Queues.{Queues, AreSizes}
+use Rattle.source_core.specs.Core.{Parts, IsCore, Applies, RefersTo, IsReady, StandsAs, AreFlushed, AreQueued, open_view, sessions_view, source_of, placed}
 
 -- the transaction, if there is one, is neither queued nor flushed
 abbrev pub IsFreePhase : Phase → Type 0
@@ -31,9 +31,13 @@ abbrev pub IsFree : Option Transaction → Type 0
 IsFree None = Unit {0}
 IsFree (Some t) = IsFreePhase t.phase
 
--- with another transaction in a place, and this queue and these locks
-abbrev pub placing : Parts → ℕ → Option Transaction → List ℕ → Locks → Parts
-placing p i now queue locks = record p { places = set p.places i now; queue = queue; locks = locks }
+-- the place of a session
+abbrev pub IsPlaceOf : ℕ → ℕ → Type 0
+IsPlaceOf session i = (i + 1 ≡ session) × (i < 256)
+
+-- with another transaction in a place, and these stages and locks
+abbrev pub placing : Parts → ℕ → Option Transaction → Queues → Locks → Parts
+placing p i now stages locks = record p { places = set p.places i now; stages = stages; locks = locks }
 
 pub not_flushed : (o : Option Transaction) (t : Transaction) (n : ℕ) → IsFree o → o ≡ Some t → t.phase ≡ Flushed n → ⊥
 not_flushed o t n free is phase =
@@ -47,12 +51,12 @@ not_queued o t n free is phase =
 pub other_place : (places : List (Option Transaction)) (i j : ℕ) (now : Option Transaction) → j ≢ i → placed (set places i now) j ≡ placed places j
 other_place places i j now ne = get_or-set_other places i j now None ne
 
-flushed_stay : (p : Parts) (i : ℕ) (now : Option Transaction) (queue : List ℕ) (locks : Locks) → IsFree (placed p.places i) → (number : ℕ) (log : List Record) (owners : List ℕ) →
+flushed_stay : (p : Parts) (i : ℕ) (now : Option Transaction) → IsFree (placed p.places i) → (number : ℕ) (log : List Record) (owners : List ℕ) →
     AreFlushed p.tables p.rows p.places number log owners → AreFlushed p.tables p.rows (set p.places i now) number log owners
-flushed_stay p i now queue locks free number [] [] are = tt
-flushed_stay p i now queue locks free number [] (owner ∷ owners) are = absurd are
-flushed_stay p i now queue locks free number (made ∷ log) [] are = absurd are
-flushed_stay p i now queue locks free number (made ∷ log) (owner ∷ owners) are =
+flushed_stay p i now free number [] [] are = tt
+flushed_stay p i now free number [] (owner ∷ owners) are = absurd are
+flushed_stay p i now free number (made ∷ log) [] are = absurd are
+flushed_stay p i now free number (made ∷ log) (owner ∷ owners) are =
     let one = are.0 in
     let other : owner - 1 ≢ i = λ same. not_flushed (placed p.places i) one.t number free (ap (placed p.places) (sym same) ∙ one.place) one.phase in (
       record {
@@ -63,7 +67,7 @@ flushed_stay p i now queue locks free number (made ∷ log) (owner ∷ owners) a
         changes = one.changes;
         refs = one.refs;
       },
-      flushed_stay p i now queue locks free (number + 1) log owners are.1,
+      flushed_stay p i now free (number + 1) log owners are.1,
     )
 
 pub queued_stay : (places : List (Option Transaction)) (i : ℕ) (now : Option Transaction) → IsFree (placed places i) → (queue : List ℕ) → AreQueued places queue → AreQueued (set places i now) queue
@@ -79,14 +83,14 @@ queued_stay places i now free (session ∷ queue) are =
 abbrev pub Grows : List ℕ → List ℕ → Type 0
 Grows old new = (session : ℕ) → IsTrue (list_any (eqb session) old) → IsTrue (list_any (eqb session) new)
 
-pub ready_stays : (p : Parts) (i : ℕ) (now : Option Transaction) (queue : List ℕ) (locks : Locks) (session : ℕ) (changes : List Change) (order : ℕ) → IsReady p session changes order → IsReady (placing p i now queue locks) session changes order
-ready_stays p i now queue locks session changes order r = record { some = r.some; within = r.within; covers = r.covers; own = r.own }
+pub ready_stays : (p : Parts) (i : ℕ) (now : Option Transaction) (stages : Queues) (locks : Locks) (session : ℕ) (changes : List Change) (order : ℕ) → IsReady p session changes order → IsReady (placing p i now stages locks) session changes order
+ready_stays p i now stages locks session changes order r = record { some = r.some; within = r.within; covers = r.covers; own = r.own }
 
-stands_stays : (p : Parts) (i : ℕ) (now : Option Transaction) (queue : List ℕ) (locks : Locks) (session : ℕ) (changes : List Change) (phase : Phase) → Grows p.queue queue → StandsAs p session changes phase → StandsAs (placing p i now queue locks) session changes phase
-stands_stays p i now queue locks session changes Active grows s = tt
-stands_stays p i now queue locks session changes (Prepared order) grows s = ready_stays p i now queue locks session changes order s
-stands_stays p i now queue locks session changes (Queued order) grows s = (ready_stays p i now queue locks session changes order s.0, grows session s.1)
-stands_stays p i now queue locks session changes (Flushed gno) grows s = record { later = s.later; there = s.there; owner = s.owner }
+stands_stays : (p : Parts) (i : ℕ) (now : Option Transaction) (stages : Queues) (locks : Locks) (session : ℕ) (changes : List Change) (phase : Phase) → Grows p.stages.flush stages.flush → StandsAs p session changes phase → StandsAs (placing p i now stages locks) session changes phase
+stands_stays p i now stages locks session changes Active grows s = tt
+stands_stays p i now stages locks session changes (Prepared order) grows s = ready_stays p i now stages locks session changes order s
+stands_stays p i now stages locks session changes (Queued order) grows s = (ready_stays p i now stages locks session changes order s.0, grows session s.1)
+stands_stays p i now stages locks session changes (Flushed gno) grows s = record { later = s.later; there = s.there; owner = s.owner }
 
 -- what is true of the other transactions, and of the one in the place, is true of each
 pub each_placed : (P : ℕ → Transaction → Type 0) (places : List (Option Transaction)) (i : ℕ) (now : Option Transaction) → i < length places →
@@ -106,12 +110,12 @@ locks_set ts rows places i now =
     ap (map (held_for ts rows)) (map-set (option_map open_view) places i now)
     ∙ map-set (held_for ts rows) (sessions_view places) i (option_map open_view now)
 
-pub place_set : (p : Parts) → IsCore p → (i : ℕ) → i < 256 → (now : Option Transaction) → IsFree (placed p.places i) → (queue : List ℕ) → (locks : Locks) →
-    length p.log + length queue ≤ p.limit → AreQueued (set p.places i now) queue → IsDistinct eqb queue → Grows p.queue queue →
+pub place_set : (p : Parts) → IsCore p → (i : ℕ) → i < 256 → (now : Option Transaction) → IsFree (placed p.places i) → (stages : Queues) → stages.sizes ≡ p.stages.sizes → (locks : Locks) →
+    length p.log + length stages.flush ≤ p.limit → AreQueued (set p.places i now) stages.flush → IsDistinct eqb stages.flush → Grows p.stages.flush stages.flush →
     locks ≡ set p.locks i (held_for p.tables p.rows (option_map open_view now)) → NoClash locks →
-    ((t : Transaction) → now ≡ Some t → Applies p.tables p.rows t.overlay × StandsAs (placing p i now queue locks) (i + 1) t.overlay.changes t.phase × RefersTo p.tables p.rows t) →
-    IsCore (placing p i now queue locks)
-place_set p core i within now free queue locks few queued distinct grows are clear here =
+    ((t : Transaction) → now ≡ Some t → Applies p.tables p.rows t.overlay × StandsAs (placing p i now stages locks) (i + 1) t.overlay.changes t.phase × RefersTo p.tables p.rows t) →
+    IsCore (placing p i now stages locks)
+place_set p core i within now free stages sizes locks few queued distinct grows are clear here =
     let there : i < length p.places = omega (arith, within, core.sessions) in
     record {
       logged = core.logged;
@@ -121,26 +125,26 @@ place_set p core i within now free queue locks few queued distinct grows are cle
       committed_within = core.committed_within;
       stored = core.stored;
       sessions = length-set p.places i now ∙ core.sessions;
-      grouped = core.grouped;
+      grouped = subst (λ l. AreSizes l (length p.log - p.synced)) (sym sizes) core.grouped;
       locks = are ∙ ap (λ l. set l i (held_for p.tables p.rows (option_map open_view now))) core.locks ∙ sym (locks_set p.tables p.rows p.places i now);
       no_clash = clear;
       applies = each_placed (λ j t. Applies p.tables p.rows t.overlay) p.places i now there (λ t is. (here t is).0) core.applies;
       refers = each_placed (λ j t. RefersTo p.tables p.rows t) p.places i now there (λ t is. (here t is).2) core.refers;
-      stands = each_placed (λ j t. StandsAs (placing p i now queue locks) (j + 1) t.overlay.changes t.phase) p.places i now there
+      stands = each_placed (λ j t. StandsAs (placing p i now stages locks) (j + 1) t.overlay.changes t.phase) p.places i now there
           (λ t is. (here t is).1)
-          (λ j t at. stands_stays p i now queue locks (j + 1) t.overlay.changes t.phase grows (core.stands j t at));
-      flushed = flushed_stay p i now queue locks free (p.committed + 1) _ _ core.flushed;
+          (λ j t at. stands_stays p i now stages locks (j + 1) t.overlay.changes t.phase grows (core.stands j t at));
+      flushed = flushed_stay p i now free (p.committed + 1) _ _ core.flushed;
       queued = queued;
       distinct = distinct;
     }
 
--- the same, with the queue as it is
+-- the same, with the stages as they are
 pub place_changed : (p : Parts) → IsCore p → (i : ℕ) → i < 256 → (now : Option Transaction) → IsFree (placed p.places i) → (locks : Locks) →
     locks ≡ set p.locks i (held_for p.tables p.rows (option_map open_view now)) → NoClash locks →
-    ((t : Transaction) → now ≡ Some t → Applies p.tables p.rows t.overlay × StandsAs (placing p i now p.queue locks) (i + 1) t.overlay.changes t.phase × RefersTo p.tables p.rows t) →
-    IsCore (placing p i now p.queue locks)
+    ((t : Transaction) → now ≡ Some t → Applies p.tables p.rows t.overlay × StandsAs (placing p i now p.stages locks) (i + 1) t.overlay.changes t.phase × RefersTo p.tables p.rows t) →
+    IsCore (placing p i now p.stages locks)
 place_changed p core i within now free locks are clear here =
-    place_set p core i within now free p.queue locks core.few (queued_stay p.places i now free p.queue core.queued) core.distinct (λ session is. is) are clear here
+    place_set p core i within now free p.stages refl locks core.few (queued_stay p.places i now free p.stages.flush core.queued) core.distinct (λ session is. is) are clear here
 
 -- where the transaction holds what the one before it held, the locks stay
 pub locks_stay : (p : Parts) → IsCore p → (i : ℕ) (now : Option Transaction) →
@@ -152,7 +156,7 @@ locks_stay p core i now same =
 
 -- what callers see
 pub view_set : (p : Parts) → IsCore p → (kind : Kind) (halted : Bool) (i session : ℕ) (now : Option Transaction) (locks : Locks) → i + 1 ≡ session →
-    source_of (placing p i now p.queue locks) kind halted ≡ with_open (source_of p kind halted) session (option_map open_view now)
+    source_of (placing p i now p.stages locks) kind halted ≡ with_open (source_of p kind halted) session (option_map open_view now)
 view_set p core kind halted i session now locks is =
     let place : i ≡ session - 1 = omega (arith, is) in
     ap (λ sessions. record (source_of p kind halted) { sessions = sessions })
@@ -165,12 +169,3 @@ placed_is places i o within at = get_or_default places i None o within ∙ sym a
 pub nothing : (o : Option Transaction) → false ≡ is_some o → o ≡ None
 nothing None e = refl
 nothing (Some t) e = cc
-
--- what a source holds, once its parts are others, and its records and the stages that own them as they were
-pub holds : (p : Parts) (stages : Queues) (IsSo : Type 0) → Holds p stages IsSo → (q : Parts) → IsCore q → q.owners ≡ p.owners → q.synced ≡ p.synced → q.committed ≡ p.committed → Holds q stages IsSo
-holds p stages IsSo h q core owners synced committed = record {
-  core = core;
-  syncing = h.syncing ∙ sym (λ i. drop (synced i) (owners i));
-  committing = h.committing ∙ sym (λ i. drop (committed i) (take (synced i) (owners i)));
-  tracked = h.tracked;
-}

@@ -10,6 +10,7 @@ use Rattle.std.proofs.lemmas.Bool.Decides.{eqb_tells, nat_tests}
 use Rattle.std.proofs.lemmas.List.{get_or-set_same}
 use Rattle.std.proofs.lemmas.List.Folds.{list_any-append}
 use Rattle.std.proofs.lemmas.Map.Keys.{IsDistinct-push}
+use Rattle.commit_stages.specs.Queues.{Queues, queued as queued_last}
 use Rattle.tracker_trait.specs.Kind.{Kind}
 use Rattle.source_core.specs.declared.transaction.Phase.{Phase}
 use Rattle.source_core.specs.declared.transaction.Phase.TheVariants.{Active, Prepared, Queued, Flushed}
@@ -18,7 +19,7 @@ use Rattle.source_core.specs.Source.{Source, Open}
 use Rattle.source_core.specs.Calls.{queued, queued_phase, with_open}
 use Rattle.source_core.specs.Core.{Parts, IsCore, Applies, RefersTo, StandsAs, IsReady, IsQueued, AreQueued, source_of, open_view, sessions_view, placed, prepared_order, with_phase}
 use Rattle.source_core.proofs.Stand.{open_at}
-use Rattle.source_core.proofs.Place.{placing, place_set, queued_stay, ready_stays, locks_stay, not_queued, placed_is, view_set, IsFree, IsFreePhase, Grows}
+use Rattle.source_core.proofs.Place.{placing, place_set, queued_stay, ready_stays, locks_stay, not_queued, placed_is, view_set, IsFree, IsFreePhase, Grows, IsPlaceOf}
 
 -- ---- a queue in which no session comes twice
 
@@ -54,9 +55,9 @@ is_prepared_at (Some t) order e = record { t = t; is = refl; phase = prepared_ph
 prepared_is_free : (o : Option Transaction) (order : ℕ) → IsPrepared o order → IsFree o
 prepared_is_free o order w = subst (λ (x : Option Transaction). IsFree x) (sym w.is) (subst (λ (x : Phase). IsFreePhase x) (sym w.phase) tt)
 
--- the session's queue and the one behind it
-abbrev pub behind : Parts → ℕ → List ℕ
-behind p session = p.queue ++ session ∷ []
+-- the stages with the session last in the queue
+abbrev pub behind : Parts → ℕ → Queues
+behind p session = queued_last p.stages session
 
 grows : (queue : List ℕ) (session : ℕ) → Grows queue (queue ++ session ∷ [])
 grows queue session q is = list_any-append (eqb q) queue (session ∷ []) ∙ or_left (list_any (eqb q) queue) _ is
@@ -102,15 +103,15 @@ module _ (p : Parts) (core : IsCore p) (i session : ℕ) (within : i < 256) (is 
   stands : (t : Transaction) → its ≡ t → Applies p.tables p.rows t.overlay × StandsAs (placing p i now (behind p session) p.locks) (i + 1) t.overlay.changes t.phase × RefersTo p.tables p.rows t
   stands t same =
       subst (λ (x : Transaction). Applies p.tables p.rows x.overlay × StandsAs (placing p i now (behind p session) p.locks) (i + 1) x.overlay.changes x.phase × RefersTo p.tables p.rows x) same
-      (core.applies i w.t w.is, (ready_stays p i now (behind p session) p.locks (i + 1) w.t.overlay.changes order ready, subst (λ k. IsTrue (list_any (eqb k) (behind p session))) (sym is) (in_queue p.queue session)), core.refers i w.t w.is)
+      (core.applies i w.t w.is, (ready_stays p i now (behind p session) p.locks (i + 1) w.t.overlay.changes order ready, subst (λ k. IsTrue (list_any (eqb k) (behind p session).flush)) (sym is) (in_queue p.stages.flush session)), core.refers i w.t w.is)
 
-  pub queued_core : length p.log + length p.queue < p.limit → IsCore (placing p i now (behind p session) p.locks)
+  pub queued_core : length p.log + length p.stages.flush < p.limit → IsCore (placing p i now (behind p session) p.locks)
   queued_core few =
-      let count : length (behind p session) ≡ length p.queue + 1 = length-append p.queue (session ∷ []) in
-      place_set p core i within now free (behind p session) p.locks (omega (arith, few, count))
-      (queued_behind (set p.places i now) session p.queue (queued_stay p.places i now free p.queue core.queued) one)
-      (queue_distinct p.places session p.queue core.queued (omega (arith, is)) free_at core.distinct)
-      (grows p.queue session)
+      let count : length (behind p session).flush ≡ length p.stages.flush + 1 = length-append p.stages.flush (session ∷ []) in
+      place_set p core i within now free (behind p session) refl p.locks (omega (arith, few, count))
+      (queued_behind (set p.places i now) session p.stages.flush (queued_stay p.places i now free p.stages.flush core.queued) one)
+      (queue_distinct p.places session p.stages.flush core.queued (omega (arith, is)) free_at core.distinct)
+      (grows p.stages.flush session)
       (locks_stay p core i now (rw w.is refl))
       core.no_clash
       (λ t e. stands t (same_of its t e))
@@ -120,8 +121,8 @@ module _ (p : Parts) (core : IsCore p) (i session : ℕ) (within : i < 256) (is 
 
   pub queued_view : (kind : Kind) (halted : Bool) → source_of (placing p i now (behind p session) p.locks) kind halted ≡ queued (source_of p kind halted) session
   queued_view kind halted =
-      ap (λ (s : Source). record s { queue = behind p session }) (view_set p core kind halted i session now p.locks is)
-      ∙ ap (λ (o : Option Open). record (with_open (source_of p kind halted) session o) { queue = behind p session }) (sym opened)
+      ap (λ (s : Source). record s { queue = (behind p session).flush }) (view_set p core kind halted i session now p.locks is)
+      ∙ ap (λ (o : Option Open). record (with_open (source_of p kind halted) session o) { queue = (behind p session).flush }) (sym opened)
     where
       opened : option_map {U = Open} (λ (t : Open). record { changes = t.changes; phase = queued_phase t.phase }) (slice_index_or (sessions_view p.places) (session - 1) None) ≡ Some (record { changes = w.t.overlay.changes; phase = Queued order })
       opened =
@@ -139,24 +140,24 @@ next_is : (p : Parts) (core : IsCore p) (i : ℕ) (within : i < 256) (order : �
 next_is p core i within order w found next found_is is =
     sym (is ∙ ap (option_map (with_phase (Queued order))) (sym (placed_is p.places i found (omega (arith, within, core.sessions)) found_is) ∙ w.is))
 
-pub queued_at : (p : Parts) → IsCore p → (i session : ℕ) → i < 256 → i + 1 ≡ session → (order : ℕ) → (read found next : Option Transaction) → read ≡ get_or p.places i read → found ≡ get_or p.places i found →
-    option_and_then prepared_order read ≡ Some order → next ≡ option_map (with_phase (Queued order)) found → length p.log + length p.queue < p.limit → (queue sizes : List ℕ) → queue ≡ p.queue ++ session ∷ [] → sizes ≡ p.group_sizes →
-    IsCore (record (placing p i next queue p.locks) { group_sizes = sizes })
-queued_at p core i session within is order read found next read_is found_is told next_told few queue sizes queue_is sizes_are =
-    let w = at_place p core i within read read_is order told in
-    rw (queue_is, sizes_are)
-    (subst (λ (o : Option Transaction). IsCore (placing p i o (p.queue ++ session ∷ []) p.locks)) (next_is p core i within order w found next found_is next_told)
-    (queued_core p core i session within is order w few))
+pub queued_at : (p : Parts) → IsCore p → (i session : ℕ) → IsPlaceOf session i → (order : ℕ) → (read found next : Option Transaction) → read ≡ get_or p.places i read → found ≡ get_or p.places i found →
+    option_and_then prepared_order read ≡ Some order → next ≡ option_map (with_phase (Queued order)) found → length p.log + length p.stages.flush < p.limit → (stages : Queues) → stages ≡ queued_last p.stages session →
+    IsCore (placing p i next stages p.locks)
+queued_at p core i session of_session order read found next read_is found_is told next_told few stages stages_are =
+    let w = at_place p core i of_session.1 read read_is order told in
+    rw stages_are
+    (subst (λ (o : Option Transaction). IsCore (placing p i o (behind p session) p.locks)) (next_is p core i of_session.1 order w found next found_is next_told)
+    (queued_core p core i session of_session.1 of_session.0 order w few))
 
-pub queued_at_view : (p : Parts) → IsCore p → (kind : Kind) (halted : Bool) (i session : ℕ) → i < 256 → i + 1 ≡ session → (order : ℕ) → (read found next : Option Transaction) → read ≡ get_or p.places i read → found ≡ get_or p.places i found →
-    option_and_then prepared_order read ≡ Some order → next ≡ option_map (with_phase (Queued order)) found → (queue sizes : List ℕ) → queue ≡ p.queue ++ session ∷ [] → sizes ≡ p.group_sizes →
-    source_of (record (placing p i next queue p.locks) { group_sizes = sizes }) kind halted ≡ queued (source_of p kind halted) session
-queued_at_view p core kind halted i session within is order read found next read_is found_is told next_told queue sizes queue_is sizes_are =
-    let w = at_place p core i within read read_is order told in
-    (λ k. source_of (record (placing p i next (queue_is k) p.locks) { group_sizes = sizes_are k }) kind halted)
-    ∙ ap (λ (o : Option Transaction). source_of (placing p i o (p.queue ++ session ∷ []) p.locks) kind halted) (sym (next_is p core i within order w found next found_is next_told))
-    ∙ queued_view p core i session within is order w kind halted
+pub queued_at_view : (p : Parts) → IsCore p → (kind : Kind) (halted : Bool) (i session : ℕ) → IsPlaceOf session i → (order : ℕ) → (read found next : Option Transaction) → read ≡ get_or p.places i read → found ≡ get_or p.places i found →
+    option_and_then prepared_order read ≡ Some order → next ≡ option_map (with_phase (Queued order)) found → (stages : Queues) → stages ≡ queued_last p.stages session →
+    source_of (placing p i next stages p.locks) kind halted ≡ queued (source_of p kind halted) session
+queued_at_view p core kind halted i session of_session order read found next read_is found_is told next_told stages stages_are =
+    let w = at_place p core i of_session.1 read read_is order told in
+    (λ k. source_of (placing p i next (stages_are k) p.locks) kind halted)
+    ∙ ap (λ (o : Option Transaction). source_of (placing p i o (behind p session) p.locks) kind halted) (sym (next_is p core i of_session.1 order w found next found_is next_told))
+    ∙ queued_view p core i session of_session.1 of_session.0 order w kind halted
 
 -- the session's transaction is neither queued nor flushed before
-pub free_before : (p : Parts) → IsCore p → (i session : ℕ) → i < 256 → i + 1 ≡ session → (order : ℕ) → (read : Option Transaction) → read ≡ get_or p.places i read → option_and_then prepared_order read ≡ Some order → IsFree (placed p.places (session - 1))
-free_before p core i session within is order read read_is told = free_at p core i session within is order (at_place p core i within read read_is order told)
+pub free_before : (p : Parts) → IsCore p → (i session : ℕ) → IsPlaceOf session i → (order : ℕ) → (read : Option Transaction) → read ≡ get_or p.places i read → option_and_then prepared_order read ≡ Some order → IsFree (placed p.places (session - 1))
+free_before p core i session of_session order read read_is told = free_at p core i session of_session.1 of_session.0 order (at_place p core i of_session.1 read read_is order told)

@@ -7,7 +7,7 @@ use Rattle.std.proofs.lemmas.List.{take-append-le, drop-append-le, drop-drop, dr
 use Rattle.std.proofs.lemmas.List.Folds.{list_any-append}
 use Rattle.record_codec.specs.declared.records.Record.{Record}
 use Rattle.commit_stages.specs.Queues.{Queues, is_waiting, queued, flush_taken, oldest_size, sync_taken, commit_taken}
-use Rattle.source_core.specs.Core.{Parts, AreFlushed, Holds, placed}
+use Rattle.source_core.specs.Core.{Parts, AreFlushed, Wait, Holds, placed}
 use Rattle.source_core.proofs.CommitLists.{drop_parts}
 use Rattle.source_core.proofs.Place.{IsFree, not_flushed}
 use Rattle.source_core.proofs.Queueing.{none_is}
@@ -26,27 +26,19 @@ owns_none p session n (made ∷ log) (owner ∷ owners) are free =
     ]
 
 -- and waits for nothing
-pub waits_not : (p : Parts) (stages : Queues) (IsSo : Type 0) → Holds p stages IsSo → stages.flush ≡ p.queue → (session : ℕ) → 1 ≤ session → IsFree (placed p.places (session - 1)) → is_waiting stages session ≡ false
-waits_not p stages IsSo h flush session least free =
+pub waits_not : (p : Parts) (IsSo : Type 0) → Holds p IsSo → (session : ℕ) → 1 ≤ session → IsFree (placed p.places (session - 1)) → is_waiting p.stages session ≡ false
+waits_not p IsSo h session least free =
     ap (λ l. list_any (eqb session) l) line
-    ∙ list_any-append (eqb session) (drop p.committed p.owners) p.queue
-    ∙ (λ i. owns_none p session (p.committed + 1) (drop p.committed p.log) (drop p.committed p.owners) h.core.flushed free i || none_is p.places session p.queue h.core.queued least free i)
+    ∙ list_any-append (eqb session) (drop p.committed p.owners) p.stages.flush
+    ∙ (λ i. owns_none p session (p.committed + 1) (drop p.committed p.log) (drop p.committed p.owners) h.core.flushed free i || none_is p.places session p.stages.flush h.core.queued least free i)
   where
-    line : stages.commit ++ (stages.sync ++ stages.flush) ≡ drop p.committed p.owners ++ p.queue
+    line : p.stages.commit ++ (p.stages.sync ++ p.stages.flush) ≡ drop p.committed p.owners ++ p.stages.flush
     line =
-        sym (append_assoc stages.commit stages.sync stages.flush)
-        ∙ (λ i. (h.committing i ++ h.syncing i) ++ flush i)
-        ∙ ap (λ l. l ++ p.queue) (sym (drop_parts p.committed p.synced p.owners h.core.committed_within))
+        sym (append_assoc p.stages.commit p.stages.sync p.stages.flush)
+        ∙ (λ i. (h.waits.committing i ++ h.waits.syncing i) ++ p.stages.flush)
+        ∙ ap (λ l. l ++ p.stages.flush) (sym (drop_parts p.committed p.synced p.owners h.core.committed_within))
 
 -- ---- who waits, where owners and counts are others
-
--- these sessions wait for the sync of their records, and these for the commit
-pub record Wait (stages : Queues) (owners : List ℕ) (synced_ committed_ : ℕ) : Type 0 where
-  pub syncing : stages.sync ≡ drop synced_ owners
-  pub committing : stages.commit ≡ drop committed_ (take synced_ owners)
-
-pub waiting : (p : Parts) (stages : Queues) (IsSo : Type 0) → Holds p stages IsSo → Wait stages p.owners p.synced p.committed
-waiting p stages IsSo h = record { syncing = h.syncing; committing = h.committing }
 
 -- one more session that is queued does not change these
 pub wait_queued : (stages more : Queues) (owners : List ℕ) (synced_ committed_ session : ℕ) → Wait stages owners synced_ committed_ → more ≡ queued stages session → Wait more owners synced_ committed_

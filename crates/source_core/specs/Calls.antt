@@ -177,10 +177,10 @@ seen_log s = entries_of s.tables s.log s.owners
 
 -- a flush: the queued transactions are the records of the group
 pub record Flushes (old : Source) (group : GroupValue) (new : Source) : Type 0 where
-  pub made : List Record
-  pub are : AreNextRecords old (seen_log old) old.queue made
-  pub leaves : new ≡ flushed old made
-  pub group_of : codec.AreRecordsOf group made
+  pub records : List Record
+  pub are : AreNextRecords old (seen_log old) old.queue records
+  pub leaves : new ≡ flushed old records
+  pub group_of : codec.AreRecordsOf group records
 
 -- synced
 
@@ -209,12 +209,12 @@ all_committed s =
     record s { committed = s.synced; sessions = map (λ t. if is_flushed_by s.synced t then None else t) s.sessions }
 
 abbrev pub receipt_as : ℕ → Record → Receipt
-receipt_as session of = record {
+receipt_as session made = record {
   session = session;
-  gno = of.gno;
-  sequence = of.sequence;
-  parent = of.parent;
-  changes = of.changes;
+  gno = made.gno;
+  sequence = made.sequence;
+  parent = made.parent;
+  changes = made.changes;
 }
 
 abbrev pub receipts_for : List ℕ → List Record → List Receipt

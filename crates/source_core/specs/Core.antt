@@ -50,8 +50,8 @@ pub record Parts : Type 0 where
   pub entries : List Seen
   -- the transaction of each session, session 1 first
   pub places : List (Option Transaction)
-  pub queue : List ℕ
-  pub group_sizes : List ℕ
+  -- the sessions that wait, by what they wait for
+  pub stages : Queues
   pub locks : Locks
 
 abbrev pub source_of : Parts → Kind → Bool → Source
@@ -65,8 +65,8 @@ source_of p kind halted = record {
   committed = p.committed;
   owners = p.owners;
   sessions = sessions_view p.places;
-  queue = p.queue;
-  group_sizes = p.group_sizes;
+  queue = p.stages.flush;
+  group_sizes = p.stages.sizes;
   halted = halted;
 }
 
@@ -110,7 +110,7 @@ pub record IsLogged (p : Parts) (session gno : ℕ) : Type 0 where
 abbrev pub StandsAs : Parts → ℕ → List Change → Phase → Type 0
 StandsAs p session changes Active = Unit {0}
 StandsAs p session changes (Prepared order) = IsReady p session changes order
-StandsAs p session changes (Queued order) = IsReady p session changes order × IsTrue (list_any (eqb session) p.queue)
+StandsAs p session changes (Queued order) = IsReady p session changes order × IsTrue (list_any (eqb session) p.stages.flush)
 StandsAs p session changes (Flushed gno) = IsLogged p session gno
 
 -- The record of this number is that of the transaction in its session's place.
@@ -161,11 +161,11 @@ pub record IsStored (ts : List Table) (base : List Entry) (log : List Record) (c
 pub record IsCore (p : Parts) : Type 0 where
   pub logged : IsTrackedLog p.tables p.base p.log p.owners p.entries
   pub stored : IsStored p.tables p.base p.log p.committed p.rows
-  pub few : length p.log + length p.queue ≤ p.limit
+  pub few : length p.log + length p.stages.flush ≤ p.limit
   pub bound : p.limit < 2 ^ 63
   pub synced_within : p.synced ≤ length p.log
   pub committed_within : p.committed ≤ p.synced
-  pub grouped : AreSizes p.group_sizes (length p.log - p.synced)
+  pub grouped : AreSizes p.stages.sizes (length p.log - p.synced)
   pub sessions : length p.places ≡ 256
   pub locks : p.locks ≡ locks_over p.tables p.rows (sessions_view p.places)
   pub no_clash : NoClash p.locks
@@ -173,16 +173,19 @@ pub record IsCore (p : Parts) : Type 0 where
   pub refers : (i : ℕ) (t : Transaction) → placed p.places i ≡ Some t → RefersTo p.tables p.rows t
   pub stands : (i : ℕ) (t : Transaction) → placed p.places i ≡ Some t → StandsAs p (i + 1) t.overlay.changes t.phase
   pub flushed : AreFlushed p.tables p.rows p.places (p.committed + 1) (drop p.committed p.log) (drop p.committed p.owners)
-  pub queued : AreQueued p.places p.queue
-  pub distinct : IsDistinct eqb p.queue
+  pub queued : AreQueued p.places p.stages.flush
+  pub distinct : IsDistinct eqb p.stages.flush
 
--- What is true of a source with these stages, and whose tracker is so: the sessions that wait for their sync own the records
--- that are flushed and not synced, and those that wait for their commit the records that are synced and not committed,
--- in log order.
-pub record Holds (p : Parts) (stages : Queues) (IsSo : Type 0) : Type 0 where
+-- The sessions that wait for their sync own the records that are flushed and not synced, and those that wait for their
+-- commit the records that are synced and not committed, in log order.
+pub record Wait (stages : Queues) (owners : List ℕ) (synced_ committed_ : ℕ) : Type 0 where
+  pub syncing : stages.sync ≡ drop synced_ owners
+  pub committing : stages.commit ≡ drop committed_ (take synced_ owners)
+
+-- what is true of a source whose tracker is so
+pub record Holds (p : Parts) (IsSo : Type 0) : Type 0 where
   pub core : IsCore p
-  pub syncing : stages.sync ≡ drop p.synced p.owners
-  pub committing : stages.commit ≡ drop p.committed (take p.synced p.owners)
+  pub waits : Wait p.stages p.owners p.synced p.committed
   pub tracked : IsSo
 
 -- the transaction in another phase

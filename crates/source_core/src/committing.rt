@@ -31,8 +31,8 @@ pub(crate) fn receipts_of(
     ensures { IfOk result (λ given. given.items ≡ receipts_for sessions.now records.now) }
 {
     let mut given = Vec::with_capacity(alloc, records.len())?;
-    for (i, made) in records.iter().enumerate() {
-        given.push(receipt_for(sessions[i], made)?)?;
+    for (i, record) in records.iter().enumerate() {
+        given.push(receipt_for(sessions[i], record)?)?;
     }
     Ok(given)
 }

@@ -78,8 +78,8 @@ impl Parents {
     /// the time is n log n, and the memory that of them.
     pub fn refs(&self) -> Result<(Refs, Vec<RowId>), Memory>
         requires { length self.now ≤ 2048 }
-        ensures refs { IfOk result (λ made. made.0 ≡ rising self.now) }
-        ensures rows { IfOk result (λ made. made.1.items ≡ rising self.now) }
+        ensures refs { IfOk result (λ pair. pair.0 ≡ rising self.now) }
+        ensures rows { IfOk result (λ pair. pair.1.items ≡ rising self.now) }
     {
         let rows = self.rising()?;
         let seen = copied(&rows)?;

@@ -1,16 +1,18 @@
-//! What a change does to its row, and what of the rows and of others' locks refuses it.
+//! What a change does to its row, and what of the schema, of the rows and of others' locks refuses it.
 
-ghost use Rattle.std.specs.Prelude.{◌≡◌, ◌≤◌, false, option_copied, take};
+ghost use Rattle.std.specs.Prelude.{◌≡◌, ◌≤◌, false, None, option_copied, take};
+ghost use Rattle.std.specs.Result.{result_err};
 ghost use Rattle.std.specs.Option.{option_map_or};
 ghost use Rattle.row_locks.specs.declared.Mode.TheVariants.{Share};
 ghost use Rattle.row_locks.specs.Locks.{clashes_with};
 ghost use Rattle.overlay.specs.Pending.{seen};
+ghost use Rattle.source_core.specs.Calls.{shape_fault};
 ghost use Rattle.source_core.specs.Steps.{refusal as why, one_of, parent_at, deletes_parent as deletes, step_from, stepped, locks_of as locks_for};
 
 use crate::fault::SourceFault;
 use overlay::{Overlay, has_child, parent_holds, parent_row, row_seen};
 use row_locks::{LockTable, Mode};
-use rows::{Change, Row, apply_one};
+use rows::{Change, Row, apply_one, has_columns};
 use schema::{RowId, Schema};
 use store_trait::RowStore;
 
@@ -21,6 +23,19 @@ pub struct Step {
     pub left: Option<Row>,
     pub old: Option<RowId>,
     pub new: Option<RowId>,
+}
+
+/// Whether the schema allows the change, whatever the rows.
+pub(crate) fn check_shape(schema: &Schema, change: &Change) -> Result<(), SourceFault>
+    ensures { result_err result ≡ shape_fault schema.now change.now None }
+{
+    let id = change.target().table;
+    let table = schema.table(id).ok_or(SourceFault::NoTable)?;
+    if has_columns(&table, change) {
+        Ok(())
+    } else {
+        Err(SourceFault::WrongColumns)
+    }
 }
 
 /// What the change does over the rows that the transaction sees, or the first cause that refuses it of those that the rows

@@ -6,6 +6,7 @@ use Rattle.record_codec.specs.declared.records.Record.{Record}
 use Rattle.source_core.specs.declared.transaction.Receipt.{Receipt}
 use Rattle.source_core.specs.Source.{Source, IsSound}
 use Rattle.source_core.specs.Calls.{receipt_as, receipts_for, receipts}
+use Rattle.source_core.proofs.CommitLoops.{receipts-append}
 use Rattle.source_shared.proofs.Turns.{prefix_get}
 use Rattle.source_shared.specs.Engine.{ArePlaced, IsKnown, IsCommitted, committed_receipts}
 
@@ -34,20 +35,14 @@ placed_longer history more n (Some r ∷ places) h = ((h.0.0, known_longer histo
 
 -- ---- receipts and the records that they are of
 
-pub receipts-append : (owners more : List ℕ) (log rest : List Record) → length owners ≡ length log → receipts_for (owners ++ more) (log ++ rest) ≡ receipts_for owners log ++ receipts_for more rest
-receipts-append [] more [] rest e = refl
-receipts-append [] more (r ∷ log) rest e = absurd (omega (arith, e))
-receipts-append (o ∷ owners) more [] rest e = absurd (omega (arith, e))
-receipts-append (o ∷ owners) more (r ∷ log) rest e = ap (λ l. receipt_as o r ∷ l) (receipts-append owners more log rest (omega (arith, e)))
-
 -- the record and the session of a receipt
 pub receipt_at : (owners : List ℕ) (log : List Record) (k : ℕ) (r : Receipt) → slice_get (receipts_for owners log) k ≡ Some r →
     (made : Record) × (slice_get log k ≡ Some made) × (slice_get owners k ≡ Some r.session) × (r ≡ receipt_as r.session made)
 receipt_at [] log k r h = absurd cc
-receipt_at (o ∷ owners) [] k r h = absurd cc
-receipt_at (o ∷ owners) (made ∷ log) zero r h =
-    let is : receipt_as o made ≡ r = cc (h) in (made, refl, ap (λ (x : Receipt). Some x.session) is, sym is ∙ ap (λ (x : Receipt). receipt_as x.session made) is)
-receipt_at (o ∷ owners) (made ∷ log) (suc k) r h = receipt_at owners log k r h
+receipt_at (owner ∷ owners) [] k r h = absurd cc
+receipt_at (owner ∷ owners) (made ∷ log) zero r h =
+    let is : receipt_as owner made ≡ r = cc (h) in (made, refl, ap (λ (x : Receipt). Some x.session) is, sym is ∙ ap (λ (x : Receipt). receipt_as x.session made) is)
+receipt_at (owner ∷ owners) (made ∷ log) (suc k) r h = receipt_at owners log k r h
 
 pub get_take : {A : Type 0} (n : ℕ) (xs : List A) (k : ℕ) (x : A) → slice_get (take n xs) k ≡ Some x → (k < n) × (slice_get xs k ≡ Some x)
 get_take zero xs k x h = absurd (cc (h))
@@ -65,10 +60,10 @@ is_committed s history r is known =
 
 -- ---- the receipts that a commit gives
 
-split_at : (log : List Record) (k : ℕ) (x : Record) → slice_get log k ≡ Some x → (front : List Record) × (rest : List Record) × (log ≡ front ++ x ∷ rest) × (length front ≡ k)
-split_at [] k x h = absurd cc
-split_at (y ∷ log) zero x h = ([], log, cc (h), refl)
-split_at (y ∷ log) (suc k) x h = let at = split_at log k x h in (y ∷ at.0, at.1, cc (at.2), omega (arith, at.3))
+split_at : (log : List Record) (k : ℕ) (made : Record) → slice_get log k ≡ Some made → (front : List Record) × (rest : List Record) × (log ≡ front ++ made ∷ rest) × (length front ≡ k)
+split_at [] k made h = absurd cc
+split_at (first ∷ log) zero made h = ([], log, cc (h), refl)
+split_at (first ∷ log) (suc k) made h = let at = split_at log k made h in (first ∷ at.0, at.1, cc (at.2), omega (arith, at.3))
 
 -- the records of a legal log are numbered from 1
 pub number_at : (s : Source) (k : ℕ) (made : Record) → IsSound s → slice_get s.log k ≡ Some made → made.gno ≡ k + 1

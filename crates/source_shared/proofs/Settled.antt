@@ -27,33 +27,33 @@ use Rattle.source_shared.proofs.Places.{placed_none, none_placed, both_parts}
 -- the first group of numbered records begins with the first of them, and the rest are numbered on
 first_of : (gno : ℕ) (group : GroupValue) (its rest : List Record) → AreRecordsOf group its → AreNumbered gno (its ++ rest) → group.first ≡ gno
 first_of gno group [] rest are h = absurd (omega (arith, are.some))
-first_of gno group (r ∷ its) rest are h = sym are.numbered.0 ∙ h.0
+first_of gno group (made ∷ its) rest are h = sym are.numbered.0 ∙ h.0
 
 -- the oldest group has the first records behind the synced ones, and the others have the rest
-pub record Oldest (log : List Record) (synced_ : ℕ) (flushed : List ℕ) (group : GroupValue) (groups : List GroupValue) : Type 0 where
+pub record Oldest (log : List Record) (synced_ : ℕ) (group_sizes : List ℕ) (group : GroupValue) (groups : List GroupValue) : Type 0 where
   pub first : group.first ≡ synced_ + 1
   pub within : group.last ≤ length log
   pub later : synced_ ≤ group.last
   pub are : AreRecordsOf group (drop synced_ (take group.last log))
-  pub whole : slice_get flushed 0 ≡ Some (group.last - synced_)
+  pub whole : slice_get group_sizes 0 ≡ Some (group.last - synced_)
   pub rest : Hold groups (drop group.last log)
-  pub sizes : drop 1 flushed ≡ map size_of groups
+  pub sizes : drop 1 group_sizes ≡ map size_of groups
   pub numbered : AreNumbered (group.last + 1) (drop group.last log)
 
 -- so many of the log are there
-synced_long : (log : List Record) (synced_ : ℕ) (flushed : List ℕ) (kept : Kept) (ring : List GroupValue) → IsSyncing log synced_ flushed kept ring → length (take synced_ log) ≡ synced_
-synced_long log synced_ flushed kept ring h = ap (λ (l : List Record). length l) (sym h.records) ∙ h.many
+synced_long : (log : List Record) (synced_ : ℕ) (group_sizes : List ℕ) (kept : Kept) (unsynced : List GroupValue) → IsSyncing log synced_ group_sizes kept unsynced → length (take synced_ log) ≡ synced_
+synced_long log synced_ group_sizes kept unsynced h = ap (λ (l : List Record). length l) (sym h.records) ∙ h.many
 
-oldest_in : (log : List Record) (synced_ : ℕ) (flushed : List ℕ) (kept : Kept) (group : GroupValue) (groups : List GroupValue) → IsSyncing log synced_ flushed kept (group ∷ groups) → Oldest log synced_ flushed group groups
-oldest_in log synced_ flushed kept group groups h =
-    let its = h.waiting.0 in
-    let rest = h.waiting.1 in
-    let are = h.waiting.3 in
+oldest_in : (log : List Record) (synced_ : ℕ) (group_sizes : List ℕ) (kept : Kept) (group : GroupValue) (groups : List GroupValue) → IsSyncing log synced_ group_sizes kept (group ∷ groups) → Oldest log synced_ group_sizes group groups
+oldest_in log synced_ group_sizes kept group groups h =
+    let its = h.held.0 in
+    let rest = h.held.1 in
+    let are = h.held.3 in
     let front = take synced_ log in
-    let len : length front ≡ synced_ = synced_long log synced_ flushed kept (group ∷ groups) h in
-    let numbered : AreNumbered (synced_ + 1) (its ++ rest) = subst (AreNumbered (synced_ + 1)) h.waiting.2 h.numbered in
+    let len : length front ≡ synced_ = synced_long log synced_ group_sizes kept (group ∷ groups) h in
+    let numbered : AreNumbered (synced_ + 1) (its ++ rest) = subst (AreNumbered (synced_ + 1)) h.held.2 h.numbered in
     let first = first_of (synced_ + 1) group its rest are numbered in
-    let all : log ≡ (front ++ its) ++ rest = sym (take-append-drop synced_ log) ∙ ap (λ (l : List Record). front ++ l) h.waiting.2 ∙ sym (append_assoc front its rest) in
+    let all : log ≡ (front ++ its) ++ rest = sym (take-append-drop synced_ log) ∙ ap (λ (l : List Record). front ++ l) h.held.2 ∙ sym (append_assoc front its rest) in
     let both : length (front ++ its) ≡ group.last = omega (arith, length-append front its, len, are.last, first) in
     let until : take group.last log ≡ front ++ its = ap (take group.last) all ∙ take_at (front ++ its) rest group.last both in
     let behind : drop synced_ (take group.last log) ≡ its = ap (drop synced_) until ∙ drop_at front its synced_ len in
@@ -65,17 +65,17 @@ oldest_in log synced_ flushed kept group groups h =
       later = omega (arith, both, length-append front its, len);
       are = subst (AreRecordsOf group) (sym behind) are;
       whole = ap (λ (l : List ℕ). slice_get l 0) h.sizes ∙ ap (λ (n : ℕ). Some n) (omega (arith, first));
-      rest = subst (Hold groups) (sym left) h.waiting.4;
+      rest = subst (Hold groups) (sym left) h.held.4;
       sizes = ap (drop 1) h.sizes;
       numbered = subst (AreNumbered (group.last + 1)) (sym left) (subst (λ (n : ℕ). AreNumbered n rest) next (numbered_behind (synced_ + 1) its rest numbered));
     }
 
-oldest : (base : List Entry) (tables : List Table) (s : State) (group : GroupValue) (groups : List GroupValue) → s.ring ≡ group ∷ groups → IsSettled base tables s → Oldest s.core.log s.core.synced s.core.group_sizes group groups
-oldest base tables s group groups ring h =
-    oldest_in s.core.log s.core.synced s.core.group_sizes s.kept group groups (subst (IsSyncing s.core.log s.core.synced s.core.group_sizes s.kept) ring h.syncing)
+oldest : (base : List Entry) (tables : List Table) (s : State) (group : GroupValue) (groups : List GroupValue) → s.unsynced ≡ group ∷ groups → IsSettled base tables s → Oldest s.core.log s.core.synced s.core.group_sizes group groups
+oldest base tables s group groups unsynced h =
+    oldest_in s.core.log s.core.synced s.core.group_sizes s.kept group groups (subst (IsSyncing s.core.log s.core.synced s.core.group_sizes s.kept) unsynced h.syncing)
 
-pub is_oldest : (base : List Entry) (tables : List Table) (s : State) (group : GroupValue) (groups : List GroupValue) → s.ring ≡ group ∷ groups → IsSettled base tables s → IsOldest s.core group
-is_oldest base tables s group groups ring h = let at = oldest base tables s group groups ring h in record { are = at.are; whole = at.whole }
+pub is_oldest : (base : List Entry) (tables : List Table) (s : State) (group : GroupValue) (groups : List GroupValue) → s.unsynced ≡ group ∷ groups → IsSettled base tables s → IsOldest s.core group
+is_oldest base tables s group groups unsynced h = let at = oldest base tables s group groups unsynced h in record { are = at.are; whole = at.whole }
 
 -- the group that is lent is the oldest
 pub first_lent : (l : List GroupValue) (got : Option (Bor GroupValue)) (x : Bor GroupValue) → is_some got ≡ nat_lt 0 (length l) → IfSome got (λ y. y.now ≡ get_or l 0 y.now) → got ≡ Some x → slice_get l 0 ≡ Some x.now
@@ -85,9 +85,9 @@ first_lent l got x some here is = of l (sym (ap (λ (o : Option (Bor GroupValue)
   of (y ∷ l) e h = ap (λ (g : GroupValue). Some g) (sym h)
 
 -- and is the next behind those that are synced
-pub oldest_next : (base : List Entry) (tables : List Table) (s : State) (group : GroupValue) → slice_get s.ring 0 ≡ Some group → IsSettled base tables s → prepare_cause s.kept group ≡ None
+pub oldest_next : (base : List Entry) (tables : List Table) (s : State) (group : GroupValue) → slice_get s.unsynced 0 ≡ Some group → IsSettled base tables s → prepare_cause s.kept group ≡ None
 oldest_next base tables s group at h =
-    let parts = split s.ring at in
+    let parts = split s.unsynced at in
     let o = oldest base tables s group parts.0 parts.1 h in in_turn group.first (length s.kept.records) (omega (arith, o.first, h.syncing.many)) where
       split : (l : List GroupValue) → slice_get l 0 ≡ Some group → (rest : List GroupValue) × (l ≡ group ∷ rest)
       split [] e = absurd (cc e)
@@ -123,24 +123,24 @@ emptied base tables s k h =
 home_settled : (base : List Entry) (tables : List Table) (s : State) (t : Tail) → (s.core.halted ≡ false → IsReady s.core.synced t) → IsSettled base tables s → IsSettled base tables (with_home t s)
 home_settled base tables s t ready h = record { base_is = h.base_is; tables_is = h.tables_is; syncing = h.syncing; ready = ready; receipts = h.receipts; watch = h.watch }
 
-front_push : (ring : List GroupValue) (first group : GroupValue) → slice_get ring 0 ≡ Some first → slice_get (ring ++ group ∷ []) 0 ≡ Some first
+front_push : (unsynced : List GroupValue) (first group : GroupValue) → slice_get unsynced 0 ≡ Some first → slice_get (unsynced ++ group ∷ []) 0 ≡ Some first
 front_push [] first group e = absurd cc
-front_push (g ∷ ring) first group e = e
+front_push (g ∷ unsynced) first group e = e
 
 -- a flush
-flushed_syncing : (core c : Source) (group : GroupValue) (kept : Kept) (ring : List GroupValue) → IsSound core → (f : Flushes core group c) → IsSyncing core.log core.synced core.group_sizes kept ring
-    → IsSyncing (core.log ++ f.made) core.synced c.group_sizes kept (ring ++ group ∷ [])
-flushed_syncing core c group kept ring sound f h =
-    let behind : drop core.synced (core.log ++ f.made) ≡ drop core.synced core.log ++ f.made = drop_front core.synced core.log f.made sound.synced_within in
+flushed_syncing : (core c : Source) (group : GroupValue) (kept : Kept) (unsynced : List GroupValue) → IsSound core → (f : Flushes core group c) → IsSyncing core.log core.synced core.group_sizes kept unsynced
+    → IsSyncing (core.log ++ f.records) core.synced c.group_sizes kept (unsynced ++ group ∷ [])
+flushed_syncing core c group kept unsynced sound f h =
+    let behind : drop core.synced (core.log ++ f.records) ≡ drop core.synced core.log ++ f.records = drop_front core.synced core.log f.records sound.synced_within in
     let next : group.first ≡ core.synced + 1 + length (drop core.synced core.log) =
     omega (arith, (group_ends core c group sound f).0, length-drop core.synced core.log, sound.synced_within) in
     record {
-      records = h.records ∙ sym (take-append-le core.synced core.log f.made sound.synced_within);
+      records = h.records ∙ sym (take-append-le core.synced core.log f.records sound.synced_within);
       many = h.many;
-      waiting = subst (Hold (ring ++ group ∷ [])) (sym behind) (Hold-push ring (drop core.synced core.log) group f.made h.waiting f.group_of);
-      sizes = group_is_counted core c group sound f ∙ ap (λ (l : List ℕ). l ++ size_of group ∷ []) h.sizes ∙ sym (map-append size_of ring (group ∷ []));
-      prepared = IfSome_then kept.prepared h.prepared (λ first at. front_push ring first group at);
-      numbered = subst (AreNumbered (core.synced + 1)) (sym behind) (numbered-append (core.synced + 1) (drop core.synced core.log) f.made h.numbered (subst (λ (n : ℕ). AreNumbered n f.made) next f.group_of.numbered));
+      held = subst (Hold (unsynced ++ group ∷ [])) (sym behind) (Hold-push unsynced (drop core.synced core.log) group f.records h.held f.group_of);
+      sizes = group_is_counted core c group sound f ∙ ap (λ (l : List ℕ). l ++ size_of group ∷ []) h.sizes ∙ sym (map-append size_of unsynced (group ∷ []));
+      prepared = IfSome_then kept.prepared h.prepared (λ first at. front_push unsynced first group at);
+      numbered = subst (AreNumbered (core.synced + 1)) (sym behind) (numbered-append (core.synced + 1) (drop core.synced core.log) f.records h.numbered (subst (λ (n : ℕ). AreNumbered n f.records) next f.group_of.numbered));
     }
   where
     drop_front : {A : Type 0} (n : ℕ) (xs ys : List A) → n ≤ length xs → drop n (xs ++ ys) ≡ drop n xs ++ ys
@@ -149,19 +149,19 @@ flushed_syncing core c group kept ring sound f h =
         ap (drop n) all ∙ drop_at (take n xs) (drop n xs ++ ys) n (length-take-le n xs le)
 
 pub flushed_settled : (base : List Entry) (tables : List Table) (s : State) (c : Source) (group : GroupValue) → IsSound s.core → Flushes s.core group c → IsSettled base tables s
-    → IsSettled base tables (record s { core = c; ring = s.ring ++ group ∷ [] })
+    → IsSettled base tables (record s { core = c; unsynced = s.unsynced ++ group ∷ [] })
 flushed_settled base tables s c group sound f h =
     let core = s.core in
     let owners : take core.committed (core.owners ++ core.queue) ≡ take core.committed core.owners =
     take-append-le core.committed core.owners core.queue (omega (arith, sound.committed_within, sound.synced_within, sound.owned)) in
-    let log : take core.committed (core.log ++ f.made) ≡ take core.committed core.log =
-    take-append-le core.committed core.log f.made (omega (arith, sound.committed_within, sound.synced_within)) in
-    let sizes : c.group_sizes ≡ (flushed core f.made).group_sizes = ap (λ (k : Source). k.group_sizes) f.leaves in
-    subst (λ (k : Source). IsSettled base tables (record s { core = k; ring = s.ring ++ group ∷ [] })) (sym f.leaves)
+    let log : take core.committed (core.log ++ f.records) ≡ take core.committed core.log =
+    take-append-le core.committed core.log f.records (omega (arith, sound.committed_within, sound.synced_within)) in
+    let sizes : c.group_sizes ≡ (flushed core f.records).group_sizes = ap (λ (k : Source). k.group_sizes) f.leaves in
+    subst (λ (k : Source). IsSettled base tables (record s { core = k; unsynced = s.unsynced ++ group ∷ [] })) (sym f.leaves)
     (record {
       base_is = h.base_is;
       tables_is = h.tables_is;
-      syncing = subst (λ (l : List ℕ). IsSyncing (core.log ++ f.made) core.synced l s.kept (s.ring ++ group ∷ [])) sizes (flushed_syncing core c group s.kept s.ring sound f h.syncing);
+      syncing = subst (λ (l : List ℕ). IsSyncing (core.log ++ f.records) core.synced l s.kept (s.unsynced ++ group ∷ [])) sizes (flushed_syncing core c group s.kept s.unsynced sound f h.syncing);
       ready = h.ready;
       receipts = subst (λ (l : List Receipt). AreLaidOut l s.history s.places s.out) (sym (λ i. receipts_for (owners i) (log i))) h.receipts;
       watch = h.watch;
@@ -169,15 +169,15 @@ flushed_settled base tables s c group sound f h =
 
 -- ---- what is prepared is the oldest
 
-first_is : (prepared_ : Option GroupValue) (ring : List GroupValue) (P : GroupValue → Type 0) → IfSome prepared_ (λ group. slice_get ring 0 ≡ Some group) → IsSomeAnd prepared_ P
-    → (group : GroupValue) × (groups : List GroupValue) × (prepared_ ≡ Some group) × (ring ≡ group ∷ groups) × P group
-first_is None ring P at some = absurd some
+first_is : (prepared_ : Option GroupValue) (unsynced : List GroupValue) (P : GroupValue → Type 0) → IfSome prepared_ (λ group. slice_get unsynced 0 ≡ Some group) → IsSomeAnd prepared_ P
+    → (group : GroupValue) × (groups : List GroupValue) × (prepared_ ≡ Some group) × (unsynced ≡ group ∷ groups) × P group
+first_is None unsynced P at some = absurd some
 first_is (Some group) [] P at some = absurd cc
 first_is (Some group) (g ∷ groups) P at some = (group, groups, refl, cc, some)
 
 prepared_first : (base : List Entry) (tables : List Table) (s old : State) (P : GroupValue → Type 0) → s ≡ old → IsSettled base tables s → IsSomeAnd old.kept.prepared P
-    → (group : GroupValue) × (groups : List GroupValue) × (s.kept.prepared ≡ Some group) × (s.ring ≡ group ∷ groups) × P group
-prepared_first base tables s old P is h some = first_is s.kept.prepared s.ring P h.syncing.prepared (subst (λ (x : State). IsSomeAnd x.kept.prepared P) (sym is) some)
+    → (group : GroupValue) × (groups : List GroupValue) × (s.kept.prepared ≡ Some group) × (s.unsynced ≡ group ∷ groups) × P group
+prepared_first base tables s old P is h some = first_is s.kept.prepared s.unsynced P h.syncing.prepared (subst (λ (x : State). IsSomeAnd x.kept.prepared P) (sym is) some)
 
 -- the writer that was to write it is ready again
 pub taken_back : (base : List Entry) (tables : List Table) (s old : State) (t : Tail) → s ≡ old → IsSettled base tables s → IsSomeAnd old.kept.prepared (λ group. group.first ≡ t.last + 1) → t.waiting ≡ None
@@ -190,39 +190,39 @@ taken_back base tables s old t is h some waiting =
 -- The oldest group of a state, which is seen as this one, is the prepared one, and this writer wrote it.
 pub record IsWritten (s old : State) (t : Tail) (group : GroupValue) (groups : List GroupValue) : Type 0 where
   pub is : s ≡ old
-  pub ring : s.ring ≡ group ∷ groups
+  pub unsynced : s.unsynced ≡ group ∷ groups
   pub prepared : s.kept.prepared ≡ Some group
   pub last : t.last ≡ group.last
 
-pub is_written : (base : List Entry) (tables : List Table) (s old : State) (t : Tail) (group : GroupValue) (groups : List GroupValue) → s ≡ old → s.ring ≡ group ∷ groups → IsSomeAnd old.kept.prepared (λ x. t.last ≡ x.last) → IsSettled base tables s
+pub is_written : (base : List Entry) (tables : List Table) (s old : State) (t : Tail) (group : GroupValue) (groups : List GroupValue) → s ≡ old → s.unsynced ≡ group ∷ groups → IsSomeAnd old.kept.prepared (λ x. t.last ≡ x.last) → IsSettled base tables s
     → IsWritten s old t group groups
-is_written base tables s old t group groups is ring some h =
+is_written base tables s old t group groups is unsynced some h =
     let f = prepared_first base tables s old (λ x. t.last ≡ x.last) is h some in
-    let same : f.0 ≡ group = same_Some f.0 group (ap (λ (l : List GroupValue). slice_get l 0) (sym f.3 ∙ ring)) in
-    record { is = is; ring = ring; prepared = f.2 ∙ ap (λ (x : GroupValue). Some x) same; last = f.4 ∙ ap (λ (x : GroupValue). x.last) same }
+    let same : f.0 ≡ group = same_Some f.0 group (ap (λ (l : List GroupValue). slice_get l 0) (sym f.3 ∙ unsynced)) in
+    record { is = is; unsynced = unsynced; prepared = f.2 ∙ ap (λ (x : GroupValue). Some x) same; last = f.4 ∙ ap (λ (x : GroupValue). x.last) same }
 
 -- the oldest group is synced
 module _ (base : List Entry) (tables : List Table) (s old : State) (t : Tail) (group : GroupValue) (groups : List GroupValue) (c : Source) (k : Kept) (h : IsSettled base tables s) (w : IsWritten s old t group groups)
     (core : c ≡ with_synced s.core group.last) (confirms : (g : GroupValue) (rs : List Record) → s.kept.prepared ≡ Some g → AreRecordsOf g rs → k ≡ confirmed g rs s.kept) where
-  landed_is : record s { core = c; kept = k; home = Some t; ring = groups } ≡ landed group (with_home t s)
+  landed_is : record s { core = c; kept = k; home = Some t; unsynced = groups } ≡ landed group (with_home t s)
   landed_is =
-      let at = oldest base tables s group groups w.ring h in
+      let at = oldest base tables s group groups w.unsynced h in
       let its = drop s.core.synced (take group.last s.core.log) in
       let all : s.kept.records ++ its ≡ take group.last s.core.log = ap (λ (l : List Record). l ++ its) h.syncing.records ∙ both_parts s.core.synced group.last s.core.log at.later in
       let kept : k ≡ record s.kept { records = take group.last s.core.log; groups = s.kept.groups ++ group ∷ []; prepared = None } =
       confirms group its w.prepared at.are ∙ (λ i. record s.kept { records = all i; groups = s.kept.groups ++ group ∷ []; prepared = None }) in
-      let rest : groups ≡ drop 1 s.ring = sym (ap (drop 1) w.ring) in
-      λ i. record s { core = core i; kept = kept i; home = Some t; ring = rest i }
+      let rest : groups ≡ drop 1 s.unsynced = sym (ap (drop 1) w.unsynced) in
+      λ i. record s { core = core i; kept = kept i; home = Some t; unsynced = rest i }
 
-  pub landed_as : (p : GroupValue) → old.kept.prepared ≡ Some p → record s { core = c; kept = k; home = Some t; ring = groups } ≡ landed p (with_home t old)
+  pub landed_as : (p : GroupValue) → old.kept.prepared ≡ Some p → record s { core = c; kept = k; home = Some t; unsynced = groups } ≡ landed p (with_home t old)
   landed_as p at =
       let same : group ≡ p = same_Some group p (sym w.prepared ∙ ap (λ (x : State). x.kept.prepared) w.is ∙ at) in
       landed_is ∙ (λ i. landed (same i) (with_home t (w.is i)))
 
-  pub landed_settled : t.waiting ≡ None → IsSettled base tables (record s { core = c; kept = k; home = Some t; ring = groups })
+  pub landed_settled : t.waiting ≡ None → IsSettled base tables (record s { core = c; kept = k; home = Some t; unsynced = groups })
   landed_settled waiting =
-      let at = oldest base tables s group groups w.ring h in
-      let rest : drop 1 s.ring ≡ groups = ap (drop 1) w.ring in
+      let at = oldest base tables s group groups w.unsynced h in
+      let rest : drop 1 s.unsynced ≡ groups = ap (drop 1) w.unsynced in
       subst (IsSettled base tables) (sym landed_is)
       (record {
         base_is = h.base_is;
@@ -230,7 +230,7 @@ module _ (base : List Entry) (tables : List Table) (s old : State) (t : Tail) (g
         syncing = record {
           records = refl;
           many = length-take-le group.last s.core.log at.within;
-          waiting = subst (λ (l : List GroupValue). Hold l (drop group.last s.core.log)) (sym rest) at.rest;
+          held = subst (λ (l : List GroupValue). Hold l (drop group.last s.core.log)) (sym rest) at.rest;
           sizes = at.sizes ∙ sym (ap (map size_of) rest);
           prepared = tt;
           numbered = at.numbered;
@@ -265,10 +265,10 @@ count_none zero = refl
 count_none (suc n) = count_none n
 
 -- a source that was just made
-pub new_settled : (core : Source) (log : Log) (kept : Kept) (t : Tail) (ring : List GroupValue) (places : List (Option Receipt)) (out : List Bool) (history : List Receipt) (watch : Watch) → core ≡ new_source core.tables core.base core.limit core.kind
-    → log_of kept t ≡ log → AreHalves kept t → log.records ≡ [] → log.waiting ≡ None → ring ≡ [] → places ≡ replicate 256 None → out ≡ replicate 256 false → history ≡ [] → watch ≡ nobody
-    → IsSettled core.base core.tables (record { core = core; kept = kept; home = Some t; ring = ring; places = places; out = out; history = history; watch = watch })
-new_settled core log kept t ring places out history watch is both halves no_records waiting none no_places no_seats no_history none_watch =
+pub new_settled : (core : Source) (log : Log) (kept : Kept) (t : Tail) (unsynced : List GroupValue) (places : List (Option Receipt)) (out : List Bool) (history : List Receipt) (watch : Watch) → core ≡ new_source core.tables core.base core.limit core.kind
+    → log_of kept t ≡ log → AreHalves kept t → log.records ≡ [] → log.waiting ≡ None → unsynced ≡ [] → places ≡ replicate 256 None → out ≡ replicate 256 false → history ≡ [] → watch ≡ nobody
+    → IsSettled core.base core.tables (record { core = core; kept = kept; home = Some t; unsynced = unsynced; places = places; out = out; history = history; watch = watch })
+new_settled core log kept t unsynced places out history watch is both halves no_records waiting none no_places no_seats no_history none_watch =
     let made : (c : Source) → c ≡ new_source core.tables core.base core.limit core.kind → (take c.synced c.log ≡ []) × (drop c.synced c.log ≡ []) × (c.synced ≡ 0) × (committed_receipts c ≡ []) =
     λ c e. rw e (refl, refl, refl, refl) in
     let new = made core is in
@@ -281,9 +281,9 @@ new_settled core log kept t ring places out history watch is both halves no_reco
       syncing = record {
         records = records ∙ sym new.0;
         many = many;
-        waiting = subst (λ (l : List GroupValue). Hold l (drop core.synced core.log)) (sym none) new.1;
+        held = subst (λ (l : List GroupValue). Hold l (drop core.synced core.log)) (sym none) new.1;
         sizes = ap (λ (c : Source). c.group_sizes) is ∙ sym (ap (map size_of) none);
-        prepared = subst (λ (o : Option GroupValue). IfSome o (λ group. slice_get ring 0 ≡ Some group)) (sym prepared) tt;
+        prepared = subst (λ (o : Option GroupValue). IfSome o (λ group. slice_get unsynced 0 ≡ Some group)) (sym prepared) tt;
         numbered = subst (AreNumbered (core.synced + 1)) (sym new.1) tt;
       };
       ready = λ e. record { waiting = none_waits kept t halves prepared; last = halves.last ∙ many };

@@ -35,7 +35,7 @@ pub record State : Type 0 where
   -- what writes the log file, unless a thread has it
   pub home : Option Tail
   -- the groups that are flushed and not synced, the oldest first; the one that a thread writes is that
-  pub ring : List GroupValue
+  pub unsynced : List GroupValue
   -- the receipts that were not taken yet, session 1 first
   pub places : List (Option Receipt)
   -- whether each seat was given out, session 1 first
@@ -75,17 +75,17 @@ pub record IsWatch (w : Watch) : Type 0 where
 
 -- What lies between flush and sync, of a log whose first so many records are synced, and of the sizes in which the others were
 -- flushed.
-pub record IsSyncing (log : List Record) (synced_ : ℕ) (flushed : List ℕ) (kept : Kept) (ring : List GroupValue) : Type 0 where
+pub record IsSyncing (log : List Record) (synced_ : ℕ) (group_sizes : List ℕ) (kept : Kept) (unsynced : List GroupValue) : Type 0 where
   -- readers see just the records that are synced
   pub records : kept.records ≡ take synced_ log
   -- and that many
   pub many : length kept.records ≡ synced_
-  -- the groups that wait hold what is flushed and not synced
-  pub waiting : Hold ring (drop synced_ log)
+  -- the groups that are not synced hold the others
+  pub held : Hold unsynced (drop synced_ log)
   -- as they were flushed
-  pub sizes : flushed ≡ map size_of ring
+  pub sizes : group_sizes ≡ map size_of unsynced
   -- the oldest of them is the one that is prepared, if one is
-  pub prepared : IfSome kept.prepared (λ group. slice_get ring 0 ≡ Some group)
+  pub prepared : IfSome kept.prepared (λ group. slice_get unsynced 0 ≡ Some group)
   -- the next of these records is that behind the synced ones, and so on
   pub numbered : AreNumbered (synced_ + 1) (drop synced_ log)
 
@@ -103,7 +103,7 @@ pub record AreLaidOut (committed history : List Receipt) (places_ : List (Option
 pub record IsSettled (base : List Entry) (tables : List Table) (s : State) : Type 0 where
   pub base_is : s.core.base ≡ base
   pub tables_is : s.core.tables ≡ tables
-  pub syncing : IsSyncing s.core.log s.core.synced s.core.group_sizes s.kept s.ring
+  pub syncing : IsSyncing s.core.log s.core.synced s.core.group_sizes s.kept s.unsynced
   -- what writes the log file, where it is here, is behind the synced records
   pub ready : IfSome s.home (λ t. s.core.halted ≡ false → IsReady s.core.synced t)
   pub receipts : AreLaidOut (committed_receipts s.core) s.history s.places s.out
@@ -134,7 +134,7 @@ pub record IsNewState (core : Source) (log : Log) (s : State) : Type 0 where
   pub kept : s.kept.records ≡ []
   pub home : IfSome s.home (λ t. log_of s.kept t ≡ log)
   pub here : IsSome s.home
-  pub ring : s.ring ≡ []
+  pub unsynced : s.unsynced ≡ []
   pub places : s.places ≡ replicate 256 None
   pub out : s.out ≡ replicate 256 false
   pub history : s.history ≡ []
@@ -165,7 +165,7 @@ due_of s place =
 
 -- a group may be flushed beside the one that a thread writes: something is queued, and no other group waits
 abbrev pub may_flush : State → Bool
-may_flush s = not s.core.halted && is_none s.home && nat_le (length s.ring) 1 && nat_lt 0 (length s.core.queue)
+may_flush s = not s.core.halted && is_none s.home && nat_le (length s.unsynced) 1 && nat_lt 0 (length s.core.queue)
 
 -- ---- who waits
 
@@ -208,16 +208,16 @@ abbrev pub synced_record : State → ℕ → Option Record
 synced_record s gno = find (λ r. r.gno == gno) s.kept.records
 
 -- the bytes are followed by those of these records
-pub record AreAppended (made : List Record) (old new : List ℕ) : Type 0 where
-  pub have : AllByRecursion HasSpelling made
-  pub bytes : new ≡ old ++ flat_map spelling made
+pub record AreAppended (records : List Record) (old new : List ℕ) : Type 0 where
+  pub have : AllByRecursion HasSpelling records
+  pub bytes : new ≡ old ++ flat_map spelling records
 
 -- the bytes are followed by those of so many records, whose gnos are this one, the next, and so on
 pub record AppendsSome (gno count : ℕ) (old new : List ℕ) : Type 0 where
-  pub made : List Record
-  pub many : length made ≡ count
-  pub numbered : AreNumbered gno made
-  pub appended : AreAppended made old new
+  pub records : List Record
+  pub many : length records ≡ count
+  pub numbered : AreNumbered gno records
+  pub appended : AreAppended records old new
 
 -- the synced records behind this gno, so many at most
 abbrev pub synced_past : State → ℕ → ℕ → List Record
@@ -248,7 +248,7 @@ abbrev pub landed : GroupValue → State → State
 landed group s = record s {
   core = with_synced s.core group.last;
   kept = record s.kept { records = take group.last s.core.log; groups = s.kept.groups ++ group ∷ []; prepared = None };
-  ring = drop 1 s.ring;
+  unsynced = drop 1 s.unsynced;
 }
 
 -- a receipt lies in its session's place, and nothing else changed
@@ -267,7 +267,7 @@ given s = record s { core = all_committed s.core; places = laid (receipts s.core
 -- what was queued is the last of the groups that wait
 pub record FlushesLast (old : State) (group : GroupValue) (new : State) : Type 0 where
   pub flushes : Flushes old.core group new.core
-  pub leaves : new ≡ record old { core = new.core; ring = old.ring ++ group ∷ [] }
+  pub leaves : new ≡ record old { core = new.core; unsynced = old.unsynced ++ group ∷ [] }
 
 -- where nothing was queued, all is as before
 abbrev pub IsFlushed : State → State → Type 0
@@ -275,7 +275,7 @@ IsFlushed old new = ((old.core.queue ≡ []) × (new ≡ old)) ⊎ ((group : Gro
 
 -- what is queued is flushed, unless a group waits
 abbrev pub IsGathered : State → State → Type 0
-IsGathered old new = ((old.ring ≡ []) × IsFlushed old new) ⊎ ((old.ring ≢ []) × (new ≡ old))
+IsGathered old new = ((old.unsynced ≡ []) × IsFlushed old new) ⊎ ((old.unsynced ≢ []) × (new ≡ old))
 
 -- the writer is still here, and the source not halted
 pub record IsHome (old new : State) : Type 0 where
@@ -287,7 +287,7 @@ pub record IsHome (old new : State) : Type 0 where
 pub record IsIdle (place : ℕ) (old new : State) : Type 0 where
   pub home : IsHome old new
   pub leaves : new ≡ given old
-  pub idle : IsSome (slice_index_or new.places place None) ⊎ ((new.ring ≡ []) × (new.core.queue ≡ []))
+  pub idle : IsSome (slice_index_or new.places place None) ⊎ ((new.unsynced ≡ []) × (new.core.queue ≡ []))
 
 -- ---- a group that is written outside the lock
 
@@ -310,7 +310,7 @@ pub record IsBack (e : Trip) (done : Result (Unit {0}) LogFault) : Type 0 where
 pub record Departs (old : State) (e : Trip) (new : State) : Type 0 where
   pub errand : IsErrand e
   pub writer : old.home ≡ Some e.tail
-  pub oldest : slice_get old.ring 0 ≡ Some e.group
+  pub oldest : slice_get old.unsynced 0 ≡ Some e.group
   pub leaves : new ≡ record old { kept = record old.kept { prepared = Some e.group }; home = None }
 
 -- What is synced is committed, and the place has no receipt of that; then, where no group waits, what is queued is flushed; then

@@ -1,0 +1,213 @@
+//! The places of the sessions: what a session's calls ask of the transaction there, and what they make of it.
+
+ghost use Rattle.std.specs.Prelude.{◌≡◌, ◌≤◌, ◌++◌, ◌||◌, [], length, replicate, false, IfOk, IfErr, IsSome, OnOk, OnErr, None, option_and_then};
+ghost use Rattle.std.specs.Option.{option_map, option_map_or};
+ghost use Rattle.overlay.specs.Pending.{pushed};
+ghost use Rattle.row_locks.specs.Locks.{taken, any_clashes, NoClash};
+ghost use Rattle.source_core.specs.Core.{open_view, ready, with_change, with_phase, prepared_order};
+ghost use Rattle.source_core.specs.Refs.{both};
+ghost use Rattle.source_core.specs.Steps.{locks_of as locks_for};
+ghost use Rattle.source_core.specs.Calls.{is_active as active, is_prepared};
+
+use crate::parents::Parents;
+use crate::stepping::{Step, locks_of};
+use crate::transaction::{Phase, Prepared, Transaction};
+use overlay::Overlay;
+use row_locks::{LockFault, LockTable, MAX_SESSIONS};
+use rows::Change;
+use schema::Memory;
+use std::alloc::Global;
+
+/// 256 places without a transaction.
+pub(crate) fn empty_places(alloc: Global) -> Result<Vec<Option<Transaction>>, Memory>
+    ensures { IfOk result (λ places. places.items ≡ replicate 256 None) }
+{
+    let mut places = Vec::with_capacity(alloc, MAX_SESSIONS as usize)?;
+    for _place in 0..MAX_SESSIONS {
+        let none: Option<Transaction> = None;
+        places.push(none)?;
+    }
+    Ok(places)
+}
+
+/// Whether there is a transaction that takes changes.
+pub(crate) fn is_active(place: &Option<Transaction>) -> bool
+    ensures { result ≡ active (option_map open_view place.now) }
+{
+    match place {
+        Some(
+            Transaction {
+                phase: Phase::Active,
+                ..
+            },
+        ) => true,
+        _ => false,
+    }
+}
+
+/// How many changes the transaction has, where there is one.
+pub(crate) fn change_count(place: &Option<Transaction>) -> usize
+    ensures { result ≡ length (option_map_or (λ t. t.overlay.changes) place.now []) }
+{
+    match place {
+        Some(t) => t.overlay.len(),
+        None => 0,
+    }
+}
+
+/// Adds a change, with what it does to its row, to the transaction, whose session then holds the row and its parents. Where
+/// memory runs out both stay as they are.
+pub(crate) fn write_locked(
+    place: &mut Option<Transaction>,
+    locks: &mut LockTable,
+    session: u16,
+    change: Change,
+    step: &Step,
+) -> Result<(), Memory>
+    requires some { IsSome place.old }
+    requires least { 1 ≤ session }
+    requires greatest { session ≤ 256 }
+    requires free { any_clashes locks.old session (locks_for change step.now) ≡ false }
+    ensures place { OnOk result (place.new ≡ with_change place.old change step.now.left (both step.now.old step.now.new)) }
+    ensures locks { OnOk result (locks.new ≡ taken locks.old session (locks_for change step.now)) }
+    ensures no_clash { OnOk result (NoClash locks.new) }
+    ensures same { OnErr result (place.new ≡ place.old) }
+    ensures err { OnErr result (locks.new ≡ locks.old) }
+{
+    let t = place.take().unwrap();
+    let (overlay, refs, done) = add_locked(t.overlay, t.refs, locks, session, change, step);
+    *place = Some(Transaction {
+        overlay,
+        refs,
+        phase: t.phase,
+    });
+    done
+}
+
+/// The same of the transaction's parts. What it refers to is cut again where the change is not added.
+fn add_locked(
+    overlay: Overlay,
+    mut refs: Parents,
+    locks: &mut LockTable,
+    session: u16,
+    change: Change,
+    step: &Step,
+) -> (Overlay, Parents, Result<(), Memory>)
+    requires least { 1 ≤ session }
+    requires greatest { session ≤ 256 }
+    requires free { any_clashes locks.old session (locks_for change step.now) ≡ false }
+    ensures overlay { OnOk result.2 (result.0 ≡ pushed overlay change step.now.left) }
+    ensures refs { OnOk result.2 (result.1 ≡ refs ++ both step.now.old step.now.new) }
+    ensures locks { OnOk result.2 (locks.new ≡ taken locks.old session (locks_for change step.now)) }
+    ensures no_clash { OnOk result.2 (NoClash locks.new) }
+    ensures same { OnErr result.2 (result.0 ≡ overlay) }
+    ensures same_refs { OnErr result.2 (result.1 ≡ refs) }
+    ensures err { OnErr result.2 (locks.new ≡ locks.old) }
+{
+    let count = refs.len();
+    match refs.add(step.old, step.new) {
+        Ok(()) => match push_locked(overlay, locks, session, change, step) {
+            Ok(overlay) => (overlay, refs, Ok(())),
+            Err((memory, overlay)) => {
+                refs.cut(count);
+                (overlay, refs, Err(memory))
+            }
+        },
+        Err(memory) => (overlay, refs, Err(memory)),
+    }
+}
+
+/// The same of the transaction's overlay, which is handed back where memory runs out. The room for the change is taken
+/// before the locks.
+fn push_locked(
+    overlay: Overlay,
+    locks: &mut LockTable,
+    session: u16,
+    change: Change,
+    step: &Step,
+) -> Result<Overlay, (Memory, Overlay)>
+    requires least { 1 ≤ session }
+    requires greatest { session ≤ 256 }
+    requires free { any_clashes locks.old session (locks_for change step.now) ≡ false }
+    ensures ok { IfOk result (λ next. next ≡ pushed overlay change step.now.left) }
+    ensures locks { OnOk result (locks.new ≡ taken locks.old session (locks_for change step.now)) }
+    ensures no_clash { OnOk result (NoClash locks.new) }
+    ensures same { IfErr result (λ refused. refused.1 ≡ overlay) }
+    ensures err { OnErr result (locks.new ≡ locks.old) }
+{
+    let (wanted, count) = locks_of(&change, step);
+    match overlay.into_roomy() {
+        Ok(roomy) => match locks.take(session, &wanted[..count]) {
+            Ok(()) => Ok(roomy.push(change, step.left)),
+            Err(LockFault::Memory) => Err((Memory, roomy.into_overlay())),
+            Err(LockFault::Clash) => unreachable!(),
+        },
+        Err(refused) => Err(refused),
+    }
+}
+
+/// Prepares the transaction, and answers what its session is told.
+pub(crate) fn prepare_in(place: &mut Option<Transaction>, parent: u64) -> Prepared
+    ensures place { place.new ≡ (ready place.old parent).0 }
+    ensures value { result ≡ (ready place.old parent).1 }
+{
+    let (next, answer) = ready_from(place.take(), parent);
+    *place = next;
+    answer
+}
+
+/// The transaction once it is prepared, and what its session is told.
+fn ready_from(place: Option<Transaction>, parent: u64) -> (Option<Transaction>, Prepared)
+    ensures { result ≡ ready place parent }
+{
+    match place {
+        Some(t) if !t.overlay.is_empty() => (
+            Some(Transaction {
+                overlay: t.overlay,
+                refs: t.refs,
+                phase: Phase::Prepared { parent },
+            }),
+            Prepared::Parent(parent),
+        ),
+        _ => (None, Prepared::Empty),
+    }
+}
+
+/// The order parent of a transaction that is prepared.
+pub(crate) fn prepared_parent(place: &Option<Transaction>) -> Option<u64>
+    ensures { result ≡ option_and_then prepared_order place.now }
+{
+    match place {
+        Some(
+            Transaction {
+                phase: Phase::Prepared { parent },
+                ..
+            },
+        ) => Some(*parent),
+        _ => None,
+    }
+}
+
+/// Takes the transaction to another phase.
+pub(crate) fn set_phase(place: &mut Option<Transaction>, phase: Phase)
+    ensures { place.new ≡ option_map (with_phase phase) place.old }
+{
+    if let Some(t) = place {
+        t.phase = phase;
+    }
+}
+
+/// Whether there is a transaction that is not queued yet.
+pub(crate) fn may_abort(place: &Option<Transaction>) -> bool
+    ensures { result ≡ (active (option_map open_view place.now) || is_prepared (option_map open_view place.now)) }
+{
+    match place {
+        Some(
+            Transaction {
+                phase: Phase::Active | Phase::Prepared { .. },
+                ..
+            },
+        ) => true,
+        _ => false,
+    }
+}
