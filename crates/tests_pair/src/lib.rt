@@ -6,10 +6,4 @@
 #![tactic(auto)]
 
 #[cfg(test)]
-mod again;
-#[cfg(test)]
-mod limits;
-#[cfg(test)]
-mod makers;
-#[cfg(test)]
-mod one_thread;
+mod tests;

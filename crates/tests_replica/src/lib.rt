@@ -2,20 +2,4 @@
 #![tactic(auto)]
 
 #[cfg(test)]
-mod again;
-#[cfg(test)]
-mod bounds;
-#[cfg(test)]
-mod deliveries;
-#[cfg(test)]
-mod greatest;
-#[cfg(test)]
-mod makers;
-#[cfg(test)]
-mod marks;
-#[cfg(test)]
-mod parents;
-#[cfg(test)]
-mod results;
-#[cfg(test)]
-mod steps;
+mod tests;

@@ -2,14 +2,4 @@
 #![tactic(auto)]
 
 #[cfg(test)]
-mod histories;
-#[cfg(test)]
-mod locks;
-#[cfg(test)]
-mod makers;
-#[cfg(test)]
-mod source;
-#[cfg(test)]
-mod trackers;
-#[cfg(test)]
-mod write_sets;
+mod tests;

@@ -1,0 +1,107 @@
+//! What trackers see of a log: footprints and entries.
+
+use log_index::{Entry, Footprint, Log, Rows};
+use schema::{Memory, RowId};
+use std::alloc::Global;
+use std::test::Fail;
+use tests_stores::again;
+use tests_stores::common::{five_tables, row};
+
+fn rows(alloc: Global, list: &[RowId]) -> Result<Rows, Memory> {
+    Ok(Rows::new(again!(list.to_vec(alloc))?))
+}
+
+/// The footprint of a transaction that writes one row and refers to another.
+fn footprint(alloc: Global, write: RowId, to: RowId) -> Result<Footprint, Memory> {
+    Ok(Footprint {
+        writes: rows(alloc, &[write])?,
+        refs: rows(alloc, &[to])?,
+        fk: true,
+        missing_keys: false,
+    })
+}
+
+/// A table that is a parent, has one or is keyless, and is taken for another kind.
+#[test]
+fn kinds_of_tables(rt: HostRuntime) -> Result<(), Fail> {
+    let schema = five_tables(rt.alloc())?;
+    for (table, fk, missing_keys) in [
+        (1, false, false),
+        (3, true, false),
+        (4, true, false),
+        (5, false, true),
+    ] {
+        let writes = rows(rt.alloc(), &[row(2, 1), row(table, 1)])?;
+        let seen = Footprint::new(&schema, writes, rows(rt.alloc(), &[])?);
+        assert_eq!(rt;
+            (seen.fk, seen.missing_keys),
+            (fk, missing_keys),
+            "table {table}"
+        );
+    }
+    Ok(())
+}
+
+/// The entry of the next number, over the number before it.
+fn push_next(log: &mut Log, footprint: Footprint) -> Result<(), Memory> {
+    let parent = log.len() as u64;
+    let sequence = parent.checked_add(1).ok_or(Memory)?;
+    log.push(Entry {
+        sequence,
+        parent,
+        session: 256,
+        footprint,
+    })
+}
+
+/// Rows that meet one way alone, refs that meet refs, or a parent that is one too low.
+#[test]
+fn conflicts_are_covered(rt: HostRuntime) -> Result<(), Fail> {
+    let mut log = Log::new(rt.alloc());
+    push_next(&mut log, footprint(rt.alloc(), row(4, 9), row(3, 1))?)?;
+    for (write, to, wanted) in [
+        (row(4, 8), row(3, 1), false),
+        (row(4, 9), row(3, 2), true),
+        (row(3, 1), row(3, 2), true),
+        (row(1, 9), row(4, 9), true),
+    ] {
+        let next = footprint(rt.alloc(), write, to)?;
+        assert_eq!(rt; log.covers(&next, 0), !wanted, "{write:?} {to:?}");
+        assert!(rt; log.covers(&next, 1), "{write:?} {to:?}");
+    }
+    Ok(())
+}
+
+/// A copy that finds no memory past some number of rows.
+#[test]
+fn an_entry_at_the_bound_is_copied_again(rt: HostRuntime) -> Result<(), Fail> {
+    let mut entry = Entry {
+        sequence: 1,
+        parent: 0,
+        session: 256,
+        footprint: footprint(rt.alloc(), row(4, 9), row(3, 1))?,
+    };
+    entry.footprint.writes = rows(rt.alloc(), &[row(4, 9); 1024])?;
+    entry.footprint.refs = rows(rt.alloc(), &[row(3, 1); 2048])?;
+    let copy = again!(entry.copy())?;
+    assert_eq!(rt; copy.footprint.writes.list().len(), 1024);
+    assert_eq!(rt; copy.footprint.refs.list().len(), 2048);
+    Ok(())
+}
+
+/// A push without room that is always refused, room that is, and an entry past some number.
+#[test]
+fn many_entries(rt: HostRuntime) -> Result<(), Fail> {
+    let mut log = Log::new(rt.alloc());
+    for number in 0..3000 {
+        if number == 1500 {
+            log.reserve(1500)?;
+        }
+        push_next(
+            &mut log,
+            footprint(rt.alloc(), row(1, number), row(2, number))?,
+        )?;
+    }
+    assert_eq!(rt; log.entries().len(), 3000);
+    Ok(())
+}

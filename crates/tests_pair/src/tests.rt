@@ -1,0 +1,4 @@
+mod again;
+mod limits;
+mod makers;
+mod one_thread;

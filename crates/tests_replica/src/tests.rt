@@ -1,0 +1,9 @@
+mod again;
+mod bounds;
+mod deliveries;
+mod greatest;
+mod makers;
+mod marks;
+mod parents;
+mod results;
+mod steps;

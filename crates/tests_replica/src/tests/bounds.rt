@@ -1,0 +1,130 @@
+//! A replica at its bounds, where a body that tells of memory too early is proved all the same.
+
+use crate::tests::makers::{
+    Entry, Replica, greatest, insert_of, replica, replica_of, row, rows_of_greatest, wide_id,
+};
+use crate::tests::steps::{
+    accepts, commits, dispatch, executed, finishes, job, passes, publishes, runs, stored, waiting,
+};
+use btree_store::BTreeStore;
+use executor::JobResult;
+use rows::Row;
+use schema::Memory;
+use std::alloc::Global;
+use std::process::Abort;
+use std::test::Fail;
+use store_trait::RowStore;
+
+/// The results of the records 1 to 64, which are received and dispatched; record 65 waits for a worker.
+fn all_busy(
+    rt: &(impl Abort + AllocGlobal),
+    replica: &mut Replica,
+) -> Result<Vec<JobResult>, Fail> {
+    let mut results = Vec::new(rt.alloc());
+    for gno in 1..65 {
+        accepts(rt, replica, &insert_of(rt.alloc(), gno, gno as i64)?);
+        let done = executed(rt.alloc(), job(rt, replica, gno)?);
+        results.push(done)?;
+    }
+    accepts(rt, replica, &insert_of(rt.alloc(), 65, 65)?);
+    assert!(rt; dispatch(replica)?.is_none());
+    Ok(results)
+}
+
+/// Finishes the results, the last one first; none is committed before the first is finished.
+fn finish_backwards(
+    rt: &impl Abort,
+    replica: &mut Replica,
+    mut results: Vec<JobResult>,
+) -> Result<(), Fail> {
+    for _ in 0..64 {
+        commits(rt, replica, None);
+        let done = results.pop().ok_or("a result")?;
+        finishes(rt, replica, done, Ok(()));
+    }
+    Ok(())
+}
+
+/// The results come, and only then the commits, from the first on.
+fn turn_around(rt: &(impl Abort + AllocGlobal), replica: &mut Replica) -> Result<(), Fail> {
+    let results = all_busy(rt, replica)?;
+    finish_backwards(rt, replica, results)?;
+    for gno in 1..65 {
+        commits(rt, replica, Some(gno));
+    }
+    runs(rt, replica, 65)
+}
+
+/// Memory told at the 64th job, or a result lost or committed early because it waits in the last places.
+#[test]
+fn sixty_four_results_come_backwards(rt: HostRuntime) -> Result<(), Fail> {
+    let mut replica = replica(rt.alloc(), 64)?;
+    turn_around(&rt, &mut replica)?;
+    assert_eq!(rt; stored(&replica, 64), (row(5, 6), 64));
+    Ok(())
+}
+
+fn pass_three_hundred(rt: &(impl Abort + AllocGlobal), replica: &mut Replica) -> Result<(), Fail> {
+    for gno in 1..301 {
+        passes(rt, replica, &insert_of(rt.alloc(), gno, gno as i64)?)?;
+    }
+    Ok(())
+}
+
+/// Memory told once the first room for records or for waiting commits is used up, or a commit that is not handed out.
+#[test]
+fn three_hundred_commits_are_published_in_parts(rt: HostRuntime) -> Result<(), Fail> {
+    let mut replica = replica(rt.alloc(), 1)?;
+    pass_three_hundred(&rt, &mut replica)?;
+    assert_eq!(rt; waiting(&replica), (Some(1), 300));
+    publishes(&rt, &mut replica, 100, Ok(100));
+    assert_eq!(rt; waiting(&replica), (Some(101), 200));
+    publishes(&rt, &mut replica, 300, Ok(300));
+    assert_eq!(rt; waiting(&replica), (None, 0));
+    Ok(())
+}
+
+/// A replica of the rows that the greatest record writes, and of 2048 others.
+fn large_replica(alloc: Global) -> Result<Replica, Memory> {
+    let mut store = BTreeStore::new(alloc);
+    store.put_all(&rows_of_greatest(alloc, Some(-1))?)?;
+    replica_of(alloc, store, 1)
+}
+
+/// Whether the row of this key has its key in all columns.
+fn is_wide(left: &[Entry], key: u16) -> bool {
+    let value = i64::from(key);
+    match left.get(usize::from(key)) {
+        Some(entry) => *entry == (wide_id(value), Row::new(&[value; 16])),
+        None => false,
+    }
+}
+
+/// Whether the commit that waits leaves each of the 1024 rows with its key in all columns.
+fn leaves_all_wide(replica: &Replica) -> bool {
+    match replica.pending().first() {
+        Some(op) => (0..1024).all(|key| is_wide(op.batch().entries(), key)),
+        None => false,
+    }
+}
+
+fn pass_greatest(rt: &(impl Abort + AllocGlobal), replica: &mut Replica) -> Result<(), Fail> {
+    let new = greatest(rt.alloc(), 0)?;
+    assert_eq!(rt; new.changes.list().len(), 1024);
+    passes(rt, replica, &new)
+}
+
+/// The record is committed, and no row is lost.
+fn has_greatest(rt: &impl Abort, replica: &Replica) {
+    assert!(rt; leaves_all_wide(replica));
+    assert_eq!(rt; stored(replica, 2047), (row(2047, 2047), 3072));
+}
+
+/// Memory told at 1024 changes, by the relay, the dispatch, the execution or the commit.
+#[test]
+fn the_greatest_record_is_committed(rt: HostRuntime) -> Result<(), Fail> {
+    let mut replica = large_replica(rt.alloc())?;
+    pass_greatest(&rt, &mut replica)?;
+    has_greatest(&rt, &replica);
+    Ok(())
+}

@@ -1,0 +1,119 @@
+//! The schema, rows, changes, records, jobs and replicas that the tests are of.
+
+ghost use Rattle.std.specs.Prelude.{◌≤◌};
+
+use btree_store::BTreeStore;
+use record_codec::{Record, Refs};
+use replica_core::ReplicaCore;
+use rows::{Change, Named, Row};
+use schema::{Memory, RowId, Schema, Table};
+use std::alloc::Global;
+use store_trait::{Batch, fits};
+use tests_log::common::{record, record_of, source};
+use tests_stores::common;
+
+/// A row by its id, or that there is none.
+pub type Entry = (RowId, Option<Row>);
+
+pub type Replica = ReplicaCore<BTreeStore>;
+
+fn table(id: u16, columns: u8) -> Table {
+    Table {
+        id,
+        columns,
+        keyed: true,
+        parent: None,
+    }
+}
+
+/// The table 1 of two columns and the table 2 of sixteen.
+pub fn schema(alloc: Global) -> Result<Schema, Memory> {
+    let tables = vec![in alloc; table(1, 2), table(2, 16)]?;
+    Schema::new(tables).map_err(|_| Memory)
+}
+
+/// The same tables, the one of sixteen columns being the child of the other: its column 0 names the parent row.
+pub fn family(alloc: Global) -> Result<Schema, Memory> {
+    let child = Table {
+        parent: Some((0, 1)),
+        ..table(2, 16)
+    };
+    Schema::new(vec![in alloc; table(1, 2), child]?).map_err(|_| Memory)
+}
+
+/// The row of this key in the table of two columns.
+pub fn id(key: i64) -> RowId {
+    RowId { table: 1, key }
+}
+
+/// The row of this key in the table of sixteen columns.
+pub fn wide_id(key: i64) -> RowId {
+    RowId { table: 2, key }
+}
+
+/// A row of two columns.
+pub fn row(first: i64, second: i64) -> Option<Row> {
+    Row::new(&[first, second])
+}
+
+/// The insert of the row as `[5, 6]`.
+pub fn insert(key: i64) -> Result<Change, Memory> {
+    common::insert(id(key), &[5, 6])
+}
+
+/// The record that inserts the row of this key, without a parent.
+pub fn insert_of(alloc: Global, gno: u64, key: i64) -> Result<Record, Memory> {
+    record(alloc, gno, 0, insert(key)?)
+}
+
+/// The same record, which refers to the row 10.
+pub fn referring(alloc: Global, new: Record) -> Result<Record, Memory> {
+    let refs = Refs::from_rising(vec![in alloc; id(10)]?);
+    Ok(Record { refs, ..new })
+}
+
+/// The record 1 that updates all columns of the rows 0 to 1023 of sixteen, each to its key and so much more.
+pub fn greatest(alloc: Global, more: i64) -> Result<Record, Memory> {
+    let mut list = Vec::new(alloc);
+    for key in 0..1024i64 {
+        let columns = Named::new(u16::MAX, &[key.wrapping_add(more); 16]).ok_or(Memory)?;
+        list.push(Change::Update {
+            row: wide_id(key),
+            columns,
+        })?;
+    }
+    record_of(alloc, 1, 0, list)
+}
+
+/// The rows that this record writes, with this in all columns, or else with their keys; and 2048 rows of two columns.
+pub fn rows_of_greatest(alloc: Global, wide: Option<i64>) -> Result<Batch, Memory> {
+    let mut entries = Vec::new(alloc);
+    for key in 0..2048 {
+        entries.push((id(key), row(key, key)))?;
+    }
+    for key in 0..1024 {
+        entries.push((wide_id(key), Row::new(&[wide.unwrap_or(key); 16])))?;
+    }
+    Batch::from_entries(entries).ok_or(Memory)
+}
+
+/// A new replica of these rows.
+pub fn replica_of(alloc: Global, store: BTreeStore, workers: usize) -> Result<Replica, Memory>
+    requires some { 1 ≤ workers }
+    requires few { workers ≤ 64 }
+{
+    let schema = schema(alloc)?;
+    if schema.is_flat() && fits(&schema, &store) {
+        ReplicaCore::new(alloc, schema, source(), store, workers)
+    } else {
+        Err(Memory)
+    }
+}
+
+/// A new replica of no rows.
+pub fn replica(alloc: Global, workers: usize) -> Result<Replica, Memory>
+    requires some { 1 ≤ workers }
+    requires few { workers ≤ 64 }
+{
+    replica_of(alloc, BTreeStore::new(alloc), workers)
+}

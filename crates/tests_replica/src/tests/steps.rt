@@ -1,0 +1,124 @@
+//! The calls of a replica with what they are to answer. Each call stands in a function of its own, and a test lends its
+//! replica to the functions that do the steps: so few ways out of a test drop one.
+
+use crate::tests::makers::{Replica, id};
+use executor::{Job, JobResult, execute};
+use record_codec::Record;
+use relay::{Received, ReplicaFault};
+use rows::Row;
+use schema::Memory;
+use std::alloc::Global;
+use std::process::Abort;
+use std::test::Fail;
+use store_trait::{Op, RowStore};
+use tests_log::common::source;
+
+pub fn receive(replica: &mut Replica, next: &Record) -> Result<Received, ReplicaFault> {
+    replica.receive(source(), next)
+}
+
+pub fn dispatch(replica: &mut Replica) -> Result<Option<Job>, ReplicaFault> {
+    replica.dispatch()
+}
+
+pub fn finish(replica: &mut Replica, done: JobResult) -> Result<(), (ReplicaFault, JobResult)> {
+    replica.finish(done)
+}
+
+pub fn executed(alloc: Global, job: Job) -> JobResult {
+    execute(alloc, job)
+}
+
+pub fn commit_next(replica: &mut Replica) -> Result<Option<u64>, ReplicaFault> {
+    replica.commit_next()
+}
+
+/// Publishes up to this number, where so many are committed and no more published.
+fn publish(replica: &mut Replica, upto: u64) -> Option<Result<u64, ReplicaFault>> {
+    if replica.published() > upto || replica.committed() < upto {
+        return None;
+    }
+    Some(replica.publish(upto))
+}
+
+/// The record is received, and accepted.
+pub fn accepts(rt: &impl Abort, replica: &mut Replica, next: &Record) {
+    assert_eq!(rt; receive(replica, next), Ok(Received::Accepted));
+}
+
+/// The job that is dispatched, which is of this number.
+pub fn job(rt: &impl Abort, replica: &mut Replica, gno: u64) -> Result<Job, Fail> {
+    let Some(job) = dispatch(replica)? else {
+        return Err(Fail::new("a job is dispatched"));
+    };
+    assert_eq!(rt; job.gno, gno);
+    Ok(job)
+}
+
+/// The result is handed in, and this is the answer.
+pub fn finishes(
+    rt: &impl Abort,
+    replica: &mut Replica,
+    done: JobResult,
+    want: Result<(), ReplicaFault>,
+) {
+    assert_eq!(rt; finish(replica, done).map_err(|refused| refused.0), want);
+}
+
+/// The result of this job is handed in, and this is the answer.
+pub fn hands_in(
+    rt: &(impl Abort + AllocGlobal),
+    replica: &mut Replica,
+    job: Result<Job, Memory>,
+    want: Result<(), ReplicaFault>,
+) -> Result<(), Memory> {
+    let done = executed(rt.alloc(), job?);
+    finishes(rt, replica, done, want);
+    Ok(())
+}
+
+pub fn commits(rt: &impl Abort, replica: &mut Replica, want: Option<u64>) {
+    assert_eq!(rt; commit_next(replica), Ok(want));
+}
+
+pub fn publishes(
+    rt: &impl Abort,
+    replica: &mut Replica,
+    upto: u64,
+    want: Result<u64, ReplicaFault>,
+) {
+    assert_eq!(rt; publish(replica, upto), Some(want));
+}
+
+/// The record that is dispatched, which is of this number, is executed and finished.
+pub fn runs(rt: &(impl Abort + AllocGlobal), replica: &mut Replica, gno: u64) -> Result<(), Fail> {
+    let done = executed(rt.alloc(), job(rt, replica, gno)?);
+    finishes(rt, replica, done, Ok(()));
+    Ok(())
+}
+
+/// The record is received, dispatched, finished and committed.
+pub fn passes(
+    rt: &(impl Abort + AllocGlobal),
+    replica: &mut Replica,
+    next: &Record,
+) -> Result<(), Fail> {
+    accepts(rt, replica, next);
+    runs(rt, replica, next.gno)?;
+    commits(rt, replica, Some(next.gno));
+    Ok(())
+}
+
+/// The row of this key of table 1, and how many rows there are.
+pub fn stored(replica: &Replica, key: i64) -> (Option<Row>, usize) {
+    (replica.store().get(id(key)), replica.store().len())
+}
+
+/// The number of the commit that waits first, and how many wait.
+pub fn waiting(replica: &Replica) -> (Option<u64>, usize) {
+    let first = match replica.pending().first() {
+        Some(Op::Commit { gno, .. }) => Some(*gno),
+        _ => None,
+    };
+    (first, replica.pending().len())
+}

@@ -1,0 +1,5 @@
+mod histories;
+mod locks;
+mod source;
+mod trackers;
+mod write_sets;

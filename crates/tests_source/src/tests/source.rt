@@ -1,0 +1,115 @@
+//! The texts of a source's faults, and a group that is made where each call that was refused memory is made again.
+
+ghost use Rattle.std.specs.Prelude.{IfOk, IfSome};
+ghost use Rattle.source_core.specs.Calls.{Flushes};
+
+use btree_store::BTreeStore;
+use commit_order_tracker::CommitOrder;
+use record_codec::Group;
+use rows::Change;
+use schema::Memory;
+use source_core::{SourceCore, SourceFault};
+use std::alloc::Global;
+use std::process::Abort;
+use std::test::Fail;
+use store_trait::fits;
+use tests_stores::again;
+use tests_stores::common::{five_tables, insert, row};
+
+/// Catches a text that no clause fixes.
+#[test]
+fn texts_of_source_faults(rt: HostRuntime) -> Result<(), Fail> {
+    for (fault, text) in [
+        (SourceFault::NoSession, "S1 NoSession"),
+        (SourceFault::AlreadyOpen, "S2 AlreadyOpen"),
+        (SourceFault::NotActive, "S3 NotActive"),
+        (SourceFault::NoTable, "S4 NoTable"),
+        (SourceFault::WrongColumns, "S5 WrongColumns"),
+        (SourceFault::RowLocked, "S6 RowLocked"),
+        (SourceFault::RowExists, "S7 RowExists"),
+        (SourceFault::NoRow, "S8 NoRow"),
+        (SourceFault::NoParent, "S9 NoParent"),
+        (SourceFault::HasChild, "S10 HasChild"),
+        (SourceFault::TooManyChanges, "S11 TooManyChanges"),
+        (SourceFault::Halted, "S12 Halted"),
+        (SourceFault::Memory, "S13 Memory"),
+        (SourceFault::NotPrepared, "S14 NotPrepared"),
+        (SourceFault::Exhausted, "S15 Exhausted"),
+    ] {
+        let said = format!(in rt.alloc(); "{fault}")?;
+        assert_eq!(rt; said.as_str(), text);
+    }
+    Ok(())
+}
+
+type Source = SourceCore<BTreeStore, CommitOrder>;
+
+/// A source of no rows.
+fn source(alloc: Global) -> Result<Source, Memory> {
+    let schema = five_tables(alloc)?;
+    let store = BTreeStore::new(alloc);
+    if !fits(&schema, &store) {
+        return Err(Memory);
+    }
+    SourceCore::new(alloc, schema, store, CommitOrder, 256)
+}
+
+/// Writes the change in a transaction of the session, and queues it.
+fn enqueue(source: &mut Source, session: u16, change: Change) -> Result<(), SourceFault> {
+    source.begin(session)?;
+    again!(source.write(session, change))?;
+    source.prepare(session)?;
+    source.queue(session)
+}
+
+fn flush(source: &mut Source) -> Result<Option<Group>, SourceFault>
+    ensures { IfOk result (λ found. IfSome found (λ group. Flushes source.old group source.new)) }
+{
+    again!(source.flush())
+}
+
+/// Flushes and syncs what is queued at a source whose log is empty.
+fn sync(source: &mut Source) -> Result<(), SourceFault> {
+    if !source.log().is_empty() {
+        return Err(SourceFault::Exhausted);
+    }
+    match flush(source)? {
+        Some(group) => source.synced(group),
+        None => Err(SourceFault::NotPrepared),
+    }
+}
+
+/// Makes a group of a transaction of session 3 and one of session 256.
+fn sync_two(source: &mut Source) -> Result<(), Fail> {
+    for session in [3, 256] {
+        enqueue(source, session, insert(row(2, session as i64), &[5, 6])?)?;
+    }
+    sync(source)?;
+    Ok(())
+}
+
+/// Commits the group, and looks at what its sessions are told.
+fn commit_two(rt: &impl Abort, source: &mut Source) -> Result<(), Fail> {
+    let given = again!(source.commit())?;
+    let [first, second] = given.as_slice() else {
+        panic!(rt; "not two receipts");
+    };
+    assert_eq!(rt; (first.session, first.gno, first.parent), (3, 1, 0));
+    assert_eq!(rt; (second.session, second.gno, second.parent), (256, 2, 0));
+    Ok(())
+}
+
+fn make_group(rt: &impl Abort, source: &mut Source) -> Result<(), Fail> {
+    sync_two(source)?;
+    commit_two(rt, source)
+}
+
+/// Catches a call that gives up for good once it was refused memory, or that keeps half of what it was to do. No `?` stands
+/// where the source is owned: each would be one more way to drop it, which costs most of a minute to prove.
+#[test]
+fn a_group_is_made_again(rt: HostRuntime) -> Result<(), Fail> {
+    match again!(source(rt.alloc())) {
+        Ok(mut source) => make_group(&rt, &mut source),
+        Err(Memory) => Err("no source")?,
+    }
+}

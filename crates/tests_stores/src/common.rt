@@ -1,0 +1,63 @@
+//! What crates of tests make alike: rows, changes, tables, the text of a fault, and a call's second try.
+
+use rows::{Change, Named, Row};
+use schema::{Memory, RowId, Schema, Table};
+use std::alloc::{AllocError, Global};
+use std::fmt::Display;
+
+/// What the call answers; where it is refused, and for this reason if one is given, what its second try does.
+#[macro_export]
+macro_rules! again {
+    ($call:expr) => {
+        match $call {
+            Err(_) => $call,
+            done => done,
+        }
+    };
+    ($reason:pat => $call:expr) => {
+        match $call {
+            Err($reason) => $call,
+            done => done,
+        }
+    };
+}
+
+/// The row of this key in this table.
+pub fn row(table: u16, key: i64) -> RowId {
+    RowId { table, key }
+}
+
+/// The insert of the row with these columns.
+pub fn insert(row: RowId, columns: &[i64]) -> Result<Change, Memory> {
+    Ok(Change::Insert {
+        row,
+        values: Row::new(columns).ok_or(Memory)?,
+    })
+}
+
+/// The update of one column of the row.
+pub fn update(row: RowId, column: u8, value: i64) -> Result<Change, Memory> {
+    Ok(Change::Update {
+        row,
+        columns: Named::of(&[(column, value)]).ok_or(Memory)?,
+    })
+}
+
+/// Tables 1 and 2 have no kin, 3 is the parent of 4, and 5 is keyless. Each has two columns.
+pub fn five_tables(alloc: Global) -> Result<Schema, Memory> {
+    let mut tables = Vec::with_capacity(alloc, 5)?;
+    for id in 1..=5 {
+        tables.push(Table {
+            id,
+            columns: 2,
+            keyed: id != 5,
+            parent: if id == 4 { Some((0, 3)) } else { None },
+        })?;
+    }
+    Schema::new(tables).map_err(|_| Memory)
+}
+
+/// Whether the fault's text is this.
+pub fn is_told(alloc: Global, fault: &impl Display, text: &str) -> Result<bool, AllocError> {
+    Ok(format!(in alloc; "{fault}")?.as_str() == text)
+}

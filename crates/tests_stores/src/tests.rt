@@ -1,0 +1,4 @@
+mod makers;
+mod overlays;
+mod stores;
+mod tables;

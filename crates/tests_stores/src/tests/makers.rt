@@ -1,0 +1,83 @@
+//! The schema, rows, changes, batches and stores that the tests are of. Each row has 16 columns of one value.
+
+ghost use Rattle.std.specs.Prelude.{◌<◌};
+
+use btree_store::BTreeStore;
+use rows::{Change, Named, Row};
+use schema::{Memory, RowId, Schema, Table};
+use std::alloc::Global;
+use store_trait::{Batch, RowStore};
+
+/// A row by its id, or that there is none.
+pub type Entry = (RowId, Option<Row>);
+
+/// A table of 16 columns. Where it has a parent, the last column names its row.
+pub fn table(id: u16, parent: Option<u16>) -> Table {
+    Table {
+        id,
+        columns: 16,
+        keyed: true,
+        parent: parent.map(|table| (15, table)),
+    }
+}
+
+/// Four tables, listed out of order. Table 2 is a child of table 1.
+pub fn four_tables(alloc: Global) -> Result<Schema, Memory> {
+    let (first, child) = (table(1, None), table(2, Some(1)));
+    let tables = [table(3, None), child, first, table(256, None)];
+    Schema::new(Vec::from_slice(alloc, &tables)?).map_err(|_| Memory)
+}
+
+pub fn set(table: u16, key: i64, value: i64) -> Entry {
+    (RowId { table, key }, Row::new(&[value; 16]))
+}
+
+pub fn removed(table: u16, key: i64) -> Entry {
+    (RowId { table, key }, None)
+}
+
+pub fn insert(table: u16, key: i64, value: i64) -> Change {
+    let row = RowId { table, key };
+    let values = Row::new(&[value; 16]).unwrap();
+    Change::Insert { row, values }
+}
+
+/// The update of one column.
+pub fn update(table: u16, key: i64, column: u8, value: i64) -> Change
+    requires { column < 16 }
+{
+    let row = RowId { table, key };
+    let columns = Named::of(&[(column, value)]).unwrap();
+    Change::Update { row, columns }
+}
+
+pub fn delete(table: u16, key: i64) -> Change {
+    let row = RowId { table, key };
+    Change::Delete { row }
+}
+
+pub fn batch(alloc: Global, entries: &[Entry]) -> Result<Batch, Memory> {
+    Batch::from_entries(Vec::from_slice(alloc, entries)?).ok_or(Memory)
+}
+
+pub fn store(alloc: Global, entries: &[Entry]) -> Result<BTreeStore, Memory> {
+    let mut store = BTreeStore::new(alloc);
+    store.put_all(&batch(alloc, entries)?)?;
+    Ok(store)
+}
+
+/// Of each of these tables, in order, the rows of so many keys, half of them below 0. Each column is the row's key.
+pub fn many_rows(alloc: Global, tables: &[u16], keys: u16) -> Result<Batch, Memory> {
+    let mut entries = Vec::new(alloc);
+    let half = i64::from(keys) / 2;
+    for table in tables {
+        for key in -half..half {
+            entries.push(set(*table, key, key))?;
+        }
+    }
+    Batch::from_entries(entries).ok_or(Memory)
+}
+
+pub fn same_rows(one: &Batch, other: &Batch) -> bool {
+    one.entries() == other.entries()
+}

@@ -1,0 +1,125 @@
+//! What a transaction's changes leave over committed rows.
+
+use crate::again;
+use crate::tests::makers::{
+    Entry, delete, four_tables, insert, many_rows, removed, same_rows, set, store, update,
+};
+use btree_store::BTreeStore;
+use overlay::{Overlay, run_changes};
+use rows::Change;
+use schema::{Memory, Schema};
+use std::alloc::Global;
+use std::test::Fail;
+use store_trait::Batch;
+
+/// Whether the changes leave this over the rows, or where it is `None` one of them does not apply; each call is made again
+/// where memory lacked.
+fn leaves(
+    alloc: Global,
+    schema: &Schema,
+    store: &BTreeStore,
+    changes: &[Change],
+    want: Option<&[Entry]>,
+) -> Result<bool, Memory> {
+    let ran = again!(run_changes(alloc, schema, store, changes))?;
+    let Some(overlay) = ran else {
+        return Ok(want.is_none());
+    };
+    let batch = again!(overlay.batch(alloc))?;
+    Ok(want.is_some_and(|want| batch.entries() == want))
+}
+
+/// A parent that is looked for among the committed rows alone, or asked for where the change gives none. Row 1 of table 1 is
+/// committed, with a child, and row 5 is not.
+#[test]
+fn children_have_the_parents_that_are_seen(rt: HostRuntime) -> Result<(), Fail> {
+    let schema = four_tables(rt.alloc())?;
+    let store = store(rt.alloc(), &[set(1, 1, 0), set(2, 9, 1)])?;
+    let cases: [(&[Change], Option<&[Entry]>); 7] = [
+        (&[insert(2, 10, 5), insert(1, 5, 0)], None),
+        (
+            &[insert(1, 5, 0), insert(2, 10, 5)],
+            Some(&[set(1, 5, 0), set(2, 10, 5)]),
+        ),
+        (&[insert(1, 5, 0), delete(1, 5), insert(2, 10, 5)], None),
+        (&[update(2, 9, 15, 5)], None),
+        (
+            &[insert(1, 5, 0), update(2, 9, 15, 5), update(2, 9, 15, 1)],
+            Some(&[set(1, 5, 0), set(2, 9, 1)]),
+        ),
+        // A parent that is deleted is asked for where the update names its column, and only there.
+        (&[delete(1, 1), update(2, 9, 15, 1)], None),
+        (
+            &[delete(1, 1), update(2, 9, 0, 1)],
+            Some(&[removed(1, 1), set(2, 9, 1)]),
+        ),
+    ];
+    for (changes, want) in cases {
+        let left = leaves(rt.alloc(), &schema, &store, changes, want);
+        assert_eq!(rt; left, Ok(true), "{changes:?}");
+    }
+    Ok(())
+}
+
+/// So many inserts into table 1 and, behind each, of its child into table 2, from the greatest key down.
+fn inserts(alloc: Global, keys: u16) -> Result<Vec<Change>, Memory> {
+    let mut changes = Vec::new(alloc);
+    for below in 1..=keys {
+        let key = i64::from(keys / 2) - i64::from(below);
+        changes.push(insert(1, key, key))?;
+        changes.push(insert(2, key, key))?;
+    }
+    Ok(changes)
+}
+
+/// Whether the most changes of a transaction leave these rows, where there were none.
+fn most_leave(alloc: Global, rows: &Batch) -> Result<bool, Memory> {
+    let schema = again!(four_tables(alloc))?;
+    let changes = again!(inserts(alloc, 512))?;
+    let store = BTreeStore::new(alloc);
+    leaves(alloc, &schema, &store, &changes, Some(rows.entries()))
+}
+
+/// A run or a batch that gives up, at the most changes of a transaction or where memory lacked once.
+#[test]
+fn most_changes_are_run_again(rt: HostRuntime) -> Result<(), Fail> {
+    let alloc = rt.alloc();
+    let rows = again!(many_rows(alloc, &[1, 2], 512))?;
+    assert_eq!(rt; most_leave(alloc, &rows), Ok(true));
+    Ok(())
+}
+
+fn push(overlay: &mut Overlay, entry: &Entry) -> Result<(), Memory> {
+    overlay.push(Change::Delete { row: entry.0 }, entry.1)
+}
+
+/// Two changes of a row, room for the first of which is taken before, and each call again where memory lacked.
+fn push_again(overlay: Overlay, entry: &Entry) -> Result<Overlay, Memory> {
+    let roomy = match overlay.into_roomy() {
+        Ok(roomy) => roomy,
+        Err((_, overlay)) => overlay.into_roomy().map_err(|refused| refused.0)?,
+    };
+    let mut overlay = roomy.push(Change::Delete { row: entry.0 }, entry.1);
+    again!(push(&mut overlay, entry))?;
+    Ok(overlay)
+}
+
+fn pushed_again(alloc: Global, rows: &Batch) -> Result<Overlay, Memory> {
+    let mut overlay = Overlay::new(alloc);
+    for entry in rows.entries() {
+        overlay = push_again(overlay, entry)?;
+    }
+    Ok(overlay)
+}
+
+/// A push that gives up where there are many, or an overlay that is left otherwise where memory lacked once.
+#[test]
+fn many_changes_are_pushed_again(rt: HostRuntime) -> Result<(), Fail> {
+    let alloc = rt.alloc();
+    let rows = again!(many_rows(alloc, &[1, 2], 256))?;
+    let overlay = pushed_again(alloc, &rows)?;
+    assert_eq!(rt; overlay.len(), 1024);
+    let batch = again!(overlay.batch(alloc))?;
+    assert!(rt; same_rows(&batch, &rows));
+    Ok(())
+}
