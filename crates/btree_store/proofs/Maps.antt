@@ -1,5 +1,5 @@
 -- An ordered map of rows as a finite map.
-use Rattle.std.proofs.Common.{◌≡◌, ◌∙◌, sym, ap, refl, ℤ, Bool, cond, List, [], ◌∷◌, length, Option, Some, None, BTreeMap, is_some, true, false, true≢false}
+use Rattle.std.proofs.Common.{◌≡◌, ◌∙◌, sym, ap, refl, ℤ, cond, List, [], ◌∷◌, length, Some, None, BTreeMap}
 use Rattle.std.specs.Bool.{passes}
 use Rattle.std.specs.BTreeMap as tree
 use Rattle.std.specs.BTreeMap.{is_at}
@@ -18,17 +18,6 @@ find_row (e ∷ es) q = ap (cond (is_at (row_cmp q) e.0) (Some e.1)) (find_row e
 -- what the map has at a row
 pub get_row : (m : BTreeMap RowId (List ℤ)) (q : RowId) → get (contents_of m) q ≡ tree.get row_cmp m q
 get_row m q = get-from_entries row_total m.entries q ∙ find_row m.entries q
-
-none_of : {X : Type 0} (o : Option X) → is_some o ≡ false → o ≡ None
-none_of None h = refl
-none_of (Some x) h = absurd (true≢false h)
-
--- what the answer of `contains_key` says
-pub absent_row : (m : BTreeMap RowId (List ℤ)) (id : RowId) (answer : Bool) → answer ≡ is_some (tree.get row_cmp m id) → answer ≡ false → get (contents_of m) id ≡ None
-absent_row m id answer is absent = get_row m id ∙ none_of _ (sym is ∙ absent)
-
-pub there_row : (m : BTreeMap RowId (List ℤ)) (id : RowId) (answer : Bool) → answer ≡ is_some (tree.get row_cmp m id) → answer ≡ true → is_some (get (contents_of m) id) ≡ true
-there_row m id answer is there = ap is_some (get_row m id) ∙ sym is ∙ there
 
 turned : (id q : RowId) → is_at (row_cmp id) q ≡ is_at (row_cmp q) id
 turned id q = (eq_by_cmp_equiv row_total).symm id q

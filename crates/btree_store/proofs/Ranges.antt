@@ -12,7 +12,7 @@ use Rattle.std.proofs.lemmas.Int.{ints}
 use Rattle.schema.specs.declared.RowId.{RowId}
 use Rattle.schema.specs.RowId.{row_cmp}
 use Rattle.store_trait.specs.Contents.{IsAbove, row_at, NoneAbove, IsLeastAbove}
-use Rattle.store_trait.proofs.Walks.{lesser_row}
+use Rattle.store_trait.proofs.Walks.{lesser_row, lesser_key}
 use Rattle.btree_store.specs.Contents.{contents_of, KeysFit}
 use Rattle.btree_store.proofs.Maps.{get_row}
 
@@ -54,11 +54,6 @@ above_not Less a b p h below = omega (arith, ints)
 above_not Equal a b p h below = omega (arith, ints)
 above_not Greater a b p h below = true≢false h
 
-is_below : (r : Ordering) (a b : ℤ) → MatchOrdering r (a <ℤ b) (a ≡ b) (b <ℤ a) → a <ℤ b → r ≡ Less
-is_below Less a b p h = refl
-is_below Equal a b p h = absurd (omega (arith, ints))
-is_below Greater a b p h = absurd (omega (arith, ints))
-
 -- ---- the range
 
 -- the rows of the table above the key are in it
@@ -66,7 +61,7 @@ in_range : (table : ℕ) (above : Option ℤ) (key : ℤ) → FitsSigned w64 key
 in_range table None key fits is =
     (ap is_gt (same_table table (negsuc 9223372036854775807) key) ∙ least_key key fits, ap is_gt (same_table table key (pos 9223372036854775807)) ∙ greatest_key key fits)
 in_range table (Some bound) key fits is =
-    (same_table table bound key ∙ is_below (int_cmp bound key) bound key (int_ranked bound key _ refl) is, ap is_gt (same_table table key (pos 9223372036854775807)) ∙ greatest_key key fits)
+    (lesser_key (row_at table bound) (row_at table key) refl is, ap is_gt (same_table table key (pos 9223372036854775807)) ∙ greatest_key key fits)
 
 -- and no others are
 range_table : (table : ℕ) (above : Option ℤ) (id : RowId) → IsInRange row_cmp (start_of table above) (end_of table) id → (id.table ≡ table) × IsAbove above id.key

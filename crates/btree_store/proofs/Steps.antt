@@ -116,9 +116,6 @@ pub record Filling (es : List Entry) (i : ℕ) (first now : Database) (before af
   pub same : put_batch es now ≡ put_batch es first
   pub set : AreSet now (take i es)
 
-pub filling_none : (es : List Entry) (db : Database) (kept : List Entry) → Filling es 0 db db kept kept
-filling_none es db kept = record { undone = refl; same = refl; set = tt }
-
 module _ (es : List Entry) (i : ℕ) (first now : Database) (before after : List Entry) (h : Filling es i first now before after) (within : i < length es) where
   -- an entry that removes its row
   pub filling_skips : (id : RowId) → (id, None) ≡ get_or es i (id, None) → Filling es (i + 1) first now before after
@@ -150,9 +147,6 @@ pub record Setting (es : List Entry) (i : ℕ) (first now : Database) : Type 0 w
   pub set : AreSet now (drop i es)
   pub rising : IsRising (drop i es)
   pub keys : AllByRecursion (λ e. FitsSigned w64 e.0.key) (take i es)
-
-pub setting_none : (es : List Entry) (db : Database) → IsRising es → AreSet db es → Setting es 0 db db
-setting_none es db rising set = record { put = refl; set = set; rising = rising; keys = tt }
 
 -- a row before others leaves them set
 AreSet-put_row : (db : Database) (id : RowId) (columns : Option (List ℤ)) (es : List Entry) → below_all row_cmp id es ≡ true → AreSet db es → AreSet (put_row db id columns) es

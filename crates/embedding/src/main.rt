@@ -4,23 +4,23 @@
 //! `docs/EMBEDDING.md` goes through it.
 #![tactic(auto)]
 
-ghost use Rattle.std.specs.Prelude.{◌≡◌, ◌≤◌};
+ghost use Rattle.std.specs.Prelude.{◌≡◌};
 ghost use Rattle.source_core.specs.Source.{new_source};
 ghost use Rattle.replica_core.specs.Calls.{new_over};
 ghost use Rattle.world.specs.Fresh.{IsNew};
 
-mod sides;
+mod connecting;
 mod trouble;
 
 use btree_store::BTreeStore;
 use commit_order_tracker::CommitOrder;
+use connecting::{Replica, SOURCE, Source, new_replica, send};
 use log_device::MemoryDevice;
 use published::Notice;
 use relay::ReplicaFault;
 use replica_shared::{NoGate, ReplicaNaming};
 use rows::{Change, Row};
 use schema::{RowId, Schema, Table};
-use sides::{Replica, SOURCE, Source, new_replica, send};
 use source_shared::{Receipt, SharedSource, SourceNaming};
 use std::alloc::Global;
 use std::io;
@@ -164,10 +164,7 @@ fn commit<J: SourceNaming>(
     session: u16,
     account: i64,
     balance: i64,
-) -> Result<Receipt<J>, Trouble>
-    requires least { 1 ≤ session }
-    requires greatest { session ≤ 256 }
-{
+) -> Result<Receipt<J>, Trouble> {
     let values = Row::new(&[i64::from(session), balance]).ok_or(Trouble::Misfit)?;
     let mut seat = source.session(rt, session)?;
     source.begin(rt, &mut seat)?;

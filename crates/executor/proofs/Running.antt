@@ -1,8 +1,7 @@
 -- The parent rows that changes look at, as they are run one after another.
-use Rattle.std.proofs.Common.{◌≡◌, sym, ap, ◌∙◌, refl, ℕ, ◌+◌, ◌<◌, ◌≤◌, List, [], ◌∷◌, ◌++◌, append_assoc, take, length, get_or, ℤ, Option, Some, None, option_map}
+use Rattle.std.proofs.Common.{◌≡◌, sym, ap, ◌∙◌, ℕ, ◌+◌, ◌<◌, List, [], ◌∷◌, ◌++◌, append_assoc, take, length, get_or, ℤ, Option, Some, option_map}
 use Rattle.std.specs.FinMap.{get}
-use Rattle.std.proofs.lemmas.List.{append-nil, take_more, take_all}
-use Rattle.std.proofs.lemmas.Option.{same_Some}
+use Rattle.std.proofs.lemmas.List.{append-nil, take_more}
 use Rattle.schema.specs.declared.Table.{Table}
 use Rattle.schema.specs.declared.RowId.{RowId}
 use Rattle.rows.specs.declared.Change.{Change}
@@ -10,12 +9,8 @@ use Rattle.rows.specs.Database.{Database, target, apply, effect, kin}
 use Rattle.rows.proofs.Effect.{kin_joined, kin_then}
 use Rattle.overlay.specs.Pending.{Pending, seen}
 use Rattle.overlay.proofs.Follow.{seen-Follows}
-use Rattle.overlay.proofs.Run.{HasRun}
+use Rattle.overlay.proofs.Run.{HasRun, mapped}
 use Rattle.executor.specs.Job.{kin_at}
-
-mapped : {A B : Type 0} (f : A → B) (o : Option A) (y : B) → option_map f o ≡ Some y → (x : A) × (o ≡ Some x) × (f x ≡ y)
-mapped f None y h = cc
-mapped f (Some x) y h = (x, refl, same_Some (f x) y h)
 
 -- one change more, the rows behind the list being the parents of its row before and after it
 pub kin_more : (ts : List Table) (changes : List Change) (db : Database) (n : ℕ) (pending : Pending) (change : Change) (row : RowId) (left : Option (List ℤ)) (answer : Option (Option (List ℤ))) (now later : List RowId) →
@@ -37,6 +32,3 @@ kin_more ts changes db n pending change row left answer now later run within is 
     ∙ sym (kin_joined ts (take n changes) (change ∷ []) db mid reached)
     ∙ ap (λ (x : Change). kin ts (take n changes ++ x ∷ []) db) is
     ∙ ap (λ l. kin ts l db) (sym (take_more changes n change within))
-
-pub kin_all : (ts : List Table) (changes : List Change) (db : Database) (n : ℕ) (rows : List RowId) → rows ≡ kin ts (take n changes) db → length changes ≤ n → rows ≡ kin ts changes db
-kin_all ts changes db n rows so_far end = so_far ∙ ap (λ l. kin ts l db) (take_all n changes end)

@@ -6,8 +6,8 @@ use Rattle.std.proofs.lemmas.List.Sorted.{list_any-IsPermutation}
 use Rattle.schema.specs.declared.RowId.{RowId}
 use Rattle.schema.specs.RowId.{same_row}
 use Rattle.schema.specs.Rows.{has_row, SameRows}
+use Rattle.schema.proofs.Telling.{both_or_none}
 use Rattle.rows.proofs.Apply.{row_is, same_row_itself}
-use Rattle.record_codec.proofs.Searching.{both_or_none}
 use Rattle.executor.specs.Job.{same_rows}
 use Rattle.executor.specs.Laws.{TellsSets}
 

@@ -74,7 +74,7 @@ fn put_parents<S: RowStore>(
 fn has_no_parent(schema: &Schema, table: u16) -> bool
     ensures { result ≡ is_none (link_of schema.now table) }
 {
-    schema.table(table).is_none_or(|t| t.parent.is_none())
+    schema.link_of(table).is_none()
 }
 
 /// Puts the parent of a row of the table behind the others, where the row is there and has one.

@@ -1,6 +1,8 @@
 -- The first ids of a source, and the greatest id of a set.
 use Rattle.std.proofs.Common.{◌≡◌, ◌∙◌, sym, ap, subst, refl, ℕ, zero, suc, ◌+◌, ◌-◌, ◌^◌, ◌<◌, ◌≤◌, Bool, true, false, ◌&&◌, ◌||◌, eqb, leb, ltb, List, [], ◌∷◌, length, slice_get, Some, arith}
 use Rattle.std.specs.Str.{bytes_eq}
+use Rattle.std.proofs.Math.Bool.{or-false}
+use Rattle.std.proofs.lemmas.Bool.{or_left, or_right}
 use Rattle.std.proofs.lemmas.Bool.Decides.{nat_tests}
 use Rattle.std.proofs.lemmas.Option.{same_Some}
 use Rattle.std.proofs.lemmas.Slice.Eq.{bytes_eq-Decides}
@@ -19,7 +21,7 @@ some_first source n h = rw (above_zero n h) refl
 
 -- the numbers of an interval alone
 alone : (i : Interval) (m : ℕ) → has_number (i ∷ []) m ≡ is_within i m
-alone i m = elim (is_within i m) as (λ b. (b || false) ≡ b) [ true ↦ refl | false ↦ refl ]
+alone i m = or-false (is_within i m)
 
 none_at_zero : (b : Bool) (m : ℕ) → false ≡ (b && (leb 1 m && leb m 0))
 none_at_zero true m = grind (arith, nat_tests)
@@ -50,9 +52,6 @@ next source n new low adds =
     (adds.source ∙ ap (λ (s : Ids). s.source) (sym (some_first source (n + 1) (omega arith))))
     (λ m. adds.numbers m ∙ ap (λ (b : Bool). b || eqb m (n + 1)) (numbers_first source n m) ∙ one_more n m ∙ sym (numbers_first source (n + 1) m))
 
-fits_one : (a b c : Bool) → a ≡ true → b ≡ true → c ≡ true → ((a && b) && c) ≡ true
-fits_one a b c p q r = rw (p, q, r) refl
-
 pub fits : NextIdFits
 fits source zero low = refl
 fits source (suc n) low =
@@ -74,19 +73,12 @@ most_of low i [] x h e =
     subst (λ (y : Interval). IsGreatest (i ∷ []) y.last) (same_Some i x e) (record { have = alone i i.last ∙ within_last i h.1; most = λ m is_in. within_is i m (sym (alone i m) ∙ is_in) })
 most_of low i (j ∷ is) x h e =
     let rest = most_of (i.last + 2) j is x h.3 e in
-    let above : j.last ≤ x.last = rest.most j.last (or_is (is_within j j.last) (has_number is j.last) (within_last j h.3.1)) in
+    let above : j.last ≤ x.last = rest.most j.last (or_left (is_within j j.last) (has_number is j.last) (within_last j h.3.1)) in
     record {
-      have = or_at (is_within i x.last) (has_number (j ∷ is) x.last) rest.have;
+      have = or_right (is_within i x.last) (has_number (j ∷ is) x.last) rest.have;
       most = λ m is_in. at_most m (is_within i m) refl is_in rest.most above;
     }
   where
-    or_is : (a b : Bool) → a ≡ true → (a || b) ≡ true
-    or_is a b e = rw e refl
-
-    or_at : (a b : Bool) → b ≡ true → (a || b) ≡ true
-    or_at true b e = refl
-    or_at false b e = e
-
     at_most : (m : ℕ) (b : Bool) → is_within i m ≡ b → (b || has_number (j ∷ is) m) ≡ true → ((k : ℕ) → has_number (j ∷ is) k ≡ true → k ≤ x.last) → j.last ≤ x.last → m ≤ x.last
     at_most m true here is_in most above = let within = within_is i m here in let next = h.3.0 in let order = h.3.1 in omega arith
     at_most m false here is_in most above = most m is_in

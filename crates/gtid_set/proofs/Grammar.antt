@@ -1,12 +1,12 @@
 -- The texts from which intervals are read are those that list them.
-use Rattle.std.proofs.Common.{◌≡◌, ◌≢◌, ◌⊎◌, ◌∙◌, sym, ap, refl, subst, inl, inr, ℕ, ◌+◌, ◌^◌, ◌<◌, ◌≤◌, Bool, true, false, cond, eqb, ltb, leb, List, [], ◌∷◌, ◌++◌, length, get_or, take, drop, append_assoc, Option, Some, None, Result, Ok, Err, arith}
+use Rattle.std.proofs.Common.{◌≡◌, ◌≢◌, ◌⊎◌, ◌∙◌, sym, ap, refl, subst, inl, inr, ℕ, ◌+◌, ◌^◌, ◌<◌, ◌≤◌, Bool, true, false, cond, ltb, leb, List, [], ◌∷◌, ◌++◌, length, get_or, take, drop, append_assoc, Option, Some, None, Result, Ok, Err, arith}
 use Rattle.std.specs.Prelude.{IsSome}
 use Rattle.std.specs.Int.{IsInRange}
 use Rattle.std.specs.List.{AllByRecursion, All, slice_split, before_first, after_first, position_or_len, join_with_byte}
 use Rattle.std.proofs.lemmas.List.Elements.{All-append, All-cons}
 use Rattle.std.proofs.Math.Seq.{get_or-append_seam}
 use Rattle.std.specs.Fmt.{decimal}
-use Rattle.std.proofs.lemmas.Bool.{eqb-true, ltb-true, lt-ltb, leb-true, le-leb}
+use Rattle.std.proofs.lemmas.Bool.{eqb-true, ltb-true, lt-ltb, leb-true, le-leb, ne_eqb}
 use Rattle.std.proofs.lemmas.Bool.Decides.{nat_tests, eqb_tells}
 use Rattle.std.proofs.lemmas.Fmt.{digits_decimal}
 use Rattle.std.proofs.lemmas.Str.Parse.{not_in_digits}
@@ -87,18 +87,15 @@ hyphen_out h = omega (arith, h)
 colon_out : ¬ (IsInRange 48 57 58)
 colon_out h = omega (arith, h)
 
-not_byte : (a c : ℕ) → a ≢ c → eqb a c ≡ false
-not_byte a c h = grind (arith, nat_tests)
-
 alone_place : (n : ℕ) → n < 2 ^ 63 → position_or_len is_hyphen (decimal n) ≡ length (decimal n)
 alone_place n low =
     position_or_len_is is_hyphen (decimal n) (length (decimal n)) 0 (omega arith)
-    (λ k lt. not_byte (get_or (decimal n) k 0) 45 (no_byte n 45 low hyphen_out k lt)) (λ lt. absurd (omega arith))
+    (λ k lt. ne_eqb (get_or (decimal n) k 0) 45 (no_byte n 45 low hyphen_out k lt)) (λ lt. absurd (omega arith))
 
 hyphen_place : (a : ℕ) (rest : List ℕ) → a < 2 ^ 63 → position_or_len is_hyphen (decimal a ++ 45 ∷ rest) ≡ length (decimal a)
 hyphen_place a rest low =
     position_or_len_is is_hyphen (decimal a ++ 45 ∷ rest) (length (decimal a)) 0 (omega (arith, length-append (decimal a) (45 ∷ rest)))
-    (λ k lt. ap is_hyphen (get_or_append_left (decimal a) (45 ∷ rest) 0 k lt) ∙ not_byte (get_or (decimal a) k 0) 45 (no_byte a 45 low hyphen_out k lt))
+    (λ k lt. ap is_hyphen (get_or_append_left (decimal a) (45 ∷ rest) 0 k lt) ∙ ne_eqb (get_or (decimal a) k 0) 45 (no_byte a 45 low hyphen_out k lt))
     (λ lt. ap is_hyphen (get_or-append_seam (decimal a) 45 rest 0))
 
 one_again : (text : List ℕ) (n : ℕ) → text ≡ decimal n → 1 ≤ n → n < 2 ^ 63 → interval_at text ≡ Ok (record { first = n; last = n })
@@ -156,7 +153,7 @@ no_colon text i t =
     ]
   where
     in_number : (n : ℕ) → n < 2 ^ 63 → All (λ b. is_colon b ≡ false) (decimal n)
-    in_number n low = λ k d lt. ap is_colon (get_or_default (decimal n) k d 0 lt) ∙ not_byte (get_or (decimal n) k 0) 58 (no_byte n 58 low colon_out k lt)
+    in_number n low = λ k d lt. ap is_colon (get_or_default (decimal n) k d 0 lt) ∙ ne_eqb (get_or (decimal n) k 0) 58 (no_byte n 58 low colon_out k lt)
 
 list_again : (list : List ℕ) (i : Interval) (is : List Interval) → ListIntervals list (i ∷ is) → (rest : List ℕ) × (list ≡ 58 ∷ rest) × (intervals_at (slice_split is_colon rest) ≡ Ok (i ∷ is))
 unfolding intervals_at

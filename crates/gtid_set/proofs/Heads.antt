@@ -1,5 +1,5 @@
 -- The identifier at the front of a text, and the colon behind it.
-use Rattle.std.proofs.Common.{◌≡◌, ◌≢◌, ◌∙◌, ap, refl, ℕ, ◌<◌, ◌≤◌, false, eqb, List, length, get_or, take, drop, Option, Some, None, Ok, Err, arith}
+use Rattle.std.proofs.Common.{◌≡◌, ◌≢◌, ◌∙◌, refl, ℕ, ◌<◌, ◌≤◌, false, eqb, List, length, get_or, take, drop, Option, Some, None, Ok, Err, arith}
 use Rattle.std.proofs.lemmas.Bool.Decides.{nat_tests}
 use Rattle.std.proofs.lemmas.List.{length-take, drop_all}
 use Rattle.std.proofs.Math.Seq.{drop-cons}
@@ -17,9 +17,6 @@ none_from (Some u) h = absurd (h (u, refl))
 
 pub no_source : (name : List ℕ) → length name ≡ 36 → (((u : List ℕ) × (parsed name ≡ Some u)) → ⊥) → Err BadUuid ≡ source_at (parsed_hyphenated name)
 no_source name len h = none_from (parsed_hyphenated name) (λ w. h (w.0, parsed_at_36 name len ∙ w.1))
-
-pub is_source : (name u : List ℕ) → length name ≡ 36 → Some u ≡ parsed name → Ok u ≡ source_at (parsed_hyphenated name)
-is_source name u len e = ap source_at (e ∙ parsed_at_36 name len)
 
 short_none : (s : List ℕ) → length s < 36 → parsed_hyphenated s ≡ None
 short_none s lt =

@@ -1,10 +1,11 @@
 -- Joining sorted intervals, from the front.
-use Rattle.std.proofs.Common.{◌≡◌, ◌∙◌, subst, sym, ap, refl, ℕ, zero, suc, ◌+◌, ◌-◌, ◌^◌, ◌<◌, ◌≤◌, max, Bool, true, false, ◌||◌, List, [], ◌∷◌, ◌++◌, length, get_or, take, drop, set, arith, inl, inr}
+use Rattle.std.proofs.Common.{◌≡◌, ◌∙◌, subst, sym, ap, ℕ, zero, suc, ◌+◌, ◌-◌, ◌^◌, ◌<◌, ◌≤◌, max, Bool, ◌||◌, List, [], ◌∷◌, ◌++◌, length, get_or, take, drop, set, arith, inl, inr}
 use Rattle.std.specs.List.{AllByRecursion}
 use Rattle.std.specs.List.Sorted.{IsNonDecreasingBy, IsPermutation}
+use Rattle.std.proofs.Math.Bool.{or-false, or_assoc}
 use Rattle.std.proofs.lemmas.Bool.{cases_lt}
 use Rattle.std.proofs.lemmas.Bool.Decides.{nat_tests}
-use Rattle.std.proofs.lemmas.List.{take_more, take_more_set, take_all, drop-drop, get_or-drop, get_or-take, length-take-le, get_or_default}
+use Rattle.std.proofs.lemmas.List.{take_more, take_more_set, drop-drop, get_or-drop, get_or-take, length-take-le, get_or_default}
 use Rattle.std.proofs.lemmas.List.Elements.{recursion_from_All, All-from_recursion}
 use Rattle.std.proofs.lemmas.List.Sorted.{list_any-IsPermutation, All-permutation}
 use Rattle.std.proofs.lemmas.Grind.{drop_more_same}
@@ -40,16 +41,8 @@ pub sorted_more : (f g : ℕ) (is : List Interval) → f ≤ g → AllByRecursio
 sorted_more f g [] le h = tt
 sorted_more f g (i ∷ is) le h = (omega (arith, h.0), sorted_more f g is le h.1)
 
-or_nil : (b : Bool) → (b || false) ≡ b
-or_nil true = refl
-or_nil false = refl
-
-or_assoc : (a b c : Bool) → (a || (b || c)) ≡ ((a || b) || c)
-or_assoc true b c = refl
-or_assoc false b c = refl
-
 has_one : (is : List Interval) (y : Interval) (m : ℕ) → has_number (is ++ y ∷ []) m ≡ (has_number is m || is_within y m)
-has_one is y m = has_number-append is (y ∷ []) m ∙ ap (λ (b : Bool). has_number is m || b) (or_nil (is_within y m))
+has_one is y m = has_number-append is (y ∷ []) m ∙ ap (λ (b : Bool). has_number is m || b) (or-false (is_within y m))
 
 joins_push : (out : List Interval) (next : Interval) → AreNumbers out → IsInterval next → AllByRecursion (λ i. i.first ≤ next.first) out → end_of 1 out ≤ next.first → Joins out (out ++ next ∷ []) next
 joins_push out next are is sorted le = record {
@@ -77,7 +70,7 @@ joins_extend front x next last are is sorted near e =
       sorted = sorted_push next.first front y (sorted_front next.first front (x ∷ []) sorted) le;
       have = λ m.
           has_one front y m ∙ ap (λ (b : Bool). has_number front m || b) (widened x next last m r.1 is.rising le near e)
-          ∙ or_assoc (has_number front m) (is_within x m) (is_within next m)
+          ∙ sym (or_assoc (has_number front m) (is_within x m) (is_within next m))
           ∙ ap (λ (b : Bool). b || is_within next m) (sym (has_one front x m));
     }
 
@@ -126,9 +119,6 @@ pub record AreJoined (old new : List Interval) (kept i : ℕ) : Type 0 where
   pub have : (m : ℕ) → has_number (take kept new) m ≡ has_number (take i old) m
   pub rest : drop i new ≡ drop i old
 
-pub none_joined : (is : List Interval) → AreJoined is is 0 0
-none_joined is = record { few = omega arith; long = refl; are = tt; sorted = λ j d le lt. tt; have = λ m. refl; rest = refl }
-
 -- the next one stands where it stood
 pub next_is : (old new : List Interval) (kept i : ℕ) (d : Interval) → AreJoined old new kept i → get_or new i d ≡ get_or old i d
 next_is old new kept i d h =
@@ -136,9 +126,6 @@ next_is old new kept i d h =
   where
     zero_on : i ≡ i + 0
     zero_on = omega arith
-
-pub each_is : (is : List Interval) (i : ℕ) (d : Interval) → AllByRecursion IsInterval is → i < length is → IsInterval (get_or is i d)
-each_is is i d h lt = All-from_recursion IsInterval is h i d lt
 
 pub sorted_before : (old new : List Interval) (kept i : ℕ) (d : Interval) → AreJoined old new kept i → i < length old → AllByRecursion (λ x. x.first ≤ (get_or new i d).first) (take kept new)
 sorted_before old new kept i d h lt =
@@ -165,10 +152,6 @@ one_joined old new after kept count i d sorts h lt joins rest few long =
           ∙ sym (has_one (take i old) (get_or old i d) m) ∙ ap (λ (l : List Interval). has_number l m) (sym (take_more old i d lt));
       rest = drop_later after new (kept + 1) (i + 1) (omega (arith, h.few)) rest ∙ drop_more_same new old i h.rest;
     }
-
-pub all_joined : (old new : List Interval) (kept i : ℕ) → length old ≤ i → AreJoined old new kept i → AreThoseOf old (take kept new)
-all_joined old new kept i le h =
-    record { are = h.are; have = λ m. h.have m ∙ ap (λ (l : List Interval). has_number l m) (take_all i old le) }
 
 -- ---- sorted first
 

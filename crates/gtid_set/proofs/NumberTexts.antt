@@ -7,7 +7,7 @@ use Rattle.std.specs.Fmt.{decimal}
 use Rattle.std.proofs.lemmas.Str.Parse.{IsNumeralModel, numerals_by_value, parse_digits}
 use Rattle.std.proofs.lemmas.Fmt.{digits_decimal, digits_value-decimal, decimal_digit, decimal_nonempty, first_decimal, decimal-digits_value}
 use Rattle.std.proofs.lemmas.Result.{OkIff-at_ok, OkIff-at_err}
-use Rattle.std.proofs.lemmas.Bool.{ltb-true, lt-ltb}
+use Rattle.std.proofs.lemmas.Bool.{ltb-true, lt-ltb, and_parts, and_from}
 use Rattle.std.proofs.lemmas.Bool.Decides.{nat_tests}
 use Rattle.gtid_set.specs.declared.fault.GtidFault.TheVariants.{BadNumber}
 use Rattle.gtid_set.specs.Reading.{is_number, number_at}
@@ -21,13 +21,6 @@ pub record IsPlain (text : List ℕ) : Type 0 where
   pub some : 0 < length text
   pub first : get_or text 0 0 ≢ 48
 
-both_true : (a b : Bool) → (a && b) ≡ true → (a ≡ true) × (b ≡ true)
-both_true true b e = (refl, e)
-both_true false b e = absurd (cc)
-
-both_from : (a b : Bool) → a ≡ true → b ≡ true → (a && b) ≡ true
-both_from a b ha hb = rw ha hb
-
 not_zero : (c : ℕ) → not (eqb c 48) ≡ true → c ≢ 48
 not_zero c e z = grind (arith, nat_tests)
 
@@ -37,12 +30,12 @@ zero_not c h = grind (arith, nat_tests)
 pub plain_from_test : (text : List ℕ) → is_number text ≡ true → IsPlain text
 plain_from_test [] e = absurd (cc)
 plain_from_test (c ∷ cs) e =
-    let both = both_true (not (eqb c 48)) (list_all is_ascii_digit (c ∷ cs)) e in
+    let both = and_parts (not (eqb c 48)) (list_all is_ascii_digit (c ∷ cs)) e in
     record { digits = both.1; some = omega arith; first = not_zero c both.0 }
 
 pub test_from_plain : (text : List ℕ) → IsPlain text → is_number text ≡ true
 test_from_plain [] p = absurd (omega (arith, p.some))
-test_from_plain (c ∷ cs) p = both_from (not (eqb c 48)) (list_all is_ascii_digit (c ∷ cs)) (zero_not c p.first) p.digits
+test_from_plain (c ∷ cs) p = and_from (not (eqb c 48)) (list_all is_ascii_digit (c ∷ cs)) (zero_not c p.first) p.digits
 
 ok_from_cond : {F : Type 0} (b : Bool) (v n : ℕ) (f : F) → cond b (Ok v) (Err f) ≡ Ok n → (b ≡ true) × (v ≡ n)
 ok_from_cond true v n f e = (refl, cc)
@@ -62,7 +55,7 @@ unfolding number_at
 number_spelled text n e =
     let v : ℕ = digits_value 10 text in
     let found : (is_number text && ltb v (2 ^ 63) ≡ true) × (v ≡ n) = ok_from_cond (is_number text && ltb v (2 ^ 63)) v n BadNumber e in
-    let tests : (is_number text ≡ true) × (ltb v (2 ^ 63) ≡ true) = both_true (is_number text) (ltb v (2 ^ 63)) found.0 in
+    let tests : (is_number text ≡ true) × (ltb v (2 ^ 63) ≡ true) = and_parts (is_number text) (ltb v (2 ^ 63)) found.0 in
     let below : v < 2 ^ 63 = ltb-true v (2 ^ 63) tests.1 in
     let plain : IsPlain text = plain_from_test text tests.0 in
     let written : decimal v ≡ text = plain_text text plain (omega arith) in
@@ -76,7 +69,7 @@ number_again n one low =
     let plain : IsPlain (decimal n) = record { digits = digits_decimal own n fits; some = decimal_nonempty n fits; first = λ zero. absurd (omega (arith, first_decimal n one fits, zero)) } in
     let again : digits_value 10 (decimal n) ≡ n = digits_value-decimal own n fits in
     let below : ltb (digits_value 10 (decimal n)) (2 ^ 63) ≡ true = lt-ltb _ _ (omega arith) in
-    let tests : (is_number (decimal n) && ltb (digits_value 10 (decimal n)) (2 ^ 63)) ≡ true = both_from _ _ (test_from_plain (decimal n) plain) below in
+    let tests : (is_number (decimal n) && ltb (digits_value 10 (decimal n)) (2 ^ 63)) ≡ true = and_from _ _ (test_from_plain (decimal n) plain) below in
     ap (λ (b : Bool). cond b (Ok (digits_value 10 (decimal n))) (Err BadNumber)) tests ∙ ap Ok again
 
 -- ---- what `parse` says

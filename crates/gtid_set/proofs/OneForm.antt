@@ -1,9 +1,9 @@
 -- A set has one list of intervals and one text, which is read as that set.
-use Rattle.std.proofs.Common.{◌≡◌, ◌∙◌, sym, ap, refl, subst, inl, inr, ℕ, ◌+◌, ◌<◌, ◌≤◌, Bool, true, false, ◌||◌, eqb, List, [], ◌∷◌, ◌++◌, length, append-nil, Option, Some, None, Ok, arith}
+use Rattle.std.proofs.Common.{◌≡◌, ◌∙◌, sym, ap, refl, subst, inl, inr, ℕ, ◌+◌, ◌≤◌, Bool, true, false, ◌||◌, eqb, List, [], ◌∷◌, ◌++◌, length, append-nil, Option, Some, None, Ok, arith}
 use Rattle.std.specs.Prelude.{IfSome}
 use Rattle.std.specs.Fmt.{decimal}
-use Rattle.std.proofs.lemmas.Bool.{eqb-true, false≢true, cases_lt}
-use Rattle.std.proofs.lemmas.Bool.Decides.{nat_tests, eqb_tells}
+use Rattle.std.proofs.lemmas.Bool.{eqb-true, false≢true, cases_lt, or_left}
+use Rattle.std.proofs.lemmas.Bool.Decides.{eqb_tells}
 use Rattle.uuid.specs.Text.{hyphenated_text, lower}
 use Rattle.uuid.proofs.RoundTrips.{parses_hyphenated_text}
 use Rattle.gtid_set.specs.declared.intervals.Interval.{Interval}
@@ -12,17 +12,11 @@ use Rattle.gtid_set.specs.Ids.{Ids, IsSet, IsSetOf}
 use Rattle.gtid_set.specs.Text.{interval_text, intervals_text, text_with}
 use Rattle.gtid_set.specs.Reading.{IsTextOf, ListIntervals, ids_at}
 use Rattle.gtid_set.specs.Laws.{OneSet, IsIdentifier, TextIsRead, TextGivesSet, OneText}
-use Rattle.gtid_set.proofs.Rising.{none_before, within_true}
+use Rattle.gtid_set.proofs.Rising.{none_before, within_true, behind_false}
 use Rattle.gtid_set.proofs.Grammar.{ok_is, listed_read}
-
-or_left : (a b : Bool) → a ≡ true → (a || b) ≡ true
-or_left a b e = rw e refl
 
 or_right : (a b : Bool) → a ≡ false → (a || b) ≡ b
 or_right a b e = rw e refl
-
-within_past : (i : Interval) (n : ℕ) → i.last < n → is_within i n ≡ false
-within_past i n h = grind (arith, nat_tests)
 
 -- of two lists of one set neither begins first
 first_le : (low : ℕ) (i j : Interval) (is js : List Interval) → RiseFrom low (i ∷ is) → RiseFrom low (j ∷ js) → ((n : ℕ) → has_number (i ∷ is) n ≡ has_number (j ∷ js) n) → j.first ≤ i.first
@@ -42,7 +36,7 @@ last_le low i j is js f g e same =
       | inl lt ↦
           let n = i.last + 1 in
           let here = or_left (is_within j n) (has_number js n) (within_true j n (omega (arith, f.1)) (omega arith)) in
-          let none = or_right (is_within i n) (has_number is n) (within_past i n (omega arith)) ∙ none_before (i.last + 2) n is f.3 (omega arith) in
+          let none = or_right (is_within i n) (has_number is n) (behind_false i n (omega arith)) ∙ none_before (i.last + 2) n is f.3 (omega arith) in
           absurd (false≢true (sym none ∙ same n ∙ here))
       | inr le ↦ le
     ]
@@ -53,8 +47,8 @@ rest_same i j is js f g e same n =
     elim (cases_lt n (i.last + 2)) [
       | inl lt ↦ none_before (i.last + 2) n is f lt ∙ sym (none_before (i.last + 2) n js g lt)
       | inr le ↦
-          sym (or_right (is_within i n) (has_number is n) (within_past i n (omega arith))) ∙ same n
-          ∙ or_right (is_within j n) (has_number js n) (within_past j n (omega arith))
+          sym (or_right (is_within i n) (has_number is n) (behind_false i n (omega arith))) ∙ same n
+          ∙ or_right (is_within j n) (has_number js n) (behind_false j n (omega arith))
     ]
 
 one_list : (low : ℕ) (is js : List Interval) → RiseFrom low is → RiseFrom low js → ((n : ℕ) → has_number is n ≡ has_number js n) → is ≡ js

@@ -1,7 +1,7 @@
 -- What putting a number at its place leaves.
 use Rattle.std.proofs.Common.{add-one, ◌≡◌, ◌∙◌, subst, sym, ap, refl, ℕ, zero, suc, ◌+◌, ◌-◌, ◌^◌, ◌<◌, ◌≤◌, Bool, true, false, not, ◌||◌, ltb, leb, List, [], ◌∷◌, ◌++◌, length, get_or, take, drop, set, arith}
 use Rattle.std.specs.List.{AllByRecursion, insert, remove}
-use Rattle.std.proofs.lemmas.Bool.{ltb-true, ltb-false}
+use Rattle.std.proofs.lemmas.Bool.{ltb-true, ltb-false, or_from}
 use Rattle.std.proofs.lemmas.Bool.Decides.{nat_tests}
 use Rattle.std.proofs.lemmas.List.{set_split, set_at, take-append-drop, take_all, drop_all, length-take-le, append_assoc, get_or_default}
 use Rattle.std.proofs.lemmas.List.Edits.{get_or-remove_below}
@@ -32,14 +32,11 @@ pub below_more : (low n : ℕ) (is : List Interval) → low ≤ n → AllByRecur
 below_more low n [] le h = tt
 below_more low n (i ∷ is) le h = (omega (arith, h.0), below_more low n is le h.1)
 
-either_false : (a b : Bool) → a ≡ false → b ≡ false → (a || b) ≡ false
-either_false a b p q = rw p q
-
 -- ---- the number is in no interval
 
 absent : (front back : List Interval) (low n : ℕ) → AllByRecursion (λ i. i.last < n - 1) front → RiseFrom low back → n < low → has_number (front ++ back) n ≡ false
 absent front back low n below rises lt =
-    has_number-append front back n ∙ either_false _ _ (none_behind n front (below_more (n - 1) n front (omega arith) below)) (none_before low n back rises lt)
+    has_number-append front back n ∙ or_from _ _ (none_behind n front (below_more (n - 1) n front (omega arith) below)) (none_before low n back rises lt)
 
 pub absent_lower : (front back : List Interval) (x : Interval) (n : ℕ) → RiseFrom 1 (front ++ x ∷ back) → AllByRecursion (λ i. i.last < n - 1) front → n < x.first → has_number (front ++ x ∷ back) n ≡ false
 absent_lower front back x n rises below lt =
@@ -50,8 +47,8 @@ pub absent_higher : (front back : List Interval) (x : Interval) (n : ℕ) → Ri
 absent_higher front back x n rises below e =
     let r = rise_back 1 front (x ∷ back) rises in
     has_number-append front (x ∷ back) n
-    ∙ either_false _ _ (none_behind n front (below_more (n - 1) n front (omega arith) below))
-    (either_false _ _ (grind (arith, nat_tests)) (none_before (x.last + 2) n back r.3 (omega arith)))
+    ∙ or_from _ _ (none_behind n front (below_more (n - 1) n front (omega arith) below))
+    (or_from _ _ (grind (arith, nat_tests)) (none_before (x.last + 2) n back r.3 (omega arith)))
 
 -- ---- what is put where
 

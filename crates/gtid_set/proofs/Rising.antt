@@ -2,6 +2,8 @@
 use Rattle.std.proofs.Common.{◌≡◌, ◌∙◌, sym, ap, refl, ℕ, zero, suc, ◌+◌, ◌-◌, ◌<◌, ◌≤◌, Bool, true, false, ◌||◌, eqb, List, [], ◌∷◌, ◌++◌, length, get_or, arith}
 use Rattle.std.specs.List.{AllByRecursion}
 use Rattle.std.specs.List.Sorted.{IsNonDecreasingBy}
+use Rattle.std.proofs.Math.Bool.{or-false}
+use Rattle.std.proofs.lemmas.Bool.{or_from}
 use Rattle.std.proofs.lemmas.Bool.Decides.{nat_tests}
 use Rattle.std.proofs.lemmas.List.Folds.{list_any-append}
 use Rattle.gtid_set.specs.declared.intervals.Interval.{Interval}
@@ -23,10 +25,6 @@ rise_back low (i ∷ a) b h = rise_back (i.last + 2) a b h.3
 pub rise_both : (low : ℕ) (a b : List Interval) → RiseFrom low a → RiseFrom (end_of low a) b → RiseFrom low (a ++ b)
 rise_both low [] b f g = g
 rise_both low (i ∷ a) b f g = (f.0, f.1, f.2, rise_both (i.last + 2) a b f.3 g)
-
-pub rise_lower : (low less : ℕ) (is : List Interval) → less ≤ low → RiseFrom low is → RiseFrom less is
-rise_lower low less [] le h = tt
-rise_lower low less (i ∷ is) le h = (omega (arith, h.0), h.1, h.2, h.3)
 
 -- the end of what ends below a number
 pub end_below : (low n : ℕ) (a : List Interval) → low ≤ n → AllByRecursion (λ i. i.last < n - 1) a → end_of low a ≤ n
@@ -62,23 +60,20 @@ lasts_rise low is h = λ i j d le lt. at_two low is i j d h le lt
 within_false : (i : Interval) (n : ℕ) → n < i.first → is_within i n ≡ false
 within_false i n h = grind (arith, nat_tests)
 
-behind_false : (i : Interval) (n : ℕ) → i.last < n → is_within i n ≡ false
+pub behind_false : (i : Interval) (n : ℕ) → i.last < n → is_within i n ≡ false
 behind_false i n h = grind (arith, nat_tests)
 
 pub within_true : (i : Interval) (n : ℕ) → i.first ≤ n → n ≤ i.last → is_within i n ≡ true
 within_true i n h k = grind (arith, nat_tests)
 
-or_false : (a b : Bool) → a ≡ false → b ≡ false → (a || b) ≡ false
-or_false a b p q = rw p q
-
 pub none_before : (low n : ℕ) (is : List Interval) → RiseFrom low is → n < low → has_number is n ≡ false
 none_before low n [] h lt = refl
 none_before low n (i ∷ is) h lt =
-    or_false _ _ (within_false i n (omega (arith, h.0))) (none_before (i.last + 2) n is h.3 (omega (arith, h.0, h.1)))
+    or_from _ _ (within_false i n (omega (arith, h.0))) (none_before (i.last + 2) n is h.3 (omega (arith, h.0, h.1)))
 
 pub none_behind : (n : ℕ) (is : List Interval) → AllByRecursion (λ i. i.last < n) is → has_number is n ≡ false
 none_behind n [] h = refl
-none_behind n (i ∷ is) h = or_false _ _ (behind_false i n h.0) (none_behind n is h.1)
+none_behind n (i ∷ is) h = or_from _ _ (behind_false i n h.0) (none_behind n is h.1)
 
 pub has_number-append : (a b : List Interval) (n : ℕ) → has_number (a ++ b) n ≡ (has_number a n || has_number b n)
 has_number-append a b n = list_any-append (λ i. is_within i n) a b
@@ -90,7 +85,7 @@ or_in true b c e = refl
 or_in false true c e = refl
 or_in false false true true = refl
 or_in false false true false = refl
-or_in false false false e = elim e as (λ v. (v || false) ≡ v) [ true ↦ refl | false ↦ refl ]
+or_in false false false e = or-false e
 
 pub puts_between : (front old new back : List Interval) (n : ℕ) → RiseFrom 1 front → RiseFrom (end_of 1 front) (new ++ back)
     → ((m : ℕ) → has_number new m ≡ (has_number old m || eqb m n)) → Puts (front ++ (old ++ back)) (front ++ (new ++ back)) n

@@ -1,8 +1,8 @@
 -- The set of what was read, and what is answered of it.
-use Rattle.std.proofs.Common.{◌≡◌, ◌∙◌, refl, ℕ, ◌≤◌, Bool, true, false, ◌||◌, eqb, List, [], ◌∷◌, length, Some, Result, Ok, Err, arith}
+use Rattle.std.proofs.Common.{◌≡◌, ◌∙◌, refl, ℕ, ◌≤◌, false, eqb, List, [], ◌∷◌, length, Some, Result, Ok, Err, arith}
 use Rattle.std.specs.Prelude.{IfOk, IfErr}
 use Rattle.std.specs.List.{AllByRecursion, slice_split}
-use Rattle.std.proofs.lemmas.Bool.{false≢true}
+use Rattle.std.proofs.lemmas.Bool.{false≢true, or_left}
 use Rattle.std.proofs.lemmas.Bool.Decides.{nat_tests}
 use Rattle.gtid_set.specs.declared.fault.GtidFault.{GtidFault}
 use Rattle.gtid_set.specs.declared.fault.GtidFault.TheVariants.{BadUuid, BadNumber, BadInterval, ForeignSource, Memory}
@@ -13,9 +13,6 @@ use Rattle.gtid_set.specs.Reading.{Fails, Reads, is_colon, intervals_at, head_at
 use Rattle.gtid_set.proofs.Rising.{within_true}
 use Rattle.gtid_set.proofs.Listing.{Fails-is}
 use Rattle.gtid_set.proofs.Grammar.{each_interval, read_listed, listed_read, split_listed}
-
-or_left : (a b : Bool) → a ≡ true → (a || b) ≡ true
-or_left a b e = rw e refl
 
 -- a list with an interval has a number
 some_numbers : (listed new : List Interval) → AllByRecursion IsInterval listed → 1 ≤ length listed → AreThoseOf listed new → 1 ≤ length new

@@ -3,7 +3,7 @@
 ghost use Rattle.std.specs.Prelude.{◌≡◌};
 ghost use Rattle.gtid_set.specs.declared.fault.GtidFault.TheVariants.{Memory};
 
-use std::alloc::{AllocError, AllocFailed};
+use std::alloc::AllocFailed;
 use thiserror::Error;
 
 /// The first fault, from left to right. The text is the fault's number and name.
@@ -24,14 +24,6 @@ pub enum GtidFault {
     /// Memory ran out.
     #[error("G5 Memory")]
     Memory,
-}
-
-impl From<AllocError> for GtidFault {
-    ghost from_gives = { λ _ fault. fault ≡ Memory };
-
-    fn from(_error: AllocError) -> GtidFault {
-        GtidFault::Memory
-    }
 }
 
 impl<T: Drop> From<AllocFailed<T>> for GtidFault {

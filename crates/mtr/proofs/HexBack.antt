@@ -1,8 +1,8 @@
 -- What is written of bytes as hexadecimal text says these bytes.
-use Rattle.std.proofs.Common.{◌≡◌, ◌∙◌, ap, refl, ℕ, zero, suc, ◌+◌, ◌/◌, ◌%◌, ◌<◌, ◌≤◌, Bool, true, false, cond, not, ◌&&◌, eqb, ltb, List, [], ◌∷◌, ◌++◌, get_or, map, Some, None, arith, inl, inr, lt-ltb}
+use Rattle.std.proofs.Common.{◌≡◌, ◌∙◌, ap, refl, ℕ, zero, suc, ◌+◌, ◌/◌, ◌%◌, ◌<◌, ◌≤◌, Bool, true, cond, not, ◌&&◌, eqb, ltb, List, [], ◌∷◌, ◌++◌, get_or, map, Some, None, arith, inl, inr, lt-ltb}
 use Rattle.std.specs.Char.{digit_value}
 use Rattle.std.specs.List.{list_all, range_with_len}
-use Rattle.std.proofs.lemmas.Bool.{eqb-true}
+use Rattle.std.proofs.lemmas.Bool.{eqb-true, and_parts, not-true}
 use Rattle.std.proofs.lemmas.Bool.Decides.{eqb_tells}
 use Rattle.mtr.specs.Hex.{is_white, marks, halves, digits_of, SaysBytes}
 use Rattle.mtr.specs.HexText.{digit_text, byte_text, hex_text}
@@ -12,32 +12,24 @@ use Rattle.mtr.proofs.HexTexts.{marks_behind, one_mark, no_marks}
 abbrev is_back : ℕ → Bool
 is_back d = not (is_white (digit_text d)) && eqb (digit_value (digit_text d)) d
 
-both : (a b : Bool) → (a && b) ≡ true → (a ≡ true) × (b ≡ true)
-both true b e = (refl, e)
-both false b e = absurd (cc)
-
 all_back : list_all is_back (range_with_len 0 16) ≡ true
 all_back = refl
 
 in_range : (p : ℕ → Bool) (a n d : ℕ) → list_all p (range_with_len a n) ≡ true → a ≤ d → d < a + n → p d ≡ true
 in_range p a zero d all low high = absurd (omega arith)
 in_range p a (suc n) d all low high =
-    let parts : (p a ≡ true) × (list_all p (range_with_len (a + 1) n) ≡ true) = both (p a) (list_all p (range_with_len (a + 1) n)) all in
+    let parts : (p a ≡ true) × (list_all p (range_with_len (a + 1) n) ≡ true) = and_parts (p a) (list_all p (range_with_len (a + 1) n)) all in
     elim (eqb_tells d a) [
       | inl w ↦ ap p w.1 ∙ parts.0
       | inr w ↦ in_range p (a + 1) n d parts.1 (omega arith) (omega arith)
     ]
 
-is_not : (b : Bool) → not b ≡ true → b ≡ false
-is_not true e = cc
-is_not false e = refl
-
 digit_back : (d : ℕ) → d < 16 → marks (digit_text d ∷ []) ≡ Some d ∷ []
 digit_back d below =
-    let tests : (not (is_white (digit_text d)) ≡ true) × (eqb (digit_value (digit_text d)) d ≡ true) = both _ _ (in_range is_back 0 16 d all_back (omega arith) (omega arith)) in
+    let tests : (not (is_white (digit_text d)) ≡ true) × (eqb (digit_value (digit_text d)) d ≡ true) = and_parts _ _ (in_range is_back 0 16 d all_back (omega arith) (omega arith)) in
     let value : digit_value (digit_text d) ≡ d = eqb-true _ _ tests.1 in
     let low : ltb (digit_value (digit_text d)) 16 ≡ true = lt-ltb _ _ (omega arith) in
-    one_mark (digit_text d) (Some d) (is_not _ tests.0) (ap (λ b. cond b (Some (digit_value (digit_text d))) None) low ∙ ap Some value)
+    one_mark (digit_text d) (Some d) (not-true _ tests.0) (ap (λ b. cond b (Some (digit_value (digit_text d))) None) low ∙ ap Some value)
 
 byte_back : (b : ℕ) → b < 256 → marks (byte_text b) ≡ map Some (halves b)
 byte_back b below =

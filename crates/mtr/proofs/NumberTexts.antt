@@ -1,5 +1,5 @@
 -- The texts of numbers are those that `decimal` writes, and what `parse` reads of them.
-use Rattle.std.proofs.Common.{◌≡◌, ◌∙◌, sym, ap, refl, ℕ, ◌+◌, ◌^◌, ◌<◌, ◌≤◌, ℤ, pos, Bool, true, false, cond, ◌&&◌, eqb, ltb, List, [], ◌∷◌, length, get_or, Option, Some, None, Result, Ok, Err, OkIff, arith, rules, inl, inr, ◌⊎◌, zero, suc, neg_ℤ, negsuc, codes, ◌≢◌, FitsSigned}
+use Rattle.std.proofs.Common.{◌≡◌, ◌∙◌, sym, ap, refl, ℕ, ◌+◌, ◌^◌, ◌<◌, ◌≤◌, ℤ, pos, Bool, true, false, cond, ◌&&◌, eqb, ltb, List, [], ◌∷◌, length, get_or, Option, Some, None, Result, Ok, Err, OkIff, arith, inl, inr, ◌⊎◌, zero, suc, neg_ℤ, negsuc, codes, ◌≢◌, FitsSigned}
 use Rattle.std.specs.Char.{is_ascii_digit}
 use Rattle.std.specs.List.{list_all}
 use Rattle.std.specs.Result.{result_ok}
@@ -8,17 +8,15 @@ use Rattle.std.specs.Str.{bytes_eq}
 use Rattle.std.specs.Int.{w64}
 use Rattle.std.specs.Str.Parse.{digits_value, ParsesUnsigned, ParsesSigned}
 use Rattle.std.specs.Fmt.{decimal, signed_decimal}
-use Rattle.std.proofs.lemmas.Str.Parse.{IsNumeralModel, numerals_by_value, parse_digits, parse_signed_digits, parse_signed_minus}
+use Rattle.std.proofs.lemmas.Str.Parse.{parse_digits, parse_signed_digits, parse_signed_minus}
 use Rattle.std.proofs.lemmas.Fmt.{digits_decimal, digits_value-decimal, decimal_digit, decimal_nonempty, first_decimal, decimal-digits_value}
-use Rattle.std.proofs.lemmas.Bool.{eqb-true, eq-eqb, ltb-true, lt-ltb}
+use Rattle.std.proofs.lemmas.Bool.{eqb-true, eq-eqb, ltb-true, lt-ltb, and_parts, and_from, false_from_ne_true}
 use Rattle.std.proofs.lemmas.Bool.Decides.{nat_tests, eqb_tells}
 use Rattle.std.proofs.lemmas.Int.{ints}
 use Rattle.std.proofs.lemmas.Option.{cond_some}
 use Rattle.std.proofs.lemmas.Slice.Eq.{bytes_eq-Decides}
+use Rattle.gtid_set.proofs.NumberTexts.{own}
 use Rattle.mtr.specs.Number.{is_number, number, integer, ReadsNumber, ReadsInteger}
-
-pub own : IsNumeralModel (λ ds. list_all is_ascii_digit ds ≡ true) (digits_value 10)
-own = numerals_by_value _ (search rules)
 
 -- a text of a number, by its parts
 pub record IsPlain (text : List ℕ) : Type 0 where
@@ -56,20 +54,13 @@ test_from_plain (c ∷ cs) p =
       | inr w ↦ rw w.0 p.digits
     ]
 
-both_true : (a b : Bool) → (a && b) ≡ true → (a ≡ true) × (b ≡ true)
-both_true true b e = (refl, e)
-both_true false b e = absurd (cc)
-
-both_from : (a b : Bool) → a ≡ true → b ≡ true → (a && b) ≡ true
-both_from a b ha hb = rw ha hb
-
 -- the text of a number below a bound is what `decimal` writes of it
 pub number_spelled : (bound : ℕ) (text : List ℕ) (n : ℕ) → bound ≤ 2 ^ 64 → number bound text ≡ Some n → (text ≡ decimal n) × (n < bound)
 unfolding number
 number_spelled bound text n low e =
     let v : ℕ = digits_value 10 text in
     let found : (is_number text && ltb v bound ≡ true) × (v ≡ n) = cond_some _ v n e in
-    let tests : (is_number text ≡ true) × (ltb v bound ≡ true) = both_true _ _ found.0 in
+    let tests : (is_number text ≡ true) × (ltb v bound ≡ true) = and_parts _ _ found.0 in
     let below : v < bound = ltb-true v bound tests.1 in
     let plain : IsPlain text = plain_from_test text tests.0 in
     let written : decimal v ≡ text = decimal-digits_value own text plain.digits plain.some plain.first (omega arith) in
@@ -89,7 +80,7 @@ number_again bound n low h =
     let test : is_number (decimal n) ≡ true = test_from_plain (decimal n) plain in
     let again : digits_value 10 (decimal n) ≡ n = digits_value-decimal own n fits in
     let below : ltb (digits_value 10 (decimal n)) bound ≡ true = lt-ltb _ _ (omega arith) in
-    let tests : (is_number (decimal n) && ltb (digits_value 10 (decimal n)) bound) ≡ true = both_from _ _ test below in
+    let tests : (is_number (decimal n) && ltb (digits_value 10 (decimal n)) bound) ≡ true = and_from _ _ test below in
     ap (λ (b : Bool). cond b (Some (digits_value 10 (decimal n))) None) tests ∙ ap Some again
 
 -- what is `Ok` exactly where a test passes
@@ -106,8 +97,8 @@ number_parsed k text r h e =
     let v : ℕ = digits_value 10 text in
     let plain : IsPlain text = plain_from_test text e in
     ok_by_test r (is_number text && ltb v (2 ^ k)) ((0 < length text) × (v < 2 ^ k)) v (parse_digits own k text r h plain.digits)
-    (λ t. (plain.some, ltb-true v (2 ^ k) (both_true _ _ t).1))
-    (λ w. both_from _ _ e (lt-ltb v (2 ^ k) w.1))
+    (λ t. (plain.some, ltb-true v (2 ^ k) (and_parts _ _ t).1))
+    (λ w. and_from _ _ e (lt-ltb v (2 ^ k) w.1))
 
 pub no_number : (bound : ℕ) (text : List ℕ) → is_number text ≡ false → number bound text ≡ None
 unfolding number
@@ -124,7 +115,7 @@ unfolding number
 number_narrowed small bound text n r e h =
     let v : ℕ = digits_value 10 text in
     let found : (is_number text && ltb v bound ≡ true) × (v ≡ n) = cond_some _ v n (sym e) in
-    let test : is_number text ≡ true = (both_true _ _ found.0).0 in
+    let test : is_number text ≡ true = (and_parts _ _ found.0).0 in
     let same : number small text ≡ cond (ltb n small) (Some n) None = rw (test, found.1) refl in
     ok_by_test r (ltb n small) (n < small) n h (λ t. ltb-true n small t) (λ w. lt-ltb n small w) ∙ sym same
 
@@ -152,8 +143,8 @@ positive_parsed text r h e =
     let b : Bool = is_number text && ltb v (2 ^ 63) in
     let plain : IsPlain text = plain_from_test text e in
     ok_by_test r b ((0 < length text) × (v < 2 ^ 63)) (pos v) (parse_signed_digits own w64 text r h plain.digits)
-    (λ t. (plain.some, ltb-true v (2 ^ 63) (both_true _ _ t).1))
-    (λ w. both_from _ _ e (lt-ltb v (2 ^ 63) w.1))
+    (λ t. (plain.some, ltb-true v (2 ^ 63) (and_parts _ _ t).1))
+    (λ w. and_from _ _ e (lt-ltb v (2 ^ 63) w.1))
     ∙ sym (map_cond pos b v)
 
 pub no_positive : (text : List ℕ) → is_number text ≡ false → None ≡ option_map pos (number (2 ^ 63) text)
@@ -177,8 +168,8 @@ negative_parsed digits r h z e =
     let b : Bool = is_number digits && ltb v (2 ^ 63 + 1) in
     let plain : IsPlain digits = plain_from_test digits e in
     ok_by_test r b ((list_all is_ascii_digit digits ≡ true) × (0 < length digits) × (v ≤ 2 ^ 63)) (neg_ℤ (pos v)) (parse_signed_minus own w64 (45 ∷ digits) r h refl)
-    (λ t. (plain.digits, plain.some, omega (arith, ltb-true v (2 ^ 63 + 1) (both_true (is_number digits) (ltb v (2 ^ 63 + 1)) t).1)))
-    (λ w. both_from _ _ e (lt-ltb v (2 ^ 63 + 1) (omega (arith, w.2))))
+    (λ t. (plain.digits, plain.some, omega (arith, ltb-true v (2 ^ 63 + 1) (and_parts (is_number digits) (ltb v (2 ^ 63 + 1)) t).1)))
+    (λ w. and_from _ _ e (lt-ltb v (2 ^ 63 + 1) (omega (arith, w.2))))
     ∙ sym (map_cond (λ n. neg_ℤ (pos n)) b v)
     ∙ rw z refl
 
@@ -234,13 +225,9 @@ unsigned n rest h e =
     let digits : list_all is_ascii_digit (45 ∷ rest) ≡ true = sym (ap (list_all is_ascii_digit) e) ∙ digits_decimal own n h in
     cc
 
-false_unless : (b : Bool) → (b ≡ true → ⊥) → b ≡ false
-false_unless true h = absurd (h refl)
-false_unless false h = refl
-
 not_zero : (m : ℕ) → suc m < 2 ^ 64 → bytes_eq (decimal (suc m)) (codes "0") ≡ false
 not_zero m h =
-    false_unless (bytes_eq (decimal (suc m)) (codes "0")) (λ yes.
+    false_from_ne_true (bytes_eq (decimal (suc m)) (codes "0")) (λ yes.
     let same : decimal (suc m) ≡ codes "0" = (bytes_eq-Decides (decimal (suc m)) (codes "0")).0 yes in
     let first : get_or (decimal (suc m)) 0 0 ≡ 48 = ap (λ (l : List ℕ). get_or l 0 0) same in
     let more : 48 < get_or (decimal (suc m)) 0 0 = first_decimal (suc m) (omega arith) h in

@@ -1,22 +1,16 @@
 -- Lines as a reader gives them.
-use Rattle.std.proofs.Common.{◌≡◌, ◌∙◌, sym, ap, refl, ℕ, Bool, true, false, cond, eqb, ◌-◌, ◌≢◌, List, [], ◌∷◌, ◌++◌, take, inl, inr, ◌⊎◌, arith, length, length-append, Option, Some, None, append_assoc, subst}
+use Rattle.std.proofs.Common.{◌≡◌, ◌∙◌, sym, ap, refl, ℕ, Bool, true, false, cond, eqb, ◌-◌, ◌≢◌, List, [], ◌∷◌, ◌++◌, take, inl, inr, arith, length, length-append, Option, Some, None, append_assoc, subst}
 use Rattle.std.specs.List.{slice_split, All}
 use Rattle.std.specs.Prelude.{IfSome}
 use Rattle.std.specs.Io.{StopsAt}
 use Rattle.std.specs.Io.BufRead.{take_through, drop_through, DropsThrough}
+use Rattle.std.proofs.lemmas.Bool.{ne_eqb}
 use Rattle.std.proofs.lemmas.List.{take-append-le, take_all}
 use Rattle.std.proofs.lemmas.List.Elements.{All-append, All-cons, All-nil, All-head, All-tail}
 use Rattle.std.proofs.lemmas.List.Splits.{slice_split_none, slice_split_at}
+use Rattle.record_codec.proofs.Logs.{split_last}
 use Rattle.mtr.specs.Script.{IsLine, LeavesLines, TakesEnd}
-use Rattle.mtr.proofs.Splits.{is_byte, not_same}
-
--- a list is empty, or has a last element
-last_case : (l : List ℕ) → (l ≡ []) ⊎ ((front : List ℕ) × (x : ℕ) × (l ≡ front ++ x ∷ []))
-last_case [] = inl refl
-last_case (x ∷ xs) = elim (last_case xs) [
-  | inl e ↦ inr ([], x, ap (λ l. x ∷ l) e)
-  | inr s ↦ inr (x ∷ s.0, s.1, ap (λ l. x ∷ l) s.2)
-]
+use Rattle.mtr.proofs.Splits.{is_byte}
 
 front_of : (front : List ℕ) (x : ℕ) → take (length (front ++ x ∷ []) - 1) (front ++ x ∷ []) ≡ front
 front_of front x =
@@ -26,7 +20,7 @@ front_of front x =
 front_is_line : (front : List ℕ) (x : ℕ) → StopsAt (front ++ x ∷ []) 10 → IsLine front
 front_is_line front x h =
     let at : All (λ b. b ≢ 10) front = let P : List ℕ → Type 0 = λ l. All (λ b. b ≢ 10) l in subst P (front_of front x) h in
-    λ k d l. not_same _ 10 (at k d l)
+    λ k d l. ne_eqb _ 10 (at k d l)
 
 along_stops : (xs ys : List ℕ) → xs ≡ ys → StopsAt xs 10 → StopsAt ys 10
 along_stops xs ys e h = let P : List ℕ → Type 0 = λ l. StopsAt l 10 in subst P e h
@@ -37,13 +31,13 @@ along_line xs ys e h = let P : List ℕ → Type 0 = λ l. IsLine l in subst P e
 -- what was read, without the LF at its end, is a line
 pub line_of_read : (read line : List ℕ) (ended : Bool) → StopsAt read 10 → TakesEnd read line ended → IsLine line
 line_of_read read line true stops e = front_is_line line 10 (along_stops read (line ++ 10 ∷ []) e stops)
-line_of_read read line false stops e = elim (last_case read) [
+line_of_read read line false stops e = elim (split_last read) [
   | inl none ↦ along_line [] line (sym none ∙ sym e.0) (All-nil (λ b. eqb b 10 ≡ false))
   | inr s ↦
       let front = front_is_line s.0 s.1 (along_stops read (s.0 ++ s.1 ∷ []) s.2 stops) in
       let other : s.1 ≢ 10 = λ same. e.1 s.0 (s.2 ∙ ap (λ x. s.0 ++ x ∷ []) same) in
       along_line (s.0 ++ s.1 ∷ []) line (sym s.2 ∙ sym e.0)
-      (All-append (λ b. eqb b 10 ≡ false) s.0 (s.1 ∷ []) front (All-cons (λ b. eqb b 10 ≡ false) s.1 [] (not_same s.1 10 other) (All-nil (λ b. eqb b 10 ≡ false))))
+      (All-append (λ b. eqb b 10 ≡ false) s.0 (s.1 ∷ []) front (All-cons (λ b. eqb b 10 ≡ false) s.1 [] (ne_eqb s.1 10 other) (All-nil (λ b. eqb b 10 ≡ false))))
 ]
 
 through_case : (x : ℕ) (xs : List ℕ) (b : Bool) → take_through 10 xs ++ drop_through 10 xs ≡ xs → cond b (x ∷ []) (x ∷ take_through 10 xs) ++ cond b xs (drop_through 10 xs) ≡ x ∷ xs

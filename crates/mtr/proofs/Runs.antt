@@ -1,5 +1,5 @@
 -- Runs that go on from one another.
-use Rattle.std.proofs.Common.{◌≡◌, ◌∙◌, sym, ap, ℕ, ◌<◌, List, [], ◌∷◌, ◌++◌, refl, ℤ, Result, Ok, Err, Option, append_assoc, append-nil, subst, ◌≢◌, length, length-append, arith, inl}
+use Rattle.std.proofs.Common.{◌≡◌, ◌∙◌, sym, ap, ℕ, List, [], ◌++◌, ℤ, Result, Ok, Err, Option, append_assoc, append-nil, subst, inl}
 use Rattle.std.specs.Io.KnownBytes.{Appends}
 use Rattle.std.proofs.KnownBytes.{Appends-trans, Appends-nil}
 use Rattle.std.proofs.lemmas.Grind.{flat_map-append}
@@ -55,13 +55,6 @@ goes_to contents old new events all before after e h = let P : List Event → Ty
 
 pub behind_piece : (events rest piece behind all : List Event) → events ++ rest ≡ all → rest ≡ piece ++ behind → (events ++ piece) ++ behind ≡ all
 behind_piece events rest piece behind all e cut = append_assoc events piece behind ∙ ap (λ r. events ++ r) (sym cut) ∙ e
-
-some_length : (piece : List Event) → piece ≢ [] → 0 < length piece
-some_length [] h = absurd (h refl)
-some_length (e ∷ es) h = omega arith
-
-pub shorter : (rest piece behind : List Event) → rest ≡ piece ++ behind → piece ≢ [] → length behind < length rest
-shorter rest piece behind e some = omega (arith, some_length piece some, ap length e, length-append piece behind)
 
 prints_it : {R : Type 0} (contents : R → Database) (script : Said) (kind : Kind) (workers : ℕ) (old new : World R) (before after : Option (List ℕ)) → BeginsWith contents kind workers script.tables script.base old → GoesOn contents old new script.events before after → Prints kind workers script before after
 prints_it contents script kind workers old new before after begins goes =

@@ -39,10 +39,6 @@ line_said s line text found told about h same e some is = said_with_text s line 
 pub said_with_bytes : (s : Said) (line : List ℕ) → ¬ (IsUtf8 line) → said_with s line ≡ None
 said_with_bytes s line h = ap (λ o. o >>= added s) (sym (line_of_bytes line h))
 
-pub none_of : {A : Type 0} (o : Option A) → false ≡ is_some o → o ≡ None
-none_of None e = refl
-none_of (Some x) e = cc
-
 -- the lines from the first on, where it is taken
 pub line_taken : (s more : Said) (n : ℕ) (line : List ℕ) (rest : List (List ℕ)) → said_with s line ≡ Some more → said_by s n (line ∷ rest) ≡ said_by more (n + 1) rest
 unfolding said_by

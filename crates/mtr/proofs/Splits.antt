@@ -1,7 +1,7 @@
 -- Texts that are cut at a byte.
-use Rattle.std.proofs.Common.{◌≡◌, ◌∙◌, sym, ap, refl, ℕ, ◌+◌, ◌-◌, ◌<◌, Bool, true, false, eqb, List, [], ◌∷◌, ◌++◌, length, Some, None, get_or, ◌≢◌, cond, arith, ltb, take, drop, ◌≤◌}
-use Rattle.std.specs.List.{slice_split, slice_range, onto_first, position, position_or_len}
-use Rattle.std.proofs.lemmas.List.Splits.{slice_split_none, slice_split_first, length-slice_split}
+use Rattle.std.proofs.Common.{◌≡◌, ◌∙◌, sym, ap, refl, ℕ, ◌+◌, ◌-◌, ◌<◌, Bool, true, false, eqb, List, [], ◌∷◌, length, Some, None, get_or, cond, arith, ltb, take, drop, ◌≤◌}
+use Rattle.std.specs.List.{slice_split, slice_range, position, position_or_len}
+use Rattle.std.proofs.lemmas.List.Splits.{slice_split_none, slice_split_first}
 use Rattle.std.proofs.lemmas.Option.{cond_some}
 use Rattle.std.proofs.lemmas.List.Sums.{fails_before_first}
 use Rattle.std.proofs.lemmas.List.Quantifiers.{position-Some}
@@ -11,9 +11,6 @@ use Rattle.std.proofs.lemmas.Bool.Decides.{nat_tests}
 
 abbrev pub is_byte : ℕ → ℕ → Bool
 is_byte c b = eqb b c
-
-pub not_same : (a b : ℕ) → a ≢ b → eqb a b ≡ false
-not_same a b h = grind (arith, nat_tests)
 
 -- where a test first passes
 pub first_place : {X : Type 0} (p : X → Bool) (xs : List X) (at : ℕ) → position p xs ≡ Some at → (position_or_len p xs ≡ at) × (at < length xs)
@@ -45,19 +42,3 @@ cut_nowhere c text e =
     let end : length text ≤ position_or_len (is_byte c) text = no_place _ _ _ e in
     slice_split_none (is_byte c) text
     (All-from_get_or (λ b. is_byte c b ≡ false) text 0 (λ i l. fails_before_first (is_byte c) text i 0 (omega (arith, end, l))))
-
--- one element before the first of some lists
-onto_append : {X : Type 0} (y : X) (l m : List (List X)) (k : ℕ) → length l ≡ k + 1 → onto_first y (l ++ m) ≡ onto_first y l ++ m
-onto_append y [] m k e = absurd (omega (arith, e))
-onto_append y (first ∷ rest) m k e = refl
-
-after_cut : {X : Type 0} (p : X → Bool) (y : X) (b : Bool) (front text behind : List X) → cond b ([] ∷ slice_split p text) (onto_first y (slice_split p text)) ≡ cond b ([] ∷ (slice_split p front ++ slice_split p behind)) (onto_first y (slice_split p front ++ slice_split p behind)) → cond b ([] ∷ slice_split p text) (onto_first y (slice_split p text)) ≡ cond b ([] ∷ slice_split p front) (onto_first y (slice_split p front)) ++ slice_split p behind
-after_cut p y true front text behind e = e
-after_cut p y false front text behind e = e ∙ onto_append y (slice_split p front) (slice_split p behind) _ (length-slice_split p front)
-
--- the parts before an element that cuts, and those behind it
-pub split_behind : {X : Type 0} (p : X → Bool) (front : List X) (x : X) (behind : List X) → p x ≡ true → slice_split p (front ++ x ∷ behind) ≡ slice_split p front ++ slice_split p behind
-split_behind p [] x behind e = ap (λ b. cond b ([] ∷ slice_split p behind) (onto_first x (slice_split p behind))) e
-split_behind p (y ∷ front) x behind e =
-    after_cut p y (p y) front (front ++ x ∷ behind) behind
-    (ap (λ parts. cond (p y) ([] ∷ parts) (onto_first y parts)) (split_behind p front x behind e))

@@ -3,6 +3,7 @@ use Rattle.std.proofs.Common.{◌≡◌, ◌∙◌, sym, ap, refl, ℕ, ◌+◌,
 use Rattle.std.specs.Borrow.{Bor}
 use Rattle.std.specs.List.{slice_split}
 use Rattle.std.proofs.lemmas.List.Splits.{length-slice_split}
+use Rattle.std.proofs.lemmas.Bool.{and_right}
 use Rattle.std.proofs.lemmas.Bool.Decides.{nat_tests}
 use Rattle.std.specs.Option.{option_map, option_map_or}
 use Rattle.std.proofs.Math.Seq.{take-suc-set}
@@ -104,14 +105,10 @@ not_rising : (all : List (ℕ × ℤ)) (b : Bool) → rise_from 0 all ≡ b → 
 not_rising all true e wide = absurd (omega (arith, rising_few 0 all (omega arith) e))
 not_rising all false e wide = refl
 
-and_false : (a b : Bool) → b ≡ false → (a && b) ≡ false
-and_false true b e = e
-and_false false b e = refl
-
 wide_naming : (o : Option (List (ℕ × ℤ))) → ((all : List (ℕ × ℤ)) → o ≡ Some all → 16 < length all) → (o >>= λ pairs. cond (leb 1 (length pairs) && rise_from 0 pairs) (Some (naming_from pairs)) None) ≡ None
 wide_naming None wide = refl
 wide_naming (Some all) wide =
-    ap (λ b. cond b (Some (naming_from all)) None) (and_false (leb 1 (length all)) (rise_from 0 all) (not_rising all (rise_from 0 all) refl (wide all refl)))
+    ap (λ b. cond b (Some (naming_from all)) None) (and_right (leb 1 (length all)) (rise_from 0 all) (not_rising all (rise_from 0 all) refl (wide all refl)))
 
 -- more than sixteen pairs
 pub no_naming : (words : List Word) (n : ℕ) → n ≡ 16 → ((all : List (ℕ × ℤ)) → all_in assignment words ≡ Some all → n < length all) → None ≡ naming_in words

@@ -1,22 +1,22 @@
 -- Transactions over one database that are apart from one another: they apply one after another, and one batch
 -- leaves what all of them leave.
-use Rattle.std.proofs.Common.{◌≡◌, sym, ap, ◌∙◌, refl, Bool, true, false, true≢false, ◌||◌, cond, List, [], ◌∷◌, ◌++◌, Option, Some, None, IsSome, is_some, ℤ, inl, inr}
+use Rattle.std.proofs.Common.{◌≡◌, sym, ap, ◌∙◌, refl, Bool, true, false, ◌||◌, cond, List, [], ◌∷◌, ◌++◌, Option, Some, None, IsSome, is_some, ℤ}
 use Rattle.std.specs.Prelude.{unwrap_or, option_and_then}
 use Rattle.std.specs.List.{AllByRecursion}
 use Rattle.std.specs.Option.{option_or}
 use Rattle.std.specs.FinMap.{get, find, same_map}
-use Rattle.std.proofs.lemmas.Bool.{cases_Bool, or_parts}
+use Rattle.std.proofs.lemmas.Bool.{or_parts}
 use Rattle.std.proofs.lemmas.Option.{same_Some}
 use Rattle.schema.specs.declared.Table.{Table}
 use Rattle.schema.specs.declared.RowId.{RowId}
 use Rattle.schema.proofs.Conflicts.{none_of_both}
-use Rattle.schema.specs.RowId.{row_cmp, same_row, exact_row, row_total}
+use Rattle.schema.specs.RowId.{row_cmp, exact_row, row_total}
 use Rattle.schema.specs.Rows.{has_row, meets}
 use Rattle.rows.specs.Database.{Database, writes, effect, kin}
 use Rattle.rows.specs.Frame.{SameEffect}
-use Rattle.rows.proofs.Apply.{row_is, has_row-left}
+use Rattle.rows.proofs.Apply.{has_row-left}
 use Rattle.rows.proofs.Effect.{changes_only_writes, effect_joined}
-use Rattle.rows.proofs.Frame.{looks_only}
+use Rattle.rows.proofs.Frame.{looks_only, not_in_first}
 use Rattle.store_trait.specs.Batch.{Entry, IsRising, put_batch}
 use Rattle.store_trait.proofs.Batches.{get-put_batch}
 use Rattle.overlay.specs.Pending.{Pending, left_at}
@@ -26,16 +26,6 @@ use Rattle.overlay.proofs.Follow.{left_at-Follows, get-Follows, Follows-moved}
 use Rattle.overlay.proofs.Joining.{find-joined_all, joined_all_rises}
 
 -- ---- rows
-
--- of two sets without a row in common, a row of the second is not in the first
-not_of_first : (xs ys : List RowId) (q : RowId) → meets xs ys ≡ false → has_row ys q ≡ true → has_row xs q ≡ false
-not_of_first [] ys q none is = refl
-not_of_first (x ∷ xs) ys q none is =
-    let parts = or_parts (has_row ys x) (meets xs ys) none in
-    elim (cases_Bool (same_row q x)) [
-      | inl same ↦ absurd (true≢false (sym is ∙ ap (has_row ys) (row_is q x same) ∙ parts.0))
-      | inr other ↦ (λ i. other i || has_row xs q) ∙ not_of_first xs ys q parts.1 is
-    ]
 
 written : {ts : List Table} {db : Database} {pending : Pending} {after : Database} → Follows ts db pending after → (q : RowId) → IsSome (left_at pending q) → has_row (writes pending.changes) q ≡ true
 written {pending = pending} {after = after} f q is =
@@ -51,7 +41,7 @@ unwritten {after = after} f q none = left_at-Follows f q ∙ ap (λ b. cond b (S
 -- of two transactions that are apart, the earlier leaves no row that the later one writes
 left_by_later : {ts : List Table} {db : Database} {earlier later : Pending} {after end : Database} → Follows ts db earlier after → Follows ts db later end → IsApart ts db earlier later → (q : RowId) → IsSome (left_at later q) → left_at earlier q ≡ None
 left_by_later {ts = ts} {db = db} {earlier = earlier} {later = later} f g apart q is =
-    unwritten f q (not_of_first (writes earlier.changes) (writes later.changes ++ kin ts later.changes db) q apart (has_row-left (writes later.changes) (kin ts later.changes db) q (written g q is)))
+    unwritten f q (not_in_first (writes earlier.changes) (writes later.changes ++ kin ts later.changes db) q apart (has_row-left (writes later.changes) (kin ts later.changes db) q (written g q is)))
 
 pub apart_without_conflict : ApartWithoutConflict
 apart_without_conflict ts db earlier later none =
@@ -87,7 +77,7 @@ module _ {ts : List Table} {db : Database} {first : Pending} {mid : Database} (f
   moved : (pending : Pending) (after : Database) → Follows ts db pending after → IsApart ts db first pending → SameEffect ts pending.changes db after mid
   moved pending after g apart =
       looks_only ts pending.changes db after mid g.applied (λ q is.
-      sym (changes_only_writes ts first.changes db mid q f.applied (not_of_first (writes first.changes) (writes pending.changes ++ kin ts pending.changes db) q apart is)))
+      sym (changes_only_writes ts first.changes db mid q f.applied (not_in_first (writes first.changes) (writes pending.changes ++ kin ts pending.changes db) q apart is)))
 
   each_moved : (pendings : List Pending) → EachFollows ts db pendings → AllByRecursion (IsApart ts db first) pendings → EachFollows ts mid pendings
   each_moved [] each apart = tt

@@ -1,24 +1,25 @@
 -- Whether a row that a transaction sees names another as its parent.
-use Rattle.std.proofs.Common.{◌≡◌, ◌↔◌, ◌⊎◌, ◌∙◌, sym, ap, subst, refl, inl, inr, IsTrue, Bool, true, false, true≢false, ◌||◌, ◌&&◌, is_none, cond, ◌==◌, eq-eqb, ℕ, ℤ, List, [], ◌∷◌, Option, Some, None}
-use Rattle.std.specs.Prelude.{unwrap_or, option_and_then, slice_get}
+use Rattle.std.proofs.Common.{◌≡◌, ◌↔◌, ◌⊎◌, ◌∙◌, sym, ap, subst, refl, inl, inr, IsTrue, Bool, true, false, true≢false, ◌||◌, cond, ◌==◌, ℕ, ℤ, List, [], ◌∷◌, Option, Some, None}
+use Rattle.std.specs.Prelude.{unwrap_or, option_and_then}
 use Rattle.std.specs.List.{IsDistinct, AllByRecursion, list_any}
 use Rattle.std.specs.Map.{keys_of}
-use Rattle.std.specs.Option.{option_map, option_map_or}
+use Rattle.std.specs.Option.{option_map_or}
 use Rattle.std.specs.FinMap.{get, find, entries, entries_sorted, is_sorted, get-entries}
 use Rattle.std.specs.FinMap.Entries.{below_all}
-use Rattle.std.proofs.lemmas.Bool.{or_cases, or_left, or_right, and_parts, and_from, cond-false, eqb-true}
+use Rattle.std.proofs.lemmas.Bool.{or_cases, or_left, or_right, and_parts, cond-false, eqb-true}
 use Rattle.std.proofs.lemmas.Option.{same_Some}
 use Rattle.schema.specs.declared.Table.{Table}
 use Rattle.schema.specs.declared.RowId.{RowId}
 use Rattle.schema.specs.RowId.{row_cmp, same_row}
-use Rattle.schema.specs.Schema.{table_at, link_of}
+use Rattle.schema.specs.Schema.{table_at}
+use Rattle.schema.proofs.Telling.{both_or_none}
 use Rattle.rows.specs.Database.{Database, parent_of, HasChild}
 use Rattle.rows.proofs.Apply.{row_is, same_row_itself, named_by}
 use Rattle.store_trait.specs.Batch.{Entry, IsRising, in_order}
 use Rattle.store_trait.specs.Contents.{row_at}
 use Rattle.store_trait.proofs.Batches.{find_below, find-in_order, get-put_batch, holds}
 use Rattle.overlay.specs.Pending.{Pending, left_at, seen}
-use Rattle.overlay.specs.Children.{names_row, has_child, left_names, is_child_table, TellsChildren, HasOwnChild, IsFreeChild, HasFreeChild}
+use Rattle.overlay.specs.Children.{names_row, has_child, left_names, TellsChildren, HasOwnChild, IsFreeChild, HasFreeChild}
 
 -- ---- entries of which no two are of one row
 
@@ -130,16 +131,11 @@ child_of_either ts pending db row rising (inr free) =
     let child = free.1.1 in
     (id, child.columns, get-put_batch pending.left db id rising ∙ ap (λ o. unwrap_or o (get db id)) child.free ∙ child.there, child.names)
 
-alike : (a b : Bool) → (a ≡ true → b ≡ true) → (b ≡ true → a ≡ true) → a ≡ b
-alike true b there back = sym (there refl)
-alike false true there back = back refl
-alike false false there back = refl
-
 -- whether one of the two is there tells whether there is a child
 pub child_told : (ts : List Table) (pending : Pending) (db : Database) (row : RowId) (own stored : Bool) → IsRising pending.left → IsTrue own ↔ HasOwnChild ts pending row →
     IsTrue stored ↔ ((table : ℕ) × HasFreeChild ts db pending table row) → (own || stored) ≡ has_child ts (seen pending db) row
 child_told ts pending db row own stored rising by_own by_stored =
-    alike (own || stored) (has_child ts (seen pending db) row)
+    both_or_none (own || stored) (has_child ts (seen pending db) row)
     (λ h. (tells_children ts (seen pending db) row).1 (child_of_either ts pending db row rising (elim (or_cases own stored h) [
       | inl a ↦ inl (by_own.0 a)
       | inr b ↦ inr (by_stored.0 b)
@@ -150,18 +146,6 @@ child_told ts pending db row own stored rising by_own by_stored =
     ])
 
 -- ---- table by table
-
--- a row with a parent of that table is of a child table
-pub of_child_table : (ts : List Table) (table : ℕ) (columns : List ℤ) (row : RowId) → parent_of ts table columns ≡ Some row → is_child_table ts table row.table ≡ true
-of_child_table ts table columns row e = by (link_of ts table) e
-  where
-    found : (link : ℕ × ℕ) (o : Option ℤ) → option_map (λ key. row_at link.1 key) o ≡ Some row → (link.1 == row.table) ≡ true
-    found link None h = absurd cc
-    found link (Some key) h = eq-eqb link.1 row.table (ap (λ (r : RowId). r.table) (same_Some (row_at link.1 key) row h))
-
-    by : (o : Option (ℕ × ℕ)) → option_and_then (named_by columns) o ≡ Some row → option_map_or (λ link. link.1 == row.table) o false ≡ true
-    by None h = absurd cc
-    by (Some link) h = found link (slice_get columns link.0) h
 
 -- a table that is found is one of those that were looked at
 found_of_all : (P : Table → Type 0) (ts : List Table) (id : ℕ) (t : Table) → AllByRecursion P ts → table_at ts id ≡ Some t → P t × ((t.id == id) ≡ true)
@@ -185,19 +169,6 @@ no_table_has ts db pending row none table child = by (table_at ts table) refl ch
         f.0 (subst (λ n. HasFreeChild ts db pending n row) (sym (eqb-true t.id table f.1)) child)
 
 -- ---- one row
-
-none_is : (o : Option (Option (List ℤ))) → is_none o ≡ true → o ≡ None
-none_is None h = refl
-none_is (Some x) h = absurd (true≢false (sym h))
-
--- a row that was not changed and passes the test
-pub free_told : (ts : List Table) (row : RowId) (table : ℕ) (columns : List ℤ) (at : Option (Option (List ℤ))) → (is_none at && names_row ts row table columns) ≡ true → (at ≡ None) × (parent_of ts table columns ≡ Some row)
-free_told ts row table columns at h =
-    let parts = and_parts (is_none at) (names_row ts row table columns) h in
-    (none_is at parts.0, named row (parent_of ts table columns) parts.1)
-
-pub told_free : (ts : List Table) (row : RowId) (table : ℕ) (columns : List ℤ) (at : Option (Option (List ℤ))) → (at ≡ None) × (parent_of ts table columns ≡ Some row) → (is_none at && names_row ts row table columns) ≡ true
-told_free ts row table columns at h = and_from _ _ (ap is_none h.0) (names row (parent_of ts table columns) h.1)
 
 -- a row that is none of these is no child
 pub not_free : (ts : List Table) (db : Database) (pending : Pending) (table : ℕ) (row : RowId) (key : ℤ) (columns : List ℤ) (b : Bool) → b ≡ false → IsTrue b ↔ ((left_at pending (row_at table key) ≡ None) × (parent_of ts table columns ≡ Some row)) →

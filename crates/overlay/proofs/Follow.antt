@@ -38,17 +38,6 @@ left_by_row ts change db =
     by None = refl
     by (Some left) = put_and_got left (parent_stands ts change db left)
 
--- a change that fits the row before it, and whose parent is there
-pub left-fits : (ts : List Table) (change : Change) (db : Database) (row : RowId) (before left given : Option (List ℤ)) (stands : Bool) →
-    row ≡ target change → before ≡ get db row → result_ok (changed change before) ≡ Some left → stands ≡ parent_stands ts change db given → given ≡ left → stands ≡ true →
-    Some left ≡ option_map (λ after. get after (target change)) (apply ts change db)
-left-fits ts change db row before left given stands is was fits by_parent same parent =
-    let here : get db (target change) ≡ before = ap (get db) (sym is) ∙ sym was in
-    let fits_here : result_ok (changed change (get db (target change))) ≡ Some left = ap (λ r. result_ok (changed change r)) here ∙ fits in
-    sym (left_by_row ts change db
-    ∙ ap (option_and_then (λ l. cond (parent_stands ts change db l) (Some l) None)) fits_here
-    ∙ ap (λ b. cond b (Some left) None) (ap (parent_stands ts change db) (sym same) ∙ sym by_parent ∙ parent))
-
 -- rows that are the same in two databases
 rows_in-alike : (rows : List RowId) (a b : Database) → AgreeOn rows a b → rows_in rows a ≡ rows_in rows b
 rows_in-alike rows a b same =

@@ -22,7 +22,7 @@ pub record HasRun (ts : List Table) (changes : List Change) (db : Database) (n :
 pub HasRun-none : (ts : List Table) (changes : List Change) (db : Database) → HasRun ts changes db 0 none_pending
 HasRun-none ts changes db = record { after = db; follows = Follows-none ts db; done = refl; rest = refl }
 
-mapped : {A B : Type 0} (f : A → B) (o : Option A) (y : B) → option_map f o ≡ Some y → (x : A) × (o ≡ Some x) × (f x ≡ y)
+pub mapped : {A B : Type 0} (f : A → B) (o : Option A) (y : B) → option_map f o ≡ Some y → (x : A) × (o ≡ Some x) × (f x ≡ y)
 mapped f None y h = cc
 mapped f (Some x) y h = (x, refl, same_Some (f x) y h)
 

@@ -1,5 +1,5 @@
 -- A walk over the rows of one table of a store, in the order of keys.
-use Rattle.std.proofs.Common.{◌≡◌, ◌∙◌, sym, ap, subst, refl, T, Bool, true, false, true≢false, ◌&&◌, cond, ◌==◌, eq-eqb, ℕ, ◌+◌, ◌<◌, ◌≤◌, ℤ, ◌<ℤ◌, List, [], ◌∷◌, Option, Some, None, arith}
+use Rattle.std.proofs.Common.{◌≡◌, ◌∙◌, sym, ap, subst, refl, Bool, true, false, true≢false, ◌&&◌, cond, ◌==◌, eq-eqb, ℕ, ◌+◌, ◌<◌, ◌≤◌, ℤ, ◌<ℤ◌, List, [], ◌∷◌, Option, Some, None, arith}
 use Rattle.std.specs.FinMap.{get, find, entries, get-entries}
 use Rattle.std.specs.Ordering.{int_cmp, MatchOrdering}
 use Rattle.std.specs.declared.cmp.Ordering.{Ordering}
@@ -15,6 +15,7 @@ use Rattle.schema.specs.RowId.{row_cmp, same_row}
 use Rattle.rows.specs.Database.{Database}
 use Rattle.rows.proofs.Apply.{row_is}
 use Rattle.store_trait.specs.Contents.{row_at, IsAbove, NoneAbove, IsLeastAbove}
+use Rattle.store_trait.proofs.Batches.{holds}
 use Rattle.overlay.specs.Pending.{Pending}
 use Rattle.overlay.specs.Children.{IsFreeChild, HasFreeChild}
 
@@ -61,11 +62,7 @@ fewer p q (e ∷ es) id x is was now h = by (fewer p q es id x) (same_row id e.0
 
 above_from : (bound : Option ℤ) (key : ℤ) → IsAbove bound key → is_above bound key ≡ true
 above_from None key h = refl
-above_from (Some bound) key h = test_is (lt_z bound key) h.lt
-  where
-    test_is : (b : Bool) → T b → b ≡ true
-    test_is true t = refl
-    test_is false t = absurd t
+above_from (Some bound) key h = holds (lt_z bound key) h.lt
 
 not_itself : (key : ℤ) → lt_z key key ≡ false
 not_itself key = grind (arith, ints)
@@ -90,9 +87,6 @@ ahead_falls db table bound key columns least =
 -- a row of the table that is a child is ahead
 abbrev pub ChildrenAreAhead : List Table → Database → Pending → ℕ → RowId → Option ℤ → Type 0
 ChildrenAreAhead ts db pending table row bound = (key : ℤ) → IsFreeChild ts db pending table row key → IsAbove bound key
-
-pub none_passed : (ts : List Table) (db : Database) (pending : Pending) (table : ℕ) (row : RowId) → ChildrenAreAhead ts db pending table row None
-none_passed ts db pending table row key child = tt
 
 -- the next row is passed, where it is no child
 pub one_passed : (ts : List Table) (db : Database) (pending : Pending) (table : ℕ) (row : RowId) (bound : Option ℤ) (next : ℤ) (columns : List ℤ) → ChildrenAreAhead ts db pending table row bound → IsLeastAbove db table bound next columns →

@@ -94,10 +94,7 @@ fn has_child_in<S: RowStore>(
 fn is_child_table(schema: &Schema, table: u16, parent: u16) -> bool
     ensures { result ≡ is_child_table schema.now table parent }
 {
-    schema
-        .table(table)
-        .and_then(|t| t.parent)
-        .is_some_and(|link| link.1 == parent)
+    schema.link_of(table).is_some_and(|link| link.1 == parent)
 }
 
 /// Whether one of the table's rows that the transaction did not change names the row as its parent, row by row.

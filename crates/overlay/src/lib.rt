@@ -145,7 +145,7 @@ pub fn row_seen<S: RowStore>(overlay: &Overlay, store: &S, id: RowId) -> Option<
 pub fn parent_row(schema: &Schema, table: u16, columns: &Row) -> Option<RowId>
     ensures { result ≡ parent_of schema.now table columns.now }
 {
-    let (column, parent) = schema.table(table)?.parent?;
+    let (column, parent) = schema.link_of(table)?;
     let key = *columns.columns().get(column as usize)?;
     Some(RowId { table: parent, key })
 }
@@ -163,7 +163,7 @@ pub fn parent_seen<S: RowStore>(
 {
     match parent_row(schema, table, columns) {
         Some(parent) => row_seen(overlay, store, parent).is_some(),
-        None => schema.table(table).is_none_or(|t| t.parent.is_none()),
+        None => schema.link_of(table).is_none(),
     }
 }
 
@@ -227,8 +227,7 @@ fn gives_parent(schema: &Schema, change: &Change) -> bool
     match change {
         Change::Insert { .. } => true,
         Change::Update { row, columns } => schema
-            .table(row.table)
-            .and_then(|table| table.parent)
+            .link_of(row.table)
             .is_some_and(|link| columns.names(link.0)),
         Change::Delete { .. } => false,
     }

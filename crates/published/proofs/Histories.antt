@@ -1,5 +1,5 @@
 -- Beginnings of one history, and a history with one more commit.
-use Rattle.std.proofs.Common.{◌≡◌, ◌≢◌, ℕ, ◌+◌, ◌<◌, ◌≤◌, Bool, true, false, List, [], ◌∷◌, ◌++◌, length, refl, sym, ap, ◌∙◌, subst, arith, length-append, MatchBool}
+use Rattle.std.proofs.Common.{◌≡◌, ◌≢◌, ℕ, ◌+◌, ◌<◌, ◌≤◌, Bool, true, false, List, [], ◌∷◌, ◌++◌, length, refl, sym, ap, ◌∙◌, subst, arith, length-append, MatchBool, zero, suc, slice_get, Some}
 use Rattle.std.proofs.lemmas.Bool.{false≢true}
 use Rattle.std.proofs.lemmas.Bool.Decides.{nat_tests}
 use Rattle.std.specs.Prelude.{nat_le}
@@ -8,7 +8,7 @@ use Rattle.std.proofs.lemmas.List.Concat.{flat_map-append}
 use mathlib.Core.List.{IsPrefix}
 use Rattle.store_trait.specs.declared.Op.{Op}
 use Rattle.store_trait.specs.declared.Op.TheVariants.{Load, Commit}
-use Rattle.published.specs.History.{CommitsFrom, IsHistory, commits_in}
+use Rattle.published.specs.History.{IsCommit, CommitsFrom, IsHistory, commits_in}
 use Rattle.published.specs.Book.{operations_of}
 
 -- of two beginnings of one list the shorter begins the longer
@@ -22,7 +22,7 @@ prefix_shorter (x ∷ xs) (y ∷ ys) (z ∷ zs) p q le =
     (rest.0, cc (heads, rest.1))
 
 -- a beginning as long as the whole is the whole
-prefix_whole : (xs ys : List Op) → IsPrefix xs ys → length ys ≤ length xs → xs ≡ ys
+pub prefix_whole : (xs ys : List Op) → IsPrefix xs ys → length ys ≤ length xs → xs ≡ ys
 prefix_whole [] [] p le = refl
 prefix_whole [] (y ∷ ys) p le = absurd (omega arith)
 prefix_whole (x ∷ xs) [] p le = absurd (cc (p.1))
@@ -76,6 +76,12 @@ commits_in-with ops more h = omega (arith, length-append ops more, history_lengt
 commits_past : (n : ℕ) (ops more : List Op) → CommitsFrom n (ops ++ more) → CommitsFrom (n + length ops) more
 commits_past n [] more h = subst (λ k. CommitsFrom k more) (omega arith) h
 commits_past n (op ∷ ops) more h = subst (λ k. CommitsFrom k more) (omega arith) (commits_past (n + 1) ops more h.1)
+
+-- the commit at a place
+pub commit_at : (n : ℕ) (ops : List Op) (i : ℕ) (op : Op) → CommitsFrom n ops → slice_get ops i ≡ Some op → IsCommit op (n + i)
+commit_at n [] i op h is = absurd (cc (is))
+commit_at n (x ∷ ops) zero op h is = let same : x ≡ op = cc (is) in subst (λ o. IsCommit o (n + zero)) same (subst (IsCommit x) (omega arith) h.0)
+commit_at n (x ∷ ops) (suc i) op h is = subst (IsCommit op) (omega arith) (commit_at (n + 1) ops i op h.1 is)
 
 -- what goes on a history are the next commits
 pub history_past : (ops more : List Op) → IsHistory ops → IsHistory (ops ++ more) → CommitsFrom (commits_in ops + 1) more

@@ -1,28 +1,20 @@
 -- Putting one more entry into a batch in order.
-use Rattle.std.proofs.Common.{◌≡◌, ◌≢◌, ℕ, ◌+◌, ◌<◌, length, get_or, drop, add-one, drop-cons, ℤ, Bool, true, false, cond, IsTrue, List, [], ◌∷◌, refl, sym, ap, subst, ◌∙◌, Option}
+use Rattle.std.proofs.Common.{◌≡◌, ◌≢◌, ℕ, ◌+◌, ◌<◌, length, get_or, drop, add-one, drop-cons, ℤ, Bool, true, false, cond, List, [], ◌∷◌, refl, sym, ap, subst, ◌∙◌, Option}
 use Rattle.std.specs.List.Sorted.{IsStrictlySortedBy}
 use Rattle.std.specs.Map.{keys_of}
 use Rattle.std.specs.BTreeMap.{insert_entry, is_at}
 use Rattle.std.specs.FinMap.{get, same_map}
-use Rattle.std.specs.FinMap.Entries.{below_all}
-use Rattle.std.specs.List.{AllByRecursion}
 use Rattle.std.specs.Ordering.{match_ordering, is_eq}
-use Rattle.std.specs.declared.cmp.Ordering.{Ordering}
 use Rattle.std.specs.declared.cmp.Ordering.TheVariants.{Less, Equal, Greater}
 use Rattle.std.specs.Cmp.{eq_by_cmp_equiv, tied_itself}
 use Rattle.std.proofs.lemmas.Map.{NonePasses}
-use Rattle.std.proofs.lemmas.Map.Keys.{sorted_head, sorted_tail, IsDistinct-from_sorted}
+use Rattle.std.proofs.lemmas.Map.Keys.{sorted_tail, IsDistinct-from_sorted}
 use Rattle.std.proofs.lemmas.Map.Entries.{none_past_head, none_below_head}
 use Rattle.schema.specs.declared.RowId.{RowId}
 use Rattle.schema.specs.RowId.{row_cmp, same_row, exact_row, row_total}
 use Rattle.rows.specs.Database.{Database}
-use Rattle.store_trait.specs.Batch.{Entry, IsRising, put_row, put_batch}
-use Rattle.rows.proofs.Apply.{get-put_row}
-
-tied : (o : Ordering) → is_eq o ≡ true → o ≡ Equal
-tied Less h = cc
-tied Equal h = refl
-tied Greater h = cc
+use Rattle.store_trait.specs.Batch.{Entry, put_row, put_batch}
+use Rattle.rows.proofs.Apply.{get-put_row, row_is}
 
 again : {A : Type 0} (b : Bool) (x y z : A) → cond b x z ≡ cond b x (cond b y z)
 again true x y z = refl
@@ -43,7 +35,7 @@ swapped false b x y z apart = refl
 put_row_swapped : (db : Database) (k j : RowId) (v w : Option (List ℤ)) → k ≢ j → put_row (put_row db k v) j w ≡ put_row (put_row db j w) k v
 put_row_swapped db k j v w apart = same_map row_total exact_row _ _ (λ q.
     get-put_row (put_row db k v) j q w ∙ ap (cond (same_row q j) w) (get-put_row db k q v)
-    ∙ swapped (same_row q j) (same_row q k) w v (get db q) (λ a b. apart (sym (exact_row q k (tied _ b)) ∙ exact_row q j (tied _ a)))
+    ∙ swapped (same_row q j) (same_row q k) w v (get db q) (λ a b. apart (sym (row_is q k b) ∙ row_is q j a))
     ∙ sym (get-put_row (put_row db j w) k q v ∙ ap (cond (same_row q k) v) (get-put_row db j q w)))
 
 apart : (a b : RowId) → same_row a b ≡ false → a ≢ b
@@ -72,16 +64,6 @@ put_inserted (e ∷ es) db k v sorted =
           ∙ ap (λ (j : RowId). put_row (put_batch es (put_row db j e.1)) k v) same
       | Greater ↦ λ greater. put_inserted es (put_row db e.0 e.1) k v (sorted_tail row_cmp e.0 (keys_of es) sorted)
     ] refl
-
-rising_below : (k : RowId) (es : List Entry) → AllByRecursion (λ y. row_cmp k y ≡ Less) (keys_of es) → IsTrue (below_all row_cmp k es)
-rising_below k [] below = refl
-rising_below k (e ∷ es) below = rw below.0 (rising_below k es below.1)
-
--- entries in a map's order are a batch
-pub rising : (es : List Entry) → IsStrictlySortedBy row_cmp (keys_of es) → IsRising es
-rising [] sorted = refl
-rising (e ∷ es) sorted =
-    rw (rising_below e.0 es (sorted_head row_cmp e.0 (keys_of es) sorted)) (rising es (sorted_tail row_cmp e.0 (keys_of es) sorted))
 
 -- one more entry of a batch is put
 pub put_next : (entries before after : List Entry) (i : ℕ) (e : Entry) (db left : Database) → i < length entries → e ≡ get_or entries i e

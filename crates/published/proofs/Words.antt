@@ -15,10 +15,6 @@ begins = record { stored = []; reports = tt; last = refl; writer = 0; seen = alo
     alone zero v there = subst (λ (q : Look). IsSuffix q.seen [] × (q.stores ≡ true → (zero ≡ 0) × (q.seen ≡ []))) (some-injective beginner v there) (([], refl), λ e. (refl, refl))
     alone (suc j) v there = absurd (cc (there))
 
-pub in_order : (stored : List Counts) → AreReports stored → InOrder (latest stored)
-in_order [] r = (omega arith, omega arith)
-in_order (c ∷ stored) r = r.0
-
 none_falls : (later seen : List Counts) → AreReports (later ++ seen) → NoneFalls (latest seen) (latest (later ++ seen))
 none_falls [] seen r = (omega arith, omega arith, omega arith)
 none_falls (c ∷ later) seen r =

@@ -3,7 +3,7 @@ use Rattle.std.proofs.Common.{◌≡◌, ℕ, ◌+◌, ◌-◌, ◌<◌, ◌≤�
 use Rattle.std.specs.Prelude.{◌==◌, if◌then◌else◌}
 use Rattle.std.specs.List.{list_all}
 use Rattle.std.specs.Str.{bytes_eq}
-use Rattle.std.proofs.lemmas.Bool.{and_from, and_parts}
+use Rattle.std.proofs.lemmas.Bool.{and_from, and_parts, ltb-true, eqb-true, le-leb, lt-leb, lt-ltb, eq-eqb, ne_eqb}
 use Rattle.std.proofs.lemmas.Slice.Eq.{bytes_eq-Decides}
 use Rattle.schema.specs.declared.Table.{Table}
 use Rattle.rows.specs.Shape.{is_shaped}
@@ -16,7 +16,6 @@ use Rattle.relay.specs.declared.Received.TheVariants.{Accepted, Skipped}
 use Rattle.relay.specs.Form.{has_flags, are_parents, has_ref}
 use Rattle.relay.specs.Relay.{Relay, is_formed, is_malformed, is_covered, received, IsAcceptable}
 use Rattle.relay.specs.Laws.{AcceptsTheAcceptable}
-use Rattle.relay.proofs.Numbers.{lt_from, eq_from, le_to, above_to, lt_to, eq_to, ne_to}
 use Rattle.relay.specs.Touches.{Marks, Notes}
 use Rattle.relay.specs.Kept.{IsKept}
 use Rattle.gtid_set.specs.Ids.{Ids, first_ids, Adds}
@@ -90,13 +89,13 @@ accepted_is_acceptable r from new e =
     let p = all_passed (bytes_eq from r.source) (is_malformed r.tables new) (nat_le new.gno (length r.accepted)) (new.gno == length r.accepted + 1) (is_covered r.accepted new) e in
     let w = well_formed (nat_le 1 new.gno) (nat_lt new.gno (2 ^ 63)) (new.sequence == new.gno) (nat_lt new.parent new.sequence) (is_formed r.tables new) p.malformed in
     let f = formed_by (list_all (is_shaped r.tables) new.changes) (has_flags r.tables new) (are_parents r.tables new.refs) (list_all (has_ref r.tables new.refs) new.changes) w.formed in
-    let gno = eq_from new.gno (length r.accepted + 1) p.next in (
+    let gno = eqb-true new.gno (length r.accepted + 1) p.next in (
       (bytes_eq-Decides from r.source).0 p.same,
       record {
         gno = gno;
-        sequence = eq_from new.sequence new.gno w.same ∙ gno;
-        bound = lt_from new.gno (2 ^ 63) w.few;
-        below = lt_from new.parent new.sequence w.below;
+        sequence = eqb-true new.sequence new.gno w.same ∙ gno;
+        bound = ltb-true new.gno (2 ^ 63) w.few;
+        below = ltb-true new.parent new.sequence w.below;
         covers = passed_covers place_of r.accepted (touched new) new.parent p.covered;
         shaped = f.shaped;
         flags = f.flags;
@@ -112,10 +111,10 @@ pub well_formed_record : (ts : List Table) (log : List Record) (new : Record) �
 well_formed_record ts log new is =
     not_malformed (nat_le 1 new.gno) (nat_lt new.gno (2 ^ 63)) (new.sequence == new.gno) (nat_lt new.parent new.sequence) (is_formed ts new)
     (record {
-      some = le_to 1 new.gno (omega (arith, is.gno));
-      few = lt_to new.gno (2 ^ 63) is.bound;
-      same = eq_to new.sequence new.gno (is.sequence ∙ sym is.gno);
-      below = lt_to new.parent new.sequence is.below;
+      some = le-leb 1 new.gno (omega (arith, is.gno));
+      few = lt-ltb new.gno (2 ^ 63) is.bound;
+      same = eq-eqb new.sequence new.gno (is.sequence ∙ sym is.gno);
+      below = lt-ltb new.parent new.sequence is.below;
       formed = formed_of ts log new is;
     })
 
@@ -128,8 +127,8 @@ acceptable_is_accepted r from new same is =
     (record {
       same = (bytes_eq-Decides from r.source).1 same;
       malformed = well_formed_record r.tables r.accepted new is;
-      skipped = above_to new.gno (length r.accepted) (omega (arith, is.gno));
-      next = eq_to new.gno (length r.accepted + 1) is.gno;
+      skipped = lt-leb new.gno (length r.accepted) (omega (arith, is.gno));
+      next = eq-eqb new.gno (length r.accepted + 1) is.gno;
       covered = covers_passes place_of r.accepted (touched new) new.parent is.covers;
     })
 
@@ -167,22 +166,22 @@ gaps same malformed skipped next covered p q r t = rw (p, q, r, t)
 pub is_skipped : (r : Relay) (from : List ℕ) (new : Record) → from ≡ r.source → is_malformed r.tables new ≡ false → new.gno ≤ length r.accepted → received r from new ≡ Ok Skipped
 is_skipped r from new same formed le =
     skips (bytes_eq from r.source) (is_malformed r.tables new) (nat_le new.gno (length r.accepted)) (new.gno == length r.accepted + 1) (is_covered r.accepted new)
-    ((bytes_eq-Decides from r.source).1 same) formed (le_to new.gno (length r.accepted) le)
+    ((bytes_eq-Decides from r.source).1 same) formed (le-leb new.gno (length r.accepted) le)
 
 pub is_gap : (r : Relay) (from : List ℕ) (new : Record) → from ≡ r.source → is_malformed r.tables new ≡ false → length r.accepted + 1 < new.gno → received r from new ≡ Err Gap
 is_gap r from new same formed lt =
     gaps (bytes_eq from r.source) (is_malformed r.tables new) (nat_le new.gno (length r.accepted)) (new.gno == length r.accepted + 1) (is_covered r.accepted new)
-    ((bytes_eq-Decides from r.source).1 same) formed (above_to new.gno (length r.accepted) (omega arith)) (ne_to new.gno (length r.accepted + 1) (λ e. omega arith))
+    ((bytes_eq-Decides from r.source).1 same) formed (lt-leb new.gno (length r.accepted) (omega arith)) (ne_eqb new.gno (length r.accepted + 1) (λ e. omega arith))
 
 -- which of these a record is, by its number
 abbrev pub by_number : ℕ → ℕ → Result Received ReplicaFault
 by_number gno n = if nat_le gno n then Ok Skipped else if gno == n + 1 then Ok Accepted else Err Gap
 
 pub at_most : (gno n : ℕ) → gno ≤ n → by_number gno n ≡ Ok Skipped
-at_most gno n le = rw (le_to gno n le)
+at_most gno n le = rw (le-leb gno n le)
 
 pub at_next : (gno n : ℕ) → gno ≡ n + 1 → by_number gno n ≡ Ok Accepted
-at_next gno n e = rw (above_to gno n (omega arith), eq_to gno (n + 1) e)
+at_next gno n e = rw (lt-leb gno n (omega arith), eq-eqb gno (n + 1) e)
 
 pub past_next : (gno n : ℕ) → n + 1 < gno → by_number gno n ≡ Err Gap
-past_next gno n lt = rw (above_to gno n (omega arith), ne_to gno (n + 1) (λ e. omega arith))
+past_next gno n lt = rw (lt-leb gno n (omega arith), ne_eqb gno (n + 1) (λ e. omega arith))

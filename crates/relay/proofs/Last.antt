@@ -1,27 +1,26 @@
 -- The last touches of a log, as a record is added, and as a parent is judged by them.
-use Rattle.std.proofs.Common.{◌≡◌, ◌∙◌, sym, ap, refl, subst, ℕ, suc, ◌+◌, ◌≤◌, Bool, true, false, ◌||◌, cond, nat_le, max, List, [], ◌∷◌, ◌++◌, length, map, unwrap_or, arith, is_eq}
+use Rattle.std.proofs.Common.{◌≡◌, ◌∙◌, sym, ap, refl, subst, ℕ, suc, ◌+◌, ◌≤◌, Bool, true, false, ◌||◌, cond, nat_le, max, List, [], ◌∷◌, ◌++◌, length, map, unwrap_or, arith}
 use Rattle.std.specs.List.{list_all}
-use Rattle.std.specs.Cmp.{tied_itself}
 use Rattle.std.specs.FinMap.{empty, get-empty}
 use Rattle.std.proofs.lemmas.List.{length_push}
-use Rattle.std.proofs.lemmas.Bool.{or_left, or_right, and_parts, and_from}
+use Rattle.std.proofs.lemmas.Bool.{or_left, or_right, and_parts, and_from, leb-true, le-leb}
 use Rattle.gtid_set.specs.Ids.{Ids, first_ids, no_ids}
 use Rattle.schema.specs.declared.Table.{Table}
 use Rattle.schema.specs.declared.RowId.{RowId}
-use Rattle.schema.specs.RowId.{row_cmp, row_total, same_row}
+use Rattle.schema.specs.RowId.{row_cmp, same_row}
 use Rattle.schema.specs.Rows.{has_row, meets, conflicts}
 use Rattle.schema.specs.Covering.{Covers}
 use Rattle.rows.specs.Database.{writes}
-use Rattle.rows.proofs.Apply.{row_is}
+use Rattle.rows.proofs.Apply.{row_is, same_row_itself}
 use Rattle.record_codec.specs.declared.records.Record.{Record}
 use Rattle.record_codec.specs.Log.{touched, place_of}
 use Rattle.relay.specs.declared.touches.Touch.{Touch}
 use Rattle.relay.specs.Relay.{is_covered, IsAcceptable}
 use Rattle.relay.specs.Touches.{Marks, last_of, writes_row, touches_row, written_at, touched_at, touch_at, untouched, AreLastTouches, Notes, is_behind}
 use Rattle.relay.specs.Kept.{IsKept}
-use Rattle.relay.proofs.Numbers.{le_from, le_to}
 use Rattle.relay.proofs.Covered.{AreBehind}
 use Rattle.schema.proofs.Covers.{passed_covers, covers_passes}
+use Rattle.schema.proofs.Telling.{both_or_none}
 use Rattle.relay.proofs.Acceptable.{next_is_acceptable, empty_is_acceptable, are_behind}
 
 -- ---- one more record
@@ -77,9 +76,6 @@ one_more_kept ts source log left ids with_next marks now r kept next is put note
 
 -- ---- a parent is judged
 
-same_itself : (q : RowId) → same_row q q ≡ true
-same_itself q = ap is_eq (tied_itself row_total q)
-
 -- a row that two sets have in common
 common : (xs ys : List RowId) → meets xs ys ≡ true → (q : RowId) × (has_row xs q ≡ true) × (has_row ys q ≡ true)
 common [] ys h = absurd cc
@@ -87,7 +83,7 @@ common (x ∷ xs) ys h = at (has_row ys x) refl h (λ k. common xs ys k)
   where
     at : (b : Bool) → has_row ys x ≡ b → (b || meets xs ys) ≡ true → (meets xs ys ≡ true → (q : RowId) × (has_row xs q ≡ true) × (has_row ys q ≡ true)) →
         (q : RowId) × (has_row (x ∷ xs) q ≡ true) × (has_row ys q ≡ true)
-    at true is h rest = (x, or_left (same_row x x) (has_row xs x) (same_itself x), is)
+    at true is h rest = (x, or_left (same_row x x) (has_row xs x) (same_row_itself x), is)
     at false is h rest = let r = rest h in (r.0, or_right (same_row r.0 x) (has_row xs r.0) r.1, r.2)
 
 in_common : (xs ys : List RowId) (q : RowId) → has_row xs q ≡ true → has_row ys q ≡ true → meets xs ys ≡ true
@@ -160,7 +156,7 @@ all_le : (f : RowId → ℕ) (p : ℕ) (rows : List RowId) → list_all (λ row.
 all_le f p [] h q is = absurd cc
 all_le f p (x ∷ rows) h q is =
     let parts = and_parts (nat_le (f x) p) (list_all (λ row. nat_le (f row) p) rows) h in
-    at (same_row q x) refl is (le_from (f x) p parts.0) (λ k. all_le f p rows parts.1 q k)
+    at (same_row q x) refl is (leb-true (f x) p parts.0) (λ k. all_le f p rows parts.1 q k)
   where
     at : (b : Bool) → same_row q x ≡ b → (b || has_row rows q) ≡ true → f x ≤ p → (has_row rows q ≡ true → f q ≤ p) → f q ≤ p
     at true same k first rest = subst (λ r. f r ≤ p) (sym (row_is q x same)) first
@@ -169,17 +165,12 @@ all_le f p (x ∷ rows) h q is =
 le_all : (f : RowId → ℕ) (p : ℕ) (rows : List RowId) → ((q : RowId) → has_row rows q ≡ true → f q ≤ p) → list_all (λ row. nat_le (f row) p) rows ≡ true
 le_all f p [] h = refl
 le_all f p (x ∷ rows) h =
-    and_from (nat_le (f x) p) (list_all (λ row. nat_le (f row) p) rows) (le_to (f x) p (h x (or_left (same_row x x) (has_row rows x) (same_itself x))))
+    and_from (nat_le (f x) p) (list_all (λ row. nat_le (f row) p) rows) (le-leb (f x) p (h x (or_left (same_row x x) (has_row rows x) (same_row_itself x))))
     (le_all f p rows (λ q is. h q (or_right (same_row q x) (has_row rows q) is)))
-
-alike : (a b : Bool) → (a ≡ true → b ≡ true) → (b ≡ true → a ≡ true) → a ≡ b
-alike true b f g = sym (f refl)
-alike false true f g = g refl
-alike false false f g = refl
 
 -- a parent that is no lower than the last touches covers the log
 pub behind_covers : (log : List Record) (marks : Marks) (new : Record) → AreLastTouches log marks → is_behind marks new ≡ is_covered log new
-behind_covers log marks new last = alike (is_behind marks new) (is_covered log new) (λ h.
+behind_covers log marks new last = both_or_none (is_behind marks new) (is_covered log new) (λ h.
     let parts = and_parts (list_all (λ row. nat_le (touched_at marks row) new.parent) (writes new.changes)) (list_all (λ row. nat_le (written_at marks row) new.parent) new.refs) h in
     covers_passes place_of log (touched new) new.parent (under_covers log new (record {
       written = λ q is. subst (λ n. n ≤ new.parent) (last.touched q) (all_le (touched_at marks) new.parent (writes new.changes) parts.0 q is);

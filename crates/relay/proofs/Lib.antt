@@ -1,5 +1,4 @@
 pub mod Referred
-pub mod Numbers
 pub mod Marks
 pub mod Covered
 pub mod Acceptable

@@ -1,10 +1,8 @@
 //! Whether a record's flags and refs are such as its source's tables give for its changes. None of it takes memory.
 
-ghost use Rattle.std.specs.Prelude.{◌≡◌, ◌==◌, ◌||◌, ◌%◌, ◌^◌, ◌<◌, false, is_some, count_ones, slice_get, if◌then◌else◌, None};
+ghost use Rattle.std.specs.Prelude.{◌≡◌, ◌%◌, ◌^◌, ◌<◌, count_ones, slice_get, if◌then◌else◌, None};
 ghost use Rattle.std.specs.List.{list_all};
-ghost use Rattle.std.specs.Option.{option_map_or};
-ghost use Rattle.schema.specs.Schema.{link_of};
-ghost use Rattle.schema.specs.Flags.{is_parent as is_the_parent, is_fk, misses_keys as misses};
+ghost use Rattle.schema.specs.Flags.{is_fk, misses_keys as misses};
 ghost use Rattle.schema.specs.Rows.{has_row};
 ghost use Rattle.rows.specs.Database.{writes};
 ghost use Rattle.rows.specs.Naming.{names_column};
@@ -12,7 +10,7 @@ ghost use Rattle.relay.specs.Form.{has_flags as flags_fit, are_parents as all_ar
 
 use record_codec::{Record, Refs};
 use rows::{Change, Named};
-use schema::{RowId, Schema, Table};
+use schema::{RowId, Schema};
 
 /// Whether the record's flags are those of the tables that its changes write. The time is that of two walks over the tables
 /// for each change.
@@ -30,13 +28,7 @@ fn writes_related(schema: &Schema, changes: &[Change]) -> bool
     changes
         .iter()
         .map(|change| change.target())
-        .any(|row| is_related(schema, row.table))
-}
-
-fn is_related(schema: &Schema, table: u16) -> bool
-    ensures { result ≡ (is_some (link_of schema.now table) || is_the_parent schema.now table) }
-{
-    link_of(schema, table).is_some() || is_parent(schema, table)
+        .any(|row| schema.is_linked(row.table))
 }
 
 /// Whether a change is of a keyless table.
@@ -48,34 +40,11 @@ fn misses_keys(schema: &Schema, changes: &[Change]) -> bool
         .is_some_and(|table| !table.keyed))
 }
 
-/// The column of a table whose value names a parent row, and the parent's table.
-fn link_of(schema: &Schema, table: u16) -> Option<(u8, u16)>
-    ensures { result ≡ link_of schema.now table }
-{
-    schema.table(table)?.parent
-}
-
-/// Whether the table is the parent of another.
-fn is_parent(schema: &Schema, table: u16) -> bool
-    ensures { result ≡ is_the_parent schema.now table }
-{
-    schema
-        .tables()
-        .iter()
-        .any(|child| is_child_of(child, table))
-}
-
-fn is_child_of(child: &Table, table: u16) -> bool
-    ensures { result ≡ option_map_or (λ link. link.1 == table) child.now.parent false }
-{
-    child.parent.is_some_and(|link| link.1 == table)
-}
-
 /// Whether each of the refs is of a table that is a parent. The time is that of a walk over the tables for each.
 pub(crate) fn are_parents(schema: &Schema, refs: &Refs) -> bool
     ensures { result ≡ all_are_parents schema.now refs.now }
 {
-    refs.rows().iter().all(|row| is_parent(schema, row.table))
+    refs.rows().iter().all(|row| schema.is_parent(row.table))
 }
 
 /// Whether each parent row that the changes give their rows is among the refs. The time is that of a walk over the tables for
@@ -99,7 +68,7 @@ fn has_ref(schema: &Schema, change: &Change, refs: &Refs) -> bool
 fn given_parent(schema: &Schema, change: &Change) -> Option<RowId>
     ensures { result ≡ parent_given schema.now change.now }
 {
-    let (column, table) = link_of(schema, change.target().table)?;
+    let (column, table) = schema.link_of(change.target().table)?;
     let key = given_value(change, column)?;
     Some(RowId { table, key })
 }

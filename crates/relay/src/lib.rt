@@ -8,7 +8,7 @@
 //! `record_codec` for records, on `gtid_set` for ids, and on `indexmap`.
 #![tactic(auto)]
 
-ghost use Rattle.std.specs.Prelude.{◌≡◌, ◌⊎◌, IfOk, OnErr, IsErrOf, [], Ok, false, nat_le, length};
+ghost use Rattle.std.specs.Prelude.{◌≡◌, ◌⊎◌, ◌<◌, IfOk, OnOk, OnErr, IsErrOf, [], Ok, false, nat_le, length, vec_len, vec_capacity};
 ghost use Rattle.relay.specs.Relay.{is_malformed as malformed, received, left_by_receive, AreAcceptable};
 
 mod form;
@@ -22,7 +22,7 @@ use ids::add_next;
 use judging::is_malformed;
 use record_codec::Record;
 use schema::{Gtid, Memory, Schema};
-use std::alloc::{AllocError, AllocFailed, Global};
+use std::alloc::{AllocFailed, Global};
 use std::marker::Model;
 use thiserror::Error;
 use touches::Touches;
@@ -76,17 +76,6 @@ impl From<Memory> for ReplicaFault {
     ghost from_gives = { λ _ e. e ≡ faults.Memory };
 
     fn from(_memory: Memory) -> ReplicaFault {
-        ReplicaFault::Memory
-    }
-}
-
-impl From<AllocError> for ReplicaFault {
-    ghost use Rattle.std.specs.Prelude.{◌≡◌};
-    ghost use Rattle.relay.specs.declared.ReplicaFault.TheVariants as faults;
-
-    ghost from_gives = { λ _ e. e ≡ faults.Memory };
-
-    fn from(_error: AllocError) -> ReplicaFault {
         ReplicaFault::Memory
     }
 }
@@ -160,7 +149,7 @@ impl Relay {
         if answer == Received::Accepted {
             // Room first: behind the id nothing may fail.
             self.touches.reserve(new)?;
-            self.accepted.reserve(1)?;
+            make_room(&mut self.accepted)?;
             let copy = new.copy()?;
             add_next(&mut self.ids, from, new.gno)?;
             self.accepted.push(copy).unwrap();
@@ -224,4 +213,12 @@ impl Relay {
     {
         self.source
     }
+}
+
+/// Makes room for one record more.
+fn make_room(records: &mut Vec<Record>) -> Result<(), Memory>
+    ensures items { records.new.items ≡ records.old.items }
+    ensures room { OnOk result (vec_len records.new < vec_capacity records.new) }
+{
+    Ok(records.reserve(1)?)
 }

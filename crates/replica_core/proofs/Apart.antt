@@ -1,8 +1,8 @@
 -- A record whose parent is committed looks at no row that the records between write: they conflict with it nowhere.
-use Rattle.std.proofs.Common.{◌≡◌, ◌∙◌, sym, ap, refl, ℕ, zero, suc, ◌+◌, ◌<◌, ◌≤◌, Bool, true, false, ◌||◌, inl, inr, List, [], ◌∷◌, ◌++◌, map, length, take, drop, Some, option_and_then, arith, add-zero, slice_get, get_or}
+use Rattle.std.proofs.Common.{◌≡◌, ◌∙◌, sym, ap, refl, ℕ, zero, suc, ◌+◌, ◌<◌, ◌≤◌, true, false, ◌||◌, inl, inr, List, [], ◌∷◌, ◌++◌, map, length, take, drop, Some, option_and_then, arith, add-zero, slice_get, get_or}
 use Rattle.std.specs.Option.{option_map}
 use Rattle.std.specs.FinMap.{get}
-use Rattle.std.proofs.lemmas.Bool.{cases_Bool, or_parts}
+use Rattle.std.proofs.lemmas.Bool.{cases_Bool, or_parts, false_from_ne_true}
 use Rattle.std.proofs.lemmas.Option.{none-some, same_Some, slice_get_within, slice_get-map, slice_get-get_or, option_and_then_some}
 use Rattle.std.proofs.lemmas.List.{length-take-le}
 use Rattle.std.proofs.lemmas.List.Folds.{list_any-append}
@@ -15,20 +15,22 @@ use Rattle.rows.specs.Database.{Database, effect, writes}
 use Rattle.rows.specs.Frame.{AgreeOn}
 use Rattle.rows.proofs.Effect.{changes_only_writes}
 use Rattle.rows.proofs.Frame.{not_in_first}
+use Rattle.store_trait.specs.Operation.{loaded}
 use Rattle.record_codec.specs.declared.records.Record.{Record}
-use Rattle.record_codec.specs.Log.{after, touched, place_of}
+use Rattle.record_codec.specs.Log.{touched, place_of}
 use Rattle.executor.specs.Job.{rows_of}
 use Rattle.relay.specs.Relay.{IsAcceptable, AreAcceptable}
+use Rattle.replica_core.specs.Replica.{Replica, rows_at, working_rows}
 use Rattle.replica_core.proofs.Commits.{after-next}
 
 -- ---- the records of an accepted list
 
-split : {X : Type 0} (xs : List X) (n : ℕ) (x : X) → slice_get xs n ≡ Some x → xs ≡ take n xs ++ x ∷ drop (suc n) xs
+pub split : {X : Type 0} (xs : List X) (n : ℕ) (x : X) → slice_get xs n ≡ Some x → xs ≡ take n xs ++ x ∷ drop (suc n) xs
 split [] n x is = absurd (none-some x is)
 split (y ∷ xs) zero x is = ap (λ z. z ∷ xs) (same_Some y x is)
 split (y ∷ xs) (suc n) x is = ap (λ l. y ∷ l) (split xs n x is)
 
-slice_get-take : {X : Type 0} (xs : List X) (n i : ℕ) → i < n → slice_get (take n xs) i ≡ slice_get xs i
+pub slice_get-take : {X : Type 0} (xs : List X) (n i : ℕ) → i < n → slice_get (take n xs) i ≡ slice_get xs i
 slice_get-take xs zero i lt = absurd (omega arith)
 slice_get-take [] (suc n) i lt = refl
 slice_get-take (x ∷ xs) (suc n) zero lt = refl
@@ -47,10 +49,6 @@ covers_at (p ∷ past) rows parent zero number before h got is =
     omega arith
 covers_at (p ∷ past) rows parent (suc i) number before h got is = covers_at past rows parent i number before h.1 got is
 
-not_true : (b : Bool) → (b ≡ true → ⊥) → b ≡ false
-not_true true h = absurd (h refl)
-not_true false h = refl
-
 -- a record conflicts with none that stands between its parent and itself
 pub no_conflict : (ts : List Table) (log : List Record) (i j : ℕ) (a b : Record) → AreAcceptable ts log → slice_get log i ≡ Some a → slice_get log j ≡ Some b → i < j → b.parent ≤ i → conflicts (touched a) (touched b) ≡ false
 no_conflict ts log i j a b h at_i at_j lt parent =
@@ -58,7 +56,7 @@ no_conflict ts log i j a b h at_i at_j lt parent =
     let number : a.sequence ≡ i + 1 = (place_acceptable ts log i a h at_i).sequence ∙ ap (λ n. n + 1) (length-take-le i log (omega arith)) in
     let got : slice_get (map place_of (take j log)) i ≡ Some (a.sequence, touched a) =
     slice_get-map place_of (take j log) i ∙ ap (option_map place_of) (slice_get-take log j i lt ∙ at_i) in
-    not_true (conflicts (touched a) (touched b)) (λ is.
+    false_from_ne_true (conflicts (touched a) (touched b)) (λ is.
     let bound : a.sequence ≤ b.parent = covers_at (map place_of (take j log)) (touched b) b.parent i a.sequence (touched a) (place_acceptable ts log j b h at_j).covers got is in
     absurd (omega arith))
 
@@ -75,20 +73,21 @@ not_written a b q apart is =
 
 -- ---- what the accepted records leave
 
--- so the rows that it looks at are the same in each database from its parent up to its own place
-pub rows_stay : (ts : List Table) (base : Database) (log : List Record) (k j d : ℕ) (rec : Record) (a b : Database) → AreAcceptable ts log → slice_get log j ≡ Some rec → rec.parent ≤ k → k + d ≤ j → after ts base (take k log) ≡ Some a → after ts base (take (k + d) log) ≡ Some b → AgreeOn (rows_of rec) a b
-rows_stay ts base log k j zero rec a b h got parent within is_a is_b q looks =
-    let same : Some a ≡ Some b = sym is_a ∙ ap (λ n. after ts base (take n log)) (sym (add-zero k)) ∙ is_b in
+-- so the rows that it looks at are the same in each database from the committed one up to its own place
+pub rows_stay : (r : Replica) (j d : ℕ) (rec : Record) (a b : Database) → AreAcceptable r.tables r.accepted → slice_get r.accepted j ≡ Some rec → rec.parent ≤ r.committed → r.committed + d ≤ j → working_rows r ≡ Some a → rows_at r (r.committed + d) ≡ Some b → AgreeOn (rows_of rec) a b
+rows_stay r j zero rec a b h got parent within is_a is_b q looks =
+    let same : Some a ≡ Some b = sym is_a ∙ ap (rows_at r) (sym (add-zero r.committed)) ∙ is_b in
     ap (λ (db : Database). get db q) (same_Some a b same)
-rows_stay ts base log k j (suc d) rec a b h got parent within is_a is_b q looks =
-    let lt : j < length log = slice_get_within log j rec got in
-    let place : k + suc d ≡ k + d + 1 = omega arith in
-    let before = get_or log (k + d) rec in
-    let at : slice_get log (k + d) ≡ Some before = slice_get-get_or log (k + d) rec (omega arith) in
-    let apart : conflicts (touched before) (touched rec) ≡ false = no_conflict ts log (k + d) j before rec h at got (omega arith) (omega arith) in
-    let leaves : option_and_then (effect ts before.changes) (after ts base (take (k + d) log)) ≡ Some b =
-    sym (after-next ts base log (k + d) before at) ∙ ap (λ n. after ts base (take n log)) (sym place) ∙ is_b in
-    option_and_then_some (effect ts before.changes) (after ts base (take (k + d) log)) b leaves
+rows_stay r j (suc d) rec a b h got parent within is_a is_b q looks =
+    let n = r.committed + d in
+    let lt : j < length r.accepted = slice_get_within r.accepted j rec got in
+    let place : r.committed + suc d ≡ n + 1 = omega arith in
+    let before = get_or r.accepted n rec in
+    let at : slice_get r.accepted n ≡ Some before = slice_get-get_or r.accepted n rec (omega arith) in
+    let apart : conflicts (touched before) (touched rec) ≡ false = no_conflict r.tables r.accepted n j before rec h at got (omega arith) (omega arith) in
+    let leaves : option_and_then (effect r.tables before.changes) (rows_at r n) ≡ Some b =
+    sym (after-next r.tables (loaded r.base) r.accepted n before at) ∙ ap (rows_at r) (sym place) ∙ is_b in
+    option_and_then_some (effect r.tables before.changes) (rows_at r n) b leaves
     (λ mid one last.
-    rows_stay ts base log k j d rec a mid h got parent (omega arith) is_a one q looks
-    ∙ sym (changes_only_writes ts before.changes mid b q last (not_written before rec q apart looks)))
+    rows_stay r j d rec a mid h got parent (omega arith) is_a one q looks
+    ∙ sym (changes_only_writes r.tables before.changes mid b q last (not_written before rec q apart looks)))

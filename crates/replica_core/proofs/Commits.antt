@@ -7,12 +7,13 @@ use Rattle.std.specs.FinMap.{empty}
 use Rattle.schema.specs.declared.Table.{Table}
 use Rattle.rows.specs.Database.{Database, effect, writes}
 use Rattle.store_trait.specs.Batch.{put_batch, put_batches, rows_in}
-use Rattle.store_trait.specs.Operation.{batch_of}
+use Rattle.store_trait.specs.Operation.{batch_of, loaded}
 use Rattle.store_trait.proofs.Batches.{put_batch-writes}
 use Rattle.store_trait.specs.declared.Op.TheVariants.{Commit}
 use Rattle.record_codec.specs.declared.records.Record.{Record}
 use Rattle.record_codec.specs.Log.{after}
-use Rattle.replica_core.specs.Replica.{commits_from}
+use Rattle.replica_core.specs.Replica.{Replica, working_rows, commits_from, commits, waiting}
+use Rattle.replica_core.specs.Calls.{committed_next}
 use Rattle.replica_core.specs.Laws.{OneCommitMore, OneCommitEach, FirstCommits, OperationsLeaveRows}
 
 -- ---- lists
@@ -101,9 +102,9 @@ pub length-committed : (ts : List Table) (base : Database) (accepted : List Reco
 length-committed ts base accepted n mid within is = length-commits_from ts base 1 (take n accepted) mid is ∙ length-take-le n accepted within
 
 -- of the commits that wait, one more is the last
-pub waiting-next : (ts : List Table) (base : Database) (accepted : List Record) (n published : ℕ) (next : Record) (mid leaves : Database) → slice_get accepted n ≡ Some next → after ts base (take n accepted) ≡ Some mid → effect ts next.changes mid ≡ Some leaves → published ≤ n → drop published (commits_from ts base 1 (take n accepted)) ++ Commit (n + 1) (rows_in (writes next.changes) leaves) ∷ [] ≡ drop published (commits_from ts base 1 (take (n + 1) accepted))
-waiting-next ts base accepted n published next mid leaves got is last earlier =
-    let within : n < length accepted = slice_get_within accepted n next got in
-    let all : length (commits_from ts base 1 (take n accepted)) ≡ n = length-committed ts base accepted n mid (omega arith) is in
-    sym (drop-append-le published (commits_from ts base 1 (take n accepted)) _ (omega arith))
-    ∙ ap (drop published) (sym (commits_from-next ts base accepted n next mid leaves got is last))
+pub waiting-next : (r : Replica) (next : Record) (mid leaves : Database) → slice_get r.accepted r.committed ≡ Some next → working_rows r ≡ Some mid → effect r.tables next.changes mid ≡ Some leaves → r.published ≤ r.committed → waiting r ++ Commit (r.committed + 1) (rows_in (writes next.changes) leaves) ∷ [] ≡ waiting (committed_next r)
+waiting-next r next mid leaves got is last earlier =
+    let so_far = commits r.tables (loaded r.base) r.accepted r.committed in
+    let within : r.committed < length r.accepted = slice_get_within r.accepted r.committed next got in
+    let all : length so_far ≡ r.committed = length-committed r.tables (loaded r.base) r.accepted r.committed mid (omega arith) is in
+    sym (drop-append-le r.published so_far _ (omega arith)) ∙ ap (drop r.published) (sym (commits_from-next r.tables (loaded r.base) r.accepted r.committed next mid leaves got is last))

@@ -1,6 +1,6 @@
 -- The rows of a list, sorted and each once, copied from a database.
-use Rattle.std.proofs.Common.{◌≡◌, ◌∙◌, sym, ap, refl, Bool, true, false, ◌&&◌, ◌||◌, cond, eqb, int_eq, nat_cmp, int_cmp, List, [], ◌∷◌, map, Some, None, IsPermutation}
-use Rattle.std.specs.Cmp.{IsEquivalence, unsigned_tied, tied_then}
+use Rattle.std.proofs.Common.{◌≡◌, ◌∙◌, sym, ap, refl, true, ◌||◌, cond, List, [], ◌∷◌, map, Some, None, IsPermutation}
+use Rattle.std.specs.Cmp.{IsEquivalence}
 use Rattle.std.specs.FinMap.{get}
 use Rattle.std.specs.List.{dedup, list_any}
 use Rattle.std.specs.List.Sorted.{IsSorted}
@@ -12,29 +12,19 @@ use Rattle.std.proofs.lemmas.Map.Views.{Contains-from_any, list_any-from_Contain
 use Rattle.schema.specs.declared.RowId.{RowId}
 use Rattle.schema.specs.RowId.{row_cmp, row_total, same_row}
 use Rattle.schema.specs.Rows.{has_row}
+use Rattle.schema.proofs.RowMaps.{row_eq, row_eq-same_row}
+use Rattle.schema.proofs.Telling.{both_or_none}
 use Rattle.rows.specs.Database.{Database}
 use Rattle.rows.proofs.Apply.{row_is}
 use Rattle.store_trait.specs.Batch.{IsRising, rows_in}
 use Rattle.store_trait.proofs.Batches.{same_batch, rows_in_rise, find-rows_in, find-of_each}
 use Rattle.store_trait.proofs.Rising.{sorted_from_keys}
 
--- what `==` answers of two row ids
-abbrev pub row_eq : RowId → RowId → Bool
-row_eq a b = eqb a.table b.table && int_eq a.key b.key
-
-row_eq-same_row : (a b : RowId) → row_eq a b ≡ same_row a b
-row_eq-same_row a b = ap (λ t. t && int_eq a.key b.key) (sym (unsigned_tied a.table b.table)) ∙ tied_then (nat_cmp a.table b.table) (int_cmp a.key b.key)
-
 row_eq_equiv : IsEquivalence row_eq
 row_eq_equiv = and_equiv (on_equiv (λ (r : RowId). r.table) nat_eq_equiv) (on_equiv (λ (r : RowId). r.key) int_eq_equiv)
 
 row_eq_exact : (a b : RowId) → row_eq a b ≡ true → a ≡ b
 row_eq_exact a b h = row_is a b (sym (row_eq-same_row a b) ∙ h)
-
-both_or_none : (a b : Bool) → (a ≡ true → b ≡ true) → (b ≡ true → a ≡ true) → a ≡ b
-both_or_none true b h g = sym (h refl)
-both_or_none false true h g = g refl
-both_or_none false false h g = refl
 
 has_as_eq : (rows : List RowId) (q : RowId) → list_any (row_eq q) rows ≡ has_row rows q
 has_as_eq [] q = refl

@@ -1,7 +1,7 @@
 -- Records that are handed on one after another, and the pieces that they come in.
 use Rattle.std.proofs.Common.{◌≡◌, ◌∙◌, sym, ap, subst, refl, ℕ, ◌+◌, ◌<◌, ◌⊎◌, inl, inr, List, [], ◌∷◌, ◌++◌, length, take, get_or, append_assoc, append-nil, length-append, Result, Ok, Err, IsErrOf, arith}
 use Rattle.std.specs.Prelude.{IsOk}
-use Rattle.std.proofs.lemmas.List.{take_more}
+use Rattle.std.proofs.lemmas.List.{take_more, nil_from_length}
 use Rattle.record_codec.specs.declared.records.Record.{Record}
 use Rattle.record_codec.specs.declared.fault.CodecFault.{CodecFault}
 use Rattle.record_codec.specs.declared.fault.CodecFault.TheVariants as codec
@@ -85,11 +85,7 @@ takes_grow old new r then piece (Err (wire.Waiting fault)) h = let is = h.is in 
 pub grows_none : (r then : Replica) → Grows r then → length then.accepted ≡ length r.accepted → then ≡ r
 grows_none r then h e =
     let none : length h.more ≡ 0 = (let all = ap (λ (q : Replica). length q.accepted) h.is in omega (arith, length-append r.accepted h.more)) in
-    h.is ∙ ap (λ (l : List Record). record r { accepted = l }) (ap (λ (l : List Record). r.accepted ++ l) (no_more h.more none) ∙ append-nil r.accepted)
-  where
-    no_more : (l : List Record) → length l ≡ 0 → l ≡ []
-    no_more [] e = refl
-    no_more (x ∷ l) e = absurd (omega arith)
+    h.is ∙ ap (λ (l : List Record). record r { accepted = l }) (ap (λ (l : List Record). r.accepted ++ l) (nil_from_length h.more none) ∙ append-nil r.accepted)
 
 -- ---- a piece
 

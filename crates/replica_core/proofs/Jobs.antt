@@ -1,5 +1,5 @@
 -- The jobs of the accepted records, over the working rows.
-use Rattle.std.proofs.Common.{◌≡◌, ◌∙◌, sym, ap, refl, ℕ, zero, suc, ◌+◌, ◌-◌, ◌<◌, ◌≤◌, List, [], ◌∷◌, ◌++◌, length, take, Option, Some, None, is_some, arith, slice_get}
+use Rattle.std.proofs.Common.{◌≡◌, ◌∙◌, sym, ap, refl, ℕ, zero, suc, ◌+◌, ◌-◌, ◌<◌, ◌≤◌, List, [], ◌∷◌, ◌++◌, length, Option, Some, None, is_some, arith, slice_get}
 use Rattle.std.specs.Option.{option_and_then, option_map}
 use Rattle.std.proofs.lemmas.Option.{none-some, same_Some, option_and_then_some}
 use Rattle.std.proofs.lemmas.List.{take-append-le}
@@ -76,10 +76,8 @@ hold_along r acceptable eligible gno n job db under low high is rows_are =
     let parts = job_parts r gno job is in
     let behind = n - r.committed in
     let place : r.committed + behind ≡ n = omega arith in
-    let there : after r.tables (loaded r.base) (take (r.committed + behind) r.accepted) ≡ Some db = ap (rows_at r) place ∙ rows_are in
     let agree : AgreeOn (rows_of parts.rec) parts.rows db =
-    rows_stay r.tables (loaded r.base) r.accepted r.committed (gno - 1) behind parts.rec parts.rows db acceptable parts.got
-    (eligible gno parts.rec under parts.got) (omega arith) parts.rows_are there in
+    rows_stay r (gno - 1) behind parts.rec parts.rows db acceptable parts.got (eligible gno parts.rec under parts.got) (omega arith) parts.rows_are (ap (rows_at r) place ∙ rows_are) in
     ap (λ (j : Job). j.input) parts.job_is ∙ same_input parts.rec parts.rows db agree
     ∙ ap (λ (j : Job). rows_in (rows_of j.rec) db) (sym parts.job_is)
 

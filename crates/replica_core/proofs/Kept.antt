@@ -281,7 +281,7 @@ module _ (r : Replica) (marks : Marks) (line : Line) (inputs : List (List Entry)
           published = (let before = h.log.published in omega arith);
           ops_are =
               (λ i. h.log.ops_are i ++ Commit (r.committed + 1) (next.left_is i) ∷ [])
-              ∙ waiting-next r.tables (loaded r.base) r.accepted r.committed r.published next.rec rows next.leaves next.got h.log.rows_are next.applies h.log.published;
+              ∙ waiting-next r next.rec rows next.leaves next.got h.log.rows_are next.applies h.log.published;
         };
         marks_are = refl;
         dispatched = rw fewer (omega arith);

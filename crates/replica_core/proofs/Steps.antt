@@ -1,11 +1,12 @@
--- What a replica of parts keeps, as each call leaves its parts.
+-- What a replica keeps, as each call leaves its parts.
 use Rattle.std.proofs.Common.{◌≡◌, ◌∙◌, sym, ap, subst, refl, ℕ, ◌+◌, ◌-◌, ◌<◌, ◌≤◌, ◌^◌, ◌⊎◌, inl, inr, Bool, true, false, not, true≢false, ◌&&◌, ◌||◌, List, [], ◌∷◌, ◌++◌, map, length, drop, Option, Some, None, is_some, Result, Ok, Err, IfOk, OnErr, IsErrOf, IsErrAnd, arith, slice_get, slice_set, get_or, if◌then◌else◌, nat_le, nat_lt}
 use Rattle.std.specs.Option.{option_and_then, option_map_or, option_or}
 use Rattle.std.proofs.lemmas.Bool.{and_parts, or_parts, ltb-true, leb-true, leb-false}
 use Rattle.std.proofs.lemmas.Option.{none-some, same_Some, option_and_then_some}
-use Rattle.std.proofs.lemmas.List.{map-append, map-set, drop-map, length-take-le}
+use Rattle.std.proofs.lemmas.List.{map-set, length-take-le}
 use Rattle.std.proofs.Math.ListN.{get_or-map}
 use Rattle.schema.specs.declared.Table.{Table}
+use Rattle.schema.proofs.Telling.{not_some}
 use Rattle.rows.specs.Database.{Database}
 use Rattle.store_trait.specs.Batch.{Entry}
 use Rattle.store_trait.specs.declared.Op.{Op}
@@ -24,14 +25,14 @@ use Rattle.relay.specs.Relay.{IsAcceptable, AreAcceptable}
 use Rattle.relay.proofs.Acceptable.{next_is_acceptable}
 use Rattle.relay.proofs.Judged.{accepts_the_acceptable}
 use Rattle.scheduler.specs.Marks.{Marks, all_up_to}
-use Rattle.commit_order.specs.Turns.{Line, result_at, entered, with_result, turn, passed}
+use Rattle.commit_order.specs.Turns.{Line, result_at, entered, with_result, turn}
 use Rattle.replica_core.specs.Replica.{Replica, dispatched, job_of}
 use Rattle.replica_core.specs.Sound.{IsUnderWay}
-use Rattle.replica_core.specs.Calls.{is_eligible, dispatched_next, finish_fault, IsHandedOut, with_finished, next_commit, committed_next}
-use Rattle.replica_core.specs.Core.{seen_as, StandAtLowWater, IsTaken, turn_output, TakesTurn, IsJudged}
+use Rattle.replica_core.specs.Calls.{relay_of, is_eligible, finish_fault, IsHandedOut, with_finished, next_commit, with_published}
+use Rattle.replica_core.specs.Core.{StandAtLowWater, IsTaken, turn_output, TakesTurn, IsJudged}
 use Rattle.replica_core.proofs.Apart.{place_acceptable}
 use Rattle.replica_core.proofs.Jobs.{slice_get_some}
-use Rattle.replica_core.proofs.Kept.{IsNext, taken_within, kept_accepted, kept_dispatched, kept_finished, kept_stopped, kept_committed, kept_published, length_places}
+use Rattle.replica_core.proofs.Kept.{IsNext, taken_within, kept_accepted, kept_dispatched, kept_finished, kept_committed, kept_published, length_places}
 
 -- ---- numbers fit
 
@@ -71,10 +72,6 @@ refusal_is_cause None true false running = refl
 refusal_is_cause None false taken running = refl
 refusal_is_cause (Some gno) known taken running = cc
 
-pub ok_refuses_none : (fault : Option ReplicaFault) (u : Unit {0}) → Ok u ≡ told_as fault → fault ≡ None
-ok_refuses_none None u is = refl
-ok_refuses_none (Some fault) u is = cc
-
 pub err_refuses_so : (fault : Option ReplicaFault) (told : ReplicaFault) → Err told ≡ told_as fault → fault ≡ Some told
 err_refuses_so None told is = cc
 err_refuses_so (Some fault) told is = cc
@@ -89,10 +86,6 @@ no_cause None true false is = (refl, refl, refl)
 no_cause None false taken is = cc
 no_cause (Some gno) known taken is = cc
 
-none_there : {A : Type 0} (o : Option A) → is_some o ≡ false → o ≡ None
-none_there None is = refl
-none_there (Some x) is = absurd (true≢false is)
-
 option_map_or_true : {A : Type 0} (f : A → Bool) (o : Option A) → option_map_or f o false ≡ true → (x : A) × (o ≡ Some x) × (f x ≡ true)
 option_map_or_true f None is = absurd (true≢false (sym is))
 option_map_or_true f (Some x) is = (x, refl, is)
@@ -106,147 +99,123 @@ eligible_next r is =
 
 -- ---- the parts
 
-module _ (v : relay.Relay) (base : List Entry) (marks : Marks) (published : ℕ) (line : Line) (workers : ℕ) (stopped : Option ℕ) where
-  seen_entered : seen_as v base marks published (entered line) workers stopped ≡ dispatched_next (seen_as v base marks published line workers stopped)
-  seen_entered = ap (λ (u : List Bool). record (seen_as v base marks published line workers stopped) { under_way = u }) (map-append is_some line.places (None ∷ []))
+-- a replica whose relay is this, or whose line
+abbrev with_relay : Replica → relay.Relay → Replica
+with_relay r v = record r { tables = v.tables; source = v.source; accepted = v.accepted }
 
-  -- the place of a record that is dispatched and not committed
-  seen_finished : (result : Finished) (gno : ℕ) → line.first ≡ marks.low + 1 → result.job.gno ≡ gno → seen_as v base marks published (with_result line result) workers stopped ≡ with_finished (seen_as v base marks published line workers stopped) gno
-  seen_finished result gno first number =
-      let place : result.job.gno - line.first ≡ gno - marks.low - 1 = omega arith in
-      ap (λ (u : List Bool). record (seen_as v base marks published line workers stopped) { under_way = u })
-      (map-set is_some line.places (result.job.gno - line.first) (Some result) ∙ ap (λ n. slice_set (map is_some line.places) n true) place)
+abbrev with_line : Replica → Line → Replica
+with_line r line = record r { under_way = map is_some line.places }
 
-  seen_committed : seen_as v base (all_up_to (marks.low + 1)) published (passed line) workers stopped ≡ committed_next (seen_as v base marks published line workers stopped)
-  seen_committed = ap (λ (u : List Bool). record (seen_as v base marks published line workers stopped) { committed = marks.low + 1; under_way = u }) (sym (drop-map is_some 1 line.places))
+-- the places of a replica are those of its line
+as_line : (r : Replica) (marks : Marks) (line : Line) (inputs : List (List Entry)) (rows : Database) (ops : List Op) → StandAtLowWater r marks line inputs rows ops → StandAtLowWater (with_line r line) marks line inputs rows ops
+as_line r marks line inputs rows ops h = subst (λ (u : List Bool). StandAtLowWater (record r { under_way = u }) marks line inputs rows ops) h.places h
 
-  module _ (inputs : List (List Entry)) (rows : Database) (ops : List Op) where
-    abbrev pub Keeps : Type 0
-    Keeps = StandAtLowWater (seen_as v base marks published line workers stopped) marks line inputs rows ops
+module _ (r : Replica) (marks : Marks) (line : Line) (inputs : List (List Entry)) (rows : Database) (ops : List Op) where
+  pub received_kept : (from : List ℕ) (new : Record) (result : Result Received ReplicaFault) (left : relay.Relay) → StandAtLowWater r marks line inputs rows ops → (IsErrOf result NoMemory ⊎ (result ≡ relay.received (relay_of r) from new)) → IfOk result (λ answer. left ≡ relay.left_by_receive (relay_of r) new answer) → OnErr result (left ≡ relay_of r) → StandAtLowWater (with_relay r left) marks line inputs rows ops
+  received_kept from new (Err fault) left h answer ok err = subst (λ (v : relay.Relay). StandAtLowWater (with_relay r v) marks line inputs rows ops) (sym err) h
+  received_kept from new (Ok Skipped) left h answer ok err = subst (λ (v : relay.Relay). StandAtLowWater (with_relay r v) marks line inputs rows ops) (sym ok) h
+  received_kept from new (Ok Accepted) left h (inl lacks) ok err = cc
+  received_kept from new (Ok Accepted) left h (inr is) ok err =
+      let next : IsAcceptable r.tables r.accepted new = ((accepts_the_acceptable (relay_of r) from new).0 (sym is)).1 in
+      subst (λ (v : relay.Relay). StandAtLowWater (with_relay r v) marks line inputs rows ops) (sym ok)
+      (kept_accepted r marks line inputs rows ops new h (next_is_acceptable r.tables r.accepted new h.log.acceptable next))
 
-    pub received_kept : (from : List ℕ) (new : Record) (result : Result Received ReplicaFault) (left : relay.Relay) → Keeps → (IsErrOf result NoMemory ⊎ (result ≡ relay.received v from new)) → IfOk result (λ answer. left ≡ relay.left_by_receive v new answer) → OnErr result (left ≡ v) → StandAtLowWater (seen_as left base marks published line workers stopped) marks line inputs rows ops
-    received_kept from new (Err fault) left h answer ok err = subst (λ (x : relay.Relay). StandAtLowWater (seen_as x base marks published line workers stopped) marks line inputs rows ops) (sym err) h
-    received_kept from new (Ok Skipped) left h answer ok err = subst (λ (x : relay.Relay). StandAtLowWater (seen_as x base marks published line workers stopped) marks line inputs rows ops) (sym ok) h
-    received_kept from new (Ok Accepted) left h (inl lacks) ok err = cc
-    received_kept from new (Ok Accepted) left h (inr is) ok err =
-        let next : IsAcceptable v.tables v.accepted new = ((accepts_the_acceptable v from new).0 (sym is)).1 in
-        subst (λ (x : relay.Relay). StandAtLowWater (seen_as x base marks published line workers stopped) marks line inputs rows ops) (sym ok)
-        (kept_accepted (seen_as v base marks published line workers stopped) marks line inputs rows ops new h (next_is_acceptable v.tables v.accepted new h.log.acceptable next))
+  pub dispatched_kept : (job : Job) (line_then : Line) (inputs_then : List (List Entry)) → StandAtLowWater r marks line inputs rows ops → is_eligible r ≡ true → job_of r (dispatched r + 1) ≡ Some job → line_then ≡ entered line → inputs_then ≡ inputs ++ job.input ∷ [] → StandAtLowWater (with_line r line_then) marks line_then inputs_then rows ops
+  dispatched_kept job line_then inputs_then h may made is_line is_inputs =
+      let next = eligible_next r may in
+      let kept = as_line _ _ _ _ _ _ (kept_dispatched r marks line inputs rows ops next.0 job h next.1 made) in
+      rw (is_line, is_inputs) kept
 
-    pub dispatched_kept : (job : Job) (line_then : Line) (inputs_then : List (List Entry)) → Keeps → is_eligible (seen_as v base marks published line workers stopped) ≡ true → job_of (seen_as v base marks published line workers stopped) (dispatched (seen_as v base marks published line workers stopped) + 1) ≡ Some job → line_then ≡ entered line → inputs_then ≡ inputs ++ job.input ∷ [] → StandAtLowWater (seen_as v base marks published line_then workers stopped) marks line_then inputs_then rows ops
-    dispatched_kept job line_then inputs_then h may made is_line is_inputs =
-        let next = eligible_next (seen_as v base marks published line workers stopped) may in
-        rw (is_line, is_inputs, seen_entered) (kept_dispatched (seen_as v base marks published line workers stopped) marks line inputs rows ops next.0 job h next.1 made)
+  -- ---- a result that may be taken
 
-    -- ---- a result that may be taken
+  -- the place of a result, as it is seen and as it is in the line
+  place_seen : (gno : ℕ) → StandAtLowWater r marks line inputs rows ops → get_or r.under_way (gno - r.committed - 1) false ≡ is_some (result_at line gno)
+  place_seen gno h =
+      let place : gno - r.committed - 1 ≡ gno - line.first = (let first = h.first in omega arith) in
+      (λ i. get_or (h.places i) (place i) false) ∙ get_or-map is_some line.places (gno - line.first) None
 
-    -- the place of a result, as it is in the line and as it is seen
-    pub place_seen : (gno : ℕ) → Keeps → get_or (map is_some line.places) (gno - marks.low - 1) false ≡ is_some (result_at line gno)
-    place_seen gno h =
-        let place : gno - marks.low - 1 ≡ gno - line.first = (let first = h.first in omega arith) in
-        ap (λ n. get_or (map is_some line.places) n false) place ∙ get_or-map is_some line.places (gno - line.first) None
+  -- a result that nothing refuses is of a record that is dispatched and not committed, and none of it was taken
+  pub under_way_from : (gno : ℕ) → StandAtLowWater r marks line inputs rows ops → finish_fault r gno ≡ None → IsUnderWay r gno × (result_at line gno ≡ None)
+  under_way_from gno h is =
+      let so = no_cause r.stopped (nat_le 1 gno && nat_le gno (dispatched r)) (nat_le gno r.committed || get_or r.under_way (gno - r.committed - 1) false) is in
+      let known = and_parts (nat_le 1 gno) (nat_le gno (dispatched r)) so.1 in
+      let free = or_parts (nat_le gno r.committed) (get_or r.under_way (gno - r.committed - 1) false) so.2 in
+      ((leb-false gno r.committed free.0, leb-true gno (dispatched r) known.1), not_some (result_at line gno) (sym (place_seen gno h) ∙ free.1))
 
-    -- a result that nothing refuses is of a record that is dispatched and not committed, and none of it was taken
-    pub under_way_from : (gno : ℕ) → Keeps → finish_fault (seen_as v base marks published line workers stopped) gno ≡ None → IsUnderWay (seen_as v base marks published line workers stopped) gno × (result_at line gno ≡ None)
-    under_way_from gno h is =
-        let many = marks.low + length (map is_some line.places) in
-        let so = no_cause stopped (nat_le 1 gno && nat_le gno many) (nat_le gno marks.low || get_or (map is_some line.places) (gno - marks.low - 1) false) is in
-        let known = and_parts (nat_le 1 gno) (nat_le gno many) so.1 in
-        let free = or_parts (nat_le gno marks.low) (get_or (map is_some line.places) (gno - marks.low - 1) false) so.2 in
-        ((leb-false gno marks.low free.0, leb-true gno many known.1), none_there (result_at line gno) (sym (place_seen gno h) ∙ free.1))
+  taken_from : (result : Finished) (left : List Entry) → IsHandedOut r result → IsResult result → result.outcome ≡ Output left → IsTaken (job_of r result.job.gno) result
+  taken_from result left of made is = record { job = of; left = left; output = is; applies = came result.outcome (executed result.job) made is }
+    where
+      came : (o e : Outcome) → (o ≡ Lacks) ⊎ (o ≡ e) → o ≡ Output left → e ≡ Output left
+      came o e (inl lacks) is = cc
+      came o e (inr same) is = sym same ∙ is
 
-    taken_from : (result : Finished) (left : List Entry) → IsHandedOut (seen_as v base marks published line workers stopped) result → IsResult result → result.outcome ≡ Output left → IsTaken (job_of (seen_as v base marks published line workers stopped) result.job.gno) result
-    taken_from result left of made is = record { job = of; left = left; output = is; applies = came result.outcome (executed result.job) made is }
-      where
-        came : (o e : Outcome) → (o ≡ Lacks) ⊎ (o ≡ e) → o ≡ Output left → e ≡ Output left
-        came o e (inl lacks) is = cc
-        came o e (inr same) is = sym same ∙ is
+  pub finished_kept : (result : Finished) (left : List Entry) (line_then : Line) → StandAtLowWater r marks line inputs rows ops → finish_fault r result.job.gno ≡ None → IsHandedOut r result → IsResult result → result.outcome ≡ Output left → line_then ≡ with_result line result → StandAtLowWater (with_line r line_then) marks line_then inputs rows ops
+  finished_kept result left line_then h free of made is is_line =
+      let under = under_way_from result.job.gno h free in
+      let kept = as_line _ _ _ _ _ _ (kept_finished r marks line inputs rows ops result.job.gno result h under.0 refl (taken_from result left of made is)) in
+      rw is_line kept
 
-    pub finished_kept : (result : Finished) (left : List Entry) (line_then : Line) → Keeps → finish_fault (seen_as v base marks published line workers stopped) result.job.gno ≡ None → IsHandedOut (seen_as v base marks published line workers stopped) result → IsResult result → result.outcome ≡ Output left → line_then ≡ with_result line result → StandAtLowWater (seen_as v base marks published line_then workers stopped) marks line_then inputs rows ops
-    finished_kept result left line_then h free of made is is_line =
-        let under = under_way_from result.job.gno h free in
-        rw (is_line, seen_finished result result.job.gno h.first refl)
-        (kept_finished (seen_as v base marks published line workers stopped) marks line inputs rows ops result.job.gno result h under.0 refl (taken_from result left of made is))
+  pub finished_seen : (result : Finished) (line_then : Line) → StandAtLowWater r marks line inputs rows ops → line_then ≡ with_result line result → with_line r line_then ≡ with_finished r result.job.gno
+  finished_seen result line_then h is_line =
+      let place : result.job.gno - line.first ≡ result.job.gno - r.committed - 1 = (let first = h.first in omega arith) in
+      rw is_line
+      (ap (λ (u : List Bool). record r { under_way = u })
+      (map-set is_some line.places (result.job.gno - line.first) (Some result) ∙ (λ i. slice_set (sym h.places i) (place i) true)))
 
-    pub finished_seen : (result : Finished) (line_then : Line) → Keeps → line_then ≡ with_result line result → seen_as v base marks published line_then workers stopped ≡ with_finished (seen_as v base marks published line workers stopped) result.job.gno
-    finished_seen result line_then h is_line = rw is_line (seen_finished result result.job.gno h.first refl)
+  pub published_kept : (upto : ℕ) (ops_then : List Op) → StandAtLowWater r marks line inputs rows ops → r.published ≤ upto → upto ≤ r.committed → ops_then ≡ drop (upto - r.published) ops → StandAtLowWater (with_published r upto) marks line inputs rows ops_then
+  published_kept upto ops_then h later done is_ops = rw is_ops (kept_published r marks line inputs rows ops upto h later done)
 
-    pub stopped_kept : (gno : ℕ) → Keeps → StandAtLowWater (seen_as v base marks published line workers (Some gno)) marks line inputs rows ops
-    stopped_kept gno h = kept_stopped (seen_as v base marks published line workers stopped) marks line inputs rows ops gno h
+  -- ---- the next commit
 
-    pub published_kept : (upto : ℕ) (ops_then : List Op) → Keeps → published ≤ upto → upto ≤ marks.low → ops_then ≡ drop (upto - published) ops → StandAtLowWater (seen_as v base marks upto line workers stopped) marks line inputs rows ops_then
-    published_kept upto ops_then h later done is_ops =
-        rw is_ops (kept_published (seen_as v base marks published line workers stopped) marks line inputs rows ops upto h later done)
+  turn_taken : (rows_left : List Entry) → turn_output line ≡ Some rows_left → (result : Finished) × (turn line ≡ Some result) × (result.outcome ≡ Output rows_left)
+  turn_taken rows_left is =
+      option_and_then_some (λ (result : Finished). output_of result.outcome) (turn line) rows_left is (λ result at out. (result, at, output_is result.outcome out))
+    where
+      output_is : (o : Outcome) → output_of o ≡ Some rows_left → o ≡ Output rows_left
+      output_is (Output entries) out = ap Output (same_Some entries rows_left out)
+      output_is Undefined out = absurd (none-some rows_left out)
+      output_is WrongRefs out = absurd (none-some rows_left out)
+      output_is Lacks out = absurd (none-some rows_left out)
 
-    -- ---- the next commit
+  pub committed_kept : (gno : ℕ) (done : Bool) (marks_then : Marks) (line_then : Line) (inputs_then : List (List Entry)) (rows_then : Database) (ops_then : List Op) → StandAtLowWater r marks line inputs rows ops → gno ≡ r.committed + 1 → done ≡ true → TakesTurn gno line rows ops (Ok done) line_then rows_then ops_then → marks_then ≡ all_up_to gno → inputs_then ≡ drop 1 inputs → StandAtLowWater (record r { committed = marks_then.low; under_way = map is_some line_then.places }) marks_then line_then inputs_then rows_then ops_then
+  committed_kept gno false marks_then line_then inputs_then rows_then ops_then h number is put is_marks is_inputs = absurd (true≢false (sym is))
+  committed_kept gno true marks_then line_then inputs_then rows_then ops_then h number is put is_marks is_inputs =
+      let next = turn_taken put.left put.output in
+      let up : marks_then ≡ all_up_to (r.committed + 1) = is_marks ∙ ap all_up_to number in
+      let more : ops_then ≡ ops ++ Commit (r.committed + 1) put.left ∷ [] = put.ops_are ∙ ap (λ n. ops ++ Commit n put.left ∷ []) number in
+      let kept = as_line _ _ _ _ _ _ (kept_committed r marks line inputs rows ops next.0 put.left h next.1 next.2) in
+      rw (up, put.line_is, is_inputs, put.rows_are, more) kept
 
-    turn_taken : (rows_left : List Entry) → turn_output line ≡ Some rows_left → (result : Finished) × (turn line ≡ Some result) × (result.outcome ≡ Output rows_left)
-    turn_taken rows_left is =
-        option_and_then_some (λ (result : Finished). output_of result.outcome) (turn line) rows_left is (λ result at out. (result, at, output_is result.outcome out))
-      where
-        output_is : (o : Outcome) → output_of o ≡ Some rows_left → o ≡ Output rows_left
-        output_is (Output entries) out = ap Output (same_Some entries rows_left out)
-        output_is Undefined out = absurd (none-some rows_left out)
-        output_is WrongRefs out = absurd (none-some rows_left out)
-        output_is Lacks out = absurd (none-some rows_left out)
+  -- a result whose turn has come has its rows
+  no_turn : StandAtLowWater r marks line inputs rows ops → is_some (turn_output line) ≡ false → turn line ≡ None
+  no_turn h none = elim (turn_cases (turn line)) [
+    | inl absent ↦ absent
+    | inr there ↦
+        let some : 0 < length line.places = taken_within line.places 0 there.0 there.1 in
+        let lengths = length_places r marks line inputs rows ops h in
+        let front : r.committed + 1 - line.first ≡ 0 = (let first = h.first in omega arith) in
+        let taken = h.results (r.committed + 1) there.0 (omega arith, omega arith) (ap (λ n. get_or line.places n None) front ∙ there.1) in
+        let output : turn_output line ≡ Some taken.left =
+        ap (option_and_then (λ (result : Finished). output_of result.outcome)) there.1 ∙ ap output_of taken.output in
+        absurd (true≢false (sym (ap is_some output) ∙ none))
+  ]
+    where
+      turn_cases : (o : Option Finished) → (o ≡ None) ⊎ ((result : Finished) × (o ≡ Some result))
+      turn_cases None = inl refl
+      turn_cases (Some result) = inr (result, refl)
 
-    pub committed_kept : (gno : ℕ) (done : Bool) (marks_then : Marks) (line_then : Line) (inputs_then : List (List Entry)) (rows_then : Database) (ops_then : List Op) → Keeps → gno ≡ marks.low + 1 → done ≡ true → TakesTurn gno line rows ops (Ok done) line_then rows_then ops_then → marks_then ≡ all_up_to gno → inputs_then ≡ drop 1 inputs → StandAtLowWater (seen_as v base marks_then published line_then workers stopped) marks_then line_then inputs_then rows_then ops_then
-    committed_kept gno false marks_then line_then inputs_then rows_then ops_then h number is put is_marks is_inputs = absurd (true≢false (sym is))
-    committed_kept gno true marks_then line_then inputs_then rows_then ops_then h number is put is_marks is_inputs =
-        let next = turn_taken put.left put.output in
-        let up : marks_then ≡ all_up_to (marks.low + 1) = is_marks ∙ ap all_up_to number in
-        let more : ops_then ≡ ops ++ Commit (marks.low + 1) put.left ∷ [] = put.ops_are ∙ ap (λ n. ops ++ Commit n put.left ∷ []) number in
-        rw (up, put.line_is, is_inputs, put.rows_are, more, seen_committed)
-        (kept_committed (seen_as v base marks published line workers stopped) marks line inputs rows ops next.0 put.left h next.1 next.2)
+  pub none_committed : (gno : ℕ) (done : Bool) (line_then : Line) (rows_then : Database) (ops_then : List Op) → StandAtLowWater r marks line inputs rows ops → done ≡ false → TakesTurn gno line rows ops (Ok done) line_then rows_then ops_then → next_commit r ≡ None
+  none_committed gno true line_then rows_then ops_then h is put = absurd (true≢false is)
+  none_committed gno false line_then rows_then ops_then h is put =
+      let absent : get_or r.under_way 0 false ≡ false = (λ i. get_or (h.places i) 0 false) ∙ get_or-map is_some line.places 0 None ∙ ap is_some (no_turn h put.there) in
+      ap (λ (b : Bool). if b then Some (r.committed + 1) else None) absent
 
-    pub committed_seen : (gno : ℕ) (done : Bool) (marks_then : Marks) (line_then : Line) (rows_then : Database) (ops_then : List Op) → gno ≡ marks.low + 1 → done ≡ true → TakesTurn gno line rows ops (Ok done) line_then rows_then ops_then → marks_then ≡ all_up_to gno → seen_as v base marks_then published line_then workers stopped ≡ committed_next (seen_as v base marks published line workers stopped)
-    committed_seen gno false marks_then line_then rows_then ops_then number is put is_marks = absurd (true≢false (sym is))
-    committed_seen gno true marks_then line_then rows_then ops_then number is put is_marks =
-        rw (is_marks ∙ ap all_up_to number, put.line_is) seen_committed
+  -- ---- what is told of a result
 
-    -- the copy of its job is there to be dropped
-    pub copy_there : (gno : ℕ) (done : Bool) (line_then : Line) (rows_then : Database) (ops_then : List Op) → Keeps → done ≡ true → TakesTurn gno line rows ops (Ok done) line_then rows_then ops_then → 1 ≤ length inputs
-    copy_there gno false line_then rows_then ops_then h is put = absurd (true≢false (sym is))
-    copy_there gno true line_then rows_then ops_then h is put =
-        let next = turn_taken put.left put.output in
-        let some : 0 < length line.places = taken_within line.places 0 next.0 next.1 in
-        let lengths = length_places (seen_as v base marks published line workers stopped) marks line inputs rows ops h in
-        let count = h.count in
-        omega arith
-
-    -- a result whose turn has come has its rows
-    no_turn : Keeps → is_some (turn_output line) ≡ false → turn line ≡ None
-    no_turn h none = elim (turn_cases (turn line)) [
-      | inl absent ↦ absent
-      | inr there ↦
-          let some : 0 < length line.places = taken_within line.places 0 there.0 there.1 in
-          let lengths = length_places (seen_as v base marks published line workers stopped) marks line inputs rows ops h in
-          let front : marks.low + 1 - line.first ≡ 0 = (let first = h.first in omega arith) in
-          let taken = h.results (marks.low + 1) there.0 (omega arith, omega arith) (ap (λ n. get_or line.places n None) front ∙ there.1) in
-          let output : turn_output line ≡ Some taken.left =
-          ap (option_and_then (λ (result : Finished). output_of result.outcome)) there.1 ∙ ap output_of taken.output in
-          absurd (true≢false (sym (ap is_some output) ∙ none))
-    ]
-      where
-        turn_cases : (o : Option Finished) → (o ≡ None) ⊎ ((result : Finished) × (o ≡ Some result))
-        turn_cases None = inl refl
-        turn_cases (Some result) = inr (result, refl)
-
-    pub next_seen : is_some (turn line) ≡ get_or (map is_some line.places) 0 false
-    next_seen = sym (get_or-map is_some line.places 0 None)
-
-    pub none_committed : (gno : ℕ) (done : Bool) (line_then : Line) (rows_then : Database) (ops_then : List Op) → Keeps → done ≡ false → TakesTurn gno line rows ops (Ok done) line_then rows_then ops_then → next_commit (seen_as v base marks published line workers stopped) ≡ None
-    none_committed gno true line_then rows_then ops_then h is put = absurd (true≢false is)
-    none_committed gno false line_then rows_then ops_then h is put =
-        let absent : get_or (map is_some line.places) 0 false ≡ false = sym next_seen ∙ ap is_some (no_turn h put.there) in
-        ap (λ (b : Bool). if b then Some (marks.low + 1) else None) absent
-
-    -- ---- what is told of a result
-
-    -- the tests of a number, as they are made over the line
-    pub refusal_seen : (now : Replica) (gno low many : ℕ) → Keeps → seen_as v base marks published line workers stopped ≡ now → stopped ≡ None → low ≡ marks.low → many ≡ dispatched now → refusal (nat_le 1 gno && nat_le gno many) (nat_le gno low || is_some (result_at line gno)) ≡ told_as (finish_fault now gno)
-    refusal_seen now gno low many h is running is_low is_many =
-        let count : many ≡ marks.low + length (map is_some line.places) = is_many ∙ ap dispatched (sym is) in
-        (λ i. refusal (nat_le 1 gno && nat_le gno (count i)) (nat_le gno (is_low i) || sym (place_seen gno h) i))
-        ∙ refusal_is_cause stopped (nat_le 1 gno && nat_le gno (marks.low + length (map is_some line.places))) (nat_le gno marks.low || get_or (map is_some line.places) (gno - marks.low - 1) false) running
-        ∙ ap (λ (r : Replica). told_as (finish_fault r gno)) is
+  -- the tests of a number, as they are made over the line
+  pub refusal_seen : (now : Replica) (gno low many : ℕ) → StandAtLowWater r marks line inputs rows ops → r ≡ now → r.stopped ≡ None → low ≡ r.committed → many ≡ dispatched now → refusal (nat_le 1 gno && nat_le gno many) (nat_le gno low || is_some (result_at line gno)) ≡ told_as (finish_fault now gno)
+  refusal_seen now gno low many h is running is_low is_many =
+      let count : many ≡ dispatched r = is_many ∙ ap dispatched (sym is) in
+      (λ i. refusal (nat_le 1 gno && nat_le gno (count i)) (nat_le gno (is_low i) || sym (place_seen gno h) i))
+      ∙ refusal_is_cause r.stopped (nat_le 1 gno && nat_le gno (dispatched r)) (nat_le gno r.committed || get_or r.under_way (gno - r.committed - 1) false) running
+      ∙ ap (λ (q : Replica). told_as (finish_fault q gno)) is

@@ -1,5 +1,5 @@
 -- The operations of accepted records: how many they are, and how they grow.
-use Rattle.std.proofs.Common.{◌≡◌, ◌∙◌, sym, ap, subst, refl, ℕ, zero, suc, ◌+◌, ◌<◌, ◌≤◌, List, [], ◌∷◌, ◌++◌, length, take, drop, Some, None, arith, slice_get, get_or, length-append, append_assoc}
+use Rattle.std.proofs.Common.{◌≡◌, ◌∙◌, sym, ap, subst, refl, ℕ, zero, suc, ◌+◌, ◌<◌, ◌≤◌, List, [], ◌∷◌, ◌++◌, length, take, drop, Some, None, arith, slice_get, get_or, length-append}
 use Rattle.std.specs.Option.{option_map_or}
 use Rattle.std.proofs.lemmas.List.{take-append-drop, take-take, take-append-le, length-take-le}
 use mathlib.Core.List.{IsPrefix}
@@ -9,7 +9,7 @@ use Rattle.store_trait.specs.Batch.{Entry, rows_in}
 use Rattle.store_trait.specs.Operation.{loaded}
 use Rattle.store_trait.specs.declared.Op.{Op}
 use Rattle.store_trait.specs.declared.Op.TheVariants.{Load, Commit}
-use Rattle.published.specs.History.{IsCommit, CommitsFrom}
+use Rattle.published.specs.History.{CommitsFrom}
 use Rattle.record_codec.specs.declared.records.Record.{Record}
 use Rattle.replica_core.specs.Replica.{commits_from, commits, operations}
 use Rattle.record_codec.specs.Log.{after}
@@ -17,18 +17,8 @@ use Rattle.replica_core.proofs.Commits.{length-commits_from, take-commits_from}
 
 -- ---- lists
 
-pub prefix_joins : (xs ys zs : List Op) → IsPrefix xs ys → IsPrefix ys zs → IsPrefix xs zs
-prefix_joins xs ys zs p q = (p.0 ++ q.0, sym (append_assoc xs p.0 q.0) ∙ ap (λ l. l ++ q.0) p.1 ∙ q.1)
-
 pub prefix_length : (xs ys : List Op) → IsPrefix xs ys → length xs ≤ length ys
 prefix_length xs ys p = omega (arith, length-append xs p.0, ap length p.1)
-
-pub prefix_whole : (xs ys : List Op) → IsPrefix xs ys → length ys ≤ length xs → xs ≡ ys
-prefix_whole [] [] p le = refl
-prefix_whole [] (y ∷ ys) p le = absurd (omega arith)
-prefix_whole (x ∷ xs) [] p le = absurd (cc (p.1))
-prefix_whole (x ∷ xs) (y ∷ ys) p le =
-    let rest = prefix_whole xs ys (p.0, cc (p.1)) (omega arith) in cc (p.1, rest)
 
 -- one more of the longer list
 pub prefix_next : (xs ys : List Op) (y : Op) → IsPrefix xs ys → slice_get ys (length xs) ≡ Some y → IsPrefix (xs ++ y ∷ []) ys
@@ -80,12 +70,6 @@ few_commits ts db gno (x ∷ xs) =
       | None ↦ omega arith
       | Some left ↦ (let rest = few_commits ts left (gno + 1) xs in omega arith)
     ]
-
--- the number of a commit among these
-pub number_at : (n k : ℕ) (ops : List Op) (op : Op) → CommitsFrom n ops → slice_get ops k ≡ Some op → IsCommit op (n + k)
-number_at n k [] op h is = absurd (cc (is))
-number_at n zero (x ∷ ops) op h is = let same : x ≡ op = cc (is) in subst (λ o. IsCommit o (n + zero)) same (subst (IsCommit x) (omega arith) h.0)
-number_at n (suc k) (x ∷ ops) op h is = subst (IsCommit op) (omega arith) (number_at (n + 1) k ops op h.1 is)
 
 -- records that apply have a commit each
 pub each_commit : (ts : List Table) (base : Database) (accepted : List Record) (n : ℕ) (rows : Database) → n ≤ length accepted → after ts base (take n accepted) ≡ Some rows

@@ -1,8 +1,9 @@
 -- What the core, and what stands with it, are once a wire took a piece.
-use Rattle.std.proofs.Common.{◌≡◌, ◌∙◌, sym, ap, subst, refl, ℕ, ◌<◌, ◌≤◌, ◌⊎◌, inl, inr, Bool, true, false, ◌||◌, nat_eq, nat_lt, List, [], ◌∷◌, ◌++◌, length, length-append, append-nil, Option, Some, None, Result, Ok, Err, IfErr, arith}
+use Rattle.std.proofs.Common.{◌≡◌, ◌∙◌, sym, ap, subst, refl, ℕ, ◌<◌, ◌≤◌, inl, Bool, true, false, ◌||◌, nat_eq, nat_lt, List, [], ◌∷◌, ◌++◌, length, length-append, append-nil, Option, Some, None, Result, Ok, Err, arith}
 use Rattle.std.specs.Prelude.{IsOk}
 use Rattle.std.specs.Option.{option_map_or}
-use Rattle.std.proofs.lemmas.Bool.{false≢true, false_from_ne_true, eqb-true, ltb-true, ltb-false}
+use Rattle.std.proofs.Math.Bool.{or-false}
+use Rattle.std.proofs.lemmas.Bool.{false≢true, false_from_ne_true, eqb-true, ltb-true}
 use mathlib.Core.List.{IsPrefix}
 use Rattle.schema.specs.declared.Table.{Table}
 use Rattle.store_trait.specs.Batch.{Entry}
@@ -16,12 +17,12 @@ use Rattle.relay.specs.declared.Received.{Received}
 use Rattle.relay.specs.declared.Received.TheVariants.{Accepted, Skipped}
 use Rattle.replica_core.specs.Replica.{Replica}
 use Rattle.replica_core.specs.Calls.{new_over, left_by_receive}
-use Rattle.replica_core.specs.Wire.{Wire, HandsAll, Gathers, IsCodecCause, Takes, piece_taken}
+use Rattle.replica_core.specs.Wire.{Wire, HandsAll, Gathers, IsCodecCause, Takes}
 use Rattle.replica_core.specs.declared.wire.WireFault.{WireFault}
 use Rattle.replica_core.specs.declared.wire.WireFault.TheVariants as wire
 use Rattle.replica_core.proofs.Handing.{Grows, takes_grow, hands_on_grow, takes_first, takes_nothing, grows_none}
 use Rattle.replica_shared.specs.Together.{State, IsWhole, words_of}
-use Rattle.replica_shared.specs.Feeding.{IsNamed, left_by_take, SettlesOrLacks, told_behind, TakesAndSettles, HandsAs, HandsAndSettles, Feeds}
+use Rattle.replica_shared.specs.Feeding.{left_by_take, SettlesOrLacks, told_behind, TakesAndSettles, HandsAs, HandsAndSettles, Feeds}
 use Rattle.replica_shared.proofs.Commits.{same_operations}
 use Rattle.replica_shared.proofs.Whole.{unsettled}
 
@@ -121,17 +122,13 @@ module _ (tables : List Table) (source : List ℕ) (base : List Entry) where
 
 -- ---- what a call is told
 
-or_false : (b : Bool) → (b || false) ≡ b
-or_false true = refl
-or_false false = refl
-
 none_less : (n : ℕ) → nat_lt n n ≡ false
 none_less n = false_from_ne_true (nat_lt n n) (λ is. let less = ltb-true n n is in absurd (omega arith))
 
 -- a core that is as it was leaves the state so
 pub left_same : (s : State) (core : Replica) → core ≡ s.core → left_by_take s core ≡ s
 left_same s core is =
-    ap (left_by_take s) is ∙ ap (λ (b : Bool). record s { behind = b }) (ap (λ (b : Bool). s.behind || b) (none_less (length s.core.accepted)) ∙ or_false s.behind)
+    ap (left_by_take s) is ∙ ap (λ (b : Bool). record s { behind = b }) (ap (λ (b : Bool). s.behind || b) (none_less (length s.core.accepted)) ∙ or-false s.behind)
 
 pub takes_and_settles : (s mid then : State) (old new : Wire) (piece : List ℕ) (taken answer : Result ℕ WireFault) (settled : Result (Unit {0}) ReplicaFault) (before : ℕ) → Takes old s.core piece taken new mid.core → mid ≡ left_by_take s mid.core → before ≡ length s.core.accepted
     → (length mid.core.accepted ≤ before → (settled ≡ Ok tt) × (then ≡ mid)) → (before < length mid.core.accepted → SettlesOrLacks mid settled then) → answer ≡ told_behind taken settled → TakesAndSettles s old piece answer new then
@@ -152,37 +149,6 @@ pub hands_and_settles : (s mid then : State) (full new : Wire) (taken answer : R
     → (length mid.core.accepted ≤ before → (settled ≡ Ok tt) × (then ≡ mid)) → (before < length mid.core.accepted → SettlesOrLacks mid settled then) → answer ≡ told_behind taken settled → HandsAndSettles s full answer new then
 hands_and_settles s mid then full new taken answer settled before hands left was none some told =
     λ old piece empty gathers. takes_and_settles s mid then old new piece taken answer settled before (hands_take old full new s.core mid.core piece taken empty gathers hands) left was none some told
-
--- the wire's own answer, or want of memory
-told_as : (taken : Result ℕ WireFault) (settled : Result (Unit {0}) ReplicaFault) → IfErr settled (λ fault. fault ≡ faults.Memory) → (told_behind taken settled ≡ taken) ⊎ (IsOk taken × (told_behind taken settled ≡ Err (wire.Replica faults.Memory)))
-told_as (Err fault) settled lacks = inl refl
-told_as (Ok count) (Ok done) lacks = inl refl
-told_as (Ok count) (Err fault) lacks = inr (refl, ap (λ (f : ReplicaFault). Err (wire.Replica f)) lacks)
-
--- either way so much of the piece is taken
-told_bytes : (taken : Result ℕ WireFault) (settled : Result (Unit {0}) ReplicaFault) (piece : List ℕ) → piece_taken (told_behind taken settled) piece ≡ piece_taken taken piece
-told_bytes (Err fault) settled piece = refl
-told_bytes (Ok count) (Ok done) piece = refl
-told_bytes (Ok count) (Err fault) piece = refl
-
-lacks_or_none : (s then : State) (settled : Result (Unit {0}) ReplicaFault) → SettlesOrLacks s settled then → IfErr settled (λ fault. fault ≡ faults.Memory)
-lacks_or_none s then (Ok done) h = tt
-lacks_or_none s then (Err fault) h = h.1.0
-
-pub feeds : (tables : List Table) (source : List ℕ) (base : List Entry) (s then : State) (old new : Wire) (piece : List ℕ) (answer : Result ℕ WireFault) → TakesAndSettles s old piece answer new then → IsNamed tables source base s.core → Feeds tables source base old piece answer new
-feeds tables source base s then old new piece answer h named = record {
-  before = s.core;
-  named = named;
-  core = h.core;
-  taken = h.taken;
-  takes = h.takes;
-  told = subst (λ (a : Result ℕ WireFault). (a ≡ h.taken) ⊎ (IsOk h.taken × (a ≡ Err (wire.Replica faults.Memory)))) (sym h.told) (told_as h.taken h.settled (of_more (nat_lt (length s.core.accepted) (length h.core.accepted)) refl));
-  bytes = ap (λ (a : Result ℕ WireFault). piece_taken a piece) h.told ∙ told_bytes h.taken h.settled piece;
-}
-  where
-    of_more : (b : Bool) → nat_lt (length s.core.accepted) (length h.core.accepted) ≡ b → IfErr h.settled (λ fault. fault ≡ faults.Memory)
-    of_more true is = lacks_or_none (left_by_take s h.core) then h.settled (h.some (ltb-true (length s.core.accepted) (length h.core.accepted) is))
-    of_more false is = subst (λ (r : Result (Unit {0}) ReplicaFault). IfErr r (λ fault. fault ≡ faults.Memory)) (sym (h.none (ltb-false (length s.core.accepted) (length h.core.accepted) is)).0) tt
 
 -- ---- without the lock
 

@@ -1,17 +1,9 @@
 -- Later states of a coordinator.
-use Rattle.std.proofs.Common.{◌≡◌, ◌∙◌, sym, ap, subst, refl, Bool, List, [], arith}
-use Rattle.std.proofs.lemmas.List.{append-nil}
+use Rattle.std.proofs.Common.{◌≡◌, ◌∙◌, sym, ap, subst, Bool, arith}
 use mathlib.Core.List.{IsPrefix}
-use Rattle.store_trait.specs.declared.Op.{Op}
+use base.Growing.{prefix_refl, prefix_trans}
 use Rattle.replica_core.specs.Replica.{Replica}
 use Rattle.replica_shared.specs.Together.{State, IsLater, Settles, DispatchesMore}
-use Rattle.replica_shared.proofs.Commits.{prefix_joins}
-
-itself : (xs : List Op) → IsPrefix xs xs
-itself xs = ([], append-nil xs)
-
-pub later_itself : (s : State) → IsLater s s
-later_itself s = record { tables = refl; source = refl; base = refl; accepted = refl; committed = omega arith; published = itself s.publication.published; closed = refl }
 
 pub later_then : (s t u : State) → IsLater s t → IsLater t u → IsLater s u
 later_then s t u a b =
@@ -23,14 +15,11 @@ later_then s t u a b =
       base = b.base ∙ a.base;
       accepted = b.accepted ∙ a.accepted;
       committed = omega arith;
-      published = prefix_joins s.publication.published t.publication.published u.publication.published a.published b.published;
+      published = prefix_trans s.publication.published t.publication.published u.publication.published a.published b.published;
       closed = b.closed ∙ a.closed;
     }
 
 -- ---- what settles
-
-pub settles_itself : (s : State) → Settles s s
-settles_itself s = record { later = later_itself s; stopped = refl; kept = refl; claimed = refl; told = refl }
 
 pub settles_then : (s t u : State) → Settles s t → Settles t u → Settles s u
 settles_then s t u a b = record {
@@ -65,7 +54,7 @@ dispatching_settles s t h = record {
     base = ap (λ (r : Replica). r.base) h.core;
     accepted = ap (λ (r : Replica). r.accepted) h.core;
     committed = (let same : t.core.committed ≡ s.core.committed = ap (λ (r : Replica). r.committed) h.core in omega arith);
-    published = subst (λ (x : State). IsPrefix s.publication.published x.publication.published) (sym h.same) (itself s.publication.published);
+    published = subst (λ (x : State). IsPrefix s.publication.published x.publication.published) (sym h.same) (prefix_refl s.publication.published);
     closed = ap (λ (x : State). x.closed) h.same;
   };
   stopped = ap (λ (r : Replica). r.stopped) h.core;

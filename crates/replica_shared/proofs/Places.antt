@@ -1,46 +1,22 @@
 -- The places of the jobs that are kept, at each step.
-use Rattle.std.proofs.Common.{◌≡◌, ◌∙◌, sym, ap, subst, refl, ℕ, zero, suc, ◌+◌, ◌-◌, ◌%◌, ◌<◌, ◌≤◌, inl, inr, Bool, true, false, true≢false, is_some, ◌⊎◌, ◌&&◌, nat_le, Result, Err, IfSome, List, [], ◌∷◌, length, nat_lt, cond, replicate, Option, Some, None, arith, slice_set, get_or, length-drop}
+use Rattle.std.proofs.Common.{◌≡◌, ◌∙◌, sym, ap, subst, refl, ℕ, zero, suc, ◌+◌, ◌-◌, ◌%◌, ◌<◌, ◌≤◌, inl, inr, Bool, true, false, true≢false, is_some, ◌⊎◌, ◌&&◌, nat_le, Result, Err, IfSome, List, [], ◌∷◌, length, nat_lt, cond, replicate, Option, Some, None, arith, slice_set, get_or}
 use Rattle.std.specs.List.{position, position_or_len, count_by}
 use Rattle.std.proofs.lemmas.Bool.{cases_eq, and_parts, or_parts, leb-true, leb-false, lt-ltb, ltb-false}
 use Rattle.std.proofs.lemmas.Option.{none-some, same_Some}
 use Rattle.std.proofs.lemmas.List.{length_push, length-set, set_past, get_or-set_same, get_or-set_other}
 use Rattle.std.proofs.lemmas.List.Quantifiers.{position-Some}
 use Rattle.std.proofs.lemmas.List.Sums.{sum_by-cons, sum_by-set}
-use Rattle.record_codec.specs.declared.records.Record.{Record}
 use Rattle.executor.specs.declared.Job.{Job}
 use Rattle.executor.specs.Job.{Finished}
 use Rattle.relay.specs.declared.ReplicaFault.{ReplicaFault}
 use Rattle.relay.specs.declared.ReplicaFault.TheVariants as faults
-use Rattle.relay.specs.declared.Received.{Received}
-use Rattle.relay.specs.declared.Received.TheVariants.{Accepted, Skipped}
 use Rattle.replica_core.specs.Replica.{Replica, dispatched}
-use Rattle.replica_core.specs.Calls.{left_by_receive, left_by_fault, dispatched_next, with_finished, committed_next, finish_fault, was_finished}
+use Rattle.replica_core.specs.Calls.{dispatched_next, finish_fault, was_finished}
 use Rattle.replica_core.specs.Sound.{IsSound, IsUnderWay}
-use Rattle.replica_shared.specs.Together.{AreKept, NoneLost, laid, taken_back, TakesOut}
+use Rattle.replica_shared.specs.Together.{AreKept, NoneLost, laid, TakesOut}
 use Rattle.replica_core.proofs.Steps.{cause, no_cause}
 
 -- ---- how many are dispatched, which never falls
-
-pub dispatched_received : (r : Replica) (new : Record) (answer : Received) → dispatched (left_by_receive r new answer) ≡ dispatched r
-dispatched_received r new Accepted = refl
-dispatched_received r new Skipped = refl
-
-pub dispatched_fault : (r : Replica) (fault : ReplicaFault) → dispatched (left_by_fault r fault) ≡ dispatched r
-dispatched_fault r (faults.Stopped gno) = refl
-dispatched_fault r faults.Gap = refl
-dispatched_fault r faults.ForeignSource = refl
-dispatched_fault r faults.Malformed = refl
-dispatched_fault r faults.BadParent = refl
-dispatched_fault r faults.Stranger = refl
-dispatched_fault r faults.Double = refl
-dispatched_fault r faults.WrongInput = refl
-dispatched_fault r faults.Memory = refl
-
-pub dispatched_finished : (r : Replica) (gno : ℕ) → dispatched (with_finished r gno) ≡ dispatched r
-dispatched_finished r gno = ap (λ n. r.committed + n) (length-set r.under_way (gno - r.committed - 1) true)
-
-pub dispatched_committed : (r : Replica) → dispatched r ≤ dispatched (committed_next r)
-dispatched_committed r = omega (arith, length-drop 1 r.under_way)
 
 pub dispatched_more : (r : Replica) → dispatched r ≤ dispatched (dispatched_next r)
 dispatched_more r = omega (arith, length_push r.under_way false)
@@ -108,17 +84,6 @@ none_lost r job kept sound under h gno behind has =
       | inl here ↦ (job, (ap (λ n. get_or (laid job kept) n None) here ∙ get_or-set_same kept (job.gno % 64) (Some job) None inside, omega arith))
       | inr elsewhere ↦ (has.0, (get_or-set_other kept (job.gno % 64) (gno % 64) (Some job) None elsewhere ∙ has.1.0, has.1.1))
     ]
-
-pub not_taken_back : (fault : ReplicaFault) (job : Job) (kept : List (Option Job)) → (fault ≡ faults.Memory → ⊥) → taken_back fault job kept ≡ kept
-not_taken_back (faults.Stopped gno) job kept other = refl
-not_taken_back faults.Gap job kept other = refl
-not_taken_back faults.ForeignSource job kept other = refl
-not_taken_back faults.Malformed job kept other = refl
-not_taken_back faults.BadParent job kept other = refl
-not_taken_back faults.Stranger job kept other = refl
-not_taken_back faults.Double job kept other = refl
-not_taken_back faults.WrongInput job kept other = refl
-not_taken_back faults.Memory job kept other = absurd (other refl)
 
 -- a job has a first place before it or where it lies
 found_within : (kept : List (Option Job)) (place : ℕ) (job : Job) → get_or kept place None ≡ Some job → position_or_len is_some kept < length kept

@@ -1,5 +1,5 @@
 -- What is true under the lock, as each step leaves its parts.
-use Rattle.std.proofs.Common.{◌≡◌, ◌∙◌, sym, ap, subst, refl, ℕ, ◌+◌, ◌<◌, ◌≤◌, ◌⊎◌, ◌^◌, inl, inr, Bool, true, false, true≢false, List, [], ◌∷◌, ◌++◌, length, drop, Option, Some, None, is_some, Ok, Err, IsErrOf, arith, get_or, if◌then◌else◌}
+use Rattle.std.proofs.Common.{◌≡◌, ◌∙◌, sym, ap, subst, refl, ℕ, ◌+◌, ◌<◌, ◌≤◌, ◌⊎◌, ◌^◌, inl, inr, Bool, true, false, true≢false, List, [], ◌∷◌, length, drop, Option, Some, None, is_some, Ok, Err, IsErrOf, arith, get_or, if◌then◌else◌}
 use Rattle.std.specs.Option.{option_map_or}
 use Rattle.std.proofs.lemmas.Option.{none-some}
 use Rattle.std.proofs.lemmas.List.{length_push}
@@ -14,7 +14,7 @@ use Rattle.replica_core.specs.Sound.{IsSound}
 use Rattle.replica_core.proofs.Jobs.{job_is_of_its_record}
 use Rattle.replica_core.proofs.Steps.{few_accepted}
 use Rattle.replica_shared.specs.declared.news.Outlook.{Outlook}
-use Rattle.replica_shared.specs.Outlet.{Queued, AreInLine, IsLastOut, pushed_aside, empty_outlet}
+use Rattle.replica_shared.specs.Outlet.{Queued, AreInLine, IsLastOut, empty_outlet}
 use Rattle.replica_shared.specs.Together.{State, AreKept, IsWhole, IsCaughtUp, IsBehindOrCaughtUp}
 use Rattle.replica_shared.proofs.Places.{kept_later, dispatched_more}
 
@@ -74,14 +74,6 @@ dispatched_stays r is = omega (arith, had_some r.under_way is)
 dispatched_next_is : (r : Replica) → dispatched (dispatched_next r) ≡ dispatched r + 1
 dispatched_next_is r = omega (arith, length_push r.under_way false)
 
-first_stays : (flags : List Bool) → get_or (flags ++ false ∷ []) 0 false ≡ get_or flags 0 false
-first_stays [] = refl
-first_stays (flag ∷ flags) = refl
-
--- the next commit is the same where more is dispatched
-pub commit_stays : (r : Replica) → next_commit (dispatched_next r) ≡ next_commit r
-commit_stays r = ap (λ (b : Bool). if b then Some (r.committed + 1) else None) (first_stays r.under_way)
-
 -- the job that is dispatched may be pushed
 pub number_of_next : (r : Replica) (job : Job) → next_job r ≡ Some job → job.gno ≡ dispatched r + 1
 number_of_next r job is = of_eligible (is_eligible r) is
@@ -89,12 +81,6 @@ number_of_next r job is = of_eligible (is_eligible r) is
     of_eligible : (b : Bool) → (if b then job_of r (dispatched r + 1) else None) ≡ Some job → job.gno ≡ dispatched r + 1
     of_eligible true made = (job_is_of_its_record r (dispatched r + 1) job made).gno
     of_eligible false made = absurd (none-some job made)
-
-pub next_above : (r : Replica) (q : Queued) (job : Job) → next_job r ≡ Some job → AreInLine (dispatched r) q → q.aside ≡ None → q.pushed < job.gno
-next_above r q job is line free =
-    let number = number_of_next r job is in
-    let all : q.pushed ≡ dispatched r = subst (IsLastOut (dispatched r) q.pushed) free line in
-    omega arith
 
 pub next_in_line : (r : Replica) (q : Queued) (job : Job) → next_job r ≡ Some job → AreInLine (dispatched r) q → q.aside ≡ None → AreInLine (dispatched (dispatched_next r)) (record q { aside = Some job })
 next_in_line r q job is line free =
@@ -125,21 +111,6 @@ whole_dispatched tables source base s r q told job appended stored behind free i
       claims = h.claims;
       rest = unsettled (record s { core = dispatched_next s.core; outlet = record s.outlet { aside = Some job } }) behind;
     }
-
--- the job that waited is pushed
-pub pushed_in_line : (n : ℕ) (q : Queued) → AreInLine n q → AreInLine n (pushed_aside q)
-pushed_in_line n q line = of_aside q.pushed q.aside line
-  where
-    of_aside : (pushed : ℕ) (aside : Option Job) → IsLastOut n pushed aside → AreInLine n (pushed_aside (record { pushed = pushed; aside = aside }))
-    of_aside pushed None line = line
-    of_aside pushed (Some job) line = line.1
-
-pub pushed_more : (n : ℕ) (q : Queued) → AreInLine n q → q.pushed ≤ (pushed_aside q).pushed
-pushed_more n q line = of_aside q.pushed q.aside line
-  where
-    of_aside : (pushed : ℕ) (aside : Option Job) → IsLastOut n pushed aside → pushed ≤ (pushed_aside (record { pushed = pushed; aside = aside })).pushed
-    of_aside pushed None line = omega arith
-    of_aside pushed (Some job) line = let last = line.0 in let number = line.1 in omega arith
 
 -- so few are pushed
 pub few_pushed : (tables : List Table) (source : List ℕ) (base : List Entry) (s : State) (appended : ℕ) (stored : List Counts) → IsSound s.core → IsWhole tables source base s appended stored → s.outlet.pushed < 2 ^ 63

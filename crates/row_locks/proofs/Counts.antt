@@ -1,18 +1,18 @@
 -- How the counts of rows change.
-use Rattle.std.proofs.Common.{◌≡◌, ◌∙◌, sym, ap, refl, ℕ, ◌+◌, ◌<◌, ◌≤◌, arith, nat_eq, Bool, true, false, true≢false, ◌&&◌, cond, Option, Some, None, IsNone, IsOk, OnOk, OnErr, Result, Ok, Err, Ordering, Less, Equal, Greater, is_eq, inl, inr}
+use Rattle.std.proofs.Common.{◌≡◌, ◌∙◌, sym, ap, refl, ℕ, ◌+◌, ◌<◌, ◌≤◌, arith, nat_eq, Bool, true, false, true≢false, ◌&&◌, cond, Option, Some, None, IsNone, IsOk, OnOk, OnErr, Result, Ok, Err, inl, inr}
 use Rattle.std.specs.Prelude.{unwrap_or}
 use Rattle.std.specs.Option.{option_map_or}
 use Rattle.std.specs.FinMap.{get, insert, remove, get-insert, get-remove}
 use Rattle.std.proofs.lemmas.Bool.{cases_Bool, and_parts, eqb-true}
 use Rattle.schema.specs.declared.RowId.{RowId}
-use Rattle.schema.specs.RowId.{row_cmp, same_row, row_total, exact_row}
+use Rattle.schema.specs.RowId.{same_row, row_total}
 use Rattle.row_locks.specs.declared.Mode.{Mode}
 use Rattle.row_locks.specs.declared.Mode.TheVariants.{Share, Exclusive}
 use Rattle.row_locks.specs.declared.tally.Count.{Count}
 use Rattle.row_locks.specs.Mode.{weight}
 use Rattle.row_locks.specs.Tally.{Counts, opposing, count_at, nobody, AllAreHeld}
 use Rattle.row_locks.proofs.Rows.{rows-inserted}
-use Rattle.schema.proofs.RowMaps.{row_eq, rows_of, get_row}
+use Rattle.schema.proofs.RowMaps.{row_eq, rows_of, get_row, row_is}
 use Rattle.indexmap.specs.IndexMap.{IndexMap, Updates, spare, get as entry_of}
 
 abbrev of_option : Option Count → Mode → ℕ
@@ -26,15 +26,6 @@ found_or_nobody (Some count) mode = refl
 branch : (b : Bool) (o p : Option Count) (mode : Mode) → of_option (cond b o p) mode ≡ cond b (of_option o mode) (of_option p mode)
 branch true o p mode = refl
 branch false o p mode = refl
-
-open_equal : (o : Ordering) → is_eq o ≡ true → o ≡ Equal
-open_equal Less h = cc
-open_equal Equal h = refl
-open_equal Greater h = cc
-
--- row ids that name one row are equal
-pub row_is : (a b : RowId) → same_row a b ≡ true → a ≡ b
-row_is a b h = exact_row a b (open_equal (row_cmp a b) h)
 
 -- what a row's count was and is, where the counts of other rows stay
 moved : (counts counts' : Counts) (row q : RowId) (mode : Mode) (o : Option Count) (n w w' : ℕ) → get counts' q ≡ cond (same_row q row) o (get counts q) → of_option o mode ≡ n → n + w ≡ count_at counts row mode + w' →

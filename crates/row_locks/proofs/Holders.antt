@@ -2,6 +2,8 @@
 use Rattle.std.proofs.Common.{◌≡◌, ◌≢◌, ◌∙◌, sym, ap, refl, ℕ, ◌≤◌, Bool, true, false, true≢false, ◌&&◌, ◌||◌, cond, Option, Some, None, List, [], ◌∷◌, ◌++◌}
 use Rattle.std.specs.List.{list_any}
 use Rattle.std.specs.FinMap.{get, empty, get-empty, same_map}
+use Rattle.std.proofs.Math.Bool.{and-true}
+use Rattle.std.proofs.lemmas.Bool.{or_right}
 use Rattle.std.proofs.lemmas.List.Folds.{list_any-append}
 use Rattle.schema.specs.declared.RowId.{RowId}
 use Rattle.schema.specs.RowId.{row_cmp, same_row, row_total, exact_row}
@@ -52,11 +54,7 @@ opposed_by_rows writes refs row mode =
     ∙ ap (λ o. opposes o mode || list_any (is_opposed row mode) (locks_on Exclusive writes ++ locks_on Share refs)) (get-empty row_cmp row)
     ∙ list_any-append (is_opposed row mode) (locks_on Exclusive writes) (locks_on Share refs)
     ∙ (λ i. opposed_on row mode Exclusive writes i || opposed_on row mode Share refs i)
-    ∙ ap (λ b. b || (has_row refs row && is_exclusive mode)) (and_true (has_row writes row))
-  where
-    and_true : (b : Bool) → (b && true) ≡ b
-    and_true true = refl
-    and_true false = refl
+    ∙ ap (λ b. b || (has_row refs row && is_exclusive mode)) (and-true (has_row writes row))
 
 abbrev way : Bool → Bool → Option Mode
 way written referred = cond written (Some Exclusive) (cond referred (Some Share) None)
@@ -101,11 +99,7 @@ meets_none : (xs ys : List RowId) → ((q : RowId) → has_row xs q ≡ true →
 meets_none [] ys h = refl
 meets_none (x ∷ xs) ys h =
     (λ i. h x (ap (λ b. b || has_row xs x) (same_row_itself x)) i || meets xs ys)
-    ∙ meets_none xs ys (λ q is. h q (or_true (same_row q x) (has_row xs q) is))
-  where
-    or_true : (a b : Bool) → b ≡ true → (a || b) ≡ true
-    or_true true b is = refl
-    or_true false b is = is
+    ∙ meets_none xs ys (λ q is. h q (or_right (same_row q x) (has_row xs q) is))
 
 -- where a row is written by one session, no other holds it
 alone : (locks : Locks) → NoClash locks → (session other : ℕ) (row : RowId) → 1 ≤ session → 1 ≤ other → session ≢ other → get (held_by locks session) row ≡ Some Exclusive → get (held_by locks other) row ≡ None

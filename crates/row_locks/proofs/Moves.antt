@@ -9,22 +9,8 @@ use Rattle.row_locks.specs.declared.Mode.{Mode}
 use Rattle.row_locks.specs.Mode.{weight, stronger}
 use Rattle.row_locks.specs.Locks.{Holding, also_held}
 use Rattle.row_locks.specs.Tally.{Counts, count_at}
-use Rattle.row_locks.specs.Tied.{IsCounted, MovesAlike}
-use Rattle.row_locks.proofs.Counts.{row_is}
-
--- what a session's own locks say of the counts goes with the counts
-pub still_counted : (held held' : Holding) (counts counts' : Counts) → IsCounted held counts → MovesAlike held counts held' counts' → IsCounted held' counts'
-still_counted held held' counts counts' counted moves =
-    record {
-      least = λ row mode. least_of _ _ _ _ (counted.least row mode) (moves row mode);
-      greatest = λ row mode. greatest_of _ _ _ _ (counted.greatest row mode) (moves row mode);
-    }
-  where
-    least_of : (w w' n n' : ℕ) → w ≤ n → n' + w ≡ n + w' → w' ≤ n'
-    least_of w w' n n' h e = omega arith
-
-    greatest_of : (w w' n n' : ℕ) → n ≤ w + 256 → n' + w ≡ n + w' → n' ≤ w' + 256
-    greatest_of w w' n n' h e = omega arith
+use Rattle.row_locks.specs.Tied.{MovesAlike}
+use Rattle.schema.proofs.RowMaps.{row_is}
 
 pub moves_on : (a b c : Holding) (k l m : Counts) → MovesAlike a k b l → MovesAlike b l c m → MovesAlike a k c m
 moves_on a b c k l m first then row mode = joined _ _ _ _ _ _ (first row mode) (then row mode)

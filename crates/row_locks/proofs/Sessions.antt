@@ -1,7 +1,8 @@
 -- The laws that callers cite.
-use Rattle.std.proofs.Common.{◌≡◌, ◌≢◌, ◌∙◌, sym, ap, refl, ℕ, ◌-◌, ◌<◌, ◌≤◌, arith, length, get_or, set, nat_eq, Bool, true, false, ◌&&◌, ◌||◌, ◌⊎◌, cond, Option, Some, None, [], ◌∷◌, inl, inr}
+use Rattle.std.proofs.Common.{◌≡◌, ◌≢◌, ◌∙◌, sym, ap, refl, ℕ, ◌-◌, ◌<◌, ◌≤◌, arith, length, get_or, set, nat_eq, true, false, ◌&&◌, ◌||◌, ◌⊎◌, cond, Option, Some, None, [], ◌∷◌, inl, inr}
 use Rattle.std.specs.List.{list_any}
 use Rattle.std.specs.FinMap.{get, insert, empty, get-insert}
+use Rattle.std.proofs.Math.Bool.{or-false, or_assoc}
 use Rattle.std.proofs.lemmas.Bool.{cases_Bool}
 use Rattle.std.proofs.lemmas.Bool.Decides.{eqb_tells}
 use Rattle.std.proofs.lemmas.List.{get_or-set_same, get_or-set_other}
@@ -11,7 +12,7 @@ use Rattle.row_locks.specs.declared.Mode.TheVariants.{Share, Exclusive}
 use Rattle.row_locks.specs.Mode.{opposes, stronger}
 use Rattle.row_locks.specs.Locks.{Holding, Locks, held_by, also_held}
 use Rattle.row_locks.specs.Laws.{TakenByOne, ReleasedByOne, HeldAsListed, HoldersShare}
-use Rattle.row_locks.proofs.Counts.{row_is}
+use Rattle.schema.proofs.RowMaps.{row_is}
 use Rattle.row_locks.proofs.Tied.{no_other}
 
 by_one : (locks : Locks) (session other : ℕ) (held : Holding) → 1 ≤ session → session ≤ length locks → 1 ≤ other → held_by (set locks (session - 1) held) other ≡ cond (nat_eq other session) held (held_by locks other)
@@ -39,27 +40,15 @@ opposes-stronger (Some Share) Exclusive Share = refl
 opposes-stronger (Some Share) Exclusive Exclusive = refl
 opposes-stronger (Some Exclusive) next mode = refl
 
-or_of_or : (a b c : Bool) → ((a || b) || c) ≡ (a || (b || c))
-or_of_or true b c = refl
-or_of_or false b c = refl
-
 pub held_as_listed : HeldAsListed
-held_as_listed held [] row mode = sym (or_none (opposes (get held row) mode))
-  where
-    or_none : (b : Bool) → (b || false) ≡ b
-    or_none true = refl
-    or_none false = refl
+held_as_listed held [] row mode = sym (or-false (opposes (get held row) mode))
 held_as_listed held (lock ∷ rest) row mode =
     let was = get held lock.0 in
     let now = insert held lock.0 (stronger was lock.1) in
     held_as_listed now rest row mode
     ∙ ap (λ b. b || list_any (λ l. same_row row l.0 && opposes (Some l.1) mode) rest) (one (cases_Bool (same_row row lock.0)))
-    ∙ or_of_or (opposes (get held row) mode) (same_row row lock.0 && opposes (Some lock.1) mode) (list_any (λ l. same_row row l.0 && opposes (Some l.1) mode) rest)
+    ∙ or_assoc (opposes (get held row) mode) (same_row row lock.0 && opposes (Some lock.1) mode) (list_any (λ l. same_row row l.0 && opposes (Some l.1) mode) rest)
   where
-    or_none : (b : Bool) → b ≡ (b || false)
-    or_none true = refl
-    or_none false = refl
-
     one : (same_row row lock.0 ≡ true) ⊎ (same_row row lock.0 ≡ false) → opposes (get (insert held lock.0 (stronger (get held lock.0) lock.1)) row) mode ≡ (opposes (get held row) mode || (same_row row lock.0 && opposes (Some lock.1) mode))
     one (inl same) =
         ap (λ o. opposes o mode) (get-insert row_total held lock.0 (stronger (get held lock.0) lock.1) row ∙ ap (λ b. cond b (Some (stronger (get held lock.0) lock.1)) (get held row)) same)
@@ -68,7 +57,7 @@ held_as_listed held (lock ∷ rest) row mode =
         ∙ ap (λ b. opposes (get held row) mode || (b && opposes (Some lock.1) mode)) (sym same)
     one (inr apart) =
         ap (λ o. opposes o mode) (get-insert row_total held lock.0 (stronger (get held lock.0) lock.1) row ∙ ap (λ b. cond b (Some (stronger (get held lock.0) lock.1)) (get held row)) apart)
-        ∙ or_none (opposes (get held row) mode)
+        ∙ sym (or-false (opposes (get held row) mode))
         ∙ ap (λ b. opposes (get held row) mode || (b && opposes (Some lock.1) mode)) (sym apart)
 
 both_share : (a b : Mode) → opposes (Some b) a ≡ false → (a ≡ Share) × (b ≡ Share)

@@ -20,7 +20,7 @@ use Rattle.row_locks.specs.Held.{Place}
 use Rattle.row_locks.specs.Tally.{Counts, count_at, opposing}
 use Rattle.row_locks.specs.Tied.{IsTied, IsCounted, MovesAlike}
 use Rattle.row_locks.specs.Laws.{NothingHeld}
-use Rattle.row_locks.proofs.Counts.{row_is}
+use Rattle.schema.proofs.RowMaps.{row_is}
 
 -- ---- counting over plain lists
 

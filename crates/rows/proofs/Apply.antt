@@ -4,19 +4,16 @@ use Rattle.std.proofs.Common.{◌≡◌, sym, ap, ◌∙◌, refl, inl, inr, Boo
 use Rattle.std.specs.Prelude.{not, ◌||◌, slice_get, option_and_then, option_to_list}
 use Rattle.std.specs.Option.{option_map, option_map_or, ok_or}
 use Rattle.std.specs.Result.{result_ok}
-use Rattle.std.specs.Ordering.{is_eq}
-use Rattle.std.specs.declared.cmp.Ordering.{Ordering}
-use Rattle.std.specs.declared.cmp.Ordering.TheVariants.{Less, Equal, Greater}
 use Rattle.std.specs.FinMap.{get, insert, remove, contains_key, get-insert, get-remove}
-use Rattle.std.specs.Cmp.{eq_by_cmp_equiv}
 use Rattle.std.proofs.lemmas.Bool.{cases_Bool, or_cases, or_left, or_right}
 use Rattle.std.proofs.lemmas.Option.{cond_some, same_Some}
 use Rattle.std.proofs.lemmas.List.Folds.{list_any-append}
 use Rattle.schema.specs.declared.Table.{Table}
 use Rattle.schema.specs.declared.RowId.{RowId}
-use Rattle.schema.specs.RowId.{row_cmp, same_row, exact_row, row_total}
+use Rattle.schema.specs.RowId.{same_row, row_total}
 use Rattle.schema.specs.Rows.{has_row}
 use Rattle.schema.specs.Schema.{link_of}
+pub use Rattle.schema.proofs.RowMaps.{row_is, same_row_itself}
 use Rattle.rows.specs.declared.Change.{Change}
 use Rattle.rows.specs.declared.Change.TheVariants.{Insert, Update, Delete}
 use Rattle.rows.specs.declared.ChangeFault.{ChangeFault}
@@ -26,18 +23,6 @@ use Rattle.rows.specs.Change.{changed}
 use Rattle.rows.specs.Database.{Database, put_row, target, parent_of, parent_in, has_parent, names_parent, apply, ChildrenHaveParents, HasChild, DeletesNoParent}
 use Rattle.rows.specs.Effect.{row_has_parent, sets_parent, parent_stands, AppliesByRow, FitsWhereItApplies, ParentStandsWhereItApplies, HasParentWhereItApplies, AppliesWhereItFits}
 use Rattle.rows.proofs.Assigned.{assigned_keeps}
-
-equal_from : (o : Ordering) → is_eq o ≡ true → o ≡ Equal
-equal_from Less h = cc
-equal_from Equal h = refl
-equal_from Greater h = cc
-
--- row ids that name one row are equal
-pub row_is : (a b : RowId) → same_row a b ≡ true → a ≡ b
-row_is a b h = exact_row a b (equal_from (row_cmp a b) h)
-
-pub same_row_itself : (a : RowId) → same_row a a ≡ true
-same_row_itself a = (eq_by_cmp_equiv row_total).refl a
 
 pub has_row-left : (xs ys : List RowId) (q : RowId) → has_row xs q ≡ true → has_row (xs ++ ys) q ≡ true
 has_row-left xs ys q h = list_any-append (same_row q) xs ys ∙ or_left _ _ h

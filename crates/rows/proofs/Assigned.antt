@@ -1,7 +1,7 @@
 -- The columns of a row with the named ones replaced.
 use Rattle.std.proofs.Common.{◌≡◌, ◌≢◌, sym, ap, ◌∙◌, refl, arith, ℕ, zero, suc, ◌+◌, ◌<◌, ◌≤◌, Bool, true, false, cond, ◌/◌, ◌%◌, ◌==◌, count_ones, List, [], ◌∷◌, ◌++◌, append_assoc, length, is_some, nat_lt, ◌*◌, ◌^◌, inl, inr, take, drop, set, get_or, ℤ, pos, Option, Some, None, add-zero, add-one}
 use lib.Count.{ones_step, ones-ones}
-use Rattle.std.proofs.lemmas.List.{append-nil, length-drop, drop-drop, drop-set-lt, drop_all, drop_more, get_or-drop, take_all, take_more, take_more_set}
+use Rattle.std.proofs.lemmas.List.{length-drop, drop-drop, drop-set-lt, drop_more, get_or-drop, take_more, take_more_set}
 use Rattle.std.specs.Prelude.{slice_get, slice_index_or}
 use Rattle.std.specs.Option.{option_map}
 use Rattle.std.proofs.lemmas.Option.{cond_some}
@@ -11,6 +11,7 @@ use Rattle.std.proofs.Math.Nat.{mod-one, pow-suc}
 use Rattle.std.proofs.lemmas.Bool.{cases_Bool}
 use Rattle.std.proofs.lemmas.Bool.Decides.{nat_tests}
 use Rattle.std.specs.Int.{bit_at}
+use Rattle.schema.proofs.Telling.{both_or_none}
 use Rattle.rows.specs.Naming.{names_column, assigned_from}
 
 -- a column that is named has a value left
@@ -65,17 +66,6 @@ assign_other rest used i values columns lt even =
   where
     zero_left : rest % 2 ≡ 0
     zero_left = omega arith
-
--- behind the last column
-pub assign_all : (rest used i : ℕ) (values columns : List ℤ) → length columns ≤ i →
-    option_map (λ more. take i columns ++ more) (assigned_from rest (drop used values) (drop i columns)) ≡ cond (rest == 0) (Some columns) None
-assign_all rest used i values columns past =
-    ap (λ (l : List ℤ). option_map (λ more. take i columns ++ more) (assigned_from rest (drop used values) l)) (drop_all i columns past)
-    ∙ by (rest == 0)
-  where
-    by : (b : Bool) → option_map (λ more. take i columns ++ more) (cond b (Some []) None) ≡ cond b (Some columns) None
-    by true = ap Some (append-nil (take i columns) ∙ take_all i columns past)
-    by false = refl
 
 -- one more column
 record Assigned (mask : ℕ) (values : List ℤ) (column : ℤ) (columns new : List ℤ) : Type 0 where
@@ -184,12 +174,7 @@ assigned_takes (suc c) mask values (column ∷ columns) new room h names =
 half_below : (mask n : ℕ) → nat_lt (mask / 2) (2 ^ n) ≡ nat_lt mask (2 ^ suc n)
 half_below mask n =
     let double : 2 ^ suc n ≡ 2 ^ n * 2 = pow-suc 2 n in
-    same_tests _ _ (λ h. let low : mask / 2 < 2 ^ n = grind (arith, nat_tests) in let all : mask < 2 ^ suc n = omega arith in grind (arith, nat_tests)) (λ h. let low : mask < 2 ^ suc n = grind (arith, nat_tests) in let all : mask / 2 < 2 ^ n = omega arith in grind (arith, nat_tests))
-  where
-    same_tests : (a b : Bool) → (a ≡ true → b ≡ true) → (b ≡ true → a ≡ true) → a ≡ b
-    same_tests true b to from = sym (to refl)
-    same_tests false true to from = from refl
-    same_tests false false to from = refl
+    both_or_none _ _ (λ h. let low : mask / 2 < 2 ^ n = grind (arith, nat_tests) in let all : mask < 2 ^ suc n = omega arith in grind (arith, nat_tests)) (λ h. let low : mask < 2 ^ suc n = grind (arith, nat_tests) in let all : mask / 2 < 2 ^ n = omega arith in grind (arith, nat_tests))
 
 -- each column named is there
 pub assigned_is_there : (mask : ℕ) (values columns : List ℤ) → is_some (assigned_from mask values columns) ≡ nat_lt mask (2 ^ length columns)

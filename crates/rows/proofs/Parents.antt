@@ -12,6 +12,7 @@ use Rattle.schema.specs.RowId.{same_row}
 use Rattle.schema.specs.Rows.{has_row, meets}
 use Rattle.schema.specs.Schema.{link_of}
 use Rattle.schema.specs.Flags.{is_parent}
+use Rattle.schema.proofs.Telling.{not_some}
 use Rattle.rows.specs.declared.Change.{Change}
 use Rattle.rows.specs.declared.Change.TheVariants.{Insert, Update, Delete}
 use Rattle.rows.specs.Database.{Database, target, writes, parent_of, parent_in, apply, effect, kin, DeletesNoParent, LeavesNoOrphan}
@@ -120,16 +121,12 @@ kin_are_few ts (change ∷ changes) db = by (kin_are_few ts changes) (apply ts c
         let now = parent_in ts after (target change) in
         omega (arith, length-append (was ++ now) (kin ts changes after), length-append was now, at_most_one (option_and_then (parent_of ts (target change).table) (get db (target change))), at_most_one (option_and_then (parent_of ts (target change).table) (get after (target change))), behind after)
 
-none_of : {A : Type 0} (o : Option A) → is_some o ≡ false → o ≡ None
-none_of None h = refl
-none_of (Some x) h = absurd (true≢false h)
-
 -- a row of a table that has no parent has none
 no_parent_in : (ts : List Table) (db : Database) (id : RowId) → is_some (link_of ts id.table) ≡ false → parent_in ts db id ≡ []
 no_parent_in ts db id none =
     elim (get db id) as (λ o. option_to_list (option_and_then (parent_of ts id.table) o) ≡ []) [
       | None ↦ refl
-      | Some columns ↦ ap (λ o. option_to_list (option_and_then (named_by columns) o)) (none_of (link_of ts id.table) none)
+      | Some columns ↦ ap (λ o. option_to_list (option_and_then (named_by columns) o)) (not_some (link_of ts id.table) none)
     ]
 
 pub no_kin_of_others : NoKinOfOthers

@@ -1,17 +1,14 @@
 -- The places as the mark passes them.
 use Rattle.std.proofs.Common.{subst, ◌≡◌, ◌∙◌, sym, ap, refl, ℕ, ◌+◌, ◌-◌, ◌<◌, ◌≤◌, ◌^◌, Bool, true, false, not, ◌||◌, List, ◌++◌, length, get_or, set, drop, replicate, inl, inr, arith, eqb, leb}
 use Rattle.std.specs.List.{position_or_len}
+use Rattle.std.proofs.Math.Bool.{or-false}
 use Rattle.std.proofs.lemmas.Bool.{cases_lt, cases_eq, or_right, eq-eqb, ne_eqb, le-leb, lt-leb, or_left, or_cases, or_from, eqb-true, false≢true}
 use Rattle.std.proofs.lemmas.Bool.Decides.{nat_tests}
 use Rattle.std.proofs.lemmas.List.{get_or-append_right, get_or_append_left, get_or-replicate, get_or_past, get_or-drop, length-drop, length-replicate, get_or-set_same, get_or-set_other}
 use Rattle.std.proofs.lemmas.List.Sums.{fails_before_first, passes_at_first, prefix_len-le-length}
-use Rattle.scheduler.specs.Marks.{Marks, is_committed, all_up_to}
+use Rattle.scheduler.specs.Marks.{Marks, is_committed}
 use Rattle.scheduler.specs.Places.{ArePlaces}
 use Rattle.scheduler.specs.Laws.{LowIsGreatest, UpToAlone}
-
-or_false : (b : Bool) → (b || false) ≡ b
-or_false true = refl
-or_false false = refl
 
 -- no place of such a list is that of a committed transaction
 none_at : (n k : ℕ) → get_or (replicate n false) k false ≡ false
@@ -52,7 +49,7 @@ marked_at low ahead gno later near k = elim (cases_eq k (gno - low - 1)) [
       ∙ sym (or_right (get_or ahead k false) (eqb (low + k + 1) gno) (eq-eqb _ _ (omega (arith, later, same))))
   | inr other ↦
       get_or-set_other ahead (gno - low - 1) k true false other
-      ∙ sym (ap (λ b. get_or ahead k false || b) (ne_eqb (low + k + 1) gno (λ e. other (omega (arith, later, e)))) ∙ or_false (get_or ahead k false))
+      ∙ sym (ap (λ b. get_or ahead k false || b) (ne_eqb (low + k + 1) gno (λ e. other (omega (arith, later, e)))) ∙ or-false (get_or ahead k false))
 ]
 
 -- The mark passes the places in front, where the transaction of one number was marked.
@@ -146,7 +143,7 @@ new_places = record {
 -- the laws
 
 pub up_to_alone : UpToAlone
-up_to_alone mark gno = ap (λ b. leb gno mark || b) (none_at 64 (gno - mark - 1)) ∙ or_false (leb gno mark)
+up_to_alone mark gno = ap (λ b. leb gno mark || b) (none_at 64 (gno - mark - 1)) ∙ or-false (leb gno mark)
 
 pub low_is_greatest : LowIsGreatest
 low_is_greatest marks next = record {
@@ -156,7 +153,3 @@ low_is_greatest marks next = record {
     | inl above ↦ absurd (false≢true (sym next ∙ all (marks.low + 1) (omega (arith, above))))
   ];
 }
-
--- at the start no transaction is committed
-pub none_committed : (marks : Marks) → marks ≡ all_up_to 0 → (gno : ℕ) → 1 ≤ gno → is_committed marks gno ≡ false
-none_committed marks is gno some = ap (λ (m : Marks). is_committed m gno) is ∙ up_to_alone 0 gno ∙ lt-leb gno 0 some

@@ -1,8 +1,7 @@
 -- Which parents cover.
-use Rattle.std.proofs.Common.{◌≡◌, ◌∙◌, refl, ℕ, ◌≤◌, Bool, true, false, not, ◌||◌, nat_le, List, [], ◌∷◌, map, arith}
+use Rattle.std.proofs.Common.{◌≡◌, ◌∙◌, refl, ℕ, ◌≤◌, Bool, true, false, not, ◌||◌, nat_le, List, [], ◌∷◌, map}
 use Rattle.std.specs.List.{AllByRecursion, list_all}
-use Rattle.std.proofs.lemmas.Bool.{and_parts}
-use Rattle.std.proofs.lemmas.Bool.Decides.{nat_tests}
+use Rattle.std.proofs.lemmas.Bool.{and_parts, leb-true, le-leb}
 use Rattle.schema.specs.Rows.{Touched, SameRows, conflicts}
 use Rattle.schema.specs.Covering.{Covers}
 use Rattle.schema.proofs.Conflicts.{both_ways, by_sets}
@@ -37,19 +36,13 @@ passes true conflict h = refl
 passes false true h = h refl
 passes false false h = refl
 
-from_test : (m n : ℕ) → nat_le m n ≡ true → m ≤ n
-from_test m n e = grind (arith, nat_tests)
-
-to_test : (m n : ℕ) → m ≤ n → nat_le m n ≡ true
-to_test m n h = grind (arith, nat_tests)
-
 pub passed_covers : {X : Type 0} (place : X → ℕ × Touched) (log : List X) (rows : Touched) (parent : ℕ) → list_all (is_passed place rows parent) log ≡ true → Covers (map place log) rows parent
 passed_covers place [] rows parent e = tt
 passed_covers place (x ∷ log) rows parent e =
     let parts = and_parts (is_passed place rows parent x) (list_all (is_passed place rows parent) log) e in
-    (λ h. from_test (place x).0 parent (passed (nat_le (place x).0 parent) (conflicts (place x).1 rows) parts.0 h), passed_covers place log rows parent parts.1)
+    (λ h. leb-true (place x).0 parent (passed (nat_le (place x).0 parent) (conflicts (place x).1 rows) parts.0 h), passed_covers place log rows parent parts.1)
 
 pub covers_passes : {X : Type 0} (place : X → ℕ × Touched) (log : List X) (rows : Touched) (parent : ℕ) → Covers (map place log) rows parent → list_all (is_passed place rows parent) log ≡ true
 covers_passes place [] rows parent all = refl
 covers_passes place (x ∷ log) rows parent all =
-    rw (passes (nat_le (place x).0 parent) (conflicts (place x).1 rows) (λ h. to_test (place x).0 parent (all.0 h))) (covers_passes place log rows parent all.1)
+    rw (passes (nat_le (place x).0 parent) (conflicts (place x).1 rows) (λ h. le-leb (place x).0 parent (all.0 h))) (covers_passes place log rows parent all.1)

@@ -1,3 +1,4 @@
+pub mod Telling
 pub mod Faults
 pub mod Flat
 pub mod Conflicts

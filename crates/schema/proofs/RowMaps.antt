@@ -5,6 +5,7 @@ use Rattle.std.specs.Map.{lookup}
 use Rattle.std.specs.FinMap.{FinMap, get, find, insert, remove, from_entries, get-from_entries, get-insert, get-remove, same_map}
 use Rattle.schema.specs.declared.RowId.{RowId}
 use Rattle.schema.specs.RowId.{row_cmp, same_row, row_total, exact_row}
+use Rattle.schema.proofs.Telling.{is_equal}
 
 -- what `==` answers of two row ids
 abbrev pub row_eq : RowId → RowId → Bool
@@ -18,6 +19,10 @@ turned a b = row_eq-same_row a b ∙ (eq_by_cmp_equiv row_total).symm a b
 
 pub same_row_itself : (a : RowId) → same_row a a ≡ true
 same_row_itself a = (eq_by_cmp_equiv row_total).refl a
+
+-- row ids that name one row are equal
+pub row_is : (a b : RowId) → same_row a b ≡ true → a ≡ b
+row_is a b h = exact_row a b (is_equal (row_cmp a b) h)
 
 module _ {X : Type 0} where
   abbrev pub rows_of : List (RowId × X) → FinMap row_cmp X

@@ -9,10 +9,10 @@
 //! too (`specs/Rows.antt`), since every layer above speaks of them.
 #![tactic(auto)]
 
-ghost use Rattle.std.specs.Prelude.{◌≡◌, ◌↔◌, ◌<◌, IsTrue, [], length, take, slice_get, option_and_then, IfOk, Some, None};
+ghost use Rattle.std.specs.Prelude.{◌≡◌, ◌↔◌, ◌<◌, ◌||◌, IsTrue, [], is_some, length, take, slice_get, option_and_then, IfOk, Some, None};
 ghost use Rattle.std.specs.Result.{result_err};
-ghost use Rattle.schema.specs.Flags.{IsFlat};
-ghost use Rattle.schema.specs.Schema.{schema_fault, fault_from, table_at, table_fault, has_fine_parent};
+ghost use Rattle.schema.specs.Flags.{IsFlat, is_parent};
+ghost use Rattle.schema.specs.Schema.{schema_fault, fault_from, table_at, link_of, table_fault, has_fine_parent};
 
 pub mod laws;
 
@@ -182,6 +182,28 @@ impl Schema {
         table_of(&self.tables, id)
     }
 
+    /// The column of a table whose value names a parent row, and the parent's table; `None` where it has no parent, or is none of
+    /// the schema. The time is that of a walk over the tables.
+    pub fn link_of(&self, id: u16) -> Option<(u8, u16)>
+        ensures { result ≡ link_of self.now id }
+    {
+        self.table(id)?.parent
+    }
+
+    /// Whether a table is the parent of another. The time is that of a walk over the tables.
+    pub fn is_parent(&self, id: u16) -> bool
+        ensures { result ≡ is_parent self.now id }
+    {
+        any_refers(&self.tables, id)
+    }
+
+    /// Whether a table has a parent or is one. The time is that of two walks over the tables.
+    pub fn is_linked(&self, id: u16) -> bool
+        ensures { result ≡ (is_some (link_of self.now id) || is_parent self.now id) }
+    {
+        self.link_of(id).is_some() || self.is_parent(id)
+    }
+
     /// Whether each table is keyed and has no parent. It takes no memory.
     pub fn is_flat(&self) -> bool
         ensures { IsTrue result ↔ IsFlat self.now }
@@ -203,6 +225,14 @@ fn table_of(tables: &[Table], id: u16) -> Option<Table>
     ensures { result ≡ table_at tables.now id }
 {
     tables.iter().copied().find(|t| t.id == id)
+}
+
+fn any_refers(tables: &[Table], id: u16) -> bool
+    ensures { result ≡ is_parent tables.now id }
+{
+    tables
+        .iter()
+        .any(|t| t.parent.is_some_and(|link| link.1 == id))
 }
 
 fn all_flat(tables: &[Table]) -> bool

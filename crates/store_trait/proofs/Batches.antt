@@ -1,9 +1,10 @@
 -- What batches leave of a database.
-use Rattle.std.proofs.Common.{◌≡◌, ◌∙◌, sym, ap, refl, Bool, true, false, cond, ◌&&◌, ◌||◌, T, List, [], ◌∷◌, ◌++◌, map, Option, Some, None, option_map, unwrap_or, ℤ, is_eq, is_lt, Ordering, Less, Equal, Greater, true≢false}
+use Rattle.std.proofs.Common.{◌≡◌, ◌∙◌, sym, ap, refl, Bool, true, false, cond, ◌&&◌, ◌||◌, T, List, [], ◌∷◌, map, Option, Some, None, option_map, unwrap_or, ℤ, is_eq, is_lt, Ordering, Less, Equal, Greater, true≢false}
 use Rattle.std.specs.Bool.{passes}
 use Rattle.std.specs.FinMap.{get, find, empty, entries, entries_sorted, is_sorted, put, get-entries, get-empty, same_map}
 use Rattle.std.specs.FinMap.Entries.{below_all, same_entries, find-put, is_sorted-put}
 use Rattle.std.proofs.lemmas.Bool.{and_parts, cond-false}
+use Rattle.std.proofs.lemmas.List.{map-append}
 use Rattle.schema.specs.declared.RowId.{RowId}
 use Rattle.schema.specs.RowId.{row_cmp, row_total, exact_row, same_row}
 use Rattle.schema.specs.Rows.{has_row}
@@ -116,10 +117,6 @@ put_batch-writes ts changes before after is =
 pub put_batches-append : GoesOn
 put_batches-append [] more db = refl
 put_batches-append (batch ∷ batches) more db = put_batches-append batches more (put_batch batch db)
-
-map-append : {A B : Type 0} (f : A → B) (xs ys : List A) → map f (xs ++ ys) ≡ map f xs ++ map f ys
-map-append f [] ys = refl
-map-append f (x ∷ xs) ys = ap (λ l. f x ∷ l) (map-append f xs ys)
 
 pub left_by-append : GoesOnByOps
 left_by-append ops more = ap (λ batches. put_batches batches empty) (map-append batch_of ops more) ∙ put_batches-append (map batch_of ops) (map batch_of more) empty

@@ -1,5 +1,5 @@
 -- Lists of rows in the order of row ids: by neighbors, and with one more row.
-use Rattle.std.proofs.Common.{◌≡◌, ◌∙◌, sym, ap, refl, ℕ, zero, suc, ◌<◌, Bool, true, false, ◌↔◌, IsTrue, List, [], ◌∷◌, ◌++◌, length, get_or, Option, Some, is_some, IsSome, ℤ, cond, is_lt, is_eq, Ordering, Less, Equal, Greater, true≢false, arith, add-one}
+use Rattle.std.proofs.Common.{◌≡◌, ◌∙◌, sym, ap, refl, ℕ, zero, suc, ◌<◌, Bool, true, false, ◌↔◌, IsTrue, List, [], ◌∷◌, ◌++◌, length, get_or, Option, Some, is_some, IsSome, ℤ, cond, is_lt, is_eq, Less, true≢false, arith, add-one}
 use Rattle.std.specs.List.{AllByRecursion, IsAllAdjacentAnswer}
 use Rattle.std.specs.List.Sorted.{IsStrictlySortedBy}
 use Rattle.std.specs.Map.{keys_of}
@@ -10,12 +10,8 @@ use Rattle.std.proofs.lemmas.Bool.{and_parts, and_from, cond-true}
 use Rattle.std.proofs.lemmas.Map.Keys.{sorted_head, sorted_tail}
 use Rattle.schema.specs.declared.RowId.{RowId}
 use Rattle.schema.specs.RowId.{row_cmp, row_total}
+use Rattle.schema.proofs.Telling.{is_less}
 use Rattle.store_trait.specs.Batch.{Entry, IsRising}
-
-pub is_less : (r : Ordering) → is_lt r ≡ true → r ≡ Less
-is_less Less h = refl
-is_less Equal h = absurd (true≢false (sym h))
-is_less Greater h = absurd (true≢false (sym h))
 
 -- ---- by neighbors
 

@@ -9,11 +9,11 @@ use Rattle.schema.specs.declared.Table.{Table}
 use Rattle.schema.specs.declared.RowId.{RowId}
 use Rattle.schema.specs.RowId.{row_cmp, row_total, exact_row, same_row}
 use Rattle.schema.specs.Schema.{table_at}
+use Rattle.schema.proofs.Telling.{is_less}
 use Rattle.rows.specs.Database.{Database}
 use Rattle.store_trait.specs.Fits.{RowFits, Fits}
 use Rattle.store_trait.specs.Walk.{IsListed, IsFirst, IsFirstOf, IsBehind, IsAhead, IsOfTables}
 use Rattle.rows.proofs.Apply.{row_is}
-use Rattle.store_trait.proofs.Rising.{is_less}
 
 -- ---- which rows are visited
 

@@ -1,16 +1,18 @@
 -- The first row that counts, table by table.
 use Rattle.std.proofs.Common.{◌≡◌, ◌∙◌, sym, ap, refl, subst, ℕ, ◌+◌, ◌≤◌, ◌<◌, ℤ, ◌<ℤ◌, List, Option, Some, None, is_some, ◌⊎◌, inl, inr, ⊎_elim, arith, Ordering, Less, Equal, Greater, true≢false, nat_cmp, int_cmp, is_lt, Bool, cond, ◌==◌, lt-ltb}
 use Rattle.std.specs.Ordering.{ordering_then, MatchOrdering}
+use Rattle.std.specs.Cmp.{tied_itself, nat_cmp_total}
 use Rattle.std.specs.FinMap.{get}
 use Rattle.std.proofs.lemmas.Bool.{cases_lt}
 use Rattle.std.proofs.lemmas.Cmp.{ranked, int_ranked}
+use Rattle.std.proofs.lemmas.Int.{ints}
 use Rattle.schema.specs.declared.Table.{Table}
 use Rattle.schema.specs.declared.RowId.{RowId}
 use Rattle.schema.specs.RowId.{row_cmp}
 use Rattle.schema.specs.Schema.{table_at}
 use Rattle.rows.specs.Database.{Database}
-use Rattle.store_trait.specs.Contents.{row_at, NoneAbove, IsLeastAbove}
-use Rattle.store_trait.specs.Walk.{IsListed, IsNextTable, IsFirst, IsFirstOf, IsFromTable, IsAhead}
+use Rattle.store_trait.specs.Contents.{row_at, NoneAbove}
+use Rattle.store_trait.specs.Walk.{IsListed, IsNextTable, IsFirstOf, IsFromTable, IsAhead}
 
 -- ---- the order of rows
 
@@ -32,8 +34,18 @@ pub lesser_row : (a b : RowId) → row_cmp a b ≡ Less → (a.table < b.table) 
 lesser_row a b less =
     less_parts (nat_cmp a.table b.table) (int_cmp a.key b.key) (a.table < b.table) (a.table ≡ b.table) (b.table < a.table) (a.key <ℤ b.key) (a.key ≡ b.key) (b.key <ℤ a.key) less (ranked a.table b.table _ refl) (int_ranked a.key b.key _ refl)
 
-lesser_table : (a b : RowId) → a.table < b.table → row_cmp a b ≡ Less
+pub lesser_table : (a b : RowId) → a.table < b.table → row_cmp a b ≡ Less
 lesser_table a b lt = ap (λ (t : Bool). ordering_then (cond t Less (cond (a.table == b.table) Equal Greater)) (int_cmp a.key b.key)) (lt-ltb a.table b.table lt)
+
+is_below : (r : Ordering) (a b : ℤ) → MatchOrdering r (a <ℤ b) (a ≡ b) (b <ℤ a) → a <ℤ b → r ≡ Less
+is_below Less a b p h = refl
+is_below Equal a b p h = absurd (omega (arith, ints))
+is_below Greater a b p h = absurd (omega (arith, ints))
+
+pub lesser_key : (a b : RowId) → a.table ≡ b.table → a.key <ℤ b.key → row_cmp a b ≡ Less
+lesser_key a b same lt =
+    ap (λ t. ordering_then (nat_cmp a.table t) (int_cmp a.key b.key)) (sym same) ∙ ap (λ r. ordering_then r (int_cmp a.key b.key)) (tied_itself nat_cmp_total a.table)
+    ∙ is_below (int_cmp a.key b.key) a.key b.key (int_ranked a.key b.key _ refl) lt
 
 -- ---- the first row of the tables from an id on
 
@@ -60,21 +72,6 @@ module _ (db : Database) (ts : List Table) (first next : ℕ) where
         (λ at. let same : id.table ≡ table = omega arith in subst (λ t. get db (row_at t id.key) ≡ None) (sym same) (empty id.key tt))
         (cases_lt id.table table);
   }
-
-  -- the next table's first row
-  pub first_here : (table : ℕ) (key : ℤ) (columns : List ℤ) → NoneBefore db ts first next → IsNextTable ts next (Some table) → IsLeastAbove db table None key columns → IsFirst db (IsFromTable ts first) (row_at table key) columns
-  first_here table key columns before is least = record {
-    there = least.there;
-    counted = let from : next ≤ table = is.0 in let on : first ≤ next = before.on in (is.1, omega arith);
-    first = λ other counts less. ⊎_elim
-        (λ lt. none_to_table table before is other counts.0 counts.1 lt)
-        (λ at. subst (λ t. get db (row_at t other.key) ≡ None) (sym at.0) (least.least other.key tt at.1))
-        (lesser_row other (row_at table key) less);
-  }
-
-  -- no table is left
-  pub none_left : NoneBefore db ts first next → IsNextTable ts next None → IsFirstOf db (IsFromTable ts first) None
-  none_left before is = λ id counts. ⊎_elim (λ lt. before.none id counts.0 counts.1 lt) (λ at. absurd (not_listed ts id.table (is id.table at) counts.0)) (cases_lt id.table next)
 
 -- ---- the first row behind another
 

@@ -4,7 +4,7 @@ use Rattle.std.specs.List.{count_by}
 use Rattle.std.specs.FinMap.{get, find}
 use Rattle.std.specs.FinMap as map
 use Rattle.std.proofs.lemmas.Bool.{and_from}
-use Rattle.std.proofs.lemmas.List.{take-append-drop, drop-append-le, drop_all}
+use Rattle.std.proofs.lemmas.List.{take-append-drop, drop-append-le}
 use Rattle.std.proofs.lemmas.List.Sums.{sum_by_push}
 use Rattle.schema.specs.declared.RowId.{RowId}
 use Rattle.schema.specs.RowId.{row_cmp, row_total, exact_row, same_row}
@@ -73,14 +73,6 @@ pub record Counting (entries left : List Entry) (rows : List Stored) (end count 
   pub behind : (q : RowId) → AreBehind q halves.done → AreBehind q (drop end rows)
   pub counted : count + count_by (is_new (contents_of rows)) left ≡ count_by (is_new (contents_of rows)) entries
 
-pub none_counted : (entries : List Entry) (rows : List Stored) → Counting entries entries rows (length rows) 0
-none_counted entries rows = record {
-  halves = all_left entries;
-  within = omega arith;
-  behind = λ q none. rw (drop_all (length rows) rows (omega arith)) tt;
-  counted = omega arith;
-}
-
 -- rows before a place, of rows before another
 module _ (rows : List Stored) (end : ℕ) (within : end ≤ length rows) (id : RowId) (behind : AreBehind id (drop end rows)) where
   get_front : get (contents_of rows) id ≡ get (contents_of (take end rows)) id
@@ -138,9 +130,6 @@ none_merged entries gap rows is_gap order last room = record {
   behind = λ q none. rw last tt;
   room = omega arith;
 }
-
-pub all_merged : (entries left : List Entry) (first : Database) (gap : Gap) (rows : List Stored) → Merging entries left first gap rows → left ≡ [] → contents_of (around gap rows) ≡ put_batch entries first
-all_merged entries left first gap rows h none = h.put ∙ ap (λ es. put_batch es first) (sym (h.halves.parts ∙ ap (λ l. l ++ h.halves.done) none))
 
 none_is : {X : Type 0} (o : Option X) → is_some o ≡ false → is_none o ≡ true
 none_is None h = refl

@@ -7,8 +7,8 @@ use Rattle.std.specs.FinMap.Entries.{below_all}
 use Rattle.std.proofs.lemmas.Bool.{and_parts, and_from, cond-true, cond-false, false≢true}
 use Rattle.schema.specs.declared.RowId.{RowId}
 use Rattle.schema.specs.RowId.{row_cmp, row_total, exact_row, same_row}
+use Rattle.schema.proofs.Telling.{is_less}
 use Rattle.rows.proofs.Apply.{row_is}
-use Rattle.store_trait.proofs.Rising.{is_less}
 use Rattle.store_trait.proofs.Batches.{less_apart}
 use Rattle.vector_store.specs.Contents.{Stored, contents_of, AreBefore, AreBehind, AreInOrder}
 
@@ -84,13 +84,7 @@ module _ {X : Type 0} where
   pub order_behind : (xs ys : List (RowId × X)) (row : RowId × X) → AreInOrder (xs ++ row ∷ ys) → AreBehind row.0 ys
   order_behind xs ys row h = (order_parts xs (row ∷ ys) h).1.0
 
-  -- rows before an id and rows behind it, each in order
-  pub order_join : (id : RowId) (xs ys : List (RowId × X)) → AreInOrder xs → AreInOrder ys → AreBefore xs id → AreBehind id ys → AreInOrder (xs ++ ys)
-  order_join id [] ys h k before behind = k
-  order_join id (x ∷ xs) ys h k before behind =
-      (behind_join x.0 xs ys h.0 (behind_lesser x.0 id ys before.0 behind), order_join id xs ys h.1 k before.1 behind)
-
-  -- and a row of this id between
+  -- rows before an id and rows behind it, with a row of this id between
   pub order_between : (id : RowId) (v : X) (xs ys : List (RowId × X)) → AreInOrder (xs ++ ys) → AreBefore xs id → AreBehind id ys → AreInOrder (xs ++ (id, v) ∷ ys)
   order_between id v [] ys h before behind = (behind, h)
   order_between id v (x ∷ xs) ys h before behind =

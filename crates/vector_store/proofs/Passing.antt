@@ -1,10 +1,6 @@
 -- The first row of a table above a key, by a search in rows in order.
-use Rattle.std.proofs.Common.{◌≡◌, ◌∙◌, sym, ap, refl, subst, ℕ, zero, suc, ◌+◌, ◌<◌, ◌≤◌, ℤ, ◌<ℤ◌, Bool, true, false, cond, List, [], ◌∷◌, length, take, drop, get_or, Option, Some, None, Less, Equal, Ordering, Greater, lt-ltb, true≢false, arith, inl, inr, nat_cmp, int_cmp}
-use Rattle.std.specs.Prelude.{◌==◌}
-use Rattle.std.specs.Ordering.{ordering_then, MatchOrdering}
-use Rattle.std.proofs.lemmas.Cmp.{int_ranked}
+use Rattle.std.proofs.Common.{◌≡◌, ◌∙◌, sym, ap, refl, subst, ℕ, zero, suc, ◌+◌, ◌<◌, ◌≤◌, ℤ, true, false, List, [], ◌∷◌, length, take, drop, get_or, Option, Some, None, Less, true≢false, arith, inl, inr}
 use Rattle.std.specs.List.Sorted.{IsPartitionedBy}
-use Rattle.std.specs.Cmp.{tied_itself, nat_cmp_total}
 use Rattle.std.specs.FinMap.{get, find}
 use Rattle.std.proofs.lemmas.Bool.{cases_lt, cond-false, false_from_ne_true}
 use Rattle.std.proofs.lemmas.Bool.Decides.{nat_tests}
@@ -14,26 +10,11 @@ use Rattle.schema.specs.declared.RowId.{RowId}
 use Rattle.schema.specs.RowId.{row_cmp, same_row}
 use Rattle.rows.proofs.Apply.{row_is}
 use Rattle.store_trait.specs.Contents.{IsAbove, row_at, NoneAbove, IsLeastAbove}
-use Rattle.store_trait.proofs.Walks.{lesser_row}
+use Rattle.store_trait.proofs.Walks.{lesser_row, lesser_table, lesser_key}
 use Rattle.vector_store.specs.Contents.{Stored, contents_of, AreBefore, AreBehind, AreInOrder}
 use Rattle.vector_store.specs.Places.{is_passed, IsPassedUpTo}
 use Rattle.vector_store.proofs.Order.{behind_lesser, find_behind, get_rows}
 use Rattle.vector_store.proofs.Finding.{before_place, behind_place, find_head}
-
--- ---- the order of rows
-
-lesser_table : (a b : RowId) → a.table < b.table → row_cmp a b ≡ Less
-lesser_table a b lt = ap (λ (t : Bool). ordering_then (cond t Less (cond (a.table == b.table) Equal Greater)) (int_cmp a.key b.key)) (lt-ltb a.table b.table lt)
-
-is_below : (r : Ordering) (a b : ℤ) → MatchOrdering r (a <ℤ b) (a ≡ b) (b <ℤ a) → a <ℤ b → r ≡ Less
-is_below Less a b p h = refl
-is_below Equal a b p h = absurd (omega (arith, ints))
-is_below Greater a b p h = absurd (omega (arith, ints))
-
-lesser_key : (a b : RowId) → a.table ≡ b.table → a.key <ℤ b.key → row_cmp a b ≡ Less
-lesser_key a b same lt =
-    ap (λ t. ordering_then (nat_cmp a.table t) (int_cmp a.key b.key)) (sym same) ∙ ap (λ r. ordering_then r (int_cmp a.key b.key)) (tied_itself nat_cmp_total a.table)
-    ∙ is_below (int_cmp a.key b.key) a.key b.key (int_ranked a.key b.key _ refl) lt
 
 -- ---- which rows are passed
 

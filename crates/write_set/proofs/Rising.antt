@@ -1,5 +1,5 @@
 -- Rising lists of numbers, and the one that has the numbers of a list.
-use Rattle.std.proofs.Common.{◌≡◌, ◌∙◌, sym, ap, subst, refl, ℕ, Bool, true, false, true≢false, ◌&&◌, ◌||◌, cond, eqb, T, is_lt, Ordering, Less, Equal, Greater, List, [], ◌∷◌, map, Option, Some, None, is_some, nat_cmp, IsPermutation}
+use Rattle.std.proofs.Common.{◌≡◌, ◌∙◌, sym, ap, subst, refl, ℕ, Bool, true, false, true≢false, ◌&&◌, ◌||◌, cond, eqb, T, is_lt, Less, List, [], ◌∷◌, map, Option, Some, None, is_some, nat_cmp, IsPermutation}
 use Rattle.std.specs.List.{list_any, filter, dedup, AllByRecursion}
 use Rattle.std.specs.List.Sorted.{IsSorted, IsStrictlySortedBy, IsStrictlyIncreasing}
 use Rattle.std.specs.Ordering.{eq_by_cmp}
@@ -14,6 +14,7 @@ use Rattle.std.proofs.lemmas.Map.Views.{Contains-from_any, list_any-from_Contain
 use Rattle.std.proofs.lemmas.Bool.{eqb-true}
 use Rattle.schema.specs.declared.Table.{Table}
 use Rattle.schema.specs.declared.RowId.{RowId}
+use Rattle.schema.proofs.Telling.{both_or_none, is_less}
 use Rattle.write_set.specs.Digest.{digest_of, is_keyed, rising}
 use Rattle.write_set.specs.Laws.{HasJustTheDigests, DigestsRise}
 
@@ -81,12 +82,7 @@ rising_is ns ms sorted same =
 
 all_above : {X : Type 0} (n : ℕ) (es : List (ℕ × X)) → below_all nat_cmp n es ≡ true → AllByRecursion (λ m. nat_cmp n m ≡ Less) (map (λ (e : ℕ × X). e.0) es)
 all_above n [] h = tt
-all_above n (e ∷ es) h = let parts = and_parts (is_lt (nat_cmp n e.0)) (below_all nat_cmp n es) h in (less_from (nat_cmp n e.0) parts.0, all_above n es parts.1)
-  where
-    less_from : (o : Ordering) → is_lt o ≡ true → o ≡ Less
-    less_from Less g = refl
-    less_from Equal g = cc
-    less_from Greater g = cc
+all_above n (e ∷ es) h = let parts = and_parts (is_lt (nat_cmp n e.0)) (below_all nat_cmp n es) h in (is_less (nat_cmp n e.0) parts.0, all_above n es parts.1)
 
 strictly : {X : Type 0} (es : List (ℕ × X)) → is_sorted nat_cmp es ≡ true → IsStrictlySortedBy nat_cmp (map (λ (e : ℕ × X). e.0) es)
 unfolding IsStrictlySortedBy
@@ -103,11 +99,6 @@ pub rising-rises : (ns : List ℕ) → IsStrictlyIncreasing (rising ns)
 rising-rises ns = IsStrictlyIncreasing-from_sorted (rising ns) (strictly (entries (set_of ns)) (true_from_T _ (entries_sorted (set_of ns))))
 
 -- ---- what a sort and a `dedup` leave
-
-both_or_none : (a b : Bool) → (a ≡ true → b ≡ true) → (b ≡ true → a ≡ true) → a ≡ b
-both_or_none true b h g = sym (h refl)
-both_or_none false true h g = g refl
-both_or_none false false h g = refl
 
 member-dedup : (ns : List ℕ) (q : ℕ) → list_any (eqb q) (dedup eqb ns) ≡ list_any (eqb q) ns
 member-dedup ns q =

@@ -1,9 +1,8 @@
 -- What a history is once digests were entered, one after another.
 use Rattle.std.proofs.Common.{◌≡◌, ◌∙◌, sym, ap, subst, refl, ℕ, ◌+◌, ◌<◌, ◌≤◌, Bool, true, false, ◌||◌, cond, eqb, List, [], ◌∷◌, length, get_or, take, fold, Option, Some, unwrap_or, is_some, nat_cmp, arith}
-use Rattle.std.specs.Cmp.{nat_cmp_total}
+use Rattle.std.specs.Cmp.{nat_cmp_total, nat_eq_equiv}
 use Rattle.std.specs.FinMap.{empty, get, get-empty, insert, len, len-insert}
 use Rattle.std.specs.List.{list_any}
-use Rattle.std.proofs.lemmas.Bool.Decides.{nat_tests}
 use Rattle.std.proofs.lemmas.List.Sums.{fold_more}
 use Rattle.writeset_history.specs.History.{Numbers, History, entered, IsUpTo}
 use Rattle.writeset_history.specs.Laws.{EntersEach, IsKeptUpTo}
@@ -38,16 +37,13 @@ each_in : (m : Numbers) (digests : List ℕ) (sequence digest : ℕ) →
 each_in m [] sequence digest = refl
 each_in m (d ∷ digests) sequence digest =
     each_in (insert m d sequence) digests sequence digest
-    ∙ ap (cond (list_any (λ e. eqb e digest) digests) (Some sequence)) (get_entered m d sequence digest ∙ ap (λ b. cond b (Some sequence) (get m digest)) (eqb_comm digest d))
+    ∙ ap (cond (list_any (λ e. eqb e digest) digests) (Some sequence)) (get_entered m d sequence digest ∙ ap (λ b. cond b (Some sequence) (get m digest)) (nat_eq_equiv.symm digest d))
     ∙ joined (eqb d digest) (list_any (λ e. eqb e digest) digests) (Some sequence) (get m digest)
   where
     joined : (a b : Bool) (x y : Option ℕ) → cond b x (cond a x y) ≡ cond (a || b) x y
     joined true true x y = refl
     joined true false x y = refl
     joined false b x y = refl
-
-    eqb_comm : (a b : ℕ) → eqb a b ≡ eqb b a
-    eqb_comm a b = grind (arith, nat_tests)
 
 pub enters_each : EntersEach
 enters_each h digests sequence digest = each_in h.numbers digests sequence digest

@@ -3,6 +3,7 @@ use Rattle.std.proofs.Common.{◌≡◌, ◌≢◌, ◌∙◌, sym, ap, subst, r
 use Rattle.std.specs.Cmp.{unsigned_tied, nat_cmp_total}
 use Rattle.std.specs.FinMap.{empty, get, insert, len, get-empty, len-empty, get-insert, len-insert, same_map, nat_cmp-IsAntisymmetric}
 use Rattle.std.proofs.lemmas.Bool.{both_ways, cases_Bool, cases_eq, le-ltb, ltb-true, eq-eqb, ne_eqb, cond-true, cond-false}
+use Rattle.std.proofs.lemmas.Option.{none-some, same_Some}
 use Rattle.writeset_history.specs.declared.slots.Slot.{Slot}
 use Rattle.writeset_history.specs.History.{Numbers}
 use Rattle.writeset_history.specs.Slots.{is_live, slot_at, numbers_in}
@@ -132,19 +133,13 @@ numbers_in-set (slot ∷ rest) start (suc place) new within live was others =
 
 -- each number is above the start
 pub numbers_in-above : (slots : List Slot) (start digest number : ℕ) → get (numbers_in start slots) digest ≡ Some number → start < number
-numbers_in-above [] start digest number e = absurd (some_of_none number (sym e ∙ get-empty nat_cmp digest))
-  where
-    some_of_none : (n : ℕ) → Some n ≡ None → ⊥
-    some_of_none n h = cc
+numbers_in-above [] start digest number e = absurd (none-some number (sym (get-empty nat_cmp digest) ∙ e))
 numbers_in-above (slot ∷ rest) start digest number e = elim (cases_Bool (is_live start slot)) [
   | inl live ↦ of_first (numbers_in-above rest start digest number) (eqb digest slot.digest) live
       (sym (get_entered (numbers_in start rest) slot.digest slot.sequence digest) ∙ ap (λ b. get (after start slot (numbers_in start rest) b) digest) (sym live) ∙ e)
   | inr free ↦ numbers_in-above rest start digest number (ap (λ b. get (after start slot (numbers_in start rest) b) digest) (sym free) ∙ e)
 ]
   where
-    value_of : (m n : ℕ) → Some m ≡ Some n → m ≡ n
-    value_of m n h = cc
-
     of_first : (get (numbers_in start rest) digest ≡ Some number → start < number) → (own : Bool) → is_live start slot ≡ true → cond own (Some slot.sequence) (get (numbers_in start rest) digest) ≡ Some number → start < number
-    of_first above true live h = subst (λ n. start < n) (value_of slot.sequence number h) (ltb-true start slot.sequence live)
+    of_first above true live h = subst (λ n. start < n) (same_Some slot.sequence number h) (ltb-true start slot.sequence live)
     of_first above false live h = above h

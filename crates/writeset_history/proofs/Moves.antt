@@ -1,5 +1,5 @@
 -- What slots that hold a history answer, and how they go on to hold the next one.
-use Rattle.std.proofs.Common.{◌≡◌, ◌≢◌, ◌∙◌, sym, ap, subst, ℕ, ◌+◌, ◌<◌, ◌≤◌, Bool, true, false, not, cond, List, length, get_or, set, replicate, Some, None, unwrap_or, is_some, inl, inr, nat_cmp, arith}
+use Rattle.std.proofs.Common.{◌≡◌, ◌≢◌, ◌∙◌, sym, ap, subst, ℕ, ◌+◌, ◌<◌, ◌≤◌, Bool, true, false, not, cond, List, length, get_or, set, replicate, Some, None, unwrap_or, is_some, inl, inr, nat_cmp, arith, Option}
 use Rattle.std.specs.Int.{from_bool}
 use Rattle.std.specs.Cmp.{nat_cmp_total}
 use Rattle.std.specs.FinMap.{empty, get, insert, len, len-empty, len-insert}
@@ -144,21 +144,14 @@ module _ (slots : List Slot) (start limit count : ℕ) (sound : IsSound slots st
           ];
         }
 
+    entered-len : (o : Option ℕ) → get (numbers_in start slots) digest ≡ o → len (insert (numbers_in start slots) digest sequence) ≡ cond (is_some o) (len (numbers_in start slots)) (len (numbers_in start slots) + 1)
+    entered-len o e =
+        len-insert nat_cmp_total (numbers_in start slots) digest sequence
+        ∙ ap (λ o. cond (is_some o) (len (numbers_in start slots)) (len (numbers_in start slots) + 1)) e
+
     entered-count : (live : Bool) → live ≡ is_live start (slot_at slots place) → count + from_bool (not live) ≡ len (insert (numbers_in start slots) digest sequence)
-    entered-count true live =
-        omega (
-          arith,
-          sound.counted,
-          len-insert nat_cmp_total (numbers_in start slots) digest sequence
-              ∙ ap (λ o. cond (is_some o) (len (numbers_in start slots)) (len (numbers_in start slots) + 1)) (held slots start limit count sound digest place at (sym live)),
-        )
-    entered-count false free =
-        omega (
-          arith,
-          sound.counted,
-          len-insert nat_cmp_total (numbers_in start slots) digest sequence
-              ∙ ap (λ o. cond (is_some o) (len (numbers_in start slots)) (len (numbers_in start slots) + 1)) (missing slots start limit count sound digest place at (sym free)),
-        )
+    entered-count true live = omega (arith, sound.counted, entered-len _ (held slots start limit count sound digest place at (sym live)))
+    entered-count false free = omega (arith, sound.counted, entered-len _ (missing slots start limit count sound digest place at (sym free)))
 
     pub entered-sound : (slot : Slot) (live : Bool) → slot ≡ get_or slots place slot → live ≡ is_live start slot → len now.numbers < now.limit →
         IsSound (set slots place (record { digest = digest; sequence = sequence })) start limit (count + from_bool (not live))

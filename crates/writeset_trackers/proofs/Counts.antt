@@ -1,9 +1,9 @@
 -- How many digests the entries above a start have: as many as a history has that agrees with them.
 use Rattle.std.proofs.Common.{◌≡◌, ◌∙◌, sym, ap, ℕ, ◌≤◌, Bool, true, false, ◌&&◌, ◌||◌, eqb, nat_lt, cond, List, [], ◌∷◌, length, Some, None, is_some, unwrap_or, refl, arith}
+use Rattle.std.specs.Cmp.{nat_eq_equiv}
 use Rattle.std.specs.List.{list_any, flat_map}
 use Rattle.std.specs.FinMap.{get, len, entries, len-entries}
 use Rattle.std.proofs.lemmas.Bool.{eqb-true}
-use Rattle.std.proofs.lemmas.Bool.Decides.{nat_tests}
 use Rattle.std.proofs.lemmas.List.{length-map}
 use Rattle.std.proofs.lemmas.List.Folds.{list_any-append}
 use Rattle.schema.specs.declared.Table.{Table}
@@ -30,13 +30,10 @@ number_back n = by (eqb n 0) refl
     by true e = sym (eqb-true n 0 e)
     by false e = refl
 
-other_way : (a b : ℕ) → eqb a b ≡ eqb b a
-other_way a b = grind (arith, nat_tests)
-
 -- a digest is looked for from either side
 pub has_either_way : (digest : ℕ) (digests : List ℕ) → list_any (λ d. eqb d digest) digests ≡ list_any (eqb digest) digests
 has_either_way digest [] = refl
-has_either_way digest (d ∷ digests) = λ i. other_way d digest i || has_either_way digest digests i
+has_either_way digest (d ∷ digests) = λ i. nat_eq_equiv.symm d digest i || has_either_way digest digests i
 
 -- the digests that have a last entry are those of the entries above the start
 pub have_newest : (ts : List Table) (start : ℕ) (log : List Entry) (digest : ℕ) → AreLogged log →

@@ -1,27 +1,17 @@
 -- Two transactions that write one row of a keyed table both have its digest.
-use Rattle.std.proofs.Common.{◌≡◌, ◌∙◌, sym, subst, Bool, true, false, not, ◌&&◌, ◌||◌, eqb, List, [], ◌∷◌, Option, Some, None, is_some, Ordering, Less, Equal, Greater, inl, inr, refl, true≢false}
+use Rattle.std.proofs.Common.{◌≡◌, ◌∙◌, sym, subst, Bool, true, false, not, ◌&&◌, ◌||◌, eqb, List, [], ◌∷◌, Option, Some, None, is_some, inl, inr, refl, true≢false}
 use Rattle.std.specs.List.{list_any, list_all}
-use Rattle.std.specs.Ordering.{is_eq}
 use Rattle.std.specs.Option.{option_map_or}
-use Rattle.std.proofs.lemmas.Bool.{or_cases, or_left, or_right, and_from, and_parts, cases_Bool, eq-eqb}
-use Rattle.std.proofs.lemmas.Cmp.{eq_by_cmp_equiv}
+use Rattle.std.proofs.lemmas.Bool.{or_cases, or_left, or_right, and_from, and_parts, cases_Bool, eq-eqb, not-false, or_parts}
 use Rattle.schema.specs.declared.Table.{Table}
 use Rattle.schema.specs.declared.RowId.{RowId}
-use Rattle.schema.specs.RowId.{row_cmp, same_row, exact_row, row_total}
+use Rattle.schema.specs.RowId.{same_row}
 use Rattle.schema.specs.Rows.{Touched, has_row, meets, conflicts}
 use Rattle.schema.specs.Schema.{table_at}
 use Rattle.schema.specs.Flags.{misses_keys}
+use Rattle.schema.proofs.RowMaps.{row_is, same_row_itself}
 use Rattle.write_set.specs.Digest.{digest_of, is_keyed, digest_set}
 use Rattle.write_set.proofs.Rising.{just_the_digests}
-
--- row ids that name one row are equal
-row_is : (a b : RowId) → same_row a b ≡ true → a ≡ b
-row_is a b h = exact_row a b (equal_from (row_cmp a b) h)
-  where
-    equal_from : (o : Ordering) → is_eq o ≡ true → o ≡ Equal
-    equal_from Less h = cc
-    equal_from Equal h = refl
-    equal_from Greater h = cc
 
 -- a row that two lists have
 pub record InBoth (xs ys : List RowId) : Type 0 where
@@ -32,7 +22,7 @@ pub record InBoth (xs ys : List RowId) : Type 0 where
 pub in_both : (xs ys : List RowId) → meets xs ys ≡ true → InBoth xs ys
 in_both [] ys e = absurd cc
 in_both (x ∷ xs) ys e = elim (or_cases (has_row ys x) (meets xs ys) e) [
-  | inl there ↦ record { row = x; first = or_left (same_row x x) (has_row xs x) ((eq_by_cmp_equiv row_total).refl x); second = there }
+  | inl there ↦ record { row = x; first = or_left (same_row x x) (has_row xs x) (same_row_itself x); second = there }
   | inr later ↦ let rest = in_both xs ys later in record { row = rest.row; first = or_right (same_row rest.row x) (has_row xs rest.row) rest.first; second = rest.second }
 ]
 
@@ -57,22 +47,14 @@ conflict_of_writes a b none_a none_b e = elim (cases_Bool (meets a.writes b.writ
 -- a row of a list whose tables are known, and none of them keyless, is in a keyed table
 keyed : (o : Option Table) → is_some o ≡ true → option_map_or (λ t. not t.keyed) o false ≡ false → option_map_or (λ t. t.keyed) o false ≡ true
 keyed None some e = absurd cc
-keyed (Some table) some e = by table.keyed e
-  where
-    by : (b : Bool) → not b ≡ false → b ≡ true
-    by true e = refl
-    by false e = cc
-
-neither : (a b : Bool) → (a || b) ≡ false → (a ≡ false) × (b ≡ false)
-neither true b e = absurd cc
-neither false b e = (refl, e)
+keyed (Some table) some e = not-false table.keyed e
 
 pub is_keyed_in : (ts : List Table) (rows : List RowId) (row : RowId) → list_all (λ r. is_some (table_at ts r.table)) rows ≡ true → misses_keys ts rows ≡ false →
     has_row rows row ≡ true → is_keyed ts row ≡ true
 is_keyed_in ts [] row known none e = absurd cc
 is_keyed_in ts (x ∷ rows) row known none e =
     let all = and_parts (is_some (table_at ts x.table)) (list_all (λ r. is_some (table_at ts r.table)) rows) known in
-    let no = neither (option_map_or (λ t. not t.keyed) (table_at ts x.table) false) (misses_keys ts rows) none in
+    let no = or_parts (option_map_or (λ t. not t.keyed) (table_at ts x.table) false) (misses_keys ts rows) none in
     elim (or_cases (same_row row x) (has_row rows row) e) [
       | inl here ↦ subst (λ r. is_keyed ts r ≡ true) (sym (row_is row x here)) (keyed (table_at ts x.table) all.0 no.0)
       | inr later ↦ is_keyed_in ts rows row all.1 no.1 later

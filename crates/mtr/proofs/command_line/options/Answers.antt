@@ -1,6 +1,7 @@
-use Rattle.std.proofs.Common.{◌≡◌, ◌∙◌, ◌⊎◌, inl, inr, sym, subst, map, ap, ap₂, refl, codes, Bool, true, false, not, ◌||◌, List, [], ◌∷◌, Option, Some, None}
+use Rattle.std.proofs.Common.{◌≡◌, ◌∙◌, ◌⊎◌, inl, inr, sym, subst, map, ap, ap₂, refl, codes, Bool, true, not, ◌||◌, List, [], ◌∷◌, Option, Some, None}
 use Rattle.std.specs.Prelude.{option_and_then}
 use Rattle.std.specs.List.{list_any}
+use Rattle.std.proofs.Math.Bool.{or-true}
 use Rattle.clap.specs.declared.error.kind.ErrorKind.{ErrorKind}
 use Rattle.clap.specs.declared.error.kind.ErrorKind.TheVariants as kinds
 use Rattle.mtr.specs.declared.options.LineFault.{LineFault}
@@ -68,14 +69,10 @@ is_free_program names are = lies_there (λ it. is_simple_and_free (program it) �
 is_simple_program : (names : Names) → AreNames names → is_simple (program names) ≡ true
 is_simple_program names are = lies_there (λ it. is_simple (program it) ≡ true) names are simple_at
 
-or_true : (b : Bool) → (b || true) ≡ true
-or_true true = refl
-or_true false = refl
-
 is_among : (p : ErrorKind → Bool) (kind : ErrorKind) (kinds : List ErrorKind) → IsAmong kind kinds → p kind ≡ true → list_any p kinds ≡ true
 is_among p kind [] h e = absurd h
 is_among p kind (k ∷ ks) (inl same) e = ap (λ b. b || list_any p ks) (ap p (sym same) ∙ e)
-is_among p kind (k ∷ ks) (inr rest) e = ap (λ b. p k || b) (is_among p kind ks rest e) ∙ or_true (p k)
+is_among p kind (k ∷ ks) (inr rest) e = ap (λ b. p k || b) (is_among p kind ks rest e) ∙ or-true (p k)
 
 fault_told : (names : Names) (words : List Text) (kind : ErrorKind) (fault : LineFault) → IsOfKind kind fault → (kind ≡ kinds.OutOfMemory → fault ≡ faults.Memory) → (kind ≡ kinds.OutOfMemory) ⊎ IsAmong kind (fault_of (program names) words) → IsOfWords names words fault
 fault_told names words kind (faults.Line text) of memory (inl none) = let bad : faults.Line text ≡ faults.Memory = memory none in cc

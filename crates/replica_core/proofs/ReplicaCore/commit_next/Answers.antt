@@ -14,17 +14,15 @@ overflow_add-gno g c =
 
 pub returns-then-not-branch-clause-answer : goal.returns-then-not-branch-clause-answer
 returns-then-not-branch-clause-answer g c =
-    let was = c.self.inside in
-    let none = none_committed was.relay was.base was.scheduler was.published was.turns was.workers was.stopped was.inputs.items _ was.waiting.items _ c.in_ok-commit_turn.field-0 _ _ _ c.self.invariant c.if-not-branch.true c.in_ok-commit_turn.ensures in
+    let none = none_committed _ _ _ _ _ _ _ c.in_ok-commit_turn.field-0 _ _ _ c.self.invariant c.if-not-branch.true c.in_ok-commit_turn.ensures in
     inr (sym (ap (λ (r : Replica). unless_stopped r (next_commit r)) (sym c.self.view_is)
-    ∙ (λ i. option_map_or (λ gno. Err (Stopped gno)) (not_stopped was.stopped _ c.in_ok-refuse_stopped.ensures i) (Ok (none i)))))
+    ∙ (λ i. option_map_or (λ gno. Err (Stopped gno)) (not_stopped c.self.inside.stopped _ c.in_ok-refuse_stopped.ensures i) (Ok (none i)))))
 
 pub invariant_of-self-2 : goal.invariant_of-self-2
 invariant_of-self-2 g c =
-    let was = c.self.inside in
     let number = ap (λ n. n + 1) c.low_water-gno.ensures.value in
-    committed_kept was.relay was.base was.scheduler was.published was.turns was.workers was.stopped was.inputs.items _ was.waiting.items _ c.in_ok-commit_turn.field-0 c.committed.new.self c.commit_turn.new.turns c.drop_first.new.list.items _ c.commit_turn.new.waiting.items
-    c.self.invariant number c.if-not-branch.false c.in_ok-commit_turn.ensures (c.committed.ensures.in_turn c.self.invariant.marks_are number) c.drop_first.ensures
+    committed_kept _ _ _ _ _ _ _ c.in_ok-commit_turn.field-0 c.committed.new.self c.commit_turn.new.turns c.drop_first.new.list.items _ c.commit_turn.new.waiting.items c.self.invariant
+    number c.if-not-branch.false c.in_ok-commit_turn.ensures (c.committed.ensures.in_turn c.self.invariant.marks_are number) c.drop_first.ensures
 
 pub returns-in_err-refuse_stopped-clause-sound : goal.returns-in_err-refuse_stopped-clause-sound
 returns-in_err-refuse_stopped-clause-sound g c = sound_as_seen _ _ _ _ _ _ _ c.self.invariant c.self.view_is

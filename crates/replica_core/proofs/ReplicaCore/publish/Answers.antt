@@ -1,4 +1,4 @@
-use Rattle.std.proofs.Common.{◌≡◌, ◌-◌, length, ap, arith}
+use Rattle.std.proofs.Common.{◌≡◌, ◌-◌, ◌≤◌, length, ap, arith}
 use Rattle.replica_core.specs.Replica.{Replica}
 use Rattle.replica_core.proofs.Kept.{length_ops}
 use Rattle.replica_core.proofs.Steps.{published_kept}
@@ -16,6 +16,6 @@ invariant_of-self g c =
     let was = c.self.inside in
     let committed : was.scheduler.low ≡ c.args.self.now.committed = ap (λ (r : Replica). r.committed) c.self.view_is in
     let published : was.published ≡ c.args.self.now.published = ap (λ (r : Replica). r.published) c.self.view_is in
-    let later = c.requires.later in
-    let done = c.requires.done in
-    published_kept was.relay was.base was.scheduler was.published was.turns was.workers was.stopped was.inputs.items _ was.waiting.items c.args.upto c.drop_first.new.list.items c.self.invariant (omega arith) (omega arith) c.drop_first.ensures
+    let later : was.published ≤ c.args.upto = omega (arith, c.requires.later) in
+    let done : c.args.upto ≤ was.scheduler.low = omega (arith, c.requires.done) in
+    published_kept _ _ _ _ _ _ c.args.upto c.drop_first.new.list.items c.self.invariant later done c.drop_first.ensures

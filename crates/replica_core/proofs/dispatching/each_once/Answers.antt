@@ -1,7 +1,8 @@
 use Rattle.std.proofs.Common.{◌∙◌, ap, map}
 use Rattle.std.specs.FinMap.{get}
 use Rattle.std.proofs.lemmas.List.Filters.{dedup_is}
-use Rattle.replica_core.proofs.Copies.{row_eq, copied_once}
+use Rattle.schema.proofs.RowMaps.{row_eq}
+use Rattle.replica_core.proofs.Copies.{copied_once}
 use Rattle.replica_core.proofs.dispatching.each_once.Goals as goal
 
 pub returns : goal.returns

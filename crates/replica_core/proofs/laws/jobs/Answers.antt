@@ -1,6 +1,5 @@
 use Rattle.replica_core.proofs.Jobs.{job_is_of_its_record, each_has_job}
-use Rattle.replica_core.proofs.Steps.{none_committed}
 use Rattle.replica_core.proofs.laws.jobs.Goals as goal
 
 pub returns : goal.returns
-returns c = let x = none_committed in record { of_record = job_is_of_its_record; each = each_has_job }
+returns c = record { of_record = job_is_of_its_record; each = each_has_job }
