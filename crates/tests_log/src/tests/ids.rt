@@ -125,6 +125,21 @@ fn ids_are_put_in_again(rt: HostRuntime) -> Result<(), Fail> {
     Ok(())
 }
 
+/// Ids from 1 on that are refused where the last one has many digits, or of which there is one too few.
+#[test]
+fn first_ids_are_made_again(rt: HostRuntime) -> Result<(), Fail> {
+    for (last, wanted) in [
+        (1, ":1"),
+        (4_294_967_297, ":1-4294967297"),
+        (9_223_372_036_854_775_807, ":1-9223372036854775807"),
+    ] {
+        let set = again!(GtidSet::first(rt.alloc(), source(), last))?;
+        let text = again!(format!(in rt.alloc(); "{set}"))?;
+        assert_eq!(rt; text.as_str().strip_prefix(NAME).unwrap_or(""), wanted);
+    }
+    Ok(())
+}
+
 /// A refusal in another's place, or that leaves another set.
 #[test]
 fn ids_are_refused(rt: HostRuntime) -> Result<(), Fail> {

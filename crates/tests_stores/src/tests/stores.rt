@@ -98,15 +98,25 @@ fn copied_again(rows: Batch) -> Result<Op, Memory> {
     again!(commit.copy())
 }
 
+/// Whether the rows of so many keys in four tables are the same once they were put into each store, read of it and copied, each again where
+/// memory lacked.
+fn are_kept_again(alloc: Global, keys: u16) -> Result<bool, Memory> {
+    let rows = again!(many_rows(alloc, &[1, 2, 3, 256], keys))?;
+    let in_tree = copied_again(stored_again(alloc, BTreeStore::new(alloc), &rows)?)?;
+    let in_vector = stored_again(alloc, VectorStore::new(alloc), &rows)?;
+    Ok(same_rows(in_tree.batch(), &rows) && same_rows(&in_vector, &rows))
+}
+
 /// A put, a snapshot or a copy that gives up, where there are many rows or where memory lacked once.
 #[test]
 fn two_thousand_rows_are_put_again(rt: HostRuntime) -> Result<(), Fail> {
-    let alloc = rt.alloc();
-    let tables = [1, 2, 3, 256];
-    let rows = again!(many_rows(alloc, &tables, 500))?;
-    let in_tree = copied_again(stored_again(alloc, BTreeStore::new(alloc), &rows)?)?;
-    assert!(rt; same_rows(in_tree.batch(), &rows));
-    let in_vector = stored_again(alloc, VectorStore::new(alloc), &rows)?;
-    assert!(rt; same_rows(&in_vector, &rows));
+    assert!(rt; are_kept_again(rt.alloc(), 500)?);
+    Ok(())
+}
+
+/// The same where there are more rows than a number of 16 bits counts.
+#[test]
+fn more_rows_than_65536(rt: HostRuntime) -> Result<(), Fail> {
+    assert!(rt; are_kept_again(rt.alloc(), 17_000)?);
     Ok(())
 }
