@@ -14,31 +14,62 @@ use std::test::Fail;
 use std::thread::Threads;
 use std::time::Clock;
 
-/// The first session's group finds no memory, twice: the second session, which was to write it then, stays queued. The third
-/// writes it, and the second's transaction with its own as one group.
+/// The first session's group finds no memory, as often as other sessions are to write it: they stay queued. The last session writes it,
+/// and the transactions of these with its own as one group.
 pub fn is_refused<J: SourceNaming, R: Wait + Abort + Clock>(
     rt: &R,
+    alloc: Global,
     source: &Shared<'_, J, R>,
     receipts: &Mutex<Vec<Receipt<J>>>,
     orders: &Orders<'_, R>,
 ) -> Result<usize, Fail> {
-    let mut one = prepared(rt, source, 1)?;
-    let mut two = prepared(rt, source, 2)?;
-    let mut three = prepared(rt, source, 3)?;
-    orders.refusals.store(2, Ordering::SeqCst);
-    let refused = [
-        source.commit(rt, &mut one).err(),
-        source.commit(rt, &mut two).err(),
-    ];
-    assert_eq!(rt; refused, [Some(SourceFault::Memory); 2]);
-    let given = [
-        committed(rt, source, receipts, &mut three)?,
-        committed(rt, source, receipts, &mut two)?,
-        committed(rt, source, receipts, &mut one)?,
-    ];
-    assert_eq!(rt; given, [3, 2, 1]);
+    let mut seats = all_prepared(rt, alloc, source)?;
+    let mut last = prepared(rt, source, 256)?;
+    orders.refusals.store(255, Ordering::SeqCst);
+    are_refused(rt, source, &mut seats);
+    let given = committed(rt, source, receipts, &mut last)?;
+    assert_eq!(rt; given, 256);
+    are_committed(rt, source, receipts, &mut seats)?;
     assert_eq!(rt; orders.groups(), 2);
-    Ok(3)
+    Ok(256)
+}
+
+/// The seats of all sessions but the last, whose inserts are prepared.
+fn all_prepared<J: SourceNaming, R: Wait + Clock>(
+    rt: &R,
+    alloc: Global,
+    source: &Shared<'_, J, R>,
+) -> Result<Vec<SessionSeat<J>>, Fail> {
+    let mut seats = Vec::new(alloc);
+    for session in 1..256 {
+        seats.push(prepared(rt, source, session)?)?;
+    }
+    Ok(seats)
+}
+
+/// No commit of these finds memory.
+fn are_refused<J: SourceNaming, R: Wait + Abort + Clock>(
+    rt: &R,
+    source: &Shared<'_, J, R>,
+    seats: &mut [SessionSeat<J>],
+) {
+    for seat in seats {
+        assert_eq!(rt; source.commit(rt, seat).err(), Some(SourceFault::Memory));
+    }
+}
+
+/// These are the first commits, in their order.
+fn are_committed<J: SourceNaming, R: Wait + Abort + Clock>(
+    rt: &R,
+    source: &Shared<'_, J, R>,
+    receipts: &Mutex<Vec<Receipt<J>>>,
+    seats: &mut [SessionSeat<J>],
+) -> Result<(), SourceFault> {
+    for (place, seat) in seats.iter_mut().enumerate() {
+        let given = committed(rt, source, receipts, seat)?;
+        assert_eq!(rt; given, (place as u64).saturating_add(1));
+    }
+    Ok(())
 }
 
 /// The seat of the session, whose insert is prepared.

@@ -39,7 +39,7 @@ enum Course {
     Failing,
     /// Four threads commit ten times each.
     Beside,
-    /// The first group's writes find no memory twice.
+    /// The first group's writes find no memory, for all sessions but the last.
     Refused,
     /// The second group's sync is held.
     Held,
@@ -69,10 +69,10 @@ fn four_threads_get_each_number_once(rt: HostRuntime) -> Result<(), Fail> {
     runs(&rt, rt.alloc(), Course::Beside)
 }
 
-/// Catches a group that is lost, or committed out of turn, behind one for which the device found no memory, and two sessions
-/// that are queued meanwhile and do not become one group.
+/// Catches a group that is lost, or committed out of turn, behind one for which the device found no memory, and sessions that are
+/// queued meanwhile, all that there are, and do not become one group.
 #[test]
-fn a_group_of_two_waits_behind_a_refused_one(rt: HostRuntime) -> Result<(), Fail> {
+fn the_greatest_group_waits_behind_a_refused_one(rt: HostRuntime) -> Result<(), Fail> {
     runs(&rt, rt.alloc(), Course::Refused)
 }
 
@@ -168,7 +168,7 @@ fn run_over<'a, J: SourceNaming + Send + Sync, R: Threads + Wait + Abort + Clock
         Course::InTurn => in_turn(rt, alloc, &source, &receipts),
         Course::Failing => halts(rt, &source, &receipts),
         Course::Beside => beside(rt, alloc, &source, &receipts, 4, 10),
-        Course::Refused => is_refused(rt, &source, &receipts, orders),
+        Course::Refused => is_refused(rt, alloc, &source, &receipts, orders),
         Course::Held => is_held(rt, &source, &receipts, orders),
         Course::Slow => is_shared(rt, alloc, &source, &receipts, orders),
         Course::Followed => is_followed(rt, alloc, &source, &receipts),
