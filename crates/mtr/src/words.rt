@@ -106,7 +106,7 @@ impl<'a> Words<'a> {
         ensures { result ≡ row_in self.entry }
     {
         let mut columns = [0; 16];
-        let count = columns_of(self, &mut columns)?;
+        let count = items_of(self, &mut columns)?;
         Row::new(&columns[..count])
     }
 
@@ -117,39 +117,56 @@ impl<'a> Words<'a> {
         ensures { result ≡ naming_in self.entry }
     {
         let mut pairs = [(0, 0); 16];
-        let count = assignments_of(self, &mut pairs)?;
+        let count = items_of(self, &mut pairs)?;
         Named::of(&pairs[..count])
     }
 }
 
-/// Writes the numbers that all of the words are, and tells how many there are; `None` where they are too many.
-fn columns_of(words: Words, columns: &mut [i64]) -> Option<usize>
-    ensures { AreAll integer words.entry columns.new result }
-{
-    let mut words = words;
-    let mut count = 0;
-    while let Some((word, rest)) = words.first() {
-        if count == columns.len() {
-            return None;
-        }
-        columns[count] = i64_of(word)?;
-        count += 1;
-        words = rest;
-    }
-    Some(count)
+/// What a word may be.
+trait OfWord: Copy {
+    ghost use Rattle.std.specs.Prelude.{◌≡◌, Option};
+    ghost use Rattle.mtr.specs.Words.{Word};
+
+    ghost reads: { Word → Option Self };
+
+    /// What the word is; `None` where it is no such thing.
+    fn of_word(word: &str) -> Option<Self>
+        ensures { result ≡ reads word.now };
 }
 
-/// The same of pairs `COL=V`.
-fn assignments_of(words: Words, pairs: &mut [(u8, i64)]) -> Option<usize>
-    ensures { AreAll assignment words.entry pairs.new result }
+impl OfWord for i64 {
+    ghost use Rattle.mtr.specs.Number.{integer};
+
+    ghost reads = { integer };
+
+    fn of_word(word: &str) -> Option<i64> {
+        i64_of(word)
+    }
+}
+
+/// A column and its value, `COL=V`.
+impl OfWord for (u8, i64) {
+    ghost use Rattle.mtr.specs.Words.{assignment};
+
+    ghost reads = { assignment };
+
+    fn of_word(word: &str) -> Option<(u8, i64)> {
+        assignment_of(word)
+    }
+}
+
+/// Writes what all of the words are, and tells how many there are; `None` where one is no such thing, or they are too
+/// many.
+fn items_of<T: OfWord>(words: Words, items: &mut [T]) -> Option<usize>
+    ensures { AreAll T.reads words.entry items.new result }
 {
     let mut words = words;
     let mut count = 0;
     while let Some((word, rest)) = words.first() {
-        if count == pairs.len() {
+        if count == items.len() {
             return None;
         }
-        pairs[count] = assignment_of(word)?;
+        items[count] = T::of_word(word)?;
         count += 1;
         words = rest;
     }

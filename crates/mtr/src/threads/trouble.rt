@@ -17,14 +17,14 @@ pub enum Trouble {
     Different,
 }
 
-impl From<Memory> for Trouble {
+impl<T: Drop> From<AllocFailed<T>> for Trouble {
     ghost use Rattle.std.specs.Prelude.{◌≡◌};
     ghost use Rattle.mtr.specs.declared.threads.trouble.Trouble.TheVariants as troubles;
 
     ghost from_gives = { λ _ trouble. trouble ≡ troubles.Memory };
 
-    fn from(_memory: Memory) -> Trouble {
-        Trouble::Memory
+    fn from(error: AllocFailed<T>) -> Trouble {
+        Memory::from(error).into()
     }
 }
 
@@ -34,18 +34,18 @@ impl From<AllocError> for Trouble {
 
     ghost from_gives = { λ _ trouble. trouble ≡ troubles.Memory };
 
-    fn from(_error: AllocError) -> Trouble {
-        Trouble::Memory
+    fn from(error: AllocError) -> Trouble {
+        Memory::from(error).into()
     }
 }
 
-impl<T: Drop> From<AllocFailed<T>> for Trouble {
+impl From<Memory> for Trouble {
     ghost use Rattle.std.specs.Prelude.{◌≡◌};
     ghost use Rattle.mtr.specs.declared.threads.trouble.Trouble.TheVariants as troubles;
 
     ghost from_gives = { λ _ trouble. trouble ≡ troubles.Memory };
 
-    fn from(_error: AllocFailed<T>) -> Trouble {
+    fn from(_memory: Memory) -> Trouble {
         Trouble::Memory
     }
 }
