@@ -1,4 +1,4 @@
-//! What the tests begin with: a schema, rows, changes and records, new cores over no rows, and commits that set one row.
+//! What the tests begin with: a schema, changes of its table, new cores over no rows, and commits that set one row.
 ghost use Rattle.std.specs.Prelude.{◌≡◌, IfOk};
 ghost use Rattle.published.specs.History.{IsCommit};
 ghost use Rattle.replica_core.specs.Calls.{new_over};
@@ -8,13 +8,13 @@ use crate::lacking::Lacking;
 use btree_store::BTreeStore;
 use commit_order_tracker::CommitOrder;
 use published::Answer;
-use record_codec::{Changes, Flags, Record, Refs};
 use replica_core::ReplicaCore;
-use rows::{Change, Named, Row};
+use rows::{Change, Row};
 use schema::{Memory, RowId, Schema, Table};
 use source_core::SourceCore;
 use std::alloc::Global;
 use store_trait::{Batch, Op, fits};
+use tests_stores::common::{row, update};
 use uuid::Uuid;
 
 /// The source of the log.
@@ -64,43 +64,12 @@ pub fn replica(alloc: Global) -> Result<ReplicaCore<Lacking<BTreeStore>>, Memory
 
 /// An insert into table 1.
 pub fn insert(key: i64, columns: [i64; 2]) -> Result<Change, Memory> {
-    Ok(Change::Insert {
-        row: RowId { table: 1, key },
-        values: Row::new(&columns).ok_or(Memory)?,
-    })
+    tests_stores::common::insert(row(1, key), &columns)
 }
 
 /// An update of column 0.
 pub fn set(key: i64, value: i64) -> Result<Change, Memory> {
-    Ok(Change::Update {
-        row: RowId { table: 1, key },
-        columns: Named::of(&[(0, value)]).ok_or(Memory)?,
-    })
-}
-
-/// The record of this number with one change.
-pub fn record(alloc: Global, gno: u64, parent: u64, change: Change) -> Result<Record, Memory> {
-    record_of(alloc, gno, parent, vec![in alloc; change]?)
-}
-
-/// The record of this number with these changes.
-pub fn record_of(
-    alloc: Global,
-    gno: u64,
-    parent: u64,
-    changes: Vec<Change>,
-) -> Result<Record, Memory> {
-    Ok(Record {
-        gno,
-        sequence: gno,
-        parent,
-        flags: Flags {
-            fk: false,
-            missing_keys: false,
-        },
-        refs: Refs::none(alloc),
-        changes: Changes::new(changes).ok_or(Memory)?,
-    })
+    update(row(1, key), 0, value)
 }
 
 /// The row `ONE` is set to this number.

@@ -4,7 +4,7 @@ ghost use Rattle.replica_core.specs.Calls.{new_over};
 
 use crate::device::{PATIENCE, comes};
 use crate::lacking::Lacking;
-use crate::makers::{ONE, SOURCE, insert, record, replica, set};
+use crate::makers::{ONE, SOURCE, insert, replica, set};
 use crate::unlocked::is_unlocked;
 use crate::watched::{Order, is_crowded, is_empty, is_handed_in_late, is_refused, is_watched};
 use crate::wires::{come_in_pieces, is_damaged, is_kept_waiting, sets_are_shown, wake_workers};
@@ -24,6 +24,7 @@ use std::sync::atomic::{AtomicBool, Ordering};
 use std::test::Fail;
 use std::thread::{Threads, join, sleep};
 use std::time::{Clock, Duration};
+use tests_log::common::record;
 use uuid::Uuid;
 
 type Core = ReplicaCore<Lacking<BTreeStore>>;

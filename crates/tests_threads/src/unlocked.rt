@@ -1,6 +1,6 @@
 //! Whether others get the lock of a replica while a worker executes a job.
 
-use crate::makers::{insert, record_of, set};
+use crate::makers::{insert, set};
 use crate::replicas::{Shared, receive, work};
 use record_codec::Record;
 use relay::ReplicaFault;
@@ -13,6 +13,7 @@ use std::sync::atomic::{AtomicBool, AtomicU64, Ordering};
 use std::test::Fail;
 use std::thread::{Threads, join, sleep};
 use std::time::{Clock, Duration};
+use tests_log::common::record_of;
 
 /// So many records come, of so many changes each: a worker needs about a millisecond for one.
 const RECORDS: u64 = 40;

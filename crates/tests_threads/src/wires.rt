@@ -4,7 +4,7 @@ ghost use Rattle.std.specs.Prelude.{◌<◌};
 use crate::makers::SOURCE;
 use crate::replicas::{Course, Held, Shared, Step, feed, receive, runs, shows, sleep_all, work};
 use gtid_set::GtidSet;
-use record_codec::{CodecFault, Record, encode};
+use record_codec::{CodecFault, Record};
 use relay::ReplicaFault;
 use replica_core::{Wire, WireFault};
 use replica_shared::{NoGate, ReplicaNaming, Sleepers};
@@ -15,6 +15,7 @@ use std::sync::Wait;
 use std::test::Fail;
 use std::thread::{Threads, join};
 use std::time::Clock;
+use tests_log::common::spelled;
 use uuid::Uuid;
 
 /// A source whose records are not taken.
@@ -59,15 +60,6 @@ fn sets_of_ids_are_waited_for(rt: HostRuntime) -> Result<(), Fail> {
     runs(&rt, rt.alloc(), Course::Sets)
 }
 
-/// The bytes of the records.
-fn spelled(alloc: Global, records: &[Record]) -> Result<Vec<u8>, Memory> {
-    let mut bytes = Vec::new(alloc);
-    for record in records {
-        encode(record, &mut bytes)?;
-    }
-    Ok(bytes)
-}
-
 /// The records come in pieces of so many bytes, and are published.
 pub fn come_in_pieces<J: ReplicaNaming>(
     rt: &(impl Wait + Abort),
@@ -78,10 +70,7 @@ pub fn come_in_pieces<J: ReplicaNaming>(
 ) -> Result<u64, Fail>
     requires { 0 < width }
 {
-    let bytes = match spelled(alloc, records) {
-        Ok(bytes) => bytes,
-        Err(_) => spelled(alloc, records)?,
-    };
+    let bytes = spelled(alloc, records)?;
     let mut wire = Wire::new(alloc, Uuid::from_u128(SOURCE));
     for piece in bytes.chunks(width) {
         feed_again(rt, shared, &mut wire, piece)?;
