@@ -8,6 +8,7 @@ use Rattle.std.proofs.lemmas.Bool.{and_parts, cond-true, cond-false, false≢tru
 use Rattle.std.proofs.lemmas.List.{take_more}
 use Rattle.schema.specs.declared.RowId.{RowId}
 use Rattle.schema.specs.RowId.{row_cmp, row_total, exact_row, same_row}
+use Rattle.schema.proofs.Lists.{AllByRecursion-push}
 use Rattle.rows.specs.Database.{Database}
 use Rattle.store_trait.specs.Batch.{Entry, IsRising, put_row, put_batch}
 use Rattle.rows.proofs.Apply.{get-put_row, row_is}
@@ -158,8 +159,7 @@ AreSet-put_row db id columns ((row, Some left) ∷ es) below h =
     (get-put_row db id row columns ∙ cond-false _ _ _ other ∙ h.0, AreSet-put_row db id columns es parts.1 h.1)
 
 keys-push : (es : List Entry) (e : Entry) → AllByRecursion (λ (f : Entry). FitsSigned w64 f.0.key) es → FitsSigned w64 e.0.key → AllByRecursion (λ (f : Entry). FitsSigned w64 f.0.key) (es ++ e ∷ [])
-keys-push [] e h last = (last, tt)
-keys-push (f ∷ es) e h last = (h.0, keys-push es e h.1 last)
+keys-push es e h last = AllByRecursion-push (λ (f : Entry). FitsSigned w64 f.0.key) es e h last
 
 module _ (es : List Entry) (i : ℕ) (first now : Database) (h : Setting es i first now) (within : i < length es) (id : RowId) (columns : Option (List ℤ)) (is : (id, columns) ≡ get_or es i (id, columns)) where
   rest_is : drop i es ≡ (id, columns) ∷ drop (i + 1) es

@@ -4,12 +4,13 @@ use Rattle.std.specs.FinMap.{get}
 use Rattle.std.proofs.lemmas.List.{append-nil, take_more}
 use Rattle.schema.specs.declared.Table.{Table}
 use Rattle.schema.specs.declared.RowId.{RowId}
+use Rattle.schema.proofs.Lists.{made_of}
 use Rattle.rows.specs.declared.Change.{Change}
 use Rattle.rows.specs.Database.{Database, target, apply, effect, kin}
 use Rattle.rows.proofs.Effect.{kin_joined, kin_then}
 use Rattle.overlay.specs.Pending.{Pending, seen}
 use Rattle.overlay.proofs.Follow.{seen-Follows}
-use Rattle.overlay.proofs.Run.{HasRun, mapped}
+use Rattle.overlay.proofs.Run.{HasRun}
 use Rattle.executor.specs.Job.{kin_at}
 
 -- one change more, the rows behind the list being the parents of its row before and after it
@@ -22,7 +23,7 @@ kin_more ts changes db n pending change row left answer now later run within is 
     let mid = seen pending db in
     let id = target change in
     let reached : effect ts (take n changes) db ≡ Some mid = ap (λ l. effect ts l db) (sym run.done) ∙ run.follows.applied ∙ ap Some (sym (seen-Follows run.follows)) in
-    let next = mapped (λ (m : Database). get m id) (apply ts change mid) left (sym leaves ∙ some) in
+    let next = made_of (λ (m : Database). get m id) (apply ts change mid) left (sym leaves ∙ some) in
     let here : kin ts (change ∷ []) mid ≡ kin_at ts id.table (get mid id) ++ kin_at ts id.table (get next.0 id) =
     kin_then ts change [] mid next.0 next.1 ∙ append-nil (kin_at ts id.table (get mid id) ++ kin_at ts id.table (get next.0 id)) in
     put

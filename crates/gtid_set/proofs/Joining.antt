@@ -9,6 +9,7 @@ use Rattle.std.proofs.lemmas.List.{take_more, take_more_set, drop-drop, get_or-d
 use Rattle.std.proofs.lemmas.List.Elements.{recursion_from_All, All-from_recursion}
 use Rattle.std.proofs.lemmas.List.Sorted.{list_any-IsPermutation, All-permutation}
 use Rattle.std.proofs.lemmas.Grind.{drop_more_same}
+use Rattle.schema.proofs.Lists.{AllByRecursion-push, AllByRecursion-front, AllByRecursion-behind, AllByRecursion-weaker}
 use Rattle.gtid_set.specs.declared.intervals.Interval.{Interval}
 use Rattle.gtid_set.specs.Numbers.{is_within, has_number, RiseFrom, AreNumbers, IsInterval, Joins, AreThoseOf}
 use Rattle.gtid_set.proofs.Rising.{end_of, end_push, rise_front, rise_back, rise_both, has_number-append}
@@ -26,20 +27,16 @@ last_taken is kept d are some lt =
 
 -- what holds of the first ones holds when another stands in the last place
 sorted_push : (f : ℕ) (is : List Interval) (y : Interval) → AllByRecursion (λ i. i.first ≤ f) is → y.first ≤ f → AllByRecursion (λ i. i.first ≤ f) (is ++ y ∷ [])
-sorted_push f [] y h le = (le, tt)
-sorted_push f (i ∷ is) y h le = (h.0, sorted_push f is y h.1 le)
+sorted_push f is y h le = AllByRecursion-push (λ i. i.first ≤ f) is y h le
 
 sorted_front : (f : ℕ) (is ys : List Interval) → AllByRecursion (λ i. i.first ≤ f) (is ++ ys) → AllByRecursion (λ i. i.first ≤ f) is
-sorted_front f [] ys h = tt
-sorted_front f (i ∷ is) ys h = (h.0, sorted_front f is ys h.1)
+sorted_front f is ys h = AllByRecursion-front (λ i. i.first ≤ f) is ys h
 
 sorted_last : (f : ℕ) (is : List Interval) (y : Interval) → AllByRecursion (λ i. i.first ≤ f) (is ++ y ∷ []) → y.first ≤ f
-sorted_last f [] y h = h.0
-sorted_last f (i ∷ is) y h = sorted_last f is y h.1
+sorted_last f is y h = (AllByRecursion-behind (λ i. i.first ≤ f) is (y ∷ []) h).0
 
 pub sorted_more : (f g : ℕ) (is : List Interval) → f ≤ g → AllByRecursion (λ i. i.first ≤ f) is → AllByRecursion (λ i. i.first ≤ g) is
-sorted_more f g [] le h = tt
-sorted_more f g (i ∷ is) le h = (omega (arith, h.0), sorted_more f g is le h.1)
+sorted_more f g is le h = AllByRecursion-weaker (λ (i : Interval). i.first ≤ f) (λ i. i.first ≤ g) (λ i within. omega (arith, within, le)) is h
 
 has_one : (is : List Interval) (y : Interval) (m : ℕ) → has_number (is ++ y ∷ []) m ≡ (has_number is m || is_within y m)
 has_one is y m = has_number-append is (y ∷ []) m ∙ ap (λ (b : Bool). has_number is m || b) (or-false (is_within y m))

@@ -6,6 +6,7 @@ use Rattle.std.proofs.lemmas.Bool.Decides.{nat_tests}
 use Rattle.std.proofs.lemmas.List.{set_split, set_at, take-append-drop, take_all, drop_all, length-take-le, append_assoc, get_or_default}
 use Rattle.std.proofs.lemmas.List.Edits.{get_or-remove_below}
 use Rattle.std.proofs.Math.Seq.{split_at, take-suc, drop-cons}
+use Rattle.schema.proofs.Lists.{AllByRecursion-weaker}
 use Rattle.gtid_set.specs.declared.intervals.Interval.{Interval}
 use Rattle.gtid_set.specs.Numbers.{is_within, has_number, RiseFrom, AreNumbers, IsPlace, Puts}
 use Rattle.gtid_set.proofs.Rising.{rise_front, rise_back, end_below, none_before, none_behind, has_number-append, puts_between, alone_has, lower_has, higher_has, joined_has}
@@ -29,8 +30,7 @@ at_place is at x lt e = split_at is at x lt ∙ ap (λ (y : Interval). take at i
 
 -- what ends below a number ends below a greater one
 pub below_more : (low n : ℕ) (is : List Interval) → low ≤ n → AllByRecursion (λ i. i.last < low) is → AllByRecursion (λ i. i.last < n) is
-below_more low n [] le h = tt
-below_more low n (i ∷ is) le h = (omega (arith, h.0), below_more low n is le h.1)
+below_more low n is le h = AllByRecursion-weaker (λ (i : Interval). i.last < low) (λ i. i.last < n) (λ i under. omega (arith, under, le)) is h
 
 -- ---- the number is in no interval
 

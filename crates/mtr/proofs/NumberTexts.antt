@@ -15,6 +15,7 @@ use Rattle.std.proofs.lemmas.Bool.Decides.{nat_tests, eqb_tells}
 use Rattle.std.proofs.lemmas.Int.{ints}
 use Rattle.std.proofs.lemmas.Option.{cond_some}
 use Rattle.std.proofs.lemmas.Slice.Eq.{bytes_eq-Decides}
+use Rattle.schema.proofs.Lists.{made_of}
 use Rattle.gtid_set.proofs.NumberTexts.{own}
 use Rattle.mtr.specs.Number.{is_number, number, integer, ReadsNumber, ReadsInteger}
 
@@ -191,10 +192,6 @@ not_refused : {A : Type 0} (b : Bool) (o : Option A) (z : A) → cond b None o �
 not_refused true o z e = cc
 not_refused false o z e = (refl, e)
 
-mapped : {A B : Type 0} (f : A → B) (o : Option A) (z : B) → option_map f o ≡ Some z → (n : A) × (o ≡ Some n) × (f n ≡ z)
-mapped f None z e = cc
-mapped f (Some n) z e = (n, refl, cc)
-
 -- the digits behind a minus sign
 negative_spelled : (digits : List ℕ) (n : ℕ) → digits ≡ decimal n → bytes_eq digits (codes "0") ≡ false → 45 ∷ digits ≡ signed_decimal (neg_ℤ (pos n))
 negative_spelled digits zero e z =
@@ -211,11 +208,11 @@ integer_spelled (c ∷ cs) z e =
       | inl w ↦
           let refused : cond (bytes_eq cs (codes "0")) None (option_map (λ n. neg_ℤ (pos n)) (number (2 ^ 63 + 1) cs)) ≡ Some z = rw w.0 at e in
           let kept = not_refused (bytes_eq cs (codes "0")) (option_map (λ n. neg_ℤ (pos n)) (number (2 ^ 63 + 1) cs)) z refused in
-          let found = mapped (λ n. neg_ℤ (pos n)) (number (2 ^ 63 + 1) cs) z kept.1 in
+          let found = made_of (λ n. neg_ℤ (pos n)) (number (2 ^ 63 + 1) cs) z kept.1 in
           ap (λ (d : ℕ). d ∷ cs) w.1 ∙ negative_spelled cs found.0 (number_spelled (2 ^ 63 + 1) cs found.0 (omega arith) found.1).0 kept.0 ∙ ap signed_decimal found.2
       | inr w ↦
           let here : option_map pos (number (2 ^ 63) (c ∷ cs)) ≡ Some z = rw w.0 at e in
-          let found = mapped pos (number (2 ^ 63) (c ∷ cs)) z here in
+          let found = made_of pos (number (2 ^ 63) (c ∷ cs)) z here in
           (number_spelled (2 ^ 63) (c ∷ cs) found.0 (omega arith) found.1).0 ∙ ap signed_decimal found.2
     ]
 

@@ -12,6 +12,7 @@ use Rattle.schema.specs.declared.RowId.{RowId}
 use Rattle.schema.proofs.Conflicts.{none_of_both}
 use Rattle.schema.specs.RowId.{row_cmp, exact_row, row_total}
 use Rattle.schema.specs.Rows.{has_row, meets}
+use Rattle.schema.proofs.Lists.{AllByRecursion-push, AllByRecursion-front, AllByRecursion-behind}
 use Rattle.rows.specs.Database.{Database, writes, effect, kin}
 use Rattle.rows.specs.Frame.{SameEffect}
 use Rattle.rows.proofs.Apply.{has_row-left}
@@ -50,25 +51,16 @@ apart_without_conflict ts db earlier later none =
     let own = or_parts (meets wrote (writes later.changes)) (meets wrote (kin ts later.changes db)) parts.0 in
     none_of_both wrote (writes later.changes) (kin ts later.changes db) own.0 own.1
 
-with_last : {X : Type 0} (P : X → Type 0) (xs : List X) (x : X) → AllByRecursion P xs → P x → AllByRecursion P (xs ++ x ∷ [])
-with_last P [] x all last = (last, tt)
-with_last P (y ∷ xs) x all last = (all.0, with_last P xs x all.1 last)
-
-without_last : {X : Type 0} (P : X → Type 0) (xs : List X) (x : X) → AllByRecursion P (xs ++ x ∷ []) → AllByRecursion P xs × P x
-without_last P [] x all = (tt, all.0)
-without_last P (y ∷ xs) x all =
-    let rest = without_last P xs x all.1 in
-    ((all.0, rest.0), rest.1)
-
 pub apart-more : ApartGoesOn
 apart-more ts db [] pending = (λ all. (tt, tt), λ parts. (tt, tt))
 apart-more ts db (first ∷ pendings) pending =
     let rest = apart-more ts db pendings pending in (
       λ all.
-          let here = without_last (IsApart ts db first) pendings pending all.0 in
+          let front = AllByRecursion-front (IsApart ts db first) pendings (pending ∷ []) all.0 in
+          let last = AllByRecursion-behind (IsApart ts db first) pendings (pending ∷ []) all.0 in
           let there = rest.0 all.1 in
-          ((here.0, there.0), (here.1, there.1)),
-      λ parts. (with_last (IsApart ts db first) pendings pending parts.0.0 parts.1.0, rest.1 (parts.0.1, parts.1.1)),
+          ((front, there.0), (last.0, there.1)),
+      λ parts. (AllByRecursion-push (IsApart ts db first) pendings pending parts.0.0 parts.1.0, rest.1 (parts.0.1, parts.1.1)),
     )
 
 -- ---- over what the first of them leaves

@@ -1,20 +1,17 @@
 -- Rows of several transactions, joined into one list in the order of row ids.
 use Rattle.std.proofs.Common.{◌≡◌, sym, ap, ◌∙◌, refl, Bool, true, false, cond, List, [], ◌∷◌, ◌++◌, Option, Some, None, IsSome, is_some, ℤ}
-use Rattle.std.specs.Cmp.{eq_by_cmp_equiv}
 use Rattle.std.specs.List.{IsDistinct, AllByRecursion}
 use Rattle.std.specs.Map.{keys_of}
 use Rattle.std.specs.Option.{option_or}
 use Rattle.std.specs.FinMap.{find}
 use Rattle.schema.specs.declared.RowId.{RowId}
-use Rattle.schema.specs.RowId.{row_cmp, same_row, row_total}
+use Rattle.schema.specs.RowId.{row_cmp, same_row}
+use Rattle.schema.proofs.Conflicts.{same_row-symm}
 use Rattle.rows.proofs.Apply.{same_row_itself}
 use Rattle.store_trait.specs.Batch.{Entry, IsRising, in_order}
 use Rattle.store_trait.proofs.Batches.{find-in_order, in_order_rises, same_batch}
 use Rattle.overlay.specs.Pending.{Pending, left_at}
 use Rattle.overlay.specs.Joining.{joined, first_left, JoinedGoesOn, JoinedHasRows, JoinedRises}
-
-turned : (a b : RowId) → same_row a b ≡ same_row b a
-turned = (eq_by_cmp_equiv row_total).symm
 
 find-append : (es fs : List Entry) (q : RowId) → find row_cmp q (es ++ fs) ≡ option_or (find row_cmp q es) (find row_cmp q fs)
 find-append [] fs q = refl
@@ -56,7 +53,7 @@ apart_from : (x : RowId) (fs : List Entry) → ((q : RowId) → IsSome (find row
 apart_from x [] h = tt
 apart_from x (f ∷ fs) h =
     let here : same_row f.0 x ≡ false = h f.0 (ap (λ b. is_some (cond b (Some f.1) (find row_cmp f.0 fs))) (same_row_itself f.0)) in
-    (turned x f.0 ∙ here, apart_from x fs (λ q is. h q (others_found q f fs is)))
+    (same_row-symm x f.0 ∙ here, apart_from x fs (λ q is. h q (others_found q f fs is)))
 
 apart_from_both : (x : RowId) (es fs : List Entry) → AllByRecursion (λ y. same_row x y ≡ false) (keys_of es) → AllByRecursion (λ y. same_row x y ≡ false) (keys_of fs) → AllByRecursion (λ y. same_row x y ≡ false) (keys_of (es ++ fs))
 apart_from_both x [] fs own other = other

@@ -3,8 +3,8 @@ use Rattle.std.proofs.Common.{◌≡◌, ap, sym, ◌∙◌, refl, subst, ℕ, �
 use Rattle.std.specs.Prelude.{option_and_then}
 use Rattle.std.specs.FinMap.{get}
 use Rattle.std.proofs.lemmas.List.{take_more, take_all, at_drop_more}
-use Rattle.std.proofs.lemmas.Option.{same_Some}
 use Rattle.schema.specs.declared.Table.{Table}
+use Rattle.schema.proofs.Lists.{made_of}
 use Rattle.rows.specs.declared.Change.{Change}
 use Rattle.rows.specs.Database.{Database, target, writes, apply, effect}
 use Rattle.store_trait.specs.Batch.{rows_in}
@@ -22,10 +22,6 @@ pub record HasRun (ts : List Table) (changes : List Change) (db : Database) (n :
 pub HasRun-none : (ts : List Table) (changes : List Change) (db : Database) → HasRun ts changes db 0 none_pending
 HasRun-none ts changes db = record { after = db; follows = Follows-none ts db; done = refl; rest = refl }
 
-pub mapped : {A B : Type 0} (f : A → B) (o : Option A) (y : B) → option_map f o ≡ Some y → (x : A) × (o ≡ Some x) × (f x ≡ y)
-mapped f None y h = cc
-mapped f (Some x) y h = (x, refl, same_Some (f x) y h)
-
 none_mapped : {A B : Type 0} (f : A → B) (o : Option A) → option_map f o ≡ None → o ≡ None
 none_mapped f None h = refl
 none_mapped f (Some x) h = cc
@@ -42,7 +38,7 @@ module _ {ts : List Table} {changes : List Change} {db : Database} {n : ℕ} {pe
 
   pub HasRun-more : (left : Option (List ℤ)) → option_map (λ m. get m (target change)) (apply ts change (seen pending db)) ≡ Some left → HasRun ts changes db (n + 1) (pushed pending change left)
   HasRun-more left leaves =
-      let next = mapped (λ (m : Database). get m (target change)) (apply ts change run.after) left (sym left_after ∙ leaves) in
+      let next = made_of (λ (m : Database). get m (target change)) (apply ts change run.after) left (sym left_after ∙ leaves) in
       record {
         after = next.0;
         follows = subst (λ (l : Option (List ℤ)). Follows ts db (pushed pending change l) next.0) next.2 (Follows-pushed change next.0 run.follows next.1);

@@ -10,10 +10,10 @@ use Rattle.rows.specs.Database.{writes}
 use Rattle.rows.specs.Shape.{is_shaped}
 use Rattle.record_codec.specs.declared.records.Record.{Record}
 use Rattle.record_codec.specs.declared.records.Flags.{Flags}
-use Rattle.record_codec.specs.Log.{flags_of}
+use Rattle.record_codec.specs.Log.{flags_of, AreShaped}
 use Rattle.relay.specs.Form.{has_flags}
 use Rattle.relay.specs.Relay.{received, IsAcceptable}
-use Rattle.relay.specs.Laws.{AreShaped, LegalIsAcceptable, ReceivesOfLog}
+use Rattle.relay.specs.Laws.{LegalIsAcceptable, ReceivesOfLog}
 use Rattle.record_codec.proofs.Logs.{split_at}
 use Rattle.relay.proofs.Referred.{refs_are_parents, all_have_refs}
 use Rattle.relay.proofs.Judged.{well_formed_record, acceptable_is_accepted, is_skipped, is_gap, by_number, at_most, at_next, past_next}

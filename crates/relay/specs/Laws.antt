@@ -1,12 +1,10 @@
 -- What follows from the definitions of what is accepted.
-use Rattle.std.specs.Prelude.{◌≡◌, ◌↔◌, ℕ, ◌+◌, ◌<◌, ◌≤◌, ◌^◌, ◌==◌, nat_le, if◌then◌else◌, true, IsTrue, List, [], ◌∷◌, ◌++◌, length, map, take, slice_get, Some, Ok, Err}
-use Rattle.std.specs.List.{AllByRecursion, list_all}
+use Rattle.std.specs.Prelude.{◌≡◌, ◌↔◌, ℕ, ◌+◌, ◌<◌, ◌≤◌, ◌^◌, ◌==◌, nat_le, if◌then◌else◌, IsTrue, List, [], ◌∷◌, ◌++◌, length, map, take, slice_get, Some, Ok, Err}
 use Rattle.schema.specs.declared.Table.{Table}
 use Rattle.schema.specs.Covering.{Covers}
 use Rattle.rows.specs.Database.{Database}
-use Rattle.rows.specs.Shape.{is_shaped}
 use Rattle.record_codec.specs.declared.records.Record.{Record}
-use Rattle.record_codec.specs.Log.{touched, place_of, IsLegalLog}
+use Rattle.record_codec.specs.Log.{touched, place_of, IsLegalLog, AreShaped}
 use Rattle.record_codec.specs.LogLaws.{IsNumber}
 use Rattle.relay.specs.declared.ReplicaFault.TheVariants.{Gap}
 use Rattle.relay.specs.declared.Received.TheVariants.{Accepted, Skipped}
@@ -33,10 +31,6 @@ BeginningIsAcceptable = (ts : List Table) (front rest : List Record) → AreAcce
 -- acceptable records are numbered from 1 on
 abbrev pub PlaceIsNumber : Type 0
 PlaceIsNumber = (ts : List Table) (log : List Record) (n : ℕ) (r : Record) → AreAcceptable ts log → slice_get log n ≡ Some r → IsNumber r (n + 1)
-
--- each change of these records is of a table, and of columns that the table has
-abbrev pub AreShaped : List Table → List Record → Type 0
-AreShaped ts log = AllByRecursion (λ r. list_all (is_shaped ts) r.changes ≡ true) log
 
 -- a legal log that is shaped is acceptable, where its numbers are below 2 ^ 63
 abbrev pub LegalIsAcceptable : Type 0

@@ -1,8 +1,9 @@
 -- The jobs of the accepted records, over the working rows.
-use Rattle.std.proofs.Common.{◌≡◌, ◌∙◌, sym, ap, refl, ℕ, zero, suc, ◌+◌, ◌-◌, ◌<◌, ◌≤◌, List, [], ◌∷◌, ◌++◌, length, Option, Some, None, is_some, arith, slice_get}
+use Rattle.std.proofs.Common.{◌≡◌, ◌∙◌, sym, ap, refl, ℕ, ◌+◌, ◌-◌, ◌≤◌, List, [], ◌∷◌, length, Option, Some, None, is_some, arith, slice_get}
 use Rattle.std.specs.Option.{option_and_then, option_map}
 use Rattle.std.proofs.lemmas.Option.{none-some, same_Some, option_and_then_some}
 use Rattle.std.proofs.lemmas.List.{take-append-le}
+use Rattle.schema.proofs.Lists.{get_front, get_within}
 use Rattle.rows.specs.Database.{Database}
 use Rattle.rows.specs.Frame.{AgreeOn}
 use Rattle.store_trait.specs.Batch.{Entry, rows_in}
@@ -18,18 +19,6 @@ use Rattle.replica_core.specs.Sound.{AreEligible, HoldAlong}
 use Rattle.replica_core.specs.Calls.{with_accepted, committed_next}
 use Rattle.replica_core.specs.Laws.{JobIsOfItsRecord, EachHasJob, JobStays, JobStaysBehind, OthersLeaveJobs}
 use Rattle.replica_core.proofs.Apart.{rows_stay}
-
--- ---- lists
-
-pub slice_get-push : {X : Type 0} (xs ys : List X) (n : ℕ) → n < length xs → slice_get (xs ++ ys) n ≡ slice_get xs n
-slice_get-push [] ys n lt = absurd (omega arith)
-slice_get-push (x ∷ xs) ys zero lt = refl
-slice_get-push (x ∷ xs) ys (suc n) lt = slice_get-push xs ys n (omega arith)
-
-pub slice_get_some : {X : Type 0} (xs : List X) (n : ℕ) → n < length xs → (x : X) × (slice_get xs n ≡ Some x)
-slice_get_some [] n lt = absurd (omega arith)
-slice_get_some (x ∷ xs) zero lt = (x, refl)
-slice_get_some (x ∷ xs) (suc n) lt = slice_get_some xs n (omega arith)
 
 -- ---- the job of a record
 
@@ -66,7 +55,7 @@ job_is_of_its_record r gno job is =
 
 pub each_has_job : EachHasJob
 each_has_job r gno sound low high =
-    let got = slice_get_some r.accepted (gno - 1) (omega arith) in
+    let got = get_within r.accepted (gno - 1) (omega arith) in
     ap is_some (job_at r gno got.0 sound.rows got.1 sound.rows_are)
 
 -- ---- the rows of a job are those of each database up to its record's place
@@ -83,7 +72,7 @@ hold_along r acceptable eligible gno n job db under low high is rows_are =
 
 pub job_stays : JobStays
 job_stays r gno leaves sound under later applies =
-    let got = slice_get_some r.accepted (gno - 1) (let all = sound.dispatched in omega arith) in
+    let got = get_within r.accepted (gno - 1) (let all = sound.dispatched in omega arith) in
     let now = job_at r gno got.0 sound.rows got.1 sound.rows_are in
     let same : rows_in (rows_of got.0) sound.rows ≡ rows_in (rows_of got.0) leaves =
     sound.jobs gno (r.committed + 1) (job_over r.tables gno got.0 sound.rows) leaves under (omega arith) later now applies in
@@ -93,11 +82,11 @@ job_stays r gno leaves sound under later applies =
 
 pub job_stays_behind : JobStaysBehind
 job_stays_behind r gno new sound low high =
-    let got = slice_get_some r.accepted (gno - 1) (omega arith) in
+    let got = get_within r.accepted (gno - 1) (omega arith) in
     let within : r.committed ≤ length r.accepted = (let all = sound.dispatched in omega arith) in
     let same : rows_at (with_accepted r new) r.committed ≡ rows_at r r.committed =
     ap (after r.tables (loaded r.base)) (take-append-le r.committed r.accepted (new ∷ []) within) in
-    job_at (with_accepted r new) gno got.0 sound.rows (slice_get-push r.accepted (new ∷ []) (gno - 1) (omega arith) ∙ got.1) (same ∙ sound.rows_are)
+    job_at (with_accepted r new) gno got.0 sound.rows (get_front r.accepted (new ∷ []) (gno - 1) (omega arith) ∙ got.1) (same ∙ sound.rows_are)
     ∙ sym (job_at r gno got.0 sound.rows got.1 sound.rows_are)
 
 pub others_leave_jobs : OthersLeaveJobs

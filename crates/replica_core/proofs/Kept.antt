@@ -5,6 +5,7 @@ use Rattle.std.proofs.lemmas.Bool.{cases_lt, cases_eq}
 use Rattle.std.proofs.lemmas.Option.{none-some, same_Some, slice_get_within}
 use Rattle.std.proofs.lemmas.List.{map-append, take-append-le, length_push, length-map, length-set, map-set, drop-drop, drop-map, get_or-drop, get_or_append_left, get_or-set_same, get_or-set_other}
 use Rattle.std.proofs.Math.Seq.{get_or-append_seam}
+use Rattle.schema.proofs.Lists.{get_front}
 use Rattle.rows.specs.Database.{Database, effect, writes}
 use Rattle.store_trait.specs.Batch.{Entry, rows_in, put_batch}
 use Rattle.store_trait.specs.Operation.{loaded}
@@ -26,7 +27,7 @@ use Rattle.replica_core.specs.Sound.{IsSound, IsUnderWay}
 use Rattle.replica_core.specs.Calls.{with_accepted, dispatched_next, with_finished, stopped_at, committed_next, with_published}
 use Rattle.replica_core.specs.Core.{StandAtLowWater, IsLogKept, IsTaken, input_in}
 use Rattle.replica_core.proofs.Commits.{after-next, length-committed, waiting-next}
-use Rattle.replica_core.proofs.Jobs.{slice_get-push, hold_along, job_parts, job_stays, job_stays_behind}
+use Rattle.replica_core.proofs.Jobs.{hold_along, job_parts, job_stays, job_stays_behind}
 
 -- ---- lists
 
@@ -96,7 +97,7 @@ module _ (r : Replica) (marks : Marks) (line : Line) (inputs : List (List Entry)
         marks_are = h.marks_are;
         dispatched = rw (length_push r.accepted new) (omega arith);
         busy = h.busy;
-        eligible = λ gno rec under got. h.eligible gno rec under (sym (slice_get-push r.accepted (new ∷ []) (gno - 1) (omega arith)) ∙ got);
+        eligible = λ gno rec under got. h.eligible gno rec under (sym (get_front r.accepted (new ∷ []) (gno - 1) (omega arith)) ∙ got);
         first = h.first;
         places = h.places;
         count = h.count;
@@ -134,7 +135,7 @@ module _ (r : Replica) (marks : Marks) (line : Line) (inputs : List (List Entry)
               let number : gno ≡ dispatched r + 1 = (let last = under.1 in omega (arith, one_more)) in
               let place : gno - r.committed - 1 ≡ length inputs = (let count = h.count in omega arith) in
               ap (slice_get (inputs ++ job.input ∷ [])) place ∙ slice_get-seam inputs job.input [] ∙ ap input_in (sym made ∙ ap (job_of r) (sym number))
-          | inr old ↦ slice_get-push inputs (job.input ∷ []) (gno - r.committed - 1) (let count = h.count in let low = under.0 in omega arith) ∙ h.kept gno (under.0, old)
+          | inr old ↦ get_front inputs (job.input ∷ []) (gno - r.committed - 1) (let count = h.count in let low = under.0 in omega arith) ∙ h.kept gno (under.0, old)
         ];
         results = λ gno result under is. elim (cases_lt (dispatched r) gno) [
           | inl new ↦

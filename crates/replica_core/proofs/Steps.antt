@@ -7,6 +7,7 @@ use Rattle.std.proofs.lemmas.List.{map-set, length-take-le}
 use Rattle.std.proofs.Math.ListN.{get_or-map}
 use Rattle.schema.specs.declared.Table.{Table}
 use Rattle.schema.proofs.Telling.{not_some}
+use Rattle.schema.proofs.Lists.{option_map_or_true, get_within}
 use Rattle.rows.specs.Database.{Database}
 use Rattle.store_trait.specs.Batch.{Entry}
 use Rattle.store_trait.specs.declared.Op.{Op}
@@ -31,7 +32,6 @@ use Rattle.replica_core.specs.Sound.{IsUnderWay}
 use Rattle.replica_core.specs.Calls.{relay_of, is_eligible, finish_fault, IsHandedOut, with_finished, next_commit, with_published}
 use Rattle.replica_core.specs.Core.{StandAtLowWater, IsTaken, turn_output, TakesTurn, IsJudged}
 use Rattle.replica_core.proofs.Apart.{place_acceptable}
-use Rattle.replica_core.proofs.Jobs.{slice_get_some}
 use Rattle.replica_core.proofs.Kept.{IsNext, taken_within, kept_accepted, kept_dispatched, kept_finished, kept_committed, kept_published, length_places}
 
 -- ---- numbers fit
@@ -40,7 +40,7 @@ use Rattle.replica_core.proofs.Kept.{IsNext, taken_within, kept_accepted, kept_d
 pub few_accepted : (ts : List Table) (log : List Record) → AreAcceptable ts log → length log < 2 ^ 63
 few_accepted ts [] h = omega arith
 few_accepted ts (x ∷ xs) h =
-    let last = slice_get_some (x ∷ xs) (length xs) (omega arith) in
+    let last = get_within (x ∷ xs) (length xs) (omega arith) in
     let is = place_acceptable ts (x ∷ xs) (length xs) last.0 h last.1 in
     let number : last.0.gno ≡ length xs + 1 = is.gno ∙ ap (λ n. n + 1) (length-take-le (length xs) (x ∷ xs) (omega arith)) in
     let bound = is.bound in
@@ -85,10 +85,6 @@ no_cause None true true is = cc
 no_cause None true false is = (refl, refl, refl)
 no_cause None false taken is = cc
 no_cause (Some gno) known taken is = cc
-
-option_map_or_true : {A : Type 0} (f : A → Bool) (o : Option A) → option_map_or f o false ≡ true → (x : A) × (o ≡ Some x) × (f x ≡ true)
-option_map_or_true f None is = absurd (true≢false (sym is))
-option_map_or_true f (Some x) is = (x, refl, is)
 
 pub eligible_next : (r : Replica) → is_eligible r ≡ true → (rec : Record) × IsNext r rec
 eligible_next r is =

@@ -13,6 +13,7 @@ use Rattle.schema.specs.declared.RowId.{RowId}
 use Rattle.schema.specs.RowId.{same_row, row_total}
 use Rattle.schema.specs.Rows.{has_row}
 use Rattle.schema.specs.Schema.{link_of}
+use Rattle.schema.proofs.Lists.{option_map_or_true}
 pub use Rattle.schema.proofs.RowMaps.{row_is, same_row_itself}
 use Rattle.rows.specs.declared.Change.{Change}
 use Rattle.rows.specs.declared.Change.TheVariants.{Insert, Update, Delete}
@@ -45,10 +46,6 @@ ok_is_not_err e = cc
 
 same_ok : {A E : Type 0} {x y : A} → ◌≡◌ {A = Result A E} (Ok x) (Ok y) → x ≡ y
 same_ok e = cc
-
-option_map_or_true : {A : Type 0} (test : A → Bool) (o : Option A) → option_map_or test o false ≡ true → (x : A) × (o ≡ Some x) × (test x ≡ true)
-option_map_or_true test None h = cc
-option_map_or_true test (Some x) h = (x, refl, h)
 
 -- why a change applied, and what it left
 pub record Applied (ts : List Table) (change : Change) (db after : Database) : Type 0 where

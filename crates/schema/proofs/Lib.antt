@@ -1,6 +1,8 @@
+pub mod Lists
 pub mod Telling
 pub mod Faults
 pub mod Flat
 pub mod Conflicts
 pub mod Covers
 pub mod RowMaps
+pub mod Rising

@@ -1,5 +1,6 @@
 -- A list of rows and what each has, as a map looks it up by `==`, is a finite map in the order of rows.
-use Rattle.std.proofs.Common.{◌≡◌, ◌∙◌, sym, ap, Bool, true, ◌&&◌, cond, eqb, int_eq, refl, List, [], ◌∷◌, Some, None, nat_cmp, int_cmp}
+use Rattle.std.proofs.Common.{◌≡◌, ◌∙◌, sym, ap, Bool, true, false, ◌&&◌, cond, eqb, int_eq, refl, List, [], ◌∷◌, Some, None, nat_cmp, int_cmp, Less, is_lt}
+use Rattle.std.specs.Ordering.{ordering_reverse}
 use Rattle.std.specs.Cmp.{unsigned_tied, tied_then, eq_by_cmp_equiv}
 use Rattle.std.specs.Map.{lookup}
 use Rattle.std.specs.FinMap.{FinMap, get, find, insert, remove, from_entries, get-from_entries, get-insert, get-remove, same_map}
@@ -23,6 +24,10 @@ same_row_itself a = (eq_by_cmp_equiv row_total).refl a
 -- row ids that name one row are equal
 pub row_is : (a b : RowId) → same_row a b ≡ true → a ≡ b
 row_is a b h = exact_row a b (is_equal (row_cmp a b) h)
+
+-- of two row ids in order the second is not before the first
+pub not_back : (a b : RowId) → row_cmp a b ≡ Less → is_lt (row_cmp b a) ≡ false
+not_back a b less = ap is_lt (row_total.antisymm b a ∙ ap ordering_reverse less)
 
 module _ {X : Type 0} where
   abbrev pub rows_of : List (RowId × X) → FinMap row_cmp X

@@ -22,7 +22,6 @@ pub mod Waiting
 pub mod Syncing
 pub mod New
 pub mod FlushEnds
-pub mod FlushLists
 pub mod FlushStamp
 pub mod FlushCome
 pub mod FlushPlaces

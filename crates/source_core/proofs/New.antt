@@ -62,7 +62,7 @@ new_core : (ts : List Table) (rows : Database) (base : List Entry) (limit : ℕ)
     IsCore (parts_over ts rows base limit [] [] (replicate 256 None) no_queues locks)
 unfolding no_locks
 new_core ts rows base limit locks bound loaded_is fits none clear = record {
-  logged = record { legal = empty_is_legal ts (put_batch base empty); shaped = λ n made is. absurd (cc is); owned = refl; seen = refl };
+  logged = record { legal = empty_is_legal ts (put_batch base empty); shaped = tt; owned = refl; seen = refl };
   few = omega arith;
   bound = bound;
   synced_within = omega arith;

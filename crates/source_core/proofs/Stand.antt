@@ -7,6 +7,7 @@ use Rattle.std.specs.FinMap.{empty}
 use Rattle.std.proofs.Math.ListN.{get_or-map}
 use Rattle.schema.specs.declared.Table.{Table}
 use Rattle.schema.specs.Rows.{conflicts}
+use Rattle.schema.proofs.Lists.{get_behind}
 use Rattle.rows.specs.Database.{Database, writes, kin, effect}
 use Rattle.store_trait.specs.Batch.{put_batch}
 use Rattle.record_codec.specs.Log.{after}
@@ -59,12 +60,6 @@ at_place p first (made ∷ log) (owner ∷ owners) zero are within = record { ma
 at_place p first (made ∷ log) (owner ∷ owners) (suc i) are within =
     let behind = at_place p (first + 1) log owners i are.1 (omega (arith, within)) in
     record { made = behind.made; owner = behind.owner; is = behind.is; own = behind.own; stands = subst (λ n. IsFlushedAs p.tables p.rows p.places n behind.made behind.owner) (omega arith) behind.stands }
-
--- an element behind the first so many
-get_behind : {X : Type 0} (k : ℕ) (l : List X) (i : ℕ) → slice_get (drop k l) i ≡ slice_get l (k + i)
-get_behind zero l i = let none : i ≡ 0 + i = omega arith in ap (slice_get l) none
-get_behind (suc k) [] i = refl
-get_behind (suc k) (x ∷ l) i = let next : suc (k + i) ≡ suc k + i = omega arith in get_behind k l i ∙ ap (slice_get (x ∷ l)) next
 
 -- each record that is not committed is that of the transaction in its session's place
 pub record IsOf (p : Parts) (n : ℕ) : Type 0 where

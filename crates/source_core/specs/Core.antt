@@ -15,7 +15,7 @@ use Rattle.store_trait.specs.Fits.{Fits}
 use Rattle.overlay.specs.Pending.{Pending, pushed}
 use Rattle.overlay.specs.Follows.{Follows}
 use Rattle.record_codec.specs.declared.records.Record.{Record}
-use Rattle.record_codec.specs.Log.{after, place_of, IsLegalLog}
+use Rattle.record_codec.specs.Log.{after, place_of, IsLegalLog, AreShaped}
 use Rattle.log_index.specs.declared.Entry.{Entry as Seen}
 use Rattle.commit_stages.specs.Queues.{Queues, AreSizes}
 use Rattle.row_locks.specs.Locks.{Locks, NoClash}
@@ -27,7 +27,7 @@ use Rattle.source_core.specs.declared.transaction.Transaction.{Transaction}
 use Rattle.source_core.specs.declared.transaction.Prepared.{Prepared as Answer}
 use Rattle.source_core.specs.declared.transaction.Prepared.TheVariants as answers
 use Rattle.source_core.specs.Calls.{is_empty_list}
-use Rattle.source_core.specs.Source.{Source, Open, locks_over, entries_of, are_shaped, HasShape}
+use Rattle.source_core.specs.Source.{Source, Open, locks_over, entries_of, are_shaped}
 
 abbrev pub open_view : Transaction → Open
 open_view t = record { changes = t.overlay.changes; phase = t.phase }
@@ -146,7 +146,7 @@ AreQueued places (session ∷ queue) = IsQueued places session × AreQueued plac
 -- see it so.
 pub record IsTrackedLog (ts : List Table) (base : List Entry) (log : List Record) (owners : List ℕ) (entries : List Seen) : Type 0 where
   pub legal : IsLegalLog ts (put_batch base empty) log
-  pub shaped : HasShape ts log
+  pub shaped : AreShaped ts log
   pub owned : length owners ≡ length log
   pub seen : entries ≡ entries_of ts log owners
 

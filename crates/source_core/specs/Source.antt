@@ -1,5 +1,5 @@
 -- What a source is seen as.
-use Rattle.std.specs.Prelude.{◌≡◌, ℕ, ℤ, ◌-◌, ◌<◌, ◌≤◌, ◌^◌, Bool, true, false, ◌&&◌, nat_le, List, [], ◌∷◌, map, take, length, replicate, slice_get, slice_index_or, Option, Some, None, IsSome, option_and_then}
+use Rattle.std.specs.Prelude.{◌≡◌, ℕ, ℤ, ◌-◌, ◌<◌, ◌≤◌, ◌^◌, Bool, false, ◌&&◌, nat_le, List, [], ◌∷◌, map, take, length, replicate, slice_index_or, Option, None, IsSome, option_and_then}
 use Rattle.std.specs.Option.{option_map_or}
 use Rattle.std.specs.List.{list_all}
 use Rattle.std.specs.FinMap.{empty, get}
@@ -10,7 +10,7 @@ use Rattle.rows.specs.Database.{Database, writes, kin, effect}
 use Rattle.rows.specs.Shape.{is_shaped}
 use Rattle.store_trait.specs.Batch.{Entry}
 use Rattle.record_codec.specs.declared.records.Record.{Record}
-use Rattle.record_codec.specs.Log.{after, IsLegalLog}
+use Rattle.record_codec.specs.Log.{after, IsLegalLog, AreShaped}
 use Rattle.log_index.specs.declared.Entry.{Entry as Seen}
 use Rattle.log_index.specs.Footprint.{footprint_of}
 use Rattle.row_locks.specs.declared.Mode.{Mode}
@@ -123,16 +123,12 @@ new_source ts base limit kind = record {
 abbrev pub are_shaped : List Table → List Change → Bool
 are_shaped ts changes = list_all (is_shaped ts) changes
 
--- and so are those of each record
-abbrev pub HasShape : List Table → List Record → Type 0
-HasShape ts log = (n : ℕ) (made : Record) → slice_get log n ≡ Some made → are_shaped ts made.changes ≡ true
-
 -- What is true of every source: its log is legal and not too long, its changes are such as the schema allows, its
 -- counts are in order, the records that are not synced are those of its groups, and it has 256 sessions.
 pub record IsSound (s : Source) : Type 0 where
   pub sessions : length s.sessions ≡ 256
   pub legal : IsLegalLog s.tables (loaded s.base) s.log
-  pub shaped : HasShape s.tables s.log
+  pub shaped : AreShaped s.tables s.log
   pub few : length s.log ≤ s.limit
   pub bound : s.limit < 2 ^ 63
   pub synced_within : s.synced ≤ length s.log

@@ -13,6 +13,7 @@ use Rattle.std.proofs.lemmas.List.Sorted.{searchable_from_sorted}
 use Rattle.std.proofs.Math.Seq.{take-append-add, drop-append-add}
 use Rattle.schema.specs.declared.RowId.{RowId}
 use Rattle.schema.specs.RowId.{row_cmp, row_total, exact_row, same_row}
+use Rattle.schema.proofs.RowMaps.{not_back}
 use Rattle.vector_store.specs.Contents.{Stored, contents_of, AreBefore, AreBehind, AreInOrder}
 use Rattle.vector_store.specs.Places.{IsWindowOf, IsPlaceOf}
 use Rattle.vector_store.proofs.Order.{order_sorted, order_parts, order_before, order_behind, before_join, behind_join, behind_lesser, before_greater, find_past, find_behind, get_rows}
@@ -47,9 +48,6 @@ neighbors_rise [] order k d within = absurd (omega arith)
 neighbors_rise (a ∷ []) order k d within = absurd (omega arith)
 neighbors_rise (a ∷ b ∷ rows) order zero d within = order.0.0
 neighbors_rise (a ∷ b ∷ rows) order (suc k) d within = neighbors_rise (b ∷ rows) order.1 k d (omega arith)
-
-not_back : (a b : RowId) → row_cmp a b ≡ Less → is_lt (row_cmp b a) ≡ false
-not_back a b less = ap is_lt (row_total.antisymm b a ∙ ap ordering_reverse less)
 
 sorted_by : (rows : List Stored) → AreInOrder rows → IsSortedBy (λ (x y : Stored). is_lt (row_cmp x.0 y.0)) rows
 sorted_by rows order k d from within =

@@ -1,6 +1,5 @@
 -- Lists of rows in order: their parts, and what is found in them.
 use Rattle.std.proofs.Common.{◌≡◌, ◌∙◌, sym, ap, refl, Bool, true, false, cond, List, [], ◌∷◌, ◌++◌, Option, Some, None, ℤ, is_lt, is_eq, Less}
-use Rattle.std.specs.List.{AllByRecursion}
 use Rattle.std.specs.Cmp.{tied_itself, eq_by_cmp_equiv}
 use Rattle.std.specs.FinMap.{get, find, insert, remove, is_sorted, get-from_entries, get-insert, get-remove, same_map}
 use Rattle.std.specs.FinMap.Entries.{below_all}
@@ -8,6 +7,7 @@ use Rattle.std.proofs.lemmas.Bool.{and_parts, and_from, cond-true, cond-false, f
 use Rattle.schema.specs.declared.RowId.{RowId}
 use Rattle.schema.specs.RowId.{row_cmp, row_total, exact_row, same_row}
 use Rattle.schema.proofs.Telling.{is_less}
+use Rattle.schema.proofs.Lists.{AllByRecursion-append, AllByRecursion-front, AllByRecursion-behind}
 use Rattle.rows.proofs.Apply.{row_is}
 use Rattle.store_trait.proofs.Batches.{less_apart}
 use Rattle.vector_store.specs.Contents.{Stored, contents_of, AreBefore, AreBehind, AreInOrder}
@@ -18,16 +18,6 @@ apart a b less = less_apart (row_cmp a b) (ap is_lt less)
 
 pub apart_back : (a b : RowId) → row_cmp a b ≡ Less → same_row b a ≡ false
 apart_back a b less = (eq_by_cmp_equiv row_total).symm b a ∙ apart a b less
-
--- ---- all of two lists
-
-pub all_join : {X : Type 0} (P : X → Type 0) (xs ys : List X) → AllByRecursion P xs → AllByRecursion P ys → AllByRecursion P (xs ++ ys)
-all_join P [] ys h k = k
-all_join P (x ∷ xs) ys h k = (h.0, all_join P xs ys h.1 k)
-
-pub all_parts : {X : Type 0} (P : X → Type 0) (xs ys : List X) → AllByRecursion P (xs ++ ys) → AllByRecursion P xs × AllByRecursion P ys
-all_parts P [] ys h = (tt, h)
-all_parts P (x ∷ xs) ys h = let parts = all_parts P xs ys h.1 in ((h.0, parts.0), parts.1)
 
 module _ {X : Type 0} where
   pub order_sorted : (rows : List (RowId × X)) → AreInOrder rows → is_sorted row_cmp rows ≡ true
@@ -61,13 +51,13 @@ module _ {X : Type 0} where
   before_greater a b (row ∷ rows) less h = (row_total.trans row.0 a b h.0 less, before_greater a b rows less h.1)
 
   pub behind_join : (id : RowId) (xs ys : List (RowId × X)) → AreBehind id xs → AreBehind id ys → AreBehind id (xs ++ ys)
-  behind_join id xs ys = all_join (λ (row : RowId × X). row_cmp id row.0 ≡ Less) xs ys
+  behind_join id xs ys = AllByRecursion-append (λ (row : RowId × X). row_cmp id row.0 ≡ Less) xs ys
 
   pub behind_parts : (id : RowId) (xs ys : List (RowId × X)) → AreBehind id (xs ++ ys) → AreBehind id xs × AreBehind id ys
-  behind_parts id xs ys = all_parts (λ (row : RowId × X). row_cmp id row.0 ≡ Less) xs ys
+  behind_parts id xs ys = λ all. (AllByRecursion-front (λ (row : RowId × X). row_cmp id row.0 ≡ Less) xs ys all, AllByRecursion-behind (λ (row : RowId × X). row_cmp id row.0 ≡ Less) xs ys all)
 
   pub before_join : (id : RowId) (xs ys : List (RowId × X)) → AreBefore xs id → AreBefore ys id → AreBefore (xs ++ ys) id
-  before_join id xs ys = all_join (λ (row : RowId × X). row_cmp row.0 id ≡ Less) xs ys
+  before_join id xs ys = AllByRecursion-append (λ (row : RowId × X). row_cmp row.0 id ≡ Less) xs ys
 
   -- ---- two lists, one behind the other
 

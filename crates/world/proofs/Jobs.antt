@@ -4,6 +4,7 @@ use Rattle.std.specs.Prelude.{slice_get}
 use Rattle.std.proofs.lemmas.Bool.{cases_lt, cases_eq, cases_order}
 use Rattle.std.proofs.lemmas.List.{get_or_append_left, get_or-set_same, get_or-set_other, length-set, take-append-le, get_or_past}
 use Rattle.std.proofs.Math.Seq.{get_or-append_seam}
+use Rattle.schema.proofs.Lists.{get_within}
 use Rattle.rows.specs.Database.{Database}
 use Rattle.store_trait.specs.Operation.{loaded}
 use Rattle.record_codec.specs.declared.records.Record.{Record}
@@ -12,7 +13,7 @@ use Rattle.executor.specs.declared.Job.{Job}
 use Rattle.replica_core.specs.Replica.{Replica, dispatched, rows_at, working_rows, job_over, job_of}
 use Rattle.replica_core.specs.Calls.{with_accepted, dispatched_next, with_finished, committed_next, with_published}
 use Rattle.replica_core.specs.Sound.{IsSound, IsUnderWay}
-use Rattle.replica_core.proofs.Jobs.{slice_get_some, job_at as job_of_parts}
+use Rattle.replica_core.proofs.Jobs.{job_at as job_of_parts}
 use Rattle.world.specs.State.{HasJobs}
 use Rattle.world.proofs.Received.{still_at}
 
@@ -132,7 +133,7 @@ pub record IsThere (r : Replica) (gno : ℕ) : Type 0 where
 
 pub job_there : (r : Replica) (gno : ℕ) → IsSound r → IsUnderWay r gno → IsThere r gno
 job_there r gno sound under =
-    let got = slice_get_some r.accepted (gno - 1) (omega (arith, under.0, under.1, sound.dispatched)) in
+    let got = get_within r.accepted (gno - 1) (omega (arith, under.0, under.1, sound.dispatched)) in
     record { rec = got.0; at = got.1; rows = sound.rows; rows_are = sound.rows_are; job = job_of_parts r gno got.0 sound.rows got.1 sound.rows_are }
 
 under_at : (r : Replica) (place : ℕ) → get_or r.under_way place true ≡ false → IsUnderWay r (r.committed + place + 1)

@@ -7,6 +7,7 @@ use Rattle.std.specs.FinMap.{get}
 use Rattle.std.proofs.lemmas.Bool.{false≢true, and_parts, or_parts, or_cases, ltb-true}
 use Rattle.std.proofs.lemmas.List.{length-map, take-append-drop, take-take}
 use Rattle.std.proofs.Math.Seq.{take-add}
+use Rattle.schema.proofs.Lists.{AllByRecursion-push, AllByRecursion-weaker}
 use Rattle.rows.specs.Database.{Database}
 use Rattle.store_trait.specs.Operation.{loaded}
 use Rattle.record_codec.specs.declared.records.Record.{Record}
@@ -15,7 +16,6 @@ use Rattle.record_codec.specs.Spelling.{spelling}
 use Rattle.source_core.specs.declared.fault.SourceFault.TheVariants as source
 use Rattle.source_core.specs.Source.{Source, seen_row}
 use Rattle.source_core.specs.Calls.{begin_fault, write_fault, read_fault, prepare_fault, prepare_answer, queue_fault, abort_fault, halted_fault, AreNextRecords, seen_log}
-use Rattle.source_core.proofs.FlushLists.{all_push, all_by}
 use Rattle.log_file.specs.Text.{text}
 use Rattle.replica_core.proofs.Apart.{slice_get-take}
 use Rattle.world.specs.declared.events.Event.{Event}
@@ -185,13 +185,13 @@ module _ (setup : Setup) (log other : List Record) (past : Past) (agree : Agree 
   still_alike event reply answer s a b = agree.same
 
   more_within : (n m : ℕ) (groups : List (ℕ × ℕ)) → n ≤ m → AreWithin n groups → AreWithin m groups
-  more_within n m groups le all = all_by (λ (group : ℕ × ℕ). group.1 ≤ n) (λ (group : ℕ × ℕ). group.1 ≤ m) groups (λ group within. omega (arith, within, le)) all
+  more_within n m groups le all = AllByRecursion-weaker (λ (group : ℕ × ℕ). group.1 ≤ n) (λ (group : ℕ × ℕ). group.1 ≤ m) (λ group within. omega (arith, within, le)) groups all
 
   still_within : (event : Event) (reply : Reply) → Says setup log past event reply → AreWithin (flushed ((event, reply) ∷ past)) (synced_groups ((event, reply) ∷ past))
   still_within event (replies.Flushed first stamps) s = more_within (flushed past) (flushed past + length stamps) (synced_groups past) (omega arith) agree.groups
   still_within event (replies.Synced first last) s =
       let all : Follow (synced past) ((first, last) ∷ s.0) (flushed past) = subst (λ g. Follow (synced past) g (flushed past)) s.1 agree.holds.source.follow in
-      all_push (λ (group : ℕ × ℕ). group.1 ≤ flushed past) (synced_groups past) (first, last) agree.groups (Follow-le last s.0 (flushed past) all.2)
+      AllByRecursion-push (λ (group : ℕ × ℕ). group.1 ≤ flushed past) (synced_groups past) (first, last) agree.groups (Follow-le last s.0 (flushed past) all.2)
   still_within event reply s = agree.groups
 
   agree_on : (event : Event) (reply answer : Reply) → Allowed setup log past event reply → Answers setup log past event reply → Answers setup other past event answer → Agree setup log other ((event, reply) ∷ past)

@@ -5,6 +5,7 @@ use Rattle.std.proofs.lemmas.Bool.{or_cases, cases_Bool, ltb-true, ltb-false, eq
 use Rattle.schema.specs.declared.Table.{Table}
 use Rattle.schema.specs.Rows.{Touched, conflicts}
 use Rattle.schema.specs.Covering.{Covers}
+use Rattle.schema.proofs.Lists.{AllByRecursion-map, AllByRecursion-weaker}
 use Rattle.log_index.specs.declared.Entry.{Entry}
 use Rattle.log_index.specs.declared.Footprint.{Footprint}
 use Rattle.log_index.specs.Footprint.{touched}
@@ -14,7 +15,7 @@ use Rattle.tracker_trait.specs.History.{start_of, newest_of}
 use Rattle.tracker_trait.specs.Parent.{greatest, last_touch, writeset_parent}
 use Rattle.tracker_trait.specs.Law.{IsOfTables}
 use Rattle.writeset_trackers.specs.Agreement.{AreLogged}
-use Rattle.writeset_trackers.proofs.Lists.{joined, mapped, of_reverse, weaker}
+use Rattle.writeset_trackers.proofs.Lists.{joined, of_reverse}
 use Rattle.writeset_trackers.proofs.Starts.{related-before}
 use Rattle.writeset_trackers.proofs.Newest.{has_digest, newest-at}
 use Rattle.writeset_trackers.proofs.Counts.{has_either_way}
@@ -84,7 +85,7 @@ both_cover past rows a b =
 
 pub later_covers : (past : List (ℕ × Touched)) (rows : Touched) (a b : ℕ) → a ≤ b → Covers past rows a → Covers past rows b
 later_covers past rows a b h =
-    weaker (λ (p : ℕ × Touched). conflicts p.1 rows ≡ true → p.0 ≤ a) (λ p. conflicts p.1 rows ≡ true → p.0 ≤ b) (λ p covers conflict. omega (arith, covers conflict, h)) past
+    AllByRecursion-weaker (λ (p : ℕ × Touched). conflicts p.1 rows ≡ true → p.0 ≤ a) (λ p. conflicts p.1 rows ≡ true → p.0 ≤ b) (λ p covers conflict. omega (arith, covers conflict, h)) past
 
 pub writeset_covers : (ts : List Table) (limit : ℕ) (log : List Entry) (t : Footprint) (w : List ℕ) (order : ℕ) → AreLogged (reverse log) → IsOfTables ts t w →
     Covers (map place_of log) (touched t) order → Covers (map place_of log) (touched t) (writeset_parent ts limit (reverse log) t order)
@@ -96,6 +97,6 @@ writeset_covers ts limit log t w order are is covers = by t.fk t.missing_keys re
     by false true f m = covers
     by false false f m =
         both_cover (map place_of log) (touched t) order (last_touch ts limit (reverse log) (digest_set ts t.writes)) covers
-        (mapped place_of (λ p. conflicts p.1 (touched t) ≡ true → p.0 ≤ last_touch ts limit (reverse log) (digest_set ts t.writes)) log
+        (AllByRecursion-map place_of (λ p. conflicts p.1 (touched t) ≡ true → p.0 ≤ last_touch ts limit (reverse log) (digest_set ts t.writes)) log
         (of_reverse (λ e. conflicts (touched e.footprint) (touched t) ≡ true → e.sequence ≤ last_touch ts limit (reverse log) (digest_set ts t.writes)) log
         (last-covers ts limit (reverse log) t w is f m are)))

@@ -3,10 +3,11 @@ use Rattle.std.proofs.Common.{◌≡◌, ◌∙◌, ap, ℕ, ◌<◌, ◌≤◌,
 use Rattle.std.specs.List.{AllByRecursion, list_any}
 use Rattle.std.proofs.lemmas.Bool.{le-ltb, lt-ltb}
 use Rattle.schema.specs.declared.Table.{Table}
+use Rattle.schema.proofs.Lists.{AllByRecursion-weaker}
 use Rattle.log_index.specs.declared.Entry.{Entry}
 use Rattle.tracker_trait.specs.History.{digests_in, newest_of}
 use Rattle.writeset_trackers.specs.Agreement.{AreLogged}
-use Rattle.writeset_trackers.proofs.Lists.{either_within, within_either, weaker}
+use Rattle.writeset_trackers.proofs.Lists.{either_within, within_either}
 
 -- whether the entry has the digest
 abbrev pub has_digest : List Table → ℕ → Entry → Bool
@@ -36,7 +37,7 @@ pub newest-at : (ts : List Table) (start : ℕ) (log : List Entry) → AreLogged
 newest-at ts start [] are = tt
 newest-at ts start (last ∷ older) are = (
   λ digest above has. reached (nat_lt start last.sequence) (has_digest ts digest last) last.sequence (newest_of ts start older digest) (lt-ltb start last.sequence above) has,
-  weaker (λ (e : Entry). (digest : ℕ) → start < e.sequence → has_digest ts digest e ≡ true → e.sequence ≤ newest_of ts start older digest)
+  AllByRecursion-weaker (λ (e : Entry). (digest : ℕ) → start < e.sequence → has_digest ts digest e ≡ true → e.sequence ≤ newest_of ts start older digest)
       (λ e. (digest : ℕ) → start < e.sequence → has_digest ts digest e ≡ true → e.sequence ≤ newest_of ts start (last ∷ older) digest)
       (λ e before digest above has. within_either (nat_lt start last.sequence && has_digest ts digest last) last.sequence (newest_of ts start older digest) e.sequence
       (omega (arith, before digest above has, newest-within ts start older digest are.1, are.0.number)) (before digest above has))

@@ -2,10 +2,11 @@
 use Rattle.std.proofs.Common.{◌≡◌, ℕ, ◌+◌, ◌≤◌, Bool, true, false, ◌||◌, nat_lt, cond, List, [], ◌∷◌, length, arith}
 use Rattle.std.specs.List.{AllByRecursion}
 use Rattle.schema.specs.declared.Table.{Table}
+use Rattle.schema.proofs.Lists.{AllByRecursion-weaker}
 use Rattle.log_index.specs.declared.Entry.{Entry}
 use Rattle.tracker_trait.specs.History.{digests_in, digest_count, start_of}
 use Rattle.writeset_trackers.specs.Agreement.{AreLogged}
-use Rattle.writeset_trackers.proofs.Lists.{either_within, within_either, weaker}
+use Rattle.writeset_trackers.proofs.Lists.{either_within, within_either}
 
 -- whether the history starts at the last entry
 abbrev pub starts_at : List Table → ℕ → Entry → List Entry → Bool
@@ -25,7 +26,7 @@ pub related-before : (ts : List Table) (limit : ℕ) (log : List Entry) → AreL
 related-before ts limit [] are = tt
 related-before ts limit (last ∷ older) are = (
   λ related. at_its_own last.footprint.fk (nat_lt limit (digest_count ts (start_of ts limit older) older + length (digests_in ts last))) last.sequence (start_of ts limit older) related,
-  weaker (λ (e : Entry). e.footprint.fk ≡ true → e.sequence ≤ start_of ts limit older) (λ e. e.footprint.fk ≡ true → e.sequence ≤ start_of ts limit (last ∷ older))
+  AllByRecursion-weaker (λ (e : Entry). e.footprint.fk ≡ true → e.sequence ≤ start_of ts limit older) (λ e. e.footprint.fk ≡ true → e.sequence ≤ start_of ts limit (last ∷ older))
       (λ e before related. within_either (starts_at ts limit last older) last.sequence (start_of ts limit older) e.sequence
       (omega (arith, before related, start-within ts limit older are.1, are.0.number)) (before related))
       older (related-before ts limit older are.1),

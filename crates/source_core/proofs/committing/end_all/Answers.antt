@@ -1,22 +1,22 @@
 use Rattle.std.proofs.Common.{◌∙◌, arith}
+use Rattle.schema.proofs.Lists.{AllByRecursion-at}
 use Rattle.source_core.specs.Commit.{IsSession}
-use Rattle.source_core.proofs.FlushLists.{all_at}
 use Rattle.source_core.proofs.CommitLoops.{one_cleared, one_released}
 use Rattle.source_core.proofs.committing.end_all.Goals as goal
 
 pub overflow_sub-session : goal.overflow_sub-session
-overflow_sub-session c = (all_at IsSession c.args.sessions.now c.loop-session.session-index 0 c.requires.each c.loop-session-test.true).0
+overflow_sub-session c = (AllByRecursion-at IsSession c.args.sessions.now c.loop-session.session-index 0 c.requires.each c.loop-session-test.true).0
 
 pub bounds-places-session : goal.bounds-places-session
 bounds-places-session c =
-    let is = all_at IsSession c.args.sessions.now c.loop-session.session-index 0 c.requires.each c.loop-session-test.true in
+    let is = AllByRecursion-at IsSession c.args.sessions.now c.loop-session.session-index 0 c.requires.each c.loop-session-test.true in
     omega (arith, is.0, is.1, c.requires.places, c.loop-session.auto.places)
 
 pub release_all-requires-clause-least : goal.release_all-requires-clause-least
-release_all-requires-clause-least c = (all_at IsSession c.args.sessions.now c.loop-session.session-index 0 c.requires.each c.loop-session-test.true).0
+release_all-requires-clause-least c = (AllByRecursion-at IsSession c.args.sessions.now c.loop-session.session-index 0 c.requires.each c.loop-session-test.true).0
 
 pub release_all-requires-clause-greatest : goal.release_all-requires-clause-greatest
-release_all-requires-clause-greatest c = (all_at IsSession c.args.sessions.now c.loop-session.session-index 0 c.requires.each c.loop-session-test.true).1
+release_all-requires-clause-greatest c = (AllByRecursion-at IsSession c.args.sessions.now c.loop-session.session-index 0 c.requires.each c.loop-session-test.true).1
 
 pub loop-session-preserved : goal.loop-session-preserved
 loop-session-preserved c = (
