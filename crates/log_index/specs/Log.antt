@@ -28,5 +28,5 @@ abbrev pub entry_at : List Entry → ℕ → Option Entry
 entry_at log sequence = if sequence == 0 then None else slice_get log (sequence - 1)
 
 -- its sequence number, and the rows that it touches
-abbrev pub place_of : Entry → ℕ × Touched
-place_of entry = (entry.sequence, touched entry.footprint)
+abbrev pub entry_place : Entry → ℕ × Touched
+entry_place entry = (entry.sequence, touched entry.footprint)

@@ -80,16 +80,35 @@ new_core ts rows base limit locks bound loaded_is fits none clear = record {
   distinct = none_twice;
 }
 
-pub new_holds : (ts : List Table) (rows : Database) (base : List Entry) (limit : ℕ) (locks : Locks) → limit < 2 ^ 63 → put_batch base empty ≡ rows → Fits ts rows → locks ≡ no_locks → NoClash locks →
-    (log : List Record) (entries : List Seen) (places : List (Option Transaction)) (stages : Queues) → log ≡ [] → entries ≡ [] → places ≡ replicate 256 None → stages ≡ no_queues →
-    (IsSo : List Seen → Type 0) → IsSo [] → Holds (parts_over ts rows base limit log entries places stages locks) (IsSo entries)
-new_holds ts rows base limit locks bound loaded_is fits none clear log entries places stages no_log no_entries no_places no_stages IsSo so =
-    rw (no_log, no_entries, no_places, no_stages) (record { core = new_core ts rows base limit locks bound loaded_is fits none clear; waits = record { syncing = refl; committing = refl }; tracked = so })
+-- what a new source is made of: rows that the schema allows, no locks, and nothing in its log, its index, its places and its queues
+pub record NewParts : Type 0 where
+  pub tables : List Table
+  pub rows : Database
+  pub base : List Entry
+  pub loads : put_batch base empty ≡ rows
+  pub fits : Fits tables rows
+  pub limit : ℕ
+  pub bound : limit < 2 ^ 63
+  pub locks : Locks
+  pub none : locks ≡ no_locks
+  pub no_clash : NoClash locks
+  pub log : List Record
+  pub no_log : log ≡ []
+  pub entries : List Seen
+  pub no_entries : entries ≡ []
+  pub places : List (Option Transaction)
+  pub no_places : places ≡ replicate 256 None
+  pub stages : Queues
+  pub no_stages : stages ≡ no_queues
 
-pub new_view : (ts : List Table) (rows : Database) (base : List Entry) (limit : ℕ) (locks : Locks) (kind : Kind) → (log : List Record) (entries : List Seen) (places : List (Option Transaction)) (stages : Queues) →
-    log ≡ [] → entries ≡ [] → places ≡ replicate 256 None → stages ≡ no_queues → source_of (parts_over ts rows base limit log entries places stages locks) kind false ≡ new_source ts base limit kind
-new_view ts rows base limit locks kind log entries places stages no_log no_entries no_places no_stages =
-    rw (no_log, no_entries, no_places, no_stages) (ap (λ sessions. record (new_source ts base limit kind) { sessions = sessions }) views_none)
+pub new_holds : (n : NewParts) (IsSo : List Seen → Type 0) → IsSo [] → Holds (parts_over n.tables n.rows n.base n.limit n.log n.entries n.places n.stages n.locks) (IsSo n.entries)
+new_holds n IsSo so =
+    rw (n.no_log, n.no_entries, n.no_places, n.no_stages)
+    (record { core = new_core n.tables n.rows n.base n.limit n.locks n.bound n.loads n.fits n.none n.no_clash; waits = record { syncing = refl; committing = refl }; tracked = so })
+
+pub new_view : (n : NewParts) (kind : Kind) → source_of (parts_over n.tables n.rows n.base n.limit n.log n.entries n.places n.stages n.locks) kind false ≡ new_source n.tables n.base n.limit kind
+new_view n kind =
+    rw (n.no_log, n.no_entries, n.no_places, n.no_stages) (ap (λ sessions. record (new_source n.tables n.base n.limit kind) { sessions = sessions }) views_none)
 
 -- a source that is new is new over its own tables, base, limit and kind
 pub new_is_new : (s : Source) (ts : List Table) (base : List Entry) (limit : ℕ) (kind : Kind) → s ≡ new_source ts base limit kind → s ≡ new_source s.tables s.base s.limit s.kind

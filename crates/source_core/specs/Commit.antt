@@ -1,5 +1,5 @@
 -- What a commit makes of the places of the sessions, and of their locks.
-use Rattle.std.specs.Prelude.{ℕ, ◌-◌, ◌≤◌, Bool, if◌then◌else◌, List, [], ◌∷◌, map, slice_set, Option, None}
+use Rattle.std.specs.Prelude.{ℕ, ◌-◌, Bool, if◌then◌else◌, List, [], ◌∷◌, map, slice_set, Option, None}
 use Rattle.std.specs.Option.{option_map, option_map_or}
 use Rattle.schema.specs.declared.Table.{Table}
 use Rattle.rows.specs.Database.{Database}
@@ -9,10 +9,6 @@ use Rattle.row_locks.specs.Locks.{Locks, released}
 use Rattle.source_core.specs.declared.transaction.Transaction.{Transaction}
 use Rattle.source_core.specs.Calls.{is_flushed_by}
 use Rattle.source_core.specs.Core.{open_view, placed}
-
--- the number of a session
-abbrev pub IsSession : ℕ → Type 0
-IsSession session = (1 ≤ session) × (session ≤ 256)
 
 -- whether the transaction in a place is a record up to this number
 abbrev pub has_ended : ℕ → Option Transaction → Bool

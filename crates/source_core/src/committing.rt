@@ -11,7 +11,8 @@ ghost use Rattle.overlay.specs.Joining.{joined, joined_all};
 ghost use Rattle.row_locks.specs.Locks.{NoClash};
 ghost use Rattle.source_core.specs.Calls.{receipt_as, receipts_for};
 ghost use Rattle.source_core.specs.Core.{placed};
-ghost use Rattle.source_core.specs.Commit.{IsSession, cleared, all_released, pending_in, pendings_of, AreApart};
+ghost use Rattle.commit_stages.specs.Queues.{IsSession};
+ghost use Rattle.source_core.specs.Commit.{cleared, all_released, pending_in, pendings_of, AreApart};
 
 use crate::transaction::{Receipt, Transaction};
 use overlay::Joined;

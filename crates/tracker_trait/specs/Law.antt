@@ -8,14 +8,14 @@ use Rattle.schema.specs.Schema.{table_at}
 use Rattle.log_index.specs.declared.Entry.{Entry}
 use Rattle.log_index.specs.declared.Footprint.{Footprint}
 use Rattle.log_index.specs.Footprint.{touched, footprint_of}
-use Rattle.log_index.specs.Log.{place_of}
+use Rattle.log_index.specs.Log.{entry_place}
 use Rattle.write_set.specs.Digest.{digest_set}
 use Rattle.tracker_trait.specs.History.{last_of}
 
 -- The order parent that a transaction may come with: it covers the transaction in the whole log, is the number of an
 -- entry or 0, and is not before the session's last entry.
 pub record IsOrderParent (log : List Entry) (t : Footprint) (session order : ℕ) : Type 0 where
-  pub covers : Covers (map place_of log) (touched t) order
+  pub covers : Covers (map entry_place log) (touched t) order
   pub within : order ≤ length log
   pub own : last_of (reverse log) session ≤ order
 

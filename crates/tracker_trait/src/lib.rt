@@ -15,7 +15,7 @@ ghost use Rattle.schema.specs.declared.Table.{Table};
 ghost use Rattle.schema.specs.Covering.{Covers};
 ghost use Rattle.log_index.specs.declared.Entry.{Entry};
 ghost use Rattle.log_index.specs.Footprint.{touched};
-ghost use Rattle.log_index.specs.Log.{place_of};
+ghost use Rattle.log_index.specs.Log.{entry_place};
 ghost use Rattle.tracker_trait.specs.Kind.{Kind};
 ghost use Rattle.tracker_trait.specs.Parent.{dependency_of};
 ghost use Rattle.tracker_trait.specs.Law.{IsOrderParent, IsOfTables, stamped};
@@ -62,7 +62,7 @@ pub trait Tracker {
         ensures exact { (ts : List Table) → agrees self.old ts log.now.entries → IsOfTables ts t.now w.now →
             result ≡ dependency_of (kind self.old) ts log.now.entries t.now session order_parent }
         ensures covers { (ts : List Table) → agrees self.old ts log.now.entries → IsOfTables ts t.now w.now →
-            Covers (map place_of log.now.entries) (touched t.now) result }
+            Covers (map entry_place log.now.entries) (touched t.now) result }
         ensures goes_on { (ts : List Table) → agrees self.old ts log.now.entries → IsOfTables ts t.now w.now →
             agrees self.new ts (stamped log.now.entries t.now session result) }
         ensures within { result ≤ order_parent }

@@ -14,6 +14,7 @@ use Rattle.executor.specs.declared.Job.{Job}
 use Rattle.replica_core.specs.Replica.{Replica, dispatched as dispatched_at, job_of, commits}
 use Rattle.published.specs.Plain.{Shown}
 use Rattle.log_file.specs.Log.{Log}
+use Rattle.log_file.specs.Calls.{ends as ends_of}
 use Rattle.world.specs.Put.{FailedBy, DeviceFailed}
 use Rattle.world.specs.declared.events.Event.{Event}
 use Rattle.world.specs.declared.events.Reply.{Reply}
@@ -89,9 +90,6 @@ pub record IsWorld {R : Type 0} (contents : R → Database) (w : World R) : Type
   pub replica : IsReplica w.source.tables w.source.base w.wire.log.source w.replica.tables w.replica.base w.replica.source w.replica.stopped
   pub jobs : HasJobs w.replica w.jobs
   pub readers : IsShown contents w.replica.tables w.replica.base w.replica.accepted w.replica.committed w.replica.published w.shown
-
-abbrev pub ends_of : GroupValue → ℕ × ℕ
-ends_of group = (group.first, group.last)
 
 -- The source is as it is said to be, with so many records flushed.
 pub record SourceIs (said : Source) (flushed_ : ℕ) (s : Source) : Type 0 where

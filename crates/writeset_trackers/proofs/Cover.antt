@@ -9,7 +9,7 @@ use Rattle.schema.proofs.Lists.{AllByRecursion-map, AllByRecursion-weaker}
 use Rattle.log_index.specs.declared.Entry.{Entry}
 use Rattle.log_index.specs.declared.Footprint.{Footprint}
 use Rattle.log_index.specs.Footprint.{touched}
-use Rattle.log_index.specs.Log.{place_of}
+use Rattle.log_index.specs.Log.{entry_place}
 use Rattle.write_set.specs.Digest.{digest_of, digest_set}
 use Rattle.tracker_trait.specs.History.{start_of, newest_of}
 use Rattle.tracker_trait.specs.Parent.{greatest, last_touch, writeset_parent}
@@ -88,15 +88,15 @@ later_covers past rows a b h =
     AllByRecursion-weaker (λ (p : ℕ × Touched). conflicts p.1 rows ≡ true → p.0 ≤ a) (λ p. conflicts p.1 rows ≡ true → p.0 ≤ b) (λ p covers conflict. omega (arith, covers conflict, h)) past
 
 pub writeset_covers : (ts : List Table) (limit : ℕ) (log : List Entry) (t : Footprint) (w : List ℕ) (order : ℕ) → AreLogged (reverse log) → IsOfTables ts t w →
-    Covers (map place_of log) (touched t) order → Covers (map place_of log) (touched t) (writeset_parent ts limit (reverse log) t order)
+    Covers (map entry_place log) (touched t) order → Covers (map entry_place log) (touched t) (writeset_parent ts limit (reverse log) t order)
 writeset_covers ts limit log t w order are is covers = by t.fk t.missing_keys refl refl
   where
     by : (fk missing : Bool) → t.fk ≡ fk → t.missing_keys ≡ missing →
-        Covers (map place_of log) (touched t) (cond (fk || missing) order (min order (last_touch ts limit (reverse log) (digest_set ts t.writes))))
+        Covers (map entry_place log) (touched t) (cond (fk || missing) order (min order (last_touch ts limit (reverse log) (digest_set ts t.writes))))
     by true missing f m = covers
     by false true f m = covers
     by false false f m =
-        both_cover (map place_of log) (touched t) order (last_touch ts limit (reverse log) (digest_set ts t.writes)) covers
-        (AllByRecursion-map place_of (λ p. conflicts p.1 (touched t) ≡ true → p.0 ≤ last_touch ts limit (reverse log) (digest_set ts t.writes)) log
+        both_cover (map entry_place log) (touched t) order (last_touch ts limit (reverse log) (digest_set ts t.writes)) covers
+        (AllByRecursion-map entry_place (λ p. conflicts p.1 (touched t) ≡ true → p.0 ≤ last_touch ts limit (reverse log) (digest_set ts t.writes)) log
         (of_reverse (λ e. conflicts (touched e.footprint) (touched t) ≡ true → e.sequence ≤ last_touch ts limit (reverse log) (digest_set ts t.writes)) log
         (last-covers ts limit (reverse log) t w is f m are)))

@@ -6,7 +6,7 @@ use Rattle.schema.specs.Covering.{Covers}
 use Rattle.log_index.specs.declared.Entry.{Entry}
 use Rattle.log_index.specs.declared.Footprint.{Footprint}
 use Rattle.log_index.specs.Footprint.{touched}
-use Rattle.log_index.specs.Log.{place_of}
+use Rattle.log_index.specs.Log.{entry_place}
 use Rattle.tracker_trait.specs.History.{last_of}
 use Rattle.tracker_trait.specs.Parent.{writeset_parent}
 use Rattle.tracker_trait.specs.Law.{IsOrderParent, IsOfTables, stamped}
@@ -32,9 +32,9 @@ pub is_exact : (ts : List Table) (log : List Entry) (h seen : History) (t : Foot
 is_exact ts log h seen t w order parent same by is of_ = by ∙ ap (λ (h : History). parent_by h t w order) same ∙ same_parent ts (reverse log) seen t w order is of_.set
 
 pub is_covered : (ts : List Table) (log : List Entry) (h seen : History) (t : Footprint) (w : List ℕ) (session order parent : ℕ) → h ≡ seen → parent ≡ parent_by h t w order →
-    IsHistoryOf ts (reverse log) seen → IsOfTables ts t w → IsOrderParent log t session order → Covers (map place_of log) (touched t) parent
+    IsHistoryOf ts (reverse log) seen → IsOfTables ts t w → IsOrderParent log t session order → Covers (map entry_place log) (touched t) parent
 is_covered ts log h seen t w session order parent same by is of_ may =
-    subst (Covers (map place_of log) (touched t)) (sym (is_exact ts log h seen t w order parent same by is of_)) (writeset_covers ts seen.limit log t w order is.logged of_ may.covers)
+    subst (Covers (map entry_place log) (touched t)) (sym (is_exact ts log h seen t w order parent same by is of_)) (writeset_covers ts seen.limit log t w order is.logged of_ may.covers)
 
 -- the history goes on with the log
 pub has_gone_on : (ts : List Table) (log : List Entry) (h seen new : History) (t : Footprint) (w : List ℕ) (session parent len : ℕ) → h ≡ seen → len ≡ length log → new ≡ noted h t w (len + 1) →

@@ -1,6 +1,6 @@
 use Rattle.std.proofs.Common.{◌∙◌, arith}
 use Rattle.schema.proofs.Lists.{AllByRecursion-at}
-use Rattle.source_core.specs.Commit.{IsSession}
+use Rattle.commit_stages.specs.Queues.{IsSession}
 use Rattle.source_core.proofs.CommitLoops.{one_cleared, one_released}
 use Rattle.source_core.proofs.committing.end_all.Goals as goal
 
