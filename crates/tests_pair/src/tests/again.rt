@@ -62,6 +62,21 @@ fn text_again(alloc: Global, replies: &[Reply]) -> Result<String, Memory> {
     Ok(again!(format!(in alloc; "{replies:?}"))?)
 }
 
+/// What an event is answered, sent once more where memory was refused.
+fn answer_again<S: RowStore, T: Tracker, D: Device, R: RowStore>(
+    alloc: Global,
+    world: &mut World<S, T, D, R>,
+    event: &Event,
+) -> Result<String, Memory>
+    requires { IsWorld R.contents (seen world.old) }
+    ensures { IsWorld R.contents (seen world.new) }
+{
+    match answer(alloc, world, event) {
+        Ok(text) => Ok(text),
+        Err(_) => answer(alloc, world, event),
+    }
+}
+
 /// The session writes this.
 fn write(session: u16, change: Change) -> Event {
     Event::Write { session, change }
@@ -120,7 +135,7 @@ fn events() -> [Event; 40] {
     ]
 }
 
-/// Runs both worlds side by side, each event once more where memory was refused, and compares what they answer.
+/// Runs both worlds side by side, and compares what they answer.
 fn answer_alike(
     rt: &impl Abort,
     alloc: Global,
@@ -132,8 +147,8 @@ fn answer_alike(
     requires other { IsWorld (λ rows. rows) (seen other.old) }
 {
     for event in events {
-        let told = again!(answer(alloc, one, event))?;
-        let same = again!(answer(alloc, other, event))?;
+        let told = answer_again(alloc, one, event)?;
+        let same = answer_again(alloc, other, event)?;
         assert_eq!(rt; told.as_str(), same.as_str());
     }
     Ok(())
