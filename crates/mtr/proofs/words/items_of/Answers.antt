@@ -18,7 +18,7 @@ pub loop-word-preserved : goal.loop-word-preserved
 loop-word-preserved g c =
     let below : c.loop-word.count < length c.loop-word.items = omega arith in
     record {
-      few = omega (arith, length-set {A = g.T.Value});
+      few = omega (arith, length-set {A = g.row.T.Denot});
       so_far =
           item_more g.T.OfWord.reads c.loop-word.items c.loop-word.count c.loop-word.words c.in-Some.rest c.in-Some.word.now c.in_ok-items.field-0 _ below refl (sym c.in-Some.ensures) (sym c.in_ok-items.ensures)
           ∙ c.loop-word.invariant.so_far;
