@@ -74,9 +74,9 @@ size_room line sync_from flush_from capacity sizes room long count is groups lon
     let few_sessions = few line is.sessions is.distinct in
     let groups_ = few_groups sizes (flush_from - sync_from) groups.are in omega (arith, few_sessions, groups_, groups.room, some, long_is, count_is)
 
-pub flushed_parts : (line : List ℕ) (sync_from flush_from capacity : ℕ) (sizes : List ℕ) (room : ℕ) → IsLine line sync_from flush_from capacity → AreGroups sizes sync_from flush_from room →
+pub flushed_parts : (line : List ℕ) (sync_from flush_from capacity : ℕ) (sizes : List ℕ) (room : ℕ) → IsLine line sync_from flush_from capacity × AreGroups sizes sync_from flush_from room →
     (to : ℕ) → to ≡ length line → (now : List ℕ) → now ≡ sizes ++ sizes_of (drop flush_from line) → (kept : ℕ) → room ≤ kept → IsLine line sync_from to capacity × AreGroups now sync_from to kept
-flushed_parts line sync_from flush_from capacity sizes room is groups to to_is now now_is kept more = (
+flushed_parts line sync_from flush_from capacity sizes room both to to_is now now_is kept more = let is = both.0 in let groups = both.1 in (
   record { in_order = omega (arith, is.in_order, is.within, to_is); within = omega (arith, to_is); sessions = is.sessions; distinct = is.distinct; room = is.room },
   record {
     are = subst (λ (l : List ℕ). AreSizes l (to - sync_from)) (sym now_is)
@@ -85,9 +85,11 @@ flushed_parts line sync_from flush_from capacity sizes room is groups to to_is n
   },
 )
 
-pub synced_parts : (line : List ℕ) (sync_from flush_from capacity : ℕ) (sizes : List ℕ) (room : ℕ) → IsLine line sync_from flush_from capacity → AreGroups sizes sync_from flush_from room →
+pub synced_parts : (line : List ℕ) (sync_from flush_from capacity : ℕ) (sizes : List ℕ) (room : ℕ) → IsLine line sync_from flush_from capacity × AreGroups sizes sync_from flush_from room →
     (count : ℕ) → count ≡ slice_index_or sizes 0 0 → (now : List ℕ) → now ≡ drop 1 sizes → (kept : ℕ) → kept ≡ room → IsLine line (sync_from + count) flush_from capacity × AreGroups now (sync_from + count) flush_from kept
-synced_parts line sync_from flush_from capacity sizes room is groups count count_is now now_is kept same =
+synced_parts line sync_from flush_from capacity sizes room both count count_is now now_is kept same =
+    let is = both.0 in
+    let groups = both.1 in
     let within = oldest_within sizes (flush_from - sync_from) groups.are in (
       record { in_order = omega (arith, is.in_order, within, count_is); within = is.within; sessions = is.sessions; distinct = is.distinct; room = is.room },
       record {

@@ -13,23 +13,32 @@ use Rattle.overlay.proofs.Follow.{seen-Follows}
 use Rattle.overlay.proofs.Run.{HasRun}
 use Rattle.executor.specs.Job.{kin_at}
 
+-- A change that comes next behind those that have run, and applies.
+pub record Next (ts : List Table) (changes : List Change) (db : Database) : Type 0 where
+  pub n : ℕ
+  pub pending : Pending
+  pub run : HasRun ts changes db n pending
+  pub within : n < length changes
+  pub change : Change
+  pub is : change ≡ get_or changes n change
+  pub left : Option (List ℤ)
+  pub leaves : option_map (λ after. get after (target change)) (apply ts change (seen pending db)) ≡ Some left
+
 -- one change more, the rows behind the list being the parents of its row before and after it
-pub kin_more : (ts : List Table) (changes : List Change) (db : Database) (n : ℕ) (pending : Pending) (change : Change) (row : RowId) (left : Option (List ℤ)) (answer : Option (Option (List ℤ))) (now later : List RowId) →
-    HasRun ts changes db n pending → n < length changes → change ≡ get_or changes n change → row ≡ target change →
-    answer ≡ option_map (λ after. get after (target change)) (apply ts change (seen pending db)) → answer ≡ Some left →
-    now ≡ kin ts (take n changes) db → later ≡ now ++ kin_at ts row.table (get (seen pending db) row) ++ kin_at ts row.table left →
-    later ≡ kin ts (take (n + 1) changes) db
-kin_more ts changes db n pending change row left answer now later run within is of leaves some so_far put =
-    let mid = seen pending db in
-    let id = target change in
-    let reached : effect ts (take n changes) db ≡ Some mid = ap (λ l. effect ts l db) (sym run.done) ∙ run.follows.applied ∙ ap Some (sym (seen-Follows run.follows)) in
-    let next = made_of (λ (m : Database). get m id) (apply ts change mid) left (sym leaves ∙ some) in
-    let here : kin ts (change ∷ []) mid ≡ kin_at ts id.table (get mid id) ++ kin_at ts id.table (get next.0 id) =
-    kin_then ts change [] mid next.0 next.1 ∙ append-nil (kin_at ts id.table (get mid id) ++ kin_at ts id.table (get next.0 id)) in
+pub kin_more : (ts : List Table) (changes : List Change) (db : Database) (next : Next ts changes db) (row : RowId) (now later : List RowId) → row ≡ target next.change → now ≡ kin ts (take next.n changes) db →
+    later ≡ now ++ kin_at ts row.table (get (seen next.pending db) row) ++ kin_at ts row.table next.left → later ≡ kin ts (take (next.n + 1) changes) db
+kin_more ts changes db next row now later of so_far put =
+    let ran = take next.n changes in
+    let mid = seen next.pending db in
+    let id = target next.change in
+    let reached : effect ts ran db ≡ Some mid = ap (λ l. effect ts l db) (sym next.run.done) ∙ next.run.follows.applied ∙ ap Some (sym (seen-Follows next.run.follows)) in
+    let after = made_of (λ (m : Database). get m id) (apply ts next.change mid) next.left next.leaves in
+    let here : kin ts (next.change ∷ []) mid ≡ kin_at ts id.table (get mid id) ++ kin_at ts id.table (get after.0 id) =
+    kin_then ts next.change [] mid after.0 after.1 ∙ append-nil (kin_at ts id.table (get mid id) ++ kin_at ts id.table (get after.0 id)) in
     put
-    ∙ (λ i. so_far i ++ kin_at ts (of i).table (get mid (of i)) ++ kin_at ts (of i).table (sym next.2 i))
-    ∙ append_assoc (kin ts (take n changes) db) (kin_at ts id.table (get mid id)) (kin_at ts id.table (get next.0 id))
-    ∙ ap (λ l. kin ts (take n changes) db ++ l) (sym here)
-    ∙ sym (kin_joined ts (take n changes) (change ∷ []) db mid reached)
-    ∙ ap (λ (x : Change). kin ts (take n changes ++ x ∷ []) db) is
-    ∙ ap (λ l. kin ts l db) (sym (take_more changes n change within))
+    ∙ (λ i. so_far i ++ kin_at ts (of i).table (get mid (of i)) ++ kin_at ts (of i).table (sym after.2 i))
+    ∙ append_assoc (kin ts ran db) (kin_at ts id.table (get mid id)) (kin_at ts id.table (get after.0 id))
+    ∙ ap (λ l. kin ts ran db ++ l) (sym here)
+    ∙ sym (kin_joined ts ran (next.change ∷ []) db mid reached)
+    ∙ ap (λ (x : Change). kin ts (ran ++ x ∷ []) db) next.is
+    ∙ ap (λ l. kin ts l db) (sym (take_more changes next.n next.change next.within))

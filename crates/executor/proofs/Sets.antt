@@ -46,15 +46,22 @@ same_for_moved refs rows moved moves =
 
 -- ---- both searches
 
--- the test of refs, where each ref is searched for in the rows in order, and each of these among the refs
-pub searched_both : (refs rows moved listed shown listed_too shown_too : List RowId) (first second : Bool) → IsPermutation rows moved → listed ≡ refs → shown ≡ moved → first ≡ list_all (has_row shown) listed → first ≡ true →
-    listed_too ≡ refs → shown_too ≡ moved → second ≡ list_all (has_row listed_too) shown_too → second ≡ same_rows refs rows
-searched_both refs rows moved listed shown listed_too shown_too first second moves is_refs is_moved one passed is_refs_too is_moved_too two =
-    let all : list_all (has_row moved) refs ≡ true = (λ i. list_all (has_row (sym is_moved i)) (sym is_refs i)) ∙ sym one ∙ passed in
-    two ∙ (λ i. list_all (has_row (is_refs_too i)) (is_moved_too i))
-    ∙ ap (λ b. b && list_all (has_row refs) moved) (sym all) ∙ same_for_moved refs rows moved moves
+-- A search for each of some rows among others: the lists that it was given, and what came of it.
+pub record Search (all among : List RowId) : Type 0 where
+  pub listed : List RowId
+  pub shown : List RowId
+  pub is_listed : listed ≡ all
+  pub is_shown : shown ≡ among
+  pub found : Bool
+  pub found_is : found ≡ list_all (has_row shown) listed
 
-pub searched_first : (refs rows moved listed shown : List RowId) (first : Bool) → IsPermutation rows moved → listed ≡ refs → shown ≡ moved → first ≡ list_all (has_row shown) listed → first ≡ false → false ≡ same_rows refs rows
-searched_first refs rows moved listed shown first moves is_refs is_moved one failed =
-    let some : list_all (has_row moved) refs ≡ false = (λ i. list_all (has_row (sym is_moved i)) (sym is_refs i)) ∙ sym one ∙ failed in
-    ap (λ b. b && list_all (has_row refs) moved) (sym some) ∙ same_for_moved refs rows moved moves
+found_all : {all among : List RowId} (search_ : Search all among) → search_.found ≡ list_all (has_row among) all
+found_all search_ = search_.found_is ∙ (λ i. list_all (has_row (search_.is_shown i)) (search_.is_listed i))
+
+-- the test of refs, where each ref is searched for in the rows in order, and each of these among the refs
+pub searched_both : (refs rows moved : List RowId) (first : Search refs moved) (second : Search moved refs) → IsPermutation rows moved → first.found ≡ true → second.found ≡ same_rows refs rows
+searched_both refs rows moved first second moves passed =
+    found_all second ∙ ap (λ b. b && list_all (has_row refs) moved) (sym (sym (found_all first) ∙ passed)) ∙ same_for_moved refs rows moved moves
+
+pub searched_first : (refs rows moved : List RowId) (first : Search refs moved) → IsPermutation rows moved → first.found ≡ false → false ≡ same_rows refs rows
+searched_first refs rows moved first moves failed = ap (λ b. b && list_all (has_row refs) moved) (sym (sym (found_all first) ∙ failed)) ∙ same_for_moved refs rows moved moves

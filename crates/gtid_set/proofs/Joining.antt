@@ -133,21 +133,28 @@ drop_later a b i j le e =
     let k : j ≡ i + (j - i) = omega arith in
     ap (λ (n : ℕ). drop n a) k ∙ sym (drop-drop (j - i) i a) ∙ ap (drop (j - i)) e ∙ drop-drop (j - i) i b ∙ ap (λ (n : ℕ). drop n b) (sym k)
 
-pub one_joined : (old new after : List Interval) (kept count i : ℕ) (d : Interval) → IsNonDecreasingBy (λ x. x.first) old → AreJoined old new kept i → i < length old
-    → Joins (take kept new) (take count after) (get_or new i d) → drop (kept + 1) after ≡ drop (kept + 1) new → count ≤ kept + 1 → length after ≡ length new → AreJoined old after count (i + 1)
-one_joined old new after kept count i d sorts h lt joins rest few long =
+-- An interval joined to those that are kept at the front: as many as counted are kept then, and those behind stay.
+pub record JoinsOne (new : List Interval) (kept : ℕ) (d : Interval) (after : List Interval) (count : ℕ) : Type 0 where
+  pub joins : Joins (take kept new) (take count after) d
+  pub rest : drop (kept + 1) after ≡ drop (kept + 1) new
+  pub few : count ≤ kept + 1
+  pub long : length after ≡ length new
+
+pub one_joined : (old new after : List Interval) (kept count i : ℕ) (d : Interval) → IsNonDecreasingBy (λ x. x.first) old → AreJoined old new kept i → i < length old → JoinsOne new kept (get_or new i d) after count →
+    AreJoined old after count (i + 1)
+one_joined old new after kept count i d sorts h lt one =
     let next = next_is old new kept i d h in
     record {
-      few = omega (arith, h.few);
-      long = long ∙ h.long;
-      are = joins.are;
+      few = omega (arith, h.few, one.few);
+      long = one.long ∙ h.long;
+      are = one.joins.are;
       sorted = λ j e le below.
           let up : (get_or new i d).first ≤ (get_or old j e).first = omega (arith, ap (λ (x : Interval). x.first) next, ap (λ (x : Interval). x.first) (get_or_default old i d e lt), sorts i j e (omega arith) below) in
-          sorted_more (get_or new i d).first (get_or old j e).first (take count after) up joins.sorted;
+          sorted_more (get_or new i d).first (get_or old j e).first (take count after) up one.joins.sorted;
       have = λ m.
-          joins.have m ∙ ap (λ (b : Bool). b || is_within (get_or new i d) m) (h.have m) ∙ ap (λ (x : Interval). has_number (take i old) m || is_within x m) next
+          one.joins.have m ∙ ap (λ (b : Bool). b || is_within (get_or new i d) m) (h.have m) ∙ ap (λ (x : Interval). has_number (take i old) m || is_within x m) next
           ∙ sym (has_one (take i old) (get_or old i d) m) ∙ ap (λ (l : List Interval). has_number l m) (sym (take_more old i d lt));
-      rest = drop_later after new (kept + 1) (i + 1) (omega (arith, h.few)) rest ∙ drop_more_same new old i h.rest;
+      rest = drop_later after new (kept + 1) (i + 1) (omega (arith, h.few)) one.rest ∙ drop_more_same new old i h.rest;
     }
 
 -- ---- sorted first

@@ -17,16 +17,22 @@ shown log = []
 abbrev moved : List (List Op) → List (List Op) → ℕ → Type 0
 moved xs ys n = Unit {0}
 
-adds_goes : (log v : List (List Op)) (ops : List Op) (old new : ℕ) (state : Option ℕ) → commits_in (operations_of v) ≡ old → IsHistory (operations_of v) → CommitsFrom (old + 1) ops → new ≡ old + length ops
-    → IsHistory (operations_of log) → IsPrefix v log → (b : Bool) → (commits_in (operations_of log) == old) ≡ b
+-- Operations that come next behind those seen, and the numbers of both.
+pub record AreNext (v : List (List Op)) (ops : List Op) (old new : ℕ) : Type 0 where
+  pub number : commits_in (operations_of v) ≡ old
+  pub history : IsHistory (operations_of v)
+  pub next : CommitsFrom (old + 1) ops
+  pub size : new ≡ old + length ops
+
+adds_goes : (log v : List (List Op)) (ops : List Op) (old new : ℕ) (state : Option ℕ) → AreNext v ops old new → IsHistory (operations_of log) → IsPrefix v log → (b : Bool) → (commits_in (operations_of log) == old) ≡ b
     → Goes CountsCommits shown moved 0 (v, (no_nib, state)) (λ n. either (n == old) new n) (Adds (step 0 old new ops) (v, (no_nib, state))) ((commits_in (operations_of log), true) ∷ []) log
-adds_goes log v ops old new state number hv next size hlog pre true is =
+adds_goes log v ops old new state are hlog pre true is =
     let here : commits_in (operations_of log) ≡ old = grind (arith, nat_tests) in
-    let same : operations_of v ≡ operations_of log = same_history (operations_of v) (operations_of log) (prefix_of_operations v log pre) hv hlog (here ∙ sym number) in
+    let same : operations_of v ≡ operations_of log = same_history (operations_of v) (operations_of log) (prefix_of_operations v log pre) are.history hlog (here ∙ sym are.number) in
     let longer : operations_of (log ++ ops ∷ []) ≡ operations_of log ++ ops = operations_of-snoc log ops in
-    let more : IsHistory (operations_of log ++ ops) = history_with (operations_of log) ops hlog (subst (λ n. CommitsFrom (n + 1) ops) (sym here) next) in
+    let more : IsHistory (operations_of log ++ ops) = history_with (operations_of log) ops hlog (subst (λ n. CommitsFrom (n + 1) ops) (sym here) are.next) in
     let n : either (commits_in (operations_of log) == old) new (commits_in (operations_of log)) ≡ commits_in (operations_of (log ++ ops ∷ [])) =
-    rw is (size ∙ sym (ap commits_in longer ∙ commits_in-with (operations_of log) ops hlog ∙ ap (λ m. m + length ops) here)) in (
+    rw is (are.size ∙ sym (ap commits_in longer ∙ commits_in-with (operations_of log) ops hlog ∙ ap (λ m. m + length ops) here)) in (
       keeps,
       ops ∷ [],
       state,
@@ -35,7 +41,7 @@ adds_goes log v ops old new state number hv next size hlog pre true is =
       inl (refl, refl),
       rw is (longer ∙ ap (λ l. l ++ ops) (sym same)),
     )
-adds_goes log v ops old new state number hv next size hlog pre false is =
+adds_goes log v ops old new state are hlog pre false is =
     let all : log ++ [] ≡ log = append-nil log in
     let n : either (commits_in (operations_of log) == old) new (commits_in (operations_of log)) ≡ commits_in (operations_of (log ++ [])) = rw is (ap (λ l. commits_in (operations_of l)) (sym all)) in (
       keeps,
@@ -48,11 +54,11 @@ adds_goes log v ops old new state number hv next size hlog pre false is =
     )
 
 -- whatever the history is, the exchange adds the operations to all that was seen, or finds that there are more
-pub adds_moves : (v : List (List Op)) (ops : List Op) (old new : ℕ) (state : Option ℕ) → commits_in (operations_of v) ≡ old → IsHistory (operations_of v) → CommitsFrom (old + 1) ops → new ≡ old + length ops
+pub adds_moves : (v : List (List Op)) (ops : List Op) (old new : ℕ) (state : Option ℕ) → AreNext v ops old new
     → Moves CountsCommits shown moved 0 (v, (no_nib, state)) (λ n. either (n == old) new n) (Adds (step 0 old new ops) (v, (no_nib, state)))
-adds_moves v ops old new state number hv next size cs log kept pre away =
+adds_moves v ops old new state are cs log kept pre away =
     let P : List Cell → Type 0 = λ c. (0 < length c) × ((cell c 0).1 ≡ true) × Goes CountsCommits shown moved 0 (v, (no_nib, state)) (λ n. either (n == old) new n) (Adds (step 0 old new ops) (v, (no_nib, state))) c log in
-    subst P (sym kept.words) (omega arith, refl, adds_goes log v ops old new state number hv next size kept.history pre (commits_in (operations_of log) == old) refl)
+    subst P (sym kept.words) (omega arith, refl, adds_goes log v ops old new state are kept.history pre (commits_in (operations_of log) == old) refl)
 
 -- where the number found was the one expected, the operations were added
 pub added : (found old : ℕ) (v w : List (List Op)) (ops : List Op) → found ≡ old → OnTrue (found == old) (operations_of w ≡ operations_of v ++ ops) → operations_of w ≡ operations_of v ++ ops

@@ -16,12 +16,9 @@ use Rattle.relay.specs.declared.Received.TheVariants.{Accepted, Skipped}
 use Rattle.relay.specs.Form.{has_flags, are_parents, has_ref}
 use Rattle.relay.specs.Relay.{Relay, is_formed, is_malformed, is_covered, received, IsAcceptable}
 use Rattle.relay.specs.Laws.{AcceptsTheAcceptable}
-use Rattle.relay.specs.Touches.{Marks, Notes}
-use Rattle.relay.specs.Kept.{IsKept}
 use Rattle.gtid_set.specs.Ids.{Ids, first_ids, Adds}
 use Rattle.gtid_set.proofs.Firsts.{next}
 use Rattle.schema.proofs.Covers.{passed_covers, covers_passes}
-use Rattle.relay.proofs.Last.{one_more_kept}
 
 -- the answer by its tests
 abbrev pub answer_by : Bool → Bool → Bool → Bool → Bool → Result Received ReplicaFault
@@ -147,13 +144,6 @@ next_put source gno old new some few before adds =
     let behind : Adds (first_ids source n) new (record { source = source; gno = gno }) = subst (λ (s : Ids). Adds s new (record { source = source; gno = gno })) before adds in
     let put : Adds (first_ids source n) new (record { source = source; gno = n + 1 }) = subst (λ (k : ℕ). Adds (first_ids source n) new (record { source = source; gno = k })) (sym number) behind in
     next source n new (omega arith) put ∙ ap (first_ids source) number
-
--- what a relay keeps once it took a copy of a record that is accepted, put its id in, and noted its rows
-pub copy_is_kept : (r : Relay) (from : List ℕ) (new copy : Record) (left : List Record) (ids with_next : Ids) (marks roomy noted : Marks) → IsKept r.tables r.source r.accepted ids marks → (from ≡ r.source) × IsAcceptable r.tables r.accepted new →
-    copy ≡ new → left ≡ r.accepted ++ copy ∷ [] → with_next ≡ first_ids from new.gno → roomy ≡ marks → Notes roomy new noted → IsKept r.tables r.source left with_next noted
-copy_is_kept r from new copy left ids with_next marks roomy noted kept next as_new pushed put room notes =
-    one_more_kept r.tables r.source r.accepted left ids with_next marks noted new kept next.1 (pushed ∙ ap (λ q. r.accepted ++ q ∷ []) as_new) (put ∙ ap (λ s. first_ids s new.gno) next.0)
-    (subst (λ (m : Marks). Notes m new noted) room notes)
 
 -- ---- records that are not the next
 

@@ -58,20 +58,31 @@ none_kept ts source ids marks no_id none = record {
     nothing : (q : RowId) → touch_at marks q ≡ untouched
     nothing q = ap (λ m. touch_at m q) none ∙ ap (λ o. unwrap_or o untouched) (get-empty row_cmp q)
 
-pub one_more_kept : (ts : List Table) (source : List ℕ) (log left : List Record) (ids with_next : Ids) (marks now : Marks) (r : Record) → IsKept ts source log ids marks → IsAcceptable ts log r → left ≡ log ++ r ∷ []
-    → with_next ≡ first_ids source r.gno → Notes marks r now → IsKept ts source left with_next now
-one_more_kept ts source log left ids with_next marks now r kept next is put notes = subst (λ (l : List Record). IsKept ts source l with_next now) (sym is) (record {
-  acceptable = next_is_acceptable ts log r kept.acceptable next;
-  ids_are = put ∙ ap (first_ids source) (next.gno ∙ sym (length_push log r));
+-- A record put behind those that are kept: it is the next, and what is left has it.
+pub record Puts (ts : List Table) (source : List ℕ) (log : List Record) (ids : Ids) (marks : Marks) (r : Record) : Type 0 where
+  pub kept : IsKept ts source log ids marks
+  pub next : IsAcceptable ts log r
+  pub left : List Record
+  pub left_is : left ≡ log ++ r ∷ []
+  pub with_next : Ids
+  pub ids_are : with_next ≡ first_ids source r.gno
+  pub now : Marks
+  pub notes : Notes marks r now
+
+pub one_more_kept : (ts : List Table) (source : List ℕ) (log : List Record) (ids : Ids) (marks : Marks) (r : Record) (put : Puts ts source log ids marks r) → IsKept ts source put.left put.with_next put.now
+one_more_kept ts source log ids marks r put = subst (λ (l : List Record). IsKept ts source l put.with_next put.now) (sym put.left_is) (record {
+  acceptable = next_is_acceptable ts log r put.kept.acceptable put.next;
+  ids_are = put.ids_are ∙ ap (first_ids source) (put.next.gno ∙ sym (length_push log r));
   last = record {
-    written = λ q. notes.written q ∙ ap (cond (writes_row q r) r.gno) (kept.last.written q) ∙ last_is (writes_row q);
-    touched = λ q. notes.touched q ∙ ap (cond (touches_row q r) r.gno) (kept.last.touched q) ∙ last_is (touches_row q);
+    written = λ q. put.notes.written q ∙ ap (cond (writes_row q r) r.gno) (put.kept.last.written q) ∙ last_is (writes_row q);
+    touched = λ q. put.notes.touched q ∙ ap (cond (touches_row q r) r.gno) (put.kept.last.touched q) ∙ last_is (touches_row q);
   };
 })
   where
     last_is : (passes : Record → Bool) → cond (passes r) r.gno (last_of passes log) ≡ last_of passes (log ++ r ∷ [])
     last_is passes =
-        newest (passes r) r.gno r.sequence (last_of passes log) (next.gno ∙ sym next.sequence) (let last = last_up_to passes log 0 (are_behind ts log kept.acceptable) in omega (arith, next.sequence))
+        newest (passes r) r.gno r.sequence (last_of passes log) (put.next.gno ∙ sym put.next.sequence)
+        (let last = last_up_to passes log 0 (are_behind ts log put.kept.acceptable) in omega (arith, put.next.sequence))
         ∙ sym (last_of-push passes log r)
 
 -- ---- a parent is judged

@@ -64,21 +64,32 @@ nothing_taken start source runs = record {
   runs = runs;
 }
 
--- more bytes were taken, and records handed on
-goes_on : (start now then : Replica) (bytes more : List ℕ) (old new : Wire) (gone added : List Record) → HasTaken start bytes old now → new.source ≡ old.source → HandsAll old.source now gone then
-    → old.waiting ++ added ≡ gone ++ new.waiting → Splits (old.rest ++ more) added new.rest → HasTaken start (bytes ++ more) new then
-goes_on start now then bytes more old new gone added h source hands split splits =
+-- More bytes that a wire took: the records that they end are added, and those that went were handed on.
+record TakesMore (old : Wire) (now : Replica) (more : List ℕ) (new : Wire) (then : Replica) : Type 0 where
+  source : new.source ≡ old.source
+  gone : List Record
+  hands : HandsAll old.source now gone then
+  added : List Record
+  split : old.waiting ++ added ≡ gone ++ new.waiting
+  splits : Splits (old.rest ++ more) added new.rest
+
+goes_on : (start now then : Replica) (bytes more : List ℕ) (old new : Wire) → HasTaken start bytes old now → TakesMore old now more new then → HasTaken start (bytes ++ more) new then
+goes_on start now then bytes more old new h takes =
+    let gone = takes.gone in
+    let added = takes.added in
+    let source = takes.source in
+    let hands = takes.hands in
     let before = handed old.source start h.gone in
     let running : before.stopped ≡ None = ap (λ (q : Replica). q.stopped) (handed_grows old.source start h.gone).is ∙ h.runs in
     let goes = alike old.source now before gone hands.taken h.accepted running in
     let whole : (h.gone ++ old.waiting) ++ added ≡ (h.gone ++ gone) ++ new.waiting =
-    append_assoc h.gone old.waiting added ∙ ap (λ (l : List Record). h.gone ++ l) split ∙ sym (append_assoc h.gone gone new.waiting) in
+    append_assoc h.gone old.waiting added ∙ ap (λ (l : List Record). h.gone ++ l) takes.split ∙ sym (append_assoc h.gone gone new.waiting) in
     let taken : AreTaken old.source start (h.gone ++ gone) = taken-append old.source start h.gone gone h.taken goes.taken in
     let accepted : relay_of then ≡ relay_of (handed old.source start (h.gone ++ gone)) =
     ap relay_of hands.left ∙ goes.left ∙ ap relay_of (sym (handed-append old.source start h.gone gone)) in
     record {
       gone = h.gone ++ gone;
-      splits = subst (λ (l : List Record). Splits (bytes ++ more) l new.rest) whole (cuts_do_not_matter bytes more (h.gone ++ old.waiting) added old.rest new.rest h.splits splits);
+      splits = subst (λ (l : List Record). Splits (bytes ++ more) l new.rest) whole (cuts_do_not_matter bytes more (h.gone ++ old.waiting) added old.rest new.rest h.splits takes.splits);
       taken = subst (λ (s : List ℕ). AreTaken s start (h.gone ++ gone)) (sym source) taken;
       accepted = accepted ∙ ap (λ (s : List ℕ). relay_of (handed s start (h.gone ++ gone))) (sym source);
       runs = h.runs;
@@ -94,16 +105,17 @@ none_more rest now partial same = record {
 pub takes_on : TakesOn
 takes_on start now then bytes piece old new (Ok count) h t =
     let is = t.is in
-    goes_on start now then bytes piece old new (old.waiting ++ is.added) is.added h t.source is.hands
-    (sym (ap (λ (l : List Record). (old.waiting ++ is.added) ++ l) is.none ∙ append-nil (old.waiting ++ is.added))) is.splits
+    let gone = old.waiting ++ is.added in
+    goes_on start now then bytes piece old new h
+    (record { source = t.source; gone = gone; hands = is.hands; added = is.added; split = sym (ap (λ (l : List Record). gone ++ l) is.none ∙ append-nil gone); splits = is.splits })
 takes_on start now then bytes piece old new (Err (wire.Replica fault)) h t =
     let is = t.is in
-    goes_on start now then bytes piece old new is.hands.gone is.added h t.source is.hands.hands is.hands.split is.splits
+    goes_on start now then bytes piece old new h (record { source = t.source; gone = is.hands.gone; hands = is.hands.hands; added = is.added; split = is.hands.split; splits = is.splits })
 takes_on start now then bytes piece old new (Err (wire.Codec fault)) h t =
     let is = t.is in
-    goes_on start now then bytes [] old new old.waiting [] h t.source is.hands
-    (ap (λ (l : List Record). old.waiting ++ l) (sym is.none)) (none_more old.rest new.rest h.splits.partial is.rest)
+    goes_on start now then bytes [] old new h
+    (record { source = t.source; gone = old.waiting; hands = is.hands; added = []; split = ap (λ (l : List Record). old.waiting ++ l) (sym is.none); splits = none_more old.rest new.rest h.splits.partial is.rest })
 takes_on start now then bytes piece old new (Err (wire.Waiting fault)) h t =
     let is = t.is in
-    goes_on start now then bytes [] old new is.hands.gone [] h t.source is.hands.hands
-    (append-nil old.waiting ∙ is.hands.split) (none_more old.rest new.rest h.splits.partial is.rest)
+    goes_on start now then bytes [] old new h
+    (record { source = t.source; gone = is.hands.gone; hands = is.hands.hands; added = []; split = append-nil old.waiting ∙ is.hands.split; splits = none_more old.rest new.rest h.splits.partial is.rest })

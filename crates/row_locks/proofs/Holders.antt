@@ -117,15 +117,14 @@ not_held false true h = cc
 not_held false false h = (refl, refl)
 
 -- what one session writes another neither writes nor refers to
-unheld : (locks : Locks) → NoClash locks → (session other : ℕ) (writes refs writes' refs' : List RowId) → 1 ≤ session → 1 ≤ other → session ≢ other → held_by locks session ≡ holding writes refs → held_by locks other ≡ holding writes' refs' → (q : RowId) → has_row writes q ≡ true → (has_row writes' q ≡ false) × (has_row refs' q ≡ false)
-unheld locks none session other writes refs writes' refs' least least' apart here there q is =
-    let mine : get (held_by locks session) q ≡ Some Exclusive =
-    ap (λ (h : Holding). get h q) here ∙ held_by_rows writes refs q ∙ ap (λ b. way b (has_row refs q)) is in
-    not_held (has_row writes' q) (has_row refs' q)
-    (sym (held_by_rows writes' refs' q) ∙ ap (λ (h : Holding). get h q) (sym there) ∙ alone locks none session other q least least' apart mine)
+unheld : (writes refs writes' refs' : List RowId) (mine theirs : Holding) → mine ≡ holding writes refs → theirs ≡ holding writes' refs' → ((q : RowId) → get mine q ≡ Some Exclusive → get theirs q ≡ None) →
+    (q : RowId) → has_row writes q ≡ true → (has_row writes' q ≡ false) × (has_row refs' q ≡ false)
+unheld writes refs writes' refs' mine theirs here there none q is =
+    let held : get mine q ≡ Some Exclusive = ap (λ (h : Holding). get h q) here ∙ held_by_rows writes refs q ∙ ap (λ b. way b (has_row refs q)) is in
+    not_held (has_row writes' q) (has_row refs' q) (sym (held_by_rows writes' refs' q) ∙ ap (λ (h : Holding). get h q) (sym there) ∙ none q held)
 
 pub holders_do_not_conflict : HoldersDoNotConflict
 holders_do_not_conflict locks none session other writes refs writes' refs' least least' apart here there =
-    let mine = unheld locks none session other writes refs writes' refs' least least' apart here there in
-    let theirs = unheld locks none other session writes' refs' writes refs least' least (λ e. apart (sym e)) there here in
+    let mine = unheld writes refs writes' refs' _ _ here there (λ q. alone locks none session other q least least' apart) in
+    let theirs = unheld writes' refs' writes refs _ _ there here (λ q. alone locks none other session q least' least (λ e. apart (sym e))) in
     λ i. meets_none writes writes' (λ q is. (mine q is).0) i || meets_none writes refs' (λ q is. (mine q is).1) i || meets_none writes' refs (λ q is. (theirs q is).1) i

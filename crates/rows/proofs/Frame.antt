@@ -43,21 +43,32 @@ joined p q r = λ i. p i ++ q i ++ r i
 abbrev parent_at : List Table → RowId → Option (List ℤ) → List RowId
 parent_at ts row columns = option_to_list (option_and_then (parent_of ts row.table) columns)
 
+-- A change that applies to two databases, which have the same row there.
+record Twin (ts : List Table) (change : Change) (before other : Database) : Type 0 where
+  was : get before (target change) ≡ get other (target change)
+  mid : Database
+  one : apply ts change before ≡ Some mid
+  left : Database
+  two : apply ts change other ≡ Some left
+
 -- where the first change does the same to both databases, and those behind it do
-same_effect : (ts : List Table) (change : Change) (changes : List Change) (before mid after other left : Database) → apply ts change before ≡ Some mid → apply ts change other ≡ Some left → effect ts changes mid ≡ Some after → get before (target change) ≡ get other (target change) → AgreeOn (writes (change ∷ changes)) mid left → SameEffect ts changes mid after left → SameEffect ts (change ∷ changes) before after other
-same_effect ts change changes before mid after other left one twin rest was agree then =
+same_effect : (ts : List Table) (change : Change) (changes : List Change) (before other after : Database) (twin : Twin ts change before other) → effect ts changes twin.mid ≡ Some after →
+    AgreeOn (writes (change ∷ changes)) twin.mid twin.left → SameEffect ts changes twin.mid after twin.left → SameEffect ts (change ∷ changes) before after other
+same_effect ts change changes before other after twin rest agree then =
     let row = target change in
+    let mid = twin.mid in
+    let left = twin.left in
     let now : get mid row ≡ get left row = agree row (or_left _ _ (same_row_itself row)) in
     record {
       leaves = then.leaves;
-      defined = effect_then ts change changes other left twin ∙ then.defined;
+      defined = effect_then ts change changes other left twin.two ∙ then.defined;
       same_writes = λ q is. elim (cases_Bool (has_row (writes changes) q)) [
         | inl again ↦ then.same_writes q again
         | inr once ↦ changes_only_writes ts changes mid after q rest once ∙ agree q is ∙ sym (changes_only_writes ts changes left then.leaves q then.defined once)
       ];
-      same_kin = kin_then ts change changes other left twin
-          ∙ joined (ap (parent_at ts row) (sym was)) (ap (parent_at ts row) (sym now)) then.same_kin
-          ∙ sym (kin_then ts change changes before mid one);
+      same_kin = kin_then ts change changes other left twin.two
+          ∙ joined (ap (parent_at ts row) (sym twin.was)) (ap (parent_at ts row) (sym now)) then.same_kin
+          ∙ sym (kin_then ts change changes before mid twin.one);
     }
 
 pub looks_only : LooksOnlyAtWritesAndKin
@@ -73,7 +84,7 @@ looks_only ts (change ∷ changes) before after other h agree =
     let twin = apply_alike ts change before other mid first.1 was (λ p is. same p (touched-parent ts change changes before mid p is)) in
     let still : (q : RowId) → has_row (touched ts change changes before mid) q ≡ true → get mid q ≡ get twin.0 q =
     λ q is. apply_agrees ts change before other mid twin.0 q first.1 twin.1 was (λ _. same q is) in
-    same_effect ts change changes before mid after other twin.0 first.1 twin.1 first.2 was
+    same_effect ts change changes before other after (record { was = was; mid = mid; one = first.1; left = twin.0; two = twin.1 }) first.2
     (λ q is. still q (touched-writes ts change changes before mid q is))
     (looks_only ts changes mid after twin.0 first.2 (λ q is. still q (touched-behind ts change changes before mid q is)))
 

@@ -27,36 +27,52 @@ is_up_to ts log h seen len same is long = subst (λ (h : History). IsUpTo h (len
 pub is_above : (ts : List Table) (log : List Entry) (h seen : History) (len : ℕ) → h ≡ seen → IsHistoryOf ts (reverse log) seen → len ≡ length log → h.start < len + 1
 is_above ts log h seen len same is long = subst (λ (h : History). h.start < len + 1) (sym same) (starts_before ts (reverse log) seen (len + 1) is (omega (arith, long, length-reverse log)))
 
-pub is_exact : (ts : List Table) (log : List Entry) (h seen : History) (t : Footprint) (w : List ℕ) (order parent : ℕ) → h ≡ seen → parent ≡ parent_by h t w order →
-    IsHistoryOf ts (reverse log) seen → IsOfTables ts t w → parent ≡ writeset_parent ts seen.limit (reverse log) t order
-is_exact ts log h seen t w order parent same by is of_ = by ∙ ap (λ (h : History). parent_by h t w order) same ∙ same_parent ts (reverse log) seen t w order is of_.set
+-- A transaction that is stamped behind a log: its footprint and its digests, and the history as it was read, which is that of the log.
+pub record Stamp (ts : List Table) (log : List Entry) (t : Footprint) (w : List ℕ) : Type 0 where
+  pub of_tables : IsOfTables ts t w
+  pub seen : History
+  pub is : IsHistoryOf ts (reverse log) seen
+  pub h : History
+  pub same : h ≡ seen
 
-pub is_covered : (ts : List Table) (log : List Entry) (h seen : History) (t : Footprint) (w : List ℕ) (session order parent : ℕ) → h ≡ seen → parent ≡ parent_by h t w order →
-    IsHistoryOf ts (reverse log) seen → IsOfTables ts t w → IsOrderParent log t session order → Covers (map entry_place log) (touched t) parent
-is_covered ts log h seen t w session order parent same by is of_ may =
-    subst (Covers (map entry_place log) (touched t)) (sym (is_exact ts log h seen t w order parent same by is of_)) (writeset_covers ts seen.limit log t w order is.logged of_ may.covers)
+pub is_exact : (ts : List Table) (log : List Entry) (t : Footprint) (w : List ℕ) (stamp : Stamp ts log t w) (order parent : ℕ) → parent ≡ parent_by stamp.h t w order → parent ≡ writeset_parent ts stamp.seen.limit (reverse log) t order
+is_exact ts log t w stamp order parent by = by ∙ ap (λ (h : History). parent_by h t w order) stamp.same ∙ same_parent ts (reverse log) stamp.seen t w order stamp.is stamp.of_tables.set
+
+pub is_covered : (ts : List Table) (log : List Entry) (t : Footprint) (w : List ℕ) (stamp : Stamp ts log t w) (session order parent : ℕ) → parent ≡ parent_by stamp.h t w order →
+    IsOrderParent log t session order → Covers (map entry_place log) (touched t) parent
+is_covered ts log t w stamp session order parent by may =
+    subst (Covers (map entry_place log) (touched t)) (sym (is_exact ts log t w stamp order parent by)) (writeset_covers ts stamp.seen.limit log t w order stamp.is.logged stamp.of_tables may.covers)
 
 -- the history goes on with the log
-pub has_gone_on : (ts : List Table) (log : List Entry) (h seen new : History) (t : Footprint) (w : List ℕ) (session parent len : ℕ) → h ≡ seen → len ≡ length log → new ≡ noted h t w (len + 1) →
-    IsHistoryOf ts (reverse log) seen → IsOfTables ts t w → IsHistoryOf ts (reverse (stamped log t session parent)) new
-has_gone_on ts log h seen new t w session parent len same long step is of_ =
+pub has_gone_on : (ts : List Table) (log : List Entry) (t : Footprint) (w : List ℕ) (stamp : Stamp ts log t w) (new : History) (session parent len : ℕ) → len ≡ length log → new ≡ noted stamp.h t w (len + 1) →
+    IsHistoryOf ts (reverse (stamped log t session parent)) new
+has_gone_on ts log t w stamp new session parent len long step =
     let last : Entry = record { sequence = length log + 1; parent = parent; session = session; footprint = t } in
-    let new_is : new ≡ noted seen t w (length log + 1) = step ∙ (λ i. noted (same i) t w (long i + 1)) in
-    let behind : IsHistoryOf ts (last ∷ reverse log) (noted seen t w (length log + 1)) =
-    goes_on ts (reverse log) seen last w is (record { number = ap (λ n. n + 1) (sym (length-reverse log)); refs = of_.refs }) of_.set in
-    subst (λ (h : History). IsHistoryOf ts (reverse (stamped log t session parent)) h) (sym new_is) (subst (λ (l : List Entry). IsHistoryOf ts l (noted seen t w (length log + 1))) (sym (reversed log last)) behind)
+    let new_is : new ≡ noted stamp.seen t w (length log + 1) = step ∙ (λ i. noted (stamp.same i) t w (long i + 1)) in
+    let behind : IsHistoryOf ts (last ∷ reverse log) (noted stamp.seen t w (length log + 1)) =
+    goes_on ts (reverse log) stamp.seen last w stamp.is (record { number = ap (λ n. n + 1) (sym (length-reverse log)); refs = stamp.of_tables.refs }) stamp.of_tables.set in
+    subst (λ (h : History). IsHistoryOf ts (reverse (stamped log t session parent)) h) (sym new_is) (subst (λ (l : List Entry). IsHistoryOf ts l (noted stamp.seen t w (length log + 1))) (sym (reversed log last)) behind)
 
 -- ---- with the sessions' own last entries
 
-pub own_is : (log : List Entry) (last seen : List ℕ) (session own : ℕ) → last ≡ seen → own ≡ get_or last (session - 1) 0 → 1 ≤ session → session ≤ 256 →
-    AreLast (reverse log) seen → own ≡ last_of (reverse log) session
-own_is log last seen session own same read least greatest are = read ∙ ap (λ l. get_or l (session - 1) 0) same ∙ are session least greatest
+-- A session, and the last entry of each as they were read, which are those of the log.
+pub record Own (log : List Entry) (session : ℕ) : Type 0 where
+  pub least : 1 ≤ session
+  pub greatest : session ≤ 256
+  pub seen : List ℕ
+  pub are : AreLast (reverse log) seen
+  pub last : List ℕ
+  pub same : last ≡ seen
+  pub room : length last ≡ 256
 
-pub have_gone_on : (log : List Entry) (last seen new : List ℕ) (t : Footprint) (session parent len : ℕ) → last ≡ seen → len ≡ length log → new ≡ set last (session - 1) (len + 1) → length last ≡ 256 →
-    1 ≤ session → session ≤ 256 → AreLast (reverse log) seen → AreLast (reverse (stamped log t session parent)) new
-have_gone_on log last seen new t session parent len same long step room least greatest are =
+pub own_is : (log : List Entry) (session : ℕ) (own : Own log session) (number : ℕ) → number ≡ get_or own.last (session - 1) 0 → number ≡ last_of (reverse log) session
+own_is log session own number read = read ∙ ap (λ l. get_or l (session - 1) 0) own.same ∙ own.are session own.least own.greatest
+
+pub have_gone_on : (log : List Entry) (session : ℕ) (own : Own log session) (new : List ℕ) (t : Footprint) (parent len : ℕ) → len ≡ length log → new ≡ set own.last (session - 1) (len + 1) →
+    AreLast (reverse (stamped log t session parent)) new
+have_gone_on log session own new t parent len long step =
     let entry : Entry = record { sequence = length log + 1; parent = parent; session = session; footprint = t } in
-    let new_is : new ≡ set seen (session - 1) (length log + 1) = step ∙ (λ i. set (same i) (session - 1) (long i + 1)) in
+    let new_is : new ≡ set own.seen (session - 1) (length log + 1) = step ∙ (λ i. set (own.same i) (session - 1) (long i + 1)) in
     subst (λ (l : List ℕ). AreLast (reverse (stamped log t session parent)) l) (sym new_is)
-    (subst (λ (l : List Entry). AreLast l (set seen (session - 1) (length log + 1))) (sym (reversed log entry))
-    (one_more_last (reverse log) seen entry (omega (arith, room, ap length same)) least greatest are))
+    (subst (λ (l : List Entry). AreLast l (set own.seen (session - 1) (length log + 1))) (sym (reversed log entry))
+    (one_more_last (reverse log) own.seen entry (omega (arith, own.room, ap length own.same)) own.least own.greatest own.are))

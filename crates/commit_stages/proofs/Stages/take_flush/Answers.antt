@@ -13,7 +13,7 @@ keep_size-requires c =
 pub invariant_of-self : goal.invariant_of-self
 invariant_of-self c =
     let a = c.self.inside in
-    flushed_parts a.line.items a.sync_from a.flush_from _ a.sizes.items _ c.self.invariant.0 c.self.invariant.1
+    flushed_parts a.line.items a.sync_from a.flush_from _ a.sizes.items _ c.self.invariant
     _ (c.len-self-inside.ensures ∙ a.line.ok.0) _ (sizes_are a.line.items a.flush_from _ (c.len.ensures ∙ a.line.ok.0) a.sizes.items _ c.keep_size.ensures.sizes) _ c.keep_size.ensures.room
 
 pub returns-clause-queues : goal.returns-clause-queues

@@ -8,7 +8,7 @@ use Rattle.commit_stages.proofs.Stages.take_sync.Goals as goal
 pub invariant_of-self : goal.invariant_of-self
 invariant_of-self c =
     let a = c.self.inside in
-    synced_parts a.line.items a.sync_from a.flush_from _ a.sizes.items _ c.self.invariant.0 c.self.invariant.1
+    synced_parts a.line.items a.sync_from a.flush_from _ a.sizes.items _ c.self.invariant
     _ (c.unwrap_or-count.ensures ∙ first_size _ _ _ c.pop_front.ensures.items c.pop_front.ensures.rest) _ c.pop_front.ensures.rest _ c.pop_front.ensures.capacity
 
 pub returns-clause-queues : goal.returns-clause-queues

@@ -2,7 +2,7 @@ use Rattle.std.proofs.Common.{◌∙◌, sym, subst}
 use Rattle.std.specs.List.Sorted.{IsSorted}
 use Rattle.schema.specs.RowId.{row_cmp}
 use Rattle.record_codec.proofs.Searching.{rising_is_sorted}
-use Rattle.executor.proofs.Sets.{searched_both, searched_first}
+use Rattle.executor.proofs.Sets.{Search, searched_both, searched_first}
 use Rattle.executor.proofs.kin.are_exactly.Goals as goal
 use Rattle.executor.proofs.kin.are_exactly.Goals.{then-are_among, else-are_among}
 
@@ -13,12 +13,12 @@ are_among-requires-then-are_among c =
 pub returns : goal.returns
 returns c =
     let refs = c.args.refs.now in
+    let moved = c.sort_unstable.new.self.items in
     let moves = c.sort_unstable.ensures.permutation in
+    let first : Search refs moved = record { listed = _; shown = _; is_listed = c.rows.ensures.value; is_shown = c.deref.ensures.value; found = _; found_is = c.are_among.ensures } in
     elim c.if-are_among.branch [
       | then-are_among w ↦
-          w.result-is
-          ∙ searched_both refs c.args.rows.items c.sort_unstable.new.self.items c.rows.result.now c.deref.result.now w.rows-then-are_among.result.now w.deref-then-are_among.result.now c.are_among.result w.are_among-then-are_among.result
-          moves c.rows.ensures.value c.deref.ensures.value c.are_among.ensures w.if-are_among.true w.rows-then-are_among.ensures.value w.deref-then-are_among.ensures.value w.are_among-then-are_among.ensures
-      | else-are_among w ↦
-          w.result-is ∙ w.if-are_among.false ∙ searched_first refs c.args.rows.items c.sort_unstable.new.self.items c.rows.result.now c.deref.result.now c.are_among.result moves c.rows.ensures.value c.deref.ensures.value c.are_among.ensures w.if-are_among.false
+          let second : Search moved refs = record { listed = _; shown = _; is_listed = w.deref-then-are_among.ensures.value; is_shown = w.rows-then-are_among.ensures.value; found = _; found_is = w.are_among-then-are_among.ensures } in
+          w.result-is ∙ searched_both refs c.args.rows.items moved first second moves w.if-are_among.true
+      | else-are_among w ↦ w.result-is ∙ w.if-are_among.false ∙ searched_first refs c.args.rows.items moved first moves w.if-are_among.false
     ]

@@ -1,10 +1,14 @@
 use denote.Enum.Bare.{same_true}
-use Rattle.std.proofs.Common.{◌≡◌, ◌∙◌, sym, ap, Ok, rules, arith, [], ◌∷◌, ◌++◌}
+use Rattle.std.proofs.Common.{◌≡◌, ◌∙◌, sym, ap, subst, ℕ, List, Ok, rules, arith, [], ◌∷◌, ◌++◌}
 use Rattle.std.proofs.lemmas.Grind.{common_steps}
+use Rattle.gtid_set.specs.Ids.{first_ids}
+use Rattle.record_codec.specs.declared.records.Record.{Record}
 use Rattle.relay.specs.contracts.Received.{the_type}
 use Rattle.relay.specs.declared.Received.TheVariants.{Accepted}
 use Rattle.relay.specs.Relay.{Relay}
-use Rattle.relay.proofs.Judged.{next_of, copy_is_kept}
+use Rattle.relay.specs.Touches.{Marks, Notes}
+use Rattle.relay.proofs.Judged.{next_of}
+use Rattle.relay.proofs.Last.{one_more_kept}
 use Rattle.relay.proofs.Relay.receive.Goals as goal
 
 pub invariant_of-self-then-eq : goal.invariant_of-self-then-eq
@@ -13,6 +17,15 @@ invariant_of-self-then-eq c =
     let told : c.in_ok-answer.answer ≡ Accepted = same_true the_type (search rules) _ _ (sym c.if-eq.ensures) in
     let r : Relay = record { tables = was.schema; source = was.source; accepted = was.accepted.items } in
     let pushed : c.push.new.self.items ≡ was.accepted.items ++ c.in_ok-copy.copy ∷ [] = grind (arith, common_steps) in
-    copy_is_kept r c.args.from c.args.new.now c.in_ok-copy.copy c.push.new.self.items was.ids c.add_next.new.ids was.touches.rows c.reserve.new.self.rows c.note.new.self.rows c.self.invariant
-    (next_of r c.args.self.now c.args.from c.args.new.now c.judge.result c.self.view_is c.judge.ensures (c.in_ok-answer.was ∙ ap Ok told))
-    c.in_ok-copy.ensures pushed c.in_ok-add_next.ensures.ok c.reserve.ensures.rows c.note.ensures
+    let new = c.args.new.now in
+    let next = next_of r c.args.self.now c.args.from new c.judge.result c.self.view_is c.judge.ensures (c.in_ok-answer.was ∙ ap Ok told) in
+    one_more_kept was.schema was.source was.accepted.items was.ids was.touches.rows new (record {
+      kept = c.self.invariant;
+      next = next.1;
+      left = c.push.new.self.items;
+      left_is = pushed ∙ ap (λ (q : Record). was.accepted.items ++ q ∷ []) c.in_ok-copy.ensures;
+      with_next = c.add_next.new.ids;
+      ids_are = c.in_ok-add_next.ensures.ok ∙ ap (λ (s : List ℕ). first_ids s new.gno) next.0;
+      now = c.note.new.self.rows;
+      notes = subst (λ (m : Marks). Notes m new c.note.new.self.rows) c.reserve.ensures.rows c.note.ensures;
+    })

@@ -17,7 +17,7 @@ compare_exchange-found-requires g c =
       ap (λ s. s.book) seen ∙ c.self.invariant.1 ∙ sym (ap (λ w. w.book) h),
       pen.0 ∙ (ap (λ s. s.book) seen ∙ c.self.invariant.1 ∙ sym (ap (λ w. w.book) h)),
       offer.0,
-      rw (ap (λ w. w.key) h, pen.1, offer.1, offer.3, ap (λ s. s.log) seen) (adds_moves c.self.inside.seen.log ops c.self.inside.upto c.args.upto _ (sym c.self.invariant.0) c.self.invariant.2 next size),
+      rw (ap (λ w. w.key) h, pen.1, offer.1, offer.3, ap (λ s. s.log) seen) (adds_moves c.self.inside.seen.log ops c.self.inside.upto c.args.upto _ (record { number = sym c.self.invariant.0; history = c.self.invariant.2; next = next; size = size })),
     )
 
 pub invariant_of-result : goal.invariant_of-result

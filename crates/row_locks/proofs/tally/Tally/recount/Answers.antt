@@ -4,7 +4,8 @@ use Rattle.row_locks.specs.declared.Mode.TheVariants.{Exclusive}
 use Rattle.row_locks.specs.Mode.{weight}
 use Rattle.row_locks.specs.Tally.{Sheet, count_at, opposing}
 use Rattle.schema.proofs.RowMaps.{rows_of, rows-removed}
-use Rattle.row_locks.proofs.Counts.{count-set, count-removed, count-inserted, held-set, held-removed, is_nobody, not_nobody}
+use Rattle.row_locks.proofs.Rows.{rows-inserted}
+use Rattle.row_locks.proofs.Counts.{count-set, count-removed, takes_row, held-set, held-removed, is_nobody, not_nobody}
 use Rattle.indexmap.specs.IndexMap.{spare}
 use Rattle.row_locks.proofs.tally.Tally.recount.Goals as goal
 
@@ -15,8 +16,8 @@ inserted : (c : goal.After-insert) → rows_of c.insert.new.self.entries ≡ ins
 inserted c =
     let counted : weight c.args.was Exclusive ≤ count_at (rows_of c.self.inside.rows.entries) c.args.row Exclusive = rw (← c.self.view_is) at (c.requires.counted Exclusive) in
     let room : IsNone c.args.was → 0 < spare c.self.inside.rows = rw (← c.self.view_is) at c.requires.room in
-    count-inserted c.self.inside.rows c.insert.new.self c.insert.result c.args.row c.changed-count.result c.args.was counted room
-    c.insert.ensures.succeeds c.insert.ensures.absent c.insert.ensures.updates
+    let is_ok = takes_row c.self.inside.rows c.args.row c.args.was counted room c.insert.result c.insert.ensures.succeeds c.insert.ensures.absent in
+    rows-inserted c.self.inside.rows c.insert.new.self c.insert.result c.args.row c.changed-count.result is_ok c.insert.ensures.updates
 
 pub invariant_of-self : goal.invariant_of-self
 invariant_of-self c = rw (removed c) (held-removed (rows_of c.self.inside.rows.entries) c.args.row c.self.invariant)
