@@ -22,7 +22,7 @@ use Rattle.replica_core.specs.declared.wire.WireFault.{WireFault}
 use Rattle.replica_core.specs.declared.wire.WireFault.TheVariants as wire
 use Rattle.replica_core.proofs.Handing.{Grows, takes_grow, hands_on_grow, takes_first, takes_nothing, grows_none}
 use Rattle.replica_shared.specs.Together.{State, IsWhole, words_of}
-use Rattle.replica_shared.specs.Feeding.{left_by_take, SettlesOrLacks, told_behind, TakesAndSettles, HandsAs, HandsAndSettles, Feeds}
+use Rattle.replica_shared.specs.Feeding.{left_by_take, SettlesOrLacks, told_behind, TakesAndSettles, HandsAs, Feeds}
 use Rattle.replica_shared.proofs.Commits.{same_operations}
 use Rattle.replica_shared.proofs.Whole.{unsettled}
 
@@ -77,7 +77,7 @@ hands_grow_as old new r then (Err (wire.Codec fault)) h = absurd h
 hands_grow_as old new r then (Err (wire.Waiting fault)) h = absurd h
 
 -- is taken as a whole piece is
-hands_take : (old full new : Wire) (r then : Replica) (piece : List ℕ) (answer : Result ℕ WireFault) → old.waiting ≡ [] → Gathers old piece full → HandsAs full r answer new then → Takes old r piece answer new then
+pub hands_take : (old full new : Wire) (r then : Replica) (piece : List ℕ) (answer : Result ℕ WireFault) → old.waiting ≡ [] → Gathers old piece full → HandsAs full r answer new then → Takes old r piece answer new then
 hands_take old full new r then piece (Ok count) none g h = subst (λ n. Takes old r piece (Ok n) new then) (omega arith) (takes_first old full new r then piece (Ok count) none g h)
 hands_take old full new r then piece (Err (wire.Replica fault)) none g h = takes_first old full new r then piece (Err fault) none g h
 hands_take old full new r then piece (Err (wire.Codec fault)) none g h = absurd h
@@ -130,25 +130,30 @@ pub left_same : (s : State) (core : Replica) → core ≡ s.core → left_by_tak
 left_same s core is =
     ap (left_by_take s) is ∙ ap (λ (b : Bool). record s { behind = b }) (ap (λ (b : Bool). s.behind || b) (none_less (length s.core.accepted)) ∙ or-false s.behind)
 
-pub takes_and_settles : (s mid then : State) (old new : Wire) (piece : List ℕ) (taken answer : Result ℕ WireFault) (settled : Result (Unit {0}) ReplicaFault) (before : ℕ) → Takes old s.core piece taken new mid.core → mid ≡ left_by_take s mid.core → before ≡ length s.core.accepted
-    → (length mid.core.accepted ≤ before → (settled ≡ Ok tt) × (then ≡ mid)) → (before < length mid.core.accepted → SettlesOrLacks mid settled then) → answer ≡ told_behind taken settled → TakesAndSettles s old piece answer new then
-takes_and_settles s mid then old new piece taken answer settled before takes left was none some told = record {
+-- what follows the wire's call, which leaves `mid`: where more records are accepted than before it, all is done that can be; then both
+-- are told
+pub record SettlesPast (s mid : State) (taken answer : Result ℕ WireFault) (then : State) : Type 0 where
+  pub left : mid ≡ left_by_take s mid.core
+  pub before : ℕ
+  pub was : before ≡ length s.core.accepted
+  pub settled : Result (Unit {0}) ReplicaFault
+  pub none : length mid.core.accepted ≤ before → (settled ≡ Ok tt) × (then ≡ mid)
+  pub some : before < length mid.core.accepted → SettlesOrLacks mid settled then
+  pub told : answer ≡ told_behind taken settled
+
+pub takes_and_settles : (s mid then : State) (old new : Wire) (piece : List ℕ) (taken answer : Result ℕ WireFault) → Takes old s.core piece taken new mid.core → SettlesPast s mid taken answer then → TakesAndSettles s old piece answer new then
+takes_and_settles s mid then old new piece taken answer takes past = record {
   core = mid.core;
   taken = taken;
   takes = takes;
-  settled = settled;
-  some = λ more. subst (λ (x : State). SettlesOrLacks x settled then) left (some (subst (λ n. n < length mid.core.accepted) (sym was) more));
+  settled = past.settled;
+  some = λ more. subst (λ (x : State). SettlesOrLacks x past.settled then) past.left (past.some (subst (λ n. n < length mid.core.accepted) (sym past.was) more));
   none = λ few.
-      let is = none (subst (λ n. length mid.core.accepted ≤ n) (sym was) few) in
+      let is = past.none (subst (λ n. length mid.core.accepted ≤ n) (sym past.was) few) in
       let same = same_core s.core mid.core s.core.accepted mid.core.accepted (takes_grow old new s.core mid.core piece taken takes) refl refl few in
-      (is.0, is.1 ∙ left ∙ left_same s mid.core same);
-  told = told;
+      (is.0, is.1 ∙ past.left ∙ left_same s mid.core same);
+  told = past.told;
 }
-
-pub hands_and_settles : (s mid then : State) (full new : Wire) (taken answer : Result ℕ WireFault) (settled : Result (Unit {0}) ReplicaFault) (before : ℕ) → HandsAs full s.core taken new mid.core → mid ≡ left_by_take s mid.core → before ≡ length s.core.accepted
-    → (length mid.core.accepted ≤ before → (settled ≡ Ok tt) × (then ≡ mid)) → (before < length mid.core.accepted → SettlesOrLacks mid settled then) → answer ≡ told_behind taken settled → HandsAndSettles s full answer new then
-hands_and_settles s mid then full new taken answer settled before hands left was none some told =
-    λ old piece empty gathers. takes_and_settles s mid then old new piece taken answer settled before (hands_take old full new s.core mid.core piece taken empty gathers hands) left was none some told
 
 -- ---- without the lock
 

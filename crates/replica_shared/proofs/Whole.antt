@@ -15,7 +15,7 @@ use Rattle.replica_core.proofs.Jobs.{job_is_of_its_record}
 use Rattle.replica_core.proofs.Steps.{few_accepted}
 use Rattle.replica_shared.specs.declared.news.Outlook.{Outlook}
 use Rattle.replica_shared.specs.Outlet.{Queued, AreInLine, IsLastOut, empty_outlet}
-use Rattle.replica_shared.specs.Together.{State, AreKept, IsWhole, IsCaughtUp, IsBehindOrCaughtUp}
+use Rattle.replica_shared.specs.Together.{State, AreKept, IsWhole, IsCaughtUp, IsBehindOrCaughtUp, DispatchesOne}
 use Rattle.replica_shared.proofs.Places.{kept_later, dispatched_more}
 
 -- ---- what is left to do
@@ -89,27 +89,17 @@ next_in_line r q job is line free =
     let all : q.pushed ≡ dispatched r = subst (IsLastOut (dispatched r) q.pushed) free line in
     (omega arith, omega arith)
 
--- what the core's `dispatch` answers is the next job
-pub told_next : (r : Replica) (told : Option Job) → (IsErrOf (Ok told) faults.Memory ⊎ (Ok told ≡ unless_stopped r (next_job r))) → next_job r ≡ told
-told_next r told (inl lacks) = cc
-told_next r told (inr is) = of_stop r.stopped (next_job r) is
-  where
-    of_stop : (stopped : Option ℕ) (next : Option Job) → Ok told ≡ option_map_or (λ at. Err (faults.Stopped at)) stopped (Ok next) → next ≡ told
-    of_stop None next is = cc
-    of_stop (Some at) next is = cc
-
 -- one more is dispatched, and its job waits for its push
-pub whole_dispatched : (tables : List Table) (source : List ℕ) (base : List Entry) (s : State) (r : Replica) (q : Queued) (told : Option Job) (job : Job) (appended : ℕ) (stored : List Counts) → s.behind ≡ true → s.outlet.aside ≡ None → next_job s.core ≡ told → told ≡ Some job
-    → r ≡ (if is_some told then dispatched_next s.core else s.core) → q ≡ record s.outlet { aside = Some job } → IsWhole tables source base s appended stored → IsWhole tables source base (record s { core = r; outlet = q }) appended stored
-whole_dispatched tables source base s r q told job appended stored behind free is some left put h =
-    let next : r ≡ dispatched_next s.core = left ∙ ap (λ (o : Option Job). if is_some o then dispatched_next s.core else s.core) some in
+pub whole_dispatched : (tables : List Table) (source : List ℕ) (base : List Entry) (s new : State) (appended : ℕ) (stored : List Counts) → s.behind ≡ true → s.outlet.aside ≡ None → DispatchesOne s new → IsWhole tables source base s appended stored
+    → IsWhole tables source base new appended stored
+whole_dispatched tables source base s new appended stored behind free one h =
     let t = h.stand in
-    rw (next, put) record {
+    rw one.left record {
       stand = record { tables_are = t.tables_are; source_is = t.source_is; base_is = t.base_is; within = t.within; history = t.history; begins = t.begins; shown = t.shown; words = t.words; number = t.number };
       kept = kept_later (dispatched s.core) (dispatched (dispatched_next s.core)) s.kept (dispatched_more s.core) h.kept;
-      line = next_in_line s.core s.outlet job (is ∙ some) h.line free;
+      line = next_in_line s.core s.outlet one.job one.is_next h.line free;
       claims = h.claims;
-      rest = unsettled (record s { core = dispatched_next s.core; outlet = record s.outlet { aside = Some job } }) behind;
+      rest = unsettled (record s { core = dispatched_next s.core; outlet = record s.outlet { aside = Some one.job } }) behind;
     }
 
 -- so few are pushed

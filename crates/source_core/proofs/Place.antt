@@ -110,32 +110,40 @@ locks_set ts rows places i now =
     ap (map (held_for ts rows)) (map-set (option_map open_view) places i now)
     ∙ map-set (held_for ts rows) (sessions_view places) i (option_map open_view now)
 
-pub place_set : (p : Parts) → IsCore p → (i : ℕ) → i < 256 → (now : Option Transaction) → IsFree (placed p.places i) → (stages : Queues) → stages.sizes ≡ p.stages.sizes → (locks : Locks) →
-    length p.log + length stages.flush ≤ p.limit → AreQueued (set p.places i now) stages.flush → IsDistinct eqb stages.flush → Grows p.stages.flush stages.flush →
+-- The queue of these stages has all sessions of the one before, each once, and their transactions are queued in these places. The
+-- log has room for them, and the groups are as they were.
+pub record QueueGrows (p : Parts) (places : List (Option Transaction)) (stages : Queues) : Type 0 where
+  pub sizes : stages.sizes ≡ p.stages.sizes
+  pub few : length p.log + length stages.flush ≤ p.limit
+  pub queued : AreQueued places stages.flush
+  pub distinct : IsDistinct eqb stages.flush
+  pub grows : Grows p.stages.flush stages.flush
+
+pub place_set : (p : Parts) → IsCore p → (i : ℕ) → i < 256 → (now : Option Transaction) → IsFree (placed p.places i) → (stages : Queues) → QueueGrows p (set p.places i now) stages → (locks : Locks) →
     locks ≡ set p.locks i (held_for p.tables p.rows (option_map open_view now)) → NoClash locks →
     ((t : Transaction) → now ≡ Some t → Applies p.tables p.rows t.overlay × StandsAs (placing p i now stages locks) (i + 1) t.overlay.changes t.phase × RefersTo p.tables p.rows t) →
     IsCore (placing p i now stages locks)
-place_set p core i within now free stages sizes locks few queued distinct grows are clear here =
+place_set p core i within now free stages q locks are clear here =
     let there : i < length p.places = omega (arith, within, core.sessions) in
     record {
       logged = core.logged;
-      few = few;
+      few = q.few;
       bound = core.bound;
       synced_within = core.synced_within;
       committed_within = core.committed_within;
       stored = core.stored;
       sessions = length-set p.places i now ∙ core.sessions;
-      grouped = subst (λ l. AreSizes l (length p.log - p.synced)) (sym sizes) core.grouped;
+      grouped = subst (λ l. AreSizes l (length p.log - p.synced)) (sym q.sizes) core.grouped;
       locks = are ∙ ap (λ l. set l i (held_for p.tables p.rows (option_map open_view now))) core.locks ∙ sym (locks_set p.tables p.rows p.places i now);
       no_clash = clear;
       applies = each_placed (λ j t. Applies p.tables p.rows t.overlay) p.places i now there (λ t is. (here t is).0) core.applies;
       refers = each_placed (λ j t. RefersTo p.tables p.rows t) p.places i now there (λ t is. (here t is).2) core.refers;
       stands = each_placed (λ j t. StandsAs (placing p i now stages locks) (j + 1) t.overlay.changes t.phase) p.places i now there
           (λ t is. (here t is).1)
-          (λ j t at. stands_stays p i now stages locks (j + 1) t.overlay.changes t.phase grows (core.stands j t at));
+          (λ j t at. stands_stays p i now stages locks (j + 1) t.overlay.changes t.phase q.grows (core.stands j t at));
       flushed = flushed_stay p i now free (p.committed + 1) _ _ core.flushed;
-      queued = queued;
-      distinct = distinct;
+      queued = q.queued;
+      distinct = q.distinct;
     }
 
 -- the same, with the stages as they are
@@ -144,7 +152,8 @@ pub place_changed : (p : Parts) → IsCore p → (i : ℕ) → i < 256 → (now 
     ((t : Transaction) → now ≡ Some t → Applies p.tables p.rows t.overlay × StandsAs (placing p i now p.stages locks) (i + 1) t.overlay.changes t.phase × RefersTo p.tables p.rows t) →
     IsCore (placing p i now p.stages locks)
 place_changed p core i within now free locks are clear here =
-    place_set p core i within now free p.stages refl locks core.few (queued_stay p.places i now free p.stages.flush core.queued) core.distinct (λ session is. is) are clear here
+    place_set p core i within now free p.stages
+    (record { sizes = refl; few = core.few; queued = queued_stay p.places i now free p.stages.flush core.queued; distinct = core.distinct; grows = λ session is. is }) locks are clear here
 
 -- where the transaction holds what the one before it held, the locks stay
 pub locks_stay : (p : Parts) → IsCore p → (i : ℕ) (now : Option Transaction) →
@@ -165,6 +174,26 @@ view_set p core kind halted i session now locks is =
 -- the transaction that is found in a place
 pub placed_is : (places : List (Option Transaction)) (i : ℕ) (o : Option Transaction) → i < length places → o ≡ get_or places i o → placed places i ≡ o
 placed_is places i o within at = get_or_default places i None o within ∙ sym at
+
+-- what a call of a session finds in the session's place, first as it reads it, and then as it changes it
+pub record PlaceCall : Type 0 where
+  pub p : Parts
+  pub core : IsCore p
+  pub i : ℕ
+  pub session : ℕ
+  pub is : i + 1 ≡ session
+  pub within : i < 256
+  pub read : Option Transaction
+  pub read_is : read ≡ get_or p.places i read
+  pub found : Option Transaction
+  pub found_is : found ≡ get_or p.places i found
+
+pub read_there : (c : PlaceCall) → placed c.p.places c.i ≡ c.read
+read_there c = placed_is c.p.places c.i c.read (omega (arith, c.within, c.core.sessions)) c.read_is
+
+-- both times the same
+pub found_again : (c : PlaceCall) → c.found ≡ c.read
+found_again c = sym (placed_is c.p.places c.i c.found (omega (arith, c.within, c.core.sessions)) c.found_is) ∙ read_there c
 
 pub nothing : (o : Option Transaction) → false ≡ is_some o → o ≡ None
 nothing None e = refl

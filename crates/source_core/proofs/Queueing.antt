@@ -1,5 +1,5 @@
 -- A session puts its prepared transaction last into the flush queue.
-use Rattle.std.proofs.Common.{◌≡◌, ◌∙◌, sym, ap, subst, refl, ℕ, ◌+◌, ◌-◌, ◌<◌, ◌≤◌, List, [], ◌∷◌, ◌++◌, length, length-append, set, get_or, slice_index_or, IsTrue, Bool, true, false, eqb, Option, Some, None, inl, inr, arith}
+use Rattle.std.proofs.Common.{◌≡◌, ◌∙◌, sym, ap, subst, refl, ℕ, ◌+◌, ◌-◌, ◌<◌, ◌≤◌, List, [], ◌∷◌, ◌++◌, length, length-append, set, slice_index_or, IsTrue, Bool, true, false, eqb, Option, Some, None, inl, inr, arith}
 use Rattle.std.specs.Prelude.{option_and_then}
 use Rattle.std.specs.Option.{option_map}
 use Rattle.std.specs.List.{list_any, IsDistinct}
@@ -19,7 +19,7 @@ use Rattle.source_core.specs.Source.{Source, Open}
 use Rattle.source_core.specs.Calls.{queued, queued_phase, with_open}
 use Rattle.source_core.specs.Core.{Parts, IsCore, Applies, RefersTo, StandsAs, IsReady, IsQueued, AreQueued, source_of, open_view, sessions_view, placed, prepared_order, with_phase}
 use Rattle.source_core.proofs.Stand.{open_at}
-use Rattle.source_core.proofs.Place.{placing, place_set, queued_stay, ready_stays, locks_stay, not_queued, placed_is, view_set, IsFree, IsFreePhase, Grows, IsPlaceOf}
+use Rattle.source_core.proofs.Place.{placing, place_set, queued_stay, ready_stays, locks_stay, not_queued, view_set, read_there, found_again, IsFree, IsFreePhase, Grows, PlaceCall}
 
 -- ---- a queue in which no session comes twice
 
@@ -72,21 +72,27 @@ queued_behind : (places : List (Option Transaction)) (session : ℕ) (queue : Li
 queued_behind places session [] are one = (one, tt)
 queued_behind places session (first ∷ queue) are one = (are.0, queued_behind places session queue are.1 one)
 
-module _ (p : Parts) (core : IsCore p) (i session : ℕ) (within : i < 256) (is : i + 1 ≡ session) (order : ℕ) (w : IsPrepared (placed p.places i) order) where
+module _ (c : PlaceCall) (order : ℕ) (told : option_and_then prepared_order c.read ≡ Some order) where
+  open c use {p, core, i, session, is, within}
+
+  w : IsPrepared (placed p.places i) order
+  w = is_prepared_at (placed p.places i) order (ap (option_and_then prepared_order) (read_there c) ∙ told)
+
   free : IsFree (placed p.places i)
   free = prepared_is_free (placed p.places i) order w
 
-  abbrev pub its : Transaction
+  abbrev its : Transaction
   its = record { overlay = w.t.overlay; refs = w.t.refs; phase = Queued order }
 
-  abbrev pub now : Option Transaction
+  abbrev now : Option Transaction
   now = Some its
 
   back : session - 1 ≡ i
   back = omega (arith, is)
 
-  free_at : IsFree (placed p.places (session - 1))
-  free_at = subst (λ k. IsFree (placed p.places k)) (sym back) free
+  -- the session's transaction is neither queued nor flushed before
+  pub free_before : IsFree (placed p.places (session - 1))
+  free_before = subst (λ k. IsFree (placed p.places k)) (sym back) free
 
   ready : IsReady p (i + 1) w.t.overlay.changes order
   ready = subst (λ (x : Phase). StandsAs p (i + 1) w.t.overlay.changes x) w.phase (core.stands i w.t w.is)
@@ -105,21 +111,25 @@ module _ (p : Parts) (core : IsCore p) (i session : ℕ) (within : i < 256) (is 
       subst (λ (x : Transaction). Applies p.tables p.rows x.overlay × StandsAs (placing p i now (behind p session) p.locks) (i + 1) x.overlay.changes x.phase × RefersTo p.tables p.rows x) same
       (core.applies i w.t w.is, (ready_stays p i now (behind p session) p.locks (i + 1) w.t.overlay.changes order ready, subst (λ k. IsTrue (list_any (eqb k) (behind p session).flush)) (sym is) (in_queue p.stages.flush session)), core.refers i w.t w.is)
 
-  pub queued_core : length p.log + length p.stages.flush < p.limit → IsCore (placing p i now (behind p session) p.locks)
+  queued_core : length p.log + length p.stages.flush < p.limit → IsCore (placing p i now (behind p session) p.locks)
   queued_core few =
       let count : length (behind p session).flush ≡ length p.stages.flush + 1 = length-append p.stages.flush (session ∷ []) in
-      place_set p core i within now free (behind p session) refl p.locks (omega (arith, few, count))
-      (queued_behind (set p.places i now) session p.stages.flush (queued_stay p.places i now free p.stages.flush core.queued) one)
-      (queue_distinct p.places session p.stages.flush core.queued (omega (arith, is)) free_at core.distinct)
-      (grows p.stages.flush session)
-      (locks_stay p core i now (rw w.is refl))
+      place_set p core i within now free (behind p session)
+      (record {
+        sizes = refl;
+        few = omega (arith, few, count);
+        queued = queued_behind (set p.places i now) session p.stages.flush (queued_stay p.places i now free p.stages.flush core.queued) one;
+        distinct = queue_distinct p.places session p.stages.flush core.queued (omega (arith, is)) free_before core.distinct;
+        grows = grows p.stages.flush session;
+      })
+      p.locks (locks_stay p core i now (rw w.is refl))
       core.no_clash
       (λ t e. stands t (same_of its t e))
     where
       same_of : (a b : Transaction) → Some a ≡ Some b → a ≡ b
       same_of a b e = cc e
 
-  pub queued_view : (kind : Kind) (halted : Bool) → source_of (placing p i now (behind p session) p.locks) kind halted ≡ queued (source_of p kind halted) session
+  queued_view : (kind : Kind) (halted : Bool) → source_of (placing p i now (behind p session) p.locks) kind halted ≡ queued (source_of p kind halted) session
   queued_view kind halted =
       ap (λ (s : Source). record s { queue = (behind p session).flush }) (view_set p core kind halted i session now p.locks is)
       ∙ ap (λ (o : Option Open). record (with_open (source_of p kind halted) session o) { queue = (behind p session).flush }) (sym opened)
@@ -129,35 +139,17 @@ module _ (p : Parts) (core : IsCore p) (i session : ℕ) (within : i < 256) (is 
           ap (option_map {U = Open} (λ (t : Open). record { changes = t.changes; phase = queued_phase t.phase })) (open_at p kind halted i session is ∙ ap (option_map open_view) w.is)
           ∙ ap (λ (x : Phase). Some (record { changes = w.t.overlay.changes; phase = queued_phase x })) w.phase
 
--- ---- the same, of what is found in a place
+  -- ---- the same, of what is found in the place
 
-at_place : (p : Parts) → IsCore p → (i : ℕ) → i < 256 → (read : Option Transaction) → read ≡ get_or p.places i read → (order : ℕ) → option_and_then prepared_order read ≡ Some order → IsPrepared (placed p.places i) order
-at_place p core i within read read_is order told =
-    is_prepared_at (placed p.places i) order (ap (option_and_then prepared_order) (placed_is p.places i read (omega (arith, within, core.sessions)) read_is) ∙ told)
+  next_is : (next : Option Transaction) → next ≡ option_map (with_phase (Queued order)) c.found → now ≡ next
+  next_is next next_told = sym (next_told ∙ ap (option_map (with_phase (Queued order))) (found_again c ∙ sym (read_there c) ∙ w.is))
 
-next_is : (p : Parts) (core : IsCore p) (i : ℕ) (within : i < 256) (order : ℕ) (w : IsPrepared (placed p.places i) order) (found next : Option Transaction) → found ≡ get_or p.places i found → next ≡ option_map (with_phase (Queued order)) found →
-    Some (record { overlay = w.t.overlay; refs = w.t.refs; phase = Queued order }) ≡ next
-next_is p core i within order w found next found_is is =
-    sym (is ∙ ap (option_map (with_phase (Queued order))) (sym (placed_is p.places i found (omega (arith, within, core.sessions)) found_is) ∙ w.is))
+  pub queued_at : (next : Option Transaction) → next ≡ option_map (with_phase (Queued order)) c.found → (stages : Queues) → stages ≡ behind p session → length p.log + length p.stages.flush < p.limit →
+      IsCore (placing p i next stages p.locks)
+  queued_at next next_told stages stages_are few =
+      rw stages_are (subst (λ (o : Option Transaction). IsCore (placing p i o (behind p session) p.locks)) (next_is next next_told) (queued_core few))
 
-pub queued_at : (p : Parts) → IsCore p → (i session : ℕ) → IsPlaceOf session i → (order : ℕ) → (read found next : Option Transaction) → read ≡ get_or p.places i read → found ≡ get_or p.places i found →
-    option_and_then prepared_order read ≡ Some order → next ≡ option_map (with_phase (Queued order)) found → length p.log + length p.stages.flush < p.limit → (stages : Queues) → stages ≡ queued_last p.stages session →
-    IsCore (placing p i next stages p.locks)
-queued_at p core i session of_session order read found next read_is found_is told next_told few stages stages_are =
-    let w = at_place p core i of_session.1 read read_is order told in
-    rw stages_are
-    (subst (λ (o : Option Transaction). IsCore (placing p i o (behind p session) p.locks)) (next_is p core i of_session.1 order w found next found_is next_told)
-    (queued_core p core i session of_session.1 of_session.0 order w few))
-
-pub queued_at_view : (p : Parts) → IsCore p → (kind : Kind) (halted : Bool) (i session : ℕ) → IsPlaceOf session i → (order : ℕ) → (read found next : Option Transaction) → read ≡ get_or p.places i read → found ≡ get_or p.places i found →
-    option_and_then prepared_order read ≡ Some order → next ≡ option_map (with_phase (Queued order)) found → (stages : Queues) → stages ≡ queued_last p.stages session →
-    source_of (placing p i next stages p.locks) kind halted ≡ queued (source_of p kind halted) session
-queued_at_view p core kind halted i session of_session order read found next read_is found_is told next_told stages stages_are =
-    let w = at_place p core i of_session.1 read read_is order told in
-    (λ k. source_of (placing p i next (stages_are k) p.locks) kind halted)
-    ∙ ap (λ (o : Option Transaction). source_of (placing p i o (behind p session) p.locks) kind halted) (sym (next_is p core i of_session.1 order w found next found_is next_told))
-    ∙ queued_view p core i session of_session.1 of_session.0 order w kind halted
-
--- the session's transaction is neither queued nor flushed before
-pub free_before : (p : Parts) → IsCore p → (i session : ℕ) → IsPlaceOf session i → (order : ℕ) → (read : Option Transaction) → read ≡ get_or p.places i read → option_and_then prepared_order read ≡ Some order → IsFree (placed p.places (session - 1))
-free_before p core i session of_session order read read_is told = free_at p core i session of_session.1 of_session.0 order (at_place p core i of_session.1 read read_is order told)
+  pub queued_at_view : (kind : Kind) (halted : Bool) (next : Option Transaction) → next ≡ option_map (with_phase (Queued order)) c.found → (stages : Queues) → stages ≡ behind p session →
+      source_of (placing p i next stages p.locks) kind halted ≡ queued (source_of p kind halted) session
+  queued_at_view kind halted next next_told stages stages_are =
+      (λ k. source_of (placing p i (sym (next_is next next_told) k) (stages_are k) p.locks) kind halted) ∙ queued_view kind halted

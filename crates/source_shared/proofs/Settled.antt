@@ -1,5 +1,5 @@
 -- What is true under the lock stays so, step by step.
-use Rattle.std.proofs.Common.{◌≡◌, ℕ, zero, suc, ◌+◌, ◌-◌, ◌≤◌, Bool, true, false, List, [], ◌∷◌, ◌++◌, length, take, drop, replicate, Option, Some, None, IfSome, is_some, get_or, nat_lt, Bor, refl, sym, ap, ◌∙◌, subst, append_assoc, arith}
+use Rattle.std.proofs.Common.{◌≡◌, ℕ, zero, suc, ◌+◌, ◌-◌, ◌≤◌, true, false, List, [], ◌∷◌, ◌++◌, length, take, drop, replicate, Option, Some, None, IfSome, is_some, get_or, nat_lt, Bor, refl, sym, ap, ◌∙◌, subst, append_assoc, arith}
 use Rattle.std.specs.Prelude.{map, slice_get, IsSomeAnd, ◌==◌, if◌then◌else◌}
 use Rattle.std.proofs.lemmas.Bool.{false≢true}
 use Rattle.std.proofs.lemmas.Bool.Decides.{nat_tests}
@@ -19,7 +19,7 @@ use Rattle.log_file.specs.declared.fault.LogFault.TheVariants.{OutOfTurn}
 use Rattle.log_file.specs.Calls.{confirmed, prepare_cause}
 use Rattle.source_core.proofs.FlushEnds.{group_ends, group_is_counted}
 use Rattle.source_core.specs.Calls.{flushed, Flushes, IsOldest, size_of, with_synced, all_committed, receipts, receipts_for}
-use Rattle.source_shared.specs.Engine.{State, Watch, nobody, count, IsReady, IsSyncing, AreLaidOut, IsSettled, ArePlaced, committed_receipts, emptied as emptied_at, failed, with_home, landed, given, laid}
+use Rattle.source_shared.specs.Engine.{State, count, IsReady, IsSyncing, AreLaidOut, IsSettled, ArePlaced, IsNewState, committed_receipts, emptied as emptied_at, failed, with_home, landed, given, laid}
 use Rattle.source_shared.proofs.Places.{placed_none, none_placed, both_parts}
 
 -- ---- the groups that wait
@@ -264,37 +264,33 @@ count_none : (n : ℕ) → count (replicate n false) ≡ 0
 count_none zero = refl
 count_none (suc n) = count_none n
 
--- a source that was just made
-pub new_settled : (core : Source) (log : Log) (kept : Kept) (t : Tail) (unsynced : List GroupValue) (places : List (Option Receipt)) (out : List Bool) (history : List Receipt) (watch : Watch) → core ≡ new_source core.tables core.base core.limit core.kind
-    → log_of kept t ≡ log → AreHalves kept t → log.records ≡ [] → log.waiting ≡ None → unsynced ≡ [] → places ≡ replicate 256 None → out ≡ replicate 256 false → history ≡ [] → watch ≡ nobody
-    → IsSettled core.base core.tables (record { core = core; kept = kept; home = Some t; unsynced = unsynced; places = places; out = out; history = history; watch = watch })
-new_settled core log kept t unsynced places out history watch is both halves no_records waiting none no_places no_seats no_history none_watch =
-    let made : (c : Source) → c ≡ new_source core.tables core.base core.limit core.kind → (take c.synced c.log ≡ []) × (drop c.synced c.log ≡ []) × (c.synced ≡ 0) × (committed_receipts c ≡ []) =
+-- a source that was just made, over a log without records
+pub new_settled : (log : Log) (s : State) (t : Tail) → s.core ≡ new_source s.core.tables s.core.base s.core.limit s.core.kind → log.waiting ≡ None → s.home ≡ Some t → AreHalves s.kept t → IsNewState s.core log s
+    → IsSettled s.core.base s.core.tables s
+new_settled log s t core waiting home halves new =
+    let made : (c : Source) → c ≡ new_source s.core.tables s.core.base s.core.limit s.core.kind → (take c.synced c.log ≡ []) × (drop c.synced c.log ≡ []) × (c.synced ≡ 0) × (committed_receipts c ≡ []) =
     λ c e. rw e (refl, refl, refl, refl) in
-    let new = made core is in
-    let prepared : kept.prepared ≡ None = ap (λ (l : Log). l.waiting) both ∙ waiting in
-    let records : kept.records ≡ [] = ap (λ (l : Log). l.records) both ∙ no_records in
-    let many : length kept.records ≡ core.synced = ap length records ∙ sym new.2 in
+    let none = made s.core core in
+    let both : log_of s.kept t ≡ log = subst (λ (o : Option Tail). IfSome o (λ x. log_of s.kept x ≡ log)) home new.home in
+    let prepared : s.kept.prepared ≡ None = ap (λ (l : Log). l.waiting) both ∙ waiting in
+    let many : length s.kept.records ≡ s.core.synced = ap length new.kept ∙ sym none.2 in
     record {
       base_is = refl;
       tables_is = refl;
       syncing = record {
-        records = records ∙ sym new.0;
+        records = new.kept ∙ sym none.0;
         many = many;
-        held = subst (λ (l : List GroupValue). Hold l (drop core.synced core.log)) (sym none) new.1;
-        sizes = ap (λ (c : Source). c.group_sizes) is ∙ sym (ap (map size_of) none);
-        prepared = subst (λ (o : Option GroupValue). IfSome o (λ group. slice_get unsynced 0 ≡ Some group)) (sym prepared) tt;
-        numbered = subst (AreNumbered (core.synced + 1)) (sym new.1) tt;
+        held = subst (λ (l : List GroupValue). Hold l (drop s.core.synced s.core.log)) (sym new.unsynced) none.1;
+        sizes = ap (λ (c : Source). c.group_sizes) core ∙ sym (ap (map size_of) new.unsynced);
+        prepared = subst (λ (o : Option GroupValue). IfSome o (λ group. slice_get s.unsynced 0 ≡ Some group)) (sym prepared) tt;
+        numbered = subst (AreNumbered (s.core.synced + 1)) (sym none.1) tt;
       };
-      ready = λ e. record { waiting = none_waits kept t halves prepared; last = halves.last ∙ many };
+      ready = rw home (λ running. record { waiting = halves.waits ∙ ap (option_map waiting_of) prepared; last = halves.last ∙ many });
       receipts = record {
-        history_is = no_history ∙ sym new.3;
-        placed = rw no_places (none_placed history 1 256);
-        places = ap length no_places ∙ length-replicate {A = Option Receipt} 256 None;
-        seats = ap length no_seats ∙ length-replicate 256 false;
+        history_is = new.history ∙ sym none.3;
+        placed = rw new.places (none_placed s.history 1 256);
+        places = ap length new.places ∙ length-replicate {A = Option Receipt} 256 None;
+        seats = ap length new.out ∙ length-replicate 256 false;
       };
-      watch = rw none_watch (record { sessions = length-replicate 256 false; asleep = sym (count_none 256) });
+      watch = rw new.watch (record { sessions = length-replicate 256 false; asleep = sym (count_none 256) });
     }
-  where
-    none_waits : (k : Kept) (w : Tail) → AreHalves k w → k.prepared ≡ None → w.waiting ≡ None
-    none_waits k w both_ e = both_.waits ∙ ap (option_map waiting_of) e

@@ -138,18 +138,13 @@ the_same_loads one other rises same = by one (own_loaded one rises) where
   by (e ∷ es) all = (ap (λ (db : Database). get db e.0) (sym same) ∙ all.0, by es all.1)
 
 -- as two walks find them, where the first finds all
-pub alike_then : (one other es fs : List Entry) (a b : Bool) → es ≡ one → fs ≡ other → IsRising es → IsRising fs → IsTrue a ↔ AreLoaded es other → IsTrue b ↔ AreLoaded fs one → a ≡ true → IsTrue b ↔ (loaded one ≡ loaded other)
-alike_then one other es fs a b is is_too rises rises_too here there found =
-    let rising = subst IsRising is rises in
-    let rising_too = subst IsRising is_too rises_too in (
-      λ t. load_the_same one other rising rising_too (subst (λ (l : List Entry). AreLoaded l other) is (here.0 found)) (subst (λ (l : List Entry). AreLoaded l one) is_too (there.0 t)),
-      λ same. there.1 (subst (λ (l : List Entry). AreLoaded l one) (sym is_too) (the_same_loads other one rising_too (sym same))),
-    )
+pub alike_then : (one other : List Entry) (a b : Bool) → IsRising one → IsRising other → IsTrue a ↔ AreLoaded one other → IsTrue b ↔ AreLoaded other one → a ≡ true → IsTrue b ↔ (loaded one ≡ loaded other)
+alike_then one other a b rises rises_too here there found =
+    (λ t. load_the_same one other rises rises_too (here.0 found) (there.0 t), λ same. there.1 (the_same_loads other one rises_too (sym same)))
 
 -- and where it does not
-pub alike_else : (one other es : List Entry) (a : Bool) → es ≡ one → IsRising es → IsTrue a ↔ AreLoaded es other → a ≡ false → IsTrue a ↔ (loaded one ≡ loaded other)
-alike_else one other es a is rises here missed =
-    (λ t. absurd (false≢true (sym missed ∙ t)), λ same. here.1 (subst (λ (l : List Entry). AreLoaded l other) (sym is) (the_same_loads one other (subst IsRising is rises) same)))
+pub alike_else : (one other : List Entry) (a : Bool) → IsRising one → IsTrue a ↔ AreLoaded one other → a ≡ false → IsTrue a ↔ (loaded one ≡ loaded other)
+alike_else one other a rises here missed = (λ t. absurd (false≢true (sym missed ∙ t)), λ same. here.1 (the_same_loads one other rises same))
 
 -- ---- beginnings of logs
 

@@ -93,11 +93,11 @@ left_there under jobs job place x h is = by (get_or under place true) refl (sym 
   by false e k = (e, k)
 
 -- where none stands though each has one, it is finished, or none is under way there
-pub left_none : {J : Type 0} (under : List Bool) (jobs : List (Option J)) (job : ℕ → Option J) (place : ℕ) → AreLeft under jobs job → get_or jobs place None ≡ None → (get_or under place true ≡ false → (x : J) × (job place ≡ Some x)) → get_or under place true ≡ true
-left_none {J} under jobs job place h is some = by (get_or under place true) refl (sym (h.are place) ∙ is) where
+pub left_none : {J : Type 0} (under : List Bool) (jobs : List (Option J)) (job : ℕ → Option J) (place : ℕ) → AreLeft under jobs job → get_or jobs place None ≡ None → (get_or under place true ≡ false → job place ≡ None → ⊥) → get_or under place true ≡ true
+left_none under jobs job place h is some = by (get_or under place true) refl (sym (h.are place) ∙ is) where
   by : (b : Bool) → get_or under place true ≡ b → (if b then None else job place) ≡ None → get_or under place true ≡ true
   by true e k = e
-  by false e k = let there = some e in absurd (cc (sym there.1 ∙ k))
+  by false e k = absurd (some e k)
 
 -- a place that has something not finished is one under way
 pub within_under : (under : List Bool) (place : ℕ) → get_or under place true ≡ false → place < length under
@@ -136,7 +136,8 @@ job_there r gno sound under =
     let got = get_within r.accepted (gno - 1) (omega (arith, under.0, under.1, sound.dispatched)) in
     record { rec = got.0; at = got.1; rows = sound.rows; rows_are = sound.rows_are; job = job_of_parts r gno got.0 sound.rows got.1 sound.rows_are }
 
-under_at : (r : Replica) (place : ℕ) → get_or r.under_way place true ≡ false → IsUnderWay r (r.committed + place + 1)
+-- a place that has something not finished, by its number
+pub under_at : (r : Replica) (place : ℕ) → get_or r.under_way place true ≡ false → IsUnderWay r (r.committed + place + 1)
 under_at r place going = let within = within_under r.under_way place going in (omega arith, omega (arith, within))
 
 -- ---- what each call of the replica leaves of the jobs

@@ -25,7 +25,7 @@ use Rattle.world.specs.declared.events.Reply.TheVariants as replies
 use Rattle.world.specs.Replies.{prepared_reply}
 use Rattle.world.specs.Past.{Past, flushed, unsynced, synced, synced_groups, is_failure, halted, queue, accepted, dispatched, replica_committed, published}
 use Rattle.world.specs.Legal.{Setup, rows_after, source_at, refused_or, stamp_of, next_records, FlushAnswers, SyncAnswers, commit_reply, group_between, log_text, may_dispatch, Answers, is_source_memory, is_replica_memory, is_codec_memory, is_log_memory, asks_memory, tells_memory, Allowed, AreAllowed, AreLegal}
-use Rattle.world.specs.Laws.{pairs_after, is_memory, OneAnswer, OneLog}
+use Rattle.world.specs.Laws.{pairs_after, is_memory, FailAlike, OneAnswer, OneLog}
 use Rattle.world.proofs.LawsReplies.{Says, says}
 use Rattle.world.proofs.LawsSteps.{Follow, Follow-le, Holds, at_first, step, in_order}
 use Rattle.world.proofs.LawsRecords.{MayStand, one_group}
@@ -64,8 +64,8 @@ abbrev AreWithin : ℕ → List (ℕ × ℕ) → Type 0
 AreWithin n groups = AllByRecursion (λ (group : ℕ × ℕ). group.1 ≤ n) groups
 
 pub record Agree (setup : Setup) (log other : List Record) (past : Past) : Type 0 where
-  pub stands : MayStand setup.tables (loaded setup.base) log
-  pub other_stands : MayStand setup.tables (loaded setup.base) other
+  pub stands : MayStand setup.tables setup.base log
+  pub other_stands : MayStand setup.tables setup.base other
   pub holds : Holds log past
   pub same : FlushedAlike log other past
   pub groups : AreWithin (flushed past) (synced_groups past)
@@ -123,11 +123,11 @@ module _ (setup : Setup) (log other : List Record) (past : Past) (agree : Agree 
   same_group sessions m o =
       let f = flushed past in
       let n = length (queue past) in
-      let left = subst (λ (l : List Record). MayStand setup.tables (loaded setup.base) l) (in_three f n log) agree.stands in
-      let cut = subst (λ (l : List Record). MayStand setup.tables (loaded setup.base) l) (in_three f n other) agree.other_stands in
-      let right = subst (λ (l : List Record). MayStand setup.tables (loaded setup.base) (l ++ (next_records other past ++ drop n (drop f other)))) (sym agree.same) cut in
+      let left = subst (λ (l : List Record). MayStand setup.tables setup.base l) (in_three f n log) agree.stands in
+      let cut = subst (λ (l : List Record). MayStand setup.tables setup.base l) (in_three f n other) agree.other_stands in
+      let right = subst (λ (l : List Record). MayStand setup.tables setup.base (l ++ (next_records other past ++ drop n (drop f other)))) (sym agree.same) cut in
       let theirs = subst (λ (s : Source). AreNextRecords s (seen_log s) sessions (next_records other past)) (sym same_source) o in
-      one_group setup.tables (loaded setup.base) (source_at setup log past) (take f log) (seen_log (source_at setup log past)) sessions
+      one_group (source_at setup log past) (take f log) (seen_log (source_at setup log past)) sessions
       (next_records log past) (next_records other past) (drop n (drop f log)) (drop n (drop f other)) left right m theirs
 
   one_flush : (halts : Bool) (sessions : List ℕ) (reply answer : Reply) → FlushAnswers setup log past halts sessions reply → FlushAnswers setup other past halts sessions answer →
@@ -245,22 +245,22 @@ heads : (a b : Bool) (xs ys : List Bool) → a ∷ xs ≡ b ∷ ys → (a ≡ b)
 heads a b xs ys e = (cc, cc)
 
 from : (setup : Setup) (log other : List Record) (past : Past) → Agree setup log other past → (es : List Event) (rs os : List Reply) → AreAllowed setup log past es rs → AreAllowed setup other past es os →
-    list_any is_memory rs ≡ false → list_any is_memory os ≡ false → map is_failure rs ≡ map is_failure os → (rs ≡ os) × FlushedAlike log other (pairs_after past es rs)
-from setup log other past agree [] [] [] left right enough enough_there alike = (refl, agree.same)
-from setup log other past agree [] [] (o ∷ os) left right enough enough_there alike = absurd right
-from setup log other past agree [] (r ∷ rs) os left right enough enough_there alike = absurd left
-from setup log other past agree (e ∷ es) [] os left right enough enough_there alike = absurd left
-from setup log other past agree (e ∷ es) (r ∷ rs) [] left right enough enough_there alike = absurd right
-from setup log other past agree (e ∷ es) (r ∷ rs) (o ∷ os) left right enough enough_there alike =
-    let here = or_parts (is_memory r) (list_any is_memory rs) enough in
-    let there = or_parts (is_memory o) (list_any is_memory os) enough_there in
-    let fail = heads (is_failure r) (is_failure o) (map is_failure rs) (map is_failure os) alike in
+    FailAlike rs os → (rs ≡ os) × FlushedAlike log other (pairs_after past es rs)
+from setup log other past agree [] [] [] left right alike = (refl, agree.same)
+from setup log other past agree [] [] (o ∷ os) left right alike = absurd right
+from setup log other past agree [] (r ∷ rs) os left right alike = absurd left
+from setup log other past agree (e ∷ es) [] os left right alike = absurd left
+from setup log other past agree (e ∷ es) (r ∷ rs) [] left right alike = absurd right
+from setup log other past agree (e ∷ es) (r ∷ rs) (o ∷ os) left right alike =
+    let here = or_parts (is_memory r) (list_any is_memory rs) alike.enough in
+    let there = or_parts (is_memory o) (list_any is_memory os) alike.enough_there in
+    let fail = heads (is_failure r) (is_failure o) (map is_failure rs) (map is_failure os) alike.failures in
     let a = answers setup log past e r left.0 here.0 in
     let b = answers setup other past e o right.0 there.0 in
     let same = one_answer setup log other past agree e r o a b fail.0 in
     let next = agree_on setup log other past agree e r o left.0 a b in
     let behind = subst (λ (x : Reply). AreAllowed setup other ((e, x) ∷ past) es os) (sym same) right.1 in
-    let more = from setup log other ((e, r) ∷ past) next es rs os left.1 behind here.1 there.1 fail.1 in
+    let more = from setup log other ((e, r) ∷ past) next es rs os left.1 behind (record { enough = here.1; enough_there = there.1; failures = fail.1 }) in
     ((λ i. same i ∷ more.0 i), more.1)
 
 at_start : (setup : Setup) (log other : List Record) (es : List Event) (rs os : List Reply) → AreLegal setup log es rs → AreLegal setup other es os → Agree setup log other []
@@ -274,8 +274,8 @@ at_start setup log other es rs os left right = record {
 
 pub only_answer : OneAnswer
 only_answer setup log es rs left other os right alike =
-    sym (from setup log other [] (at_start setup log other es rs os left right) es rs os left.allowed right.allowed alike.enough alike.enough_there alike.failures).0
+    sym (from setup log other [] (at_start setup log other es rs os left right) es rs os left.allowed right.allowed alike).0
 
 pub only_log : OneLog
 only_log setup log other es rs os left right alike =
-    sym (from setup log other [] (at_start setup log other es rs os left right) es rs os left.allowed right.allowed alike.enough alike.enough_there alike.failures).1
+    sym (from setup log other [] (at_start setup log other es rs os left right) es rs os left.allowed right.allowed alike).1

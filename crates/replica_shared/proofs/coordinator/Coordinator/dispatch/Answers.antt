@@ -1,15 +1,12 @@
-use Rattle.std.proofs.Common.{◌≡◌, ◌∙◌, ap, subst, false, None, Ok, Option, is_some, if◌then◌else◌}
+use Rattle.std.proofs.Common.{◌≡◌, ◌∙◌, ap, subst, false, None, Ok, Option, is_some, if◌then◌else◌, rules}
 use Rattle.executor.specs.declared.Job.{Job}
 use Rattle.replica_core.specs.Calls.{is_eligible, dispatched_next}
 use Rattle.replica_shared.specs.Together.{State}
-use Rattle.replica_shared.proofs.Whole.{told_next, whole_dispatched}
+use Rattle.replica_shared.proofs.Whole.{whole_dispatched}
 use Rattle.replica_shared.proofs.coordinator.Coordinator.dispatch.Goals as goal
 
 pub invariant_of-self-in-Some : goal.invariant_of-self-in-Some
-invariant_of-self-in-Some g c =
-    whole_dispatched _ _ _ _ _ _ _ _ _ _ (ap (λ (s : State). s.behind) c.self.view_is ∙ c.requires.behind)
-    (ap (λ (s : State). s.outlet.aside) c.self.view_is ∙ c.requires.free)
-    (told_next c.self.inside.core c.in_ok-job.field-0 c.in_ok-job.ensures.answer) c.in-Some.is c.in_ok-job.ensures.ok c.put.ensures c.self.invariant
+invariant_of-self-in-Some g c = whole_dispatched _ _ _ _ _ _ _ (search rules) (search rules) (search rules) c.self.invariant
 
 pub returns-in-None-clause-none : goal.returns-in-None-clause-none
 returns-in-None-clause-none g c = λ _.

@@ -1,4 +1,5 @@
-use Rattle.replica_shared.proofs.Feeding.{hands_grow_as, hands_where_running_as, still_running, hands_and_settles}
+use Rattle.std.proofs.Common.{rules}
+use Rattle.replica_shared.proofs.Feeding.{hands_grow_as, hands_where_running_as, still_running, hands_take, takes_and_settles}
 use Rattle.replica_shared.proofs.coordinator.Coordinator.hand.Goals as goal
 
 pub settle_past-settled-requires : goal.settle_past-settled-requires
@@ -7,6 +8,5 @@ settle_past-settled-requires g c =
     record { runs = λ more. still_running _ _ _ (hands_grow_as _ _ _ _ _ hands) (hands_where_running_as _ _ _ _ _ hands) c.accepted-before.ensures more }
 
 pub returns-clause-takes : goal.returns-clause-takes
-returns-clause-takes g c =
-    hands_and_settles _ _ _ _ _ _ _ _ _ c.hand_waiting-taken.ensures.hands c.hand_waiting-taken.ensures.left c.accepted-before.ensures c.settle_past-settled.ensures.none
-    c.settle_past-settled.ensures.some c.told_of.ensures
+returns-clause-takes g c = λ old piece empty gathers.
+    takes_and_settles _ c.hand_waiting-taken.new.self _ _ _ _ _ _ (hands_take _ _ _ _ _ _ _ empty gathers c.hand_waiting-taken.ensures.hands) (search rules)
