@@ -1,5 +1,5 @@
 -- Hexadecimal text, a piece behind another.
-use Rattle.std.proofs.Common.{◌≡◌, ◌∙◌, sym, ap, ap₂, refl, ℕ, ◌+◌, ◌*◌, ◌/◌, ◌%◌, ◌<◌, Bool, true, false, not, List, [], ◌∷◌, ◌++◌, length, length-append, take, drop, get_or, map, append_assoc, append-nil, Option, Some, None, option_to_list, arith, Contains, subst, take-append-drop, zero, suc, Result}
+use Rattle.std.proofs.Common.{◌≡◌, ◌∙◌, sym, ap, ap₂, refl, ℕ, ◌+◌, ◌*◌, ◌/◌, ◌%◌, ◌<◌, Bool, true, false, not, List, [], ◌∷◌, ◌++◌, length, length-append, take, drop, get_or, map, append_assoc, append-nil, Option, Some, None, option_to_list, arith, Contains, subst, take-append-drop, zero, suc}
 use Rattle.std.specs.List.{filter, flat_map}
 use Rattle.std.specs.Prelude.{IfSome}
 use Rattle.std.specs.Io.KnownBytes.{Consumes, IsAtEnd}
@@ -9,7 +9,6 @@ use Rattle.std.proofs.lemmas.List.Elements.{filter-append, Contains-append_left,
 use Rattle.std.proofs.lemmas.Nat.{div-mul-add}
 use Rattle.std.specs.Prelude.{MatchOption, MatchResult}
 use Rattle.std.specs.Option.{ok_or}
-use Rattle.mtr.specs.declared.ending.Stop.{Stop}
 use Rattle.mtr.specs.declared.ending.Stop.TheVariants as stops
 use Rattle.mtr.specs.Hex.{is_white, hex_digit, marks, halves, digits_of, SaysBytes, SaysNone, IsUnread, GoesOnBy}
 
@@ -130,7 +129,8 @@ pub more_digits : (old piece new text : List ℕ) (good : Bool) → good ≡ tru
 more_digits old piece new text true e h so_far = marks_behind text piece ∙ ap (λ l. l ++ marks piece) so_far ∙ sym h
 more_digits old piece new text false e h so_far = cc
 
-to_end : (a b c : Option (List ℕ)) (text : List ℕ) (P : List ℕ → Type 0) → Consumes a b text → Consumes b c [] → IsAtEnd c → P text → IfSome a P
+-- the text is read to its end
+pub to_end : (a b c : Option (List ℕ)) (text : List ℕ) (P : List ℕ → Type 0) → Consumes a b text → Consumes b c [] → IsAtEnd c → P text → IfSome a P
 to_end None b c text P front none end h = tt
 to_end (Some t) None c text P front none end h = absurd front
 to_end (Some t) (Some u) None text P front none end h = absurd none
@@ -147,18 +147,8 @@ some_alike (x ∷ xs) (y ∷ ys) e =
     let rest : map {A = ℕ} {B = Option ℕ} (λ d. Some d) xs ≡ map (λ d. Some d) ys = cc in
     ap₂ (λ z zs. z ∷ zs) first (some_alike xs ys rest)
 
-says_digits : {V : Type 0} (items : V → List ℕ) (o : Option V) (text digits : List ℕ) → marks text ≡ map Some digits
+pub says_digits : {V : Type 0} (items : V → List ℕ) (o : Option V) (text digits : List ℕ) → marks text ≡ map Some digits
     → MatchOption o ((bytes : List ℕ) → digits ≡ digits_of bytes → ⊥) (λ v. digits ≡ digits_of (items v))
     → MatchResult (ok_or o stops.BadHexadecimal) (λ v. SaysBytes text (items v)) (IsUnread text)
 says_digits items (Some v) text digits e h = e ∙ ap (map Some) h
 says_digits items None text digits e h = λ bytes says. h bytes (some_alike digits (digits_of bytes) (sym e ∙ says))
-
--- the text is read to its end
-pub whole_text : {V : Type 0} (items : V → List ℕ) (o : Option V) (r : Result V Stop) (a b c : Option (List ℕ)) (text digits : List ℕ)
-    → Consumes a b text → Consumes b c [] → IsAtEnd c → marks text ≡ map Some digits
-    → MatchOption o ((bytes : List ℕ) → digits ≡ digits_of bytes → ⊥) (λ v. digits ≡ digits_of (items v)) → r ≡ ok_or o stops.BadHexadecimal
-    → IfSome a (λ t. MatchResult r (λ v. SaysBytes t (items v)) (IsUnread t))
-whole_text {V} items o r a b c text digits front none end e h is =
-    let P : List ℕ → Type 0 = λ t. MatchResult r (λ v. SaysBytes t (items v)) (IsUnread t) in
-    let Q : Result V Stop → Type 0 = λ x. MatchResult x (λ v. SaysBytes text (items v)) (IsUnread text) in
-    to_end a b c text P front none end (subst Q (sym is) (says_digits items o text digits e h))

@@ -35,8 +35,8 @@ serial log seen t session order numbered same e =
     })
 
 -- the log with the transaction behind it
-pub logged : {T : Type 0} (agrees_ : T → List Table → List Entry → Type 0) (tracker : T) (ts : List Table) (log seen new : List Entry) (t : Footprint) (session parent committed : ℕ) → seen ≡ log → committed ≡ length seen →
-    new ≡ log ++ record { sequence = committed + 1; parent = parent; session = session; footprint = t } ∷ [] → agrees_ tracker ts (stamped log t session parent) → agrees_ tracker ts new
-logged agrees_ tracker ts log seen new t session parent committed same e is agrees =
+pub logged : (Agrees : List Entry → Type 0) (log seen new : List Entry) (t : Footprint) (session parent committed : ℕ) → seen ≡ log → committed ≡ length seen →
+    new ≡ log ++ record { sequence = committed + 1; parent = parent; session = session; footprint = t } ∷ [] → Agrees (stamped log t session parent) → Agrees new
+logged Agrees log seen new t session parent committed same e is agrees =
     let at : committed ≡ length log = e ∙ ap length same in
-    subst (λ (l : List Entry). agrees_ tracker ts l) (sym (is ∙ ap (λ n. log ++ record { sequence = n + 1; parent = parent; session = session; footprint = t } ∷ []) at)) agrees
+    subst Agrees (sym (is ∙ ap (λ n. log ++ record { sequence = n + 1; parent = parent; session = session; footprint = t } ∷ []) at)) agrees

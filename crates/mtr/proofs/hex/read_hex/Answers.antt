@@ -1,6 +1,8 @@
 use Rattle.std.proofs.Common.{◌∙◌, ◌++◌, ap, sym, map, Some, take, [], arith}
 use Rattle.std.proofs.KnownBytes.{Consumes-nil, Consumes-trans}
-use Rattle.mtr.proofs.HexTexts.{no_marks, bad_piece, bad_digits, more_digits, whole_text}
+use Rattle.std.specs.Prelude.{MatchResult}
+use Rattle.mtr.specs.Hex.{SaysBytes, IsUnread}
+use Rattle.mtr.proofs.HexTexts.{no_marks, bad_piece, bad_digits, more_digits, to_end, says_digits}
 use Rattle.mtr.proofs.hex.read_hex.Goals as goal
 
 pub loop-init : goal.loop-init
@@ -10,8 +12,9 @@ pub returns-then-count-eq0 : goal.returns-then-count-eq0
 returns-then-count-eq0 g c =
     let remaining = g.R.Read.remaining in
     let read = c.loop.invariant in
-    whole_text (λ v. v.items) c.bytes.result c.ok_or.result (remaining c.args.input.now) (remaining c.loop.input) (remaining c.read_some.new.input) read.0 c.loop.digits
-    read.1 (rw c.if-count-eq0.true at c.in_ok-count.ensures.bytes.0) (c.in_ok-count.ensures.bytes.1 c.if-count-eq0.true (omega arith)) read.2 c.bytes.ensures c.ok_or.ensures.value
+    to_end (remaining c.args.input.now) (remaining c.loop.input) (remaining c.read_some.new.input) read.0 (λ text. MatchResult c.ok_or.result (λ bytes. SaysBytes text bytes.items) (IsUnread text))
+    read.1 (rw c.if-count-eq0.true at c.in_ok-count.ensures.bytes.0) (c.in_ok-count.ensures.bytes.1 c.if-count-eq0.true (omega arith))
+    (rw c.ok_or.ensures.value (says_digits (λ v. v.items) c.bytes.result read.0 c.loop.digits read.2 c.bytes.ensures))
 
 pub returns-then-not-branch : goal.returns-then-not-branch
 returns-then-not-branch g c =

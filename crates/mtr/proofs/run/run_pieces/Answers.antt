@@ -1,10 +1,8 @@
 use Rattle.std.proofs.Common.{◌≡◌, ◌∙◌, sym, ap, ◌++◌, []}
 use Rattle.world.specs.Seen.{seen}
 use Rattle.mtr.proofs.Runs.{goes_nowhere, goes_further, behind_piece}
-use Rattle.mtr.specs.Printing.{lines_of}
 use Rattle.mtr.specs.Events.{events_in}
 use Rattle.std.specs.Vec.Iter.{into_iter_items}
-use Rattle.mtr.proofs.Pieces.{along}
 use Rattle.mtr.proofs.run.run_pieces.Goals as goal
 
 pub loop-piece-init : goal.loop-piece-init
@@ -27,9 +25,8 @@ loop-piece-preserved g c =
         done.0 ++ c.deref.result.now,
         behind_piece done.0 (events_in (into_iter_items c.loop-piece.piece-iterator)) c.deref.result.now (events_in rest) (events_in c.args.pieces.items) done.1
             (ap events_in c.in-Some.ensures.steps.0 ∙ ap (λ piece. piece ++ events_in rest) (sym read)),
-        goes_further contents (seen c.args.world.now) (seen c.loop-piece.world) (seen c.run.new.self) done.0 c.deref.result.now c.in_ok-replies.replies.items
-            (g.W.Write.contents c.args.output.now) (g.W.Write.contents c.loop-piece.output) (g.W.Write.contents c.print.new.output)
-            done.2 c.in_ok-replies.ensures.goes_on
-            (along (g.W.Write.contents c.loop-piece.output) (g.W.Write.contents c.print.new.output) (lines_of c.deref-in-loop-piece.result.now) (lines_of c.in_ok-replies.replies.items) (ap lines_of c.deref-in-loop-piece.ensures.value) c.in_ok-print.ensures.lines),
+        goes_further contents (seen c.args.world.now) (seen c.loop-piece.world) (seen c.run.new.self) done.0 c.deref.result.now
+            (g.W.Write.contents c.args.output.now) (g.W.Write.contents c.loop-piece.output) (g.W.Write.contents c.print.new.output) done.2
+            (record { replies = c.in_ok-replies.replies.items; goes_on = c.in_ok-replies.ensures.goes_on; lines = rw c.deref-in-loop-piece.ensures.value at c.in_ok-print.ensures.lines }),
       );
     }

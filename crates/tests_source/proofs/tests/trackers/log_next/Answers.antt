@@ -10,5 +10,5 @@ stamp-parent-requires-clause-order g c = serial c.args.log.now.entries c.entries
 
 pub returns : goal.returns
 returns g c =
-    logged g.T.Tracker.agrees c.stamp-parent.new.self c.args._schema.now c.args.log.now.entries c.entries.result.now _ c.args.t c.args.session c.stamp-parent.result (length c.entries.result.now) c.entries.ensures.value
+    logged (g.T.Tracker.agrees c.stamp-parent.new.self c.args._schema.now) c.args.log.now.entries c.entries.result.now _ c.args.t c.args.session c.stamp-parent.result (length c.entries.result.now) c.entries.ensures.value
     refl (rw c.unwrap.ensures at c.push.ensures.ok) (c.stamp-parent.ensures.goes_on c.args._schema.now c.requires.seen c.requires.tables)
