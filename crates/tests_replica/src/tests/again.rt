@@ -78,12 +78,17 @@ fn passes_again(rt: &(impl Abort + AllocGlobal), replica: &mut Replica) -> Resul
     Ok(())
 }
 
+/// All rows are there, and their commit waits.
+fn has_passed(rt: &impl Abort, replica: &Replica) {
+    assert_eq!(rt; stored(replica, 10), (row(5, 6), 40));
+    assert_eq!(rt; waiting(replica), (Some(1), 1));
+}
+
 /// A call that was refused memory and then answers otherwise than if it had not been.
 #[test]
 fn refused_calls_are_made_again(rt: HostRuntime) -> Result<(), Fail> {
     let mut replica = replica(rt.alloc(), 2).or_else(|_| replica(rt.alloc(), 2))?;
     passes_again(&rt, &mut replica)?;
-    assert_eq!(rt; stored(&replica, 10), (row(5, 6), 40));
-    assert_eq!(rt; waiting(&replica), (Some(1), 1));
+    has_passed(&rt, &replica);
     Ok(())
 }

@@ -6,6 +6,7 @@ use record_codec::{Flags, Record, Refs, decode};
 use relay::{Received, Relay};
 use schema::Memory;
 use std::alloc::Global;
+use std::process::Abort;
 use tests_log::common::source;
 
 /// The bytes of a record of 2048 refs, to the rows 0 to 2047, and one delete.
@@ -52,14 +53,24 @@ fn rows_left(done: &JobResult) -> Result<usize, Memory> {
     }
 }
 
+/// A relay accepts the record.
+fn is_accepted(rt: &(impl Abort + AllocGlobal), new: &Record) -> Result<(), Memory> {
+    let mut relay = Relay::new(rt.alloc(), family(rt.alloc())?, source());
+    assert_eq!(rt; relay.receive(source(), new), Ok(Received::Accepted));
+    Ok(())
+}
+
+/// The job of the record that moves 1024 child rows.
+fn job_of_moves(alloc: Global) -> Result<Job, Memory> {
+    let (rec, rows) = (moves(alloc)?, rows_of_greatest(alloc, None)?);
+    Ok(Job::new(1, rec, rows, family(alloc)?))
+}
+
 /// Memory told at 2048 refs or at a job of 3072 rows, by the relay or the execution.
 #[test]
 fn the_greatest_record_is_executed(rt: HostRuntime) -> Result<(), Memory> {
-    let rec = moves(rt.alloc())?;
-    let mut relay = Relay::new(rt.alloc(), family(rt.alloc())?, source());
-    assert_eq!(rt; relay.receive(source(), &rec), Ok(Received::Accepted));
-    let rows = rows_of_greatest(rt.alloc(), None)?;
-    let job = Job::new(1, rec, rows, family(rt.alloc())?);
+    is_accepted(&rt, &moves(rt.alloc())?)?;
+    let job = job_of_moves(rt.alloc())?;
     assert_eq!(rt; rows_left(&execute(rt.alloc(), job)), Ok(1024));
     Ok(())
 }
