@@ -1,9 +1,8 @@
 -- Where all of a log is committed, its length is an order parent.
-use Rattle.std.proofs.Common.{◌≡◌, ◌∙◌, sym, ap, subst, ℕ, zero, suc, ◌+◌, ◌≤◌, List, [], ◌∷◌, ◌++◌, length, reverse, Some, eqb, refl, arith}
+use Rattle.std.proofs.Common.{◌≡◌, ◌∙◌, sym, ap, subst, ℕ, suc, ◌+◌, ◌≤◌, List, [], ◌∷◌, ◌++◌, length, reverse, Some, eqb, refl, arith}
 use Rattle.std.specs.List.{AllByRecursion, slice_get}
 use Rattle.std.proofs.lemmas.List.{reverse-reverse}
 use Rattle.std.proofs.lemmas.Option.{slice_get_within}
-use Rattle.schema.specs.declared.Table.{Table}
 use Rattle.log_index.specs.declared.Entry.{Entry}
 use Rattle.log_index.specs.declared.Footprint.{Footprint}
 use Rattle.log_index.specs.Footprint.{touched}

@@ -1,8 +1,8 @@
-use Rattle.std.proofs.Common.{◌≡◌, ◌∙◌, sym, ap, ◌-◌, [], ◌++◌, drop, length, Option, Some, subst, rules, arith}
+use Rattle.std.proofs.Common.{◌≡◌, ◌∙◌, sym, ap, ◌-◌, [], drop, length, Option, Some, subst, rules, arith}
 use Rattle.std.proofs.lemmas.List.{append-nil}
 use Rattle.std.specs.Option.{IfSome}
 use Rattle.record_codec.specs.Group.{GroupValue}
-use Rattle.source_core.specs.Source.{Source, IsSound}
+use Rattle.source_core.specs.Source.{Source}
 use Rattle.source_core.specs.Calls.{Flushes}
 use Rattle.source_core.proofs.FlushEnds.{group_is_oldest, none_waits}
 use Rattle.tests_source.proofs.tests.source.sync.Goals as goal
