@@ -118,9 +118,15 @@ where
         replica: &replica,
     }
     .run(course);
+    let core = core_of(rt, replica);
+    Ok((met?, core))
+}
+
+/// The core of a replica that has ended.
+fn core_of<K: ReplicaNaming, R: Wait>(rt: &R, replica: Replica<K>) -> ReplicaCore<BTreeStore> {
     let (core, publisher) = replica.end();
     drop(publisher.close(rt));
-    Ok((met?, core))
+    core
 }
 
 /// Both sides.
