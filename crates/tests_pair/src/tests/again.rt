@@ -154,25 +154,12 @@ fn answer_alike(
     Ok(())
 }
 
-/// All events.
-fn answer_all(
-    rt: &impl Abort,
-    alloc: Global,
-    one: &mut InOne,
-    other: &mut InOne,
-) -> Result<(), Memory>
-    requires one { IsWorld (λ rows. rows) (seen one.old) }
-    requires other { IsWorld (λ rows. rows) (seen other.old) }
-{
-    answer_alike(rt, alloc, one, other, &events())
-}
-
 /// The world, and beside it one more.
 fn answer_beside(rt: &impl Abort, alloc: Global, one: &mut InOne) -> Result<(), Fail>
     requires { IsWorld (λ rows. rows) (seen one.old) }
 {
     let mut other = world_again(alloc)?;
-    answer_all(rt, alloc, one, &mut other)?;
+    answer_alike(rt, alloc, one, &mut other, &events())?;
     Ok(())
 }
 
