@@ -160,24 +160,37 @@ fn run_over<'a, J: SourceNaming + Send + Sync, R: Threads + Wait + Abort + Clock
     let Ok(source) = Shared::<J, R>::new(alloc, core, log, beginning) else {
         return Ok(false);
     };
-    let Ok(room) = Vec::with_capacity(alloc, 400) else {
+    let Some((receipts, flushed)) = commit_all(rt, alloc, &source, course, orders)? else {
         return Ok(false);
     };
-    let receipts: Mutex<Vec<Receipt<J>>> = Mutex::new(room);
-    let flushed = match course {
-        Course::InTurn => in_turn(rt, alloc, &source, &receipts),
-        Course::Failing => halts(rt, &source, &receipts),
-        Course::Beside => beside(rt, alloc, &source, &receipts, 4, 10),
-        Course::Refused => is_refused(rt, alloc, &source, &receipts, orders),
-        Course::Held => is_held(rt, &source, &receipts, orders),
-        Course::Slow => is_shared(rt, alloc, &source, &receipts, orders),
-        Course::Followed => is_followed(rt, alloc, &source, &receipts),
-        Course::Told => are_told(rt, alloc, &source, &receipts, orders),
-    }?;
-    let receipts = receipts.into_inner();
     are_numbered(rt, &receipts);
     assert_eq!(rt; source.end(&receipts).log().len(), flushed);
     Ok(true)
+}
+
+/// Does what is to be done. The receipts, and how many records are flushed then; `None` where there was no room for receipts.
+fn commit_all<'a, J: SourceNaming + Send + Sync, R: Threads + Wait + Abort + Clock + Sync>(
+    rt: &R,
+    alloc: Global,
+    source: &Shared<'a, J, R>,
+    course: Course,
+    orders: &Orders<'a, R>,
+) -> Result<Option<(Vec<Receipt<J>>, usize)>, Fail> {
+    let Ok(room) = Vec::with_capacity(alloc, 400) else {
+        return Ok(None);
+    };
+    let receipts: Mutex<Vec<Receipt<J>>> = Mutex::new(room);
+    let flushed = match course {
+        Course::InTurn => in_turn(rt, alloc, source, &receipts),
+        Course::Failing => halts(rt, source, &receipts),
+        Course::Beside => beside(rt, alloc, source, &receipts, 4, 10),
+        Course::Refused => is_refused(rt, alloc, source, &receipts, orders),
+        Course::Held => is_held(rt, source, &receipts, orders),
+        Course::Slow => is_shared(rt, alloc, source, &receipts, orders),
+        Course::Followed => is_followed(rt, alloc, source, &receipts),
+        Course::Told => are_told(rt, alloc, source, &receipts, orders),
+    }?;
+    Ok(Some((receipts.into_inner(), flushed)))
 }
 
 /// The gnos are the first ones, each once.
