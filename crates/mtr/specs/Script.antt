@@ -64,6 +64,11 @@ Says text (Err (stops.Schema fault)) = ⊥
 Says text (Err stops.BadHexadecimal) = ⊥
 Says text (Err (stops.Log fault)) = ⊥
 
+-- and so is one that was filled with it
+abbrev pub SaysIn : {A : Type 0} → List ℕ → Script → Result A Stop → Type 0
+SaysIn text script (Ok done) = script_of text ≡ Ok (said script)
+SaysIn text script (Err stop) = Says text (Err stop)
+
 -- one line: it has no LF
 abbrev pub IsLine : List ℕ → Type 0
 IsLine line = All (λ b. (b == 10) ≡ false) line

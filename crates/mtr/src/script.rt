@@ -9,7 +9,7 @@ ghost use Rattle.std.specs.Prelude.{◌≡◌, ◌++◌, ◌∷◌, [], ◌==◌
 ghost use Rattle.std.specs.Bool.{then_some};
 ghost use Rattle.std.specs.List.{All};
 ghost use Rattle.mtr.specs.Lines.{table_of, keyed_of, link_in, reference_of, base_of, command_of, is_skipped, text_line};
-ghost use Rattle.mtr.specs.Script.{said, said_with, added, Says, LeavesLines, TakesEnd};
+ghost use Rattle.mtr.specs.Script.{said, said_with, nothing, added, Says, SaysIn, LeavesLines, TakesEnd};
 
 use crate::command::{Verb, alone};
 use crate::ending::Stop;
@@ -56,14 +56,23 @@ impl Script {
             base: Vec::new(alloc),
             events: EventList::new(alloc),
         };
+        script.fill(alloc, input)?;
+        Ok(script)
+    }
+
+    /// Takes what the lines of the reader say, where nothing was said yet.
+    fn fill<R: BufRead>(&mut self, alloc: Global, input: &mut R) -> Result<(), Stop>
+        requires { said self.old ≡ nothing }
+        ensures { IfSome (R.remaining input.old) (λ text. SaysIn text self.new result) }
+    {
         let mut line = Vec::new(alloc);
         for number in 1..usize::MAX {
             let is_more = read_line(input, &mut line)?;
-            if !script.add(&line)? {
+            if !self.add(&line)? {
                 return Err(Stop::BadCommand { line: number });
             }
             if !is_more {
-                return Ok(script);
+                return Ok(());
             }
         }
         Err(Stop::Memory)
