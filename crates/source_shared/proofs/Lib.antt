@@ -1,3 +1,4 @@
+pub mod Calling
 pub mod Turns
 pub mod Moving
 pub mod Places

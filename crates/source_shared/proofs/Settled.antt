@@ -100,11 +100,11 @@ oldest_next base tables s group at h =
 
 -- other sessions, and another queue
 pub sessions_settled : (base : List Entry) (tables : List Table) (s : State) (sessions : List (Option Open)) (queue : List ℕ) → IsSettled base tables s → IsSettled base tables (record s { core = record s.core { sessions = sessions; queue = queue } })
-sessions_settled base tables s sessions queue h = record { base_is = h.base_is; tables_is = h.tables_is; syncing = h.syncing; ready = h.ready; receipts = h.receipts; watch = h.watch }
+sessions_settled base tables s sessions queue h = record { base_is = h.base_is; tables_is = h.tables_is; syncing = h.syncing; ready = h.ready; out = h.out; receipts = h.receipts; watch = h.watch }
 
 -- the source is halted
 pub failed_settled : (base : List Entry) (tables : List Table) (s : State) → IsSettled base tables s → IsSettled base tables (failed s)
-failed_settled base tables s h = record { base_is = h.base_is; tables_is = h.tables_is; syncing = h.syncing; ready = IfSome_then s.home h.ready (λ t ready e. absurd cc); receipts = h.receipts; watch = h.watch }
+failed_settled base tables s h = record { base_is = h.base_is; tables_is = h.tables_is; syncing = h.syncing; ready = IfSome_then s.home h.ready (λ t ready e. absurd cc); out = h.out; receipts = h.receipts; watch = h.watch }
 
 -- a place is emptied
 pub emptied : (base : List Entry) (tables : List Table) (s : State) (k : ℕ) → IsSettled base tables s → IsSettled base tables (emptied_at s k)
@@ -115,13 +115,14 @@ emptied base tables s k h =
       tables_is = h.tables_is;
       syncing = h.syncing;
       ready = h.ready;
+      out = h.out;
       receipts = record { history_is = laid_.history_is; placed = placed_none s.history 1 s.places k laid_.placed; places = length-set s.places k None ∙ laid_.places; seats = laid_.seats };
       watch = h.watch;
     }
 
 -- the writer is here, and ready unless the source is halted
 home_settled : (base : List Entry) (tables : List Table) (s : State) (t : Tail) → (s.core.halted ≡ false → IsReady s.core.synced t) → IsSettled base tables s → IsSettled base tables (with_home t s)
-home_settled base tables s t ready h = record { base_is = h.base_is; tables_is = h.tables_is; syncing = h.syncing; ready = ready; receipts = h.receipts; watch = h.watch }
+home_settled base tables s t ready h = record { base_is = h.base_is; tables_is = h.tables_is; syncing = h.syncing; ready = ready; out = tt; receipts = h.receipts; watch = h.watch }
 
 front_push : (unsynced : List GroupValue) (first group : GroupValue) → slice_get unsynced 0 ≡ Some first → slice_get (unsynced ++ group ∷ []) 0 ≡ Some first
 front_push [] first group e = absurd cc
@@ -163,6 +164,7 @@ flushed_settled base tables s c group sound f h =
       tables_is = h.tables_is;
       syncing = subst (λ (l : List ℕ). IsSyncing (core.log ++ f.records) core.synced l s.kept (s.unsynced ++ group ∷ [])) sizes (flushed_syncing core c group s.kept s.unsynced sound f h.syncing);
       ready = h.ready;
+      out = h.out;
       receipts = subst (λ (l : List Receipt). AreLaidOut l s.history s.places s.out) (sym (λ i. receipts_for (owners i) (log i))) h.receipts;
       watch = h.watch;
     })
@@ -236,6 +238,7 @@ module _ (base : List Entry) (tables : List Table) (s old : State) (t : Tail) (g
           numbered = at.numbered;
         };
         ready = λ running. record { waiting = waiting; last = w.last };
+        out = tt;
         receipts = h.receipts;
         watch = h.watch;
       })
@@ -250,6 +253,7 @@ given_settled base tables s c places history is placed long history_is h =
       tables_is = h.tables_is;
       syncing = h.syncing;
       ready = h.ready;
+      out = h.out;
       receipts = record { history_is = history_is; placed = placed; places = long ∙ h.receipts.places; seats = h.receipts.seats };
       watch = h.watch;
     })
@@ -286,6 +290,7 @@ new_settled log s t core waiting home halves new =
         numbered = subst (AreNumbered (s.core.synced + 1)) (sym none.1) tt;
       };
       ready = rw home (λ running. record { waiting = halves.waits ∙ ap (option_map waiting_of) prepared; last = halves.last ∙ many });
+      out = rw home tt;
       receipts = record {
         history_is = new.history ∙ sym none.3;
         placed = rw new.places (none_placed s.history 1 256);

@@ -1,5 +1,5 @@
 -- What lies under the engine lock, and what is true of it each time that the lock is taken.
-use Rattle.std.specs.Prelude.{◌≡◌, ◌≢◌, ◌⊎◌, ℕ, ◌+◌, ◌-◌, ◌≤◌, nat_le, nat_lt, count_by, find, ◌==◌, ◌&&◌, ◌||◌, not, if◌then◌else◌, Bool, true, false, List, [], ◌∷◌, ◌++◌, length, map, take, drop, replicate, slice_get, slice_set, slice_index_or, Option, Some, None, is_some, is_none, IfSome, IsSome, Result, Ok, Err, OnOk, OnErr, IsErrOf}
+use Rattle.std.specs.Prelude.{◌≡◌, ◌≢◌, ◌⊎◌, ℕ, ◌+◌, ◌-◌, ◌≤◌, nat_le, nat_lt, count_by, find, ◌==◌, ◌&&◌, ◌||◌, not, if◌then◌else◌, Bool, true, false, List, [], ◌∷◌, ◌++◌, length, map, take, drop, replicate, slice_get, slice_set, slice_index_or, Option, Some, None, is_some, is_none, IfSome, IfNone, IsSome, Result, Ok, Err, OnOk, OnErr, IsErrOf}
 use Rattle.std.specs.List.{flat_map, AllByRecursion}
 use Rattle.schema.specs.declared.Table.{Table}
 use Rattle.store_trait.specs.Batch.{Entry}
@@ -106,6 +106,8 @@ pub record IsSettled (base : List Entry) (tables : List Table) (s : State) : Typ
   pub syncing : IsSyncing s.core.log s.core.synced s.core.group_sizes s.kept s.unsynced
   -- what writes the log file, where it is here, is behind the synced records
   pub ready : IfSome s.home (λ t. s.core.halted ≡ false → IsReady s.core.synced t)
+  -- where it is out a group is prepared, which it writes
+  pub out : IfNone s.home (IsSome s.kept.prepared)
   pub receipts : AreLaidOut (committed_receipts s.core) s.history s.places s.out
   pub watch : IsWatch s.watch
 
@@ -155,11 +157,14 @@ enqueue_fault s seat = if seat.underway then session_fault s.core seat.session N
 abbrev pub enqueued : State → Seat → State
 enqueued s seat = if seat.underway then s else record s { core = queued s.core seat.session }
 
--- What the session of a place, counted from 0, finds that waits for its receipt: that, or that the source is halted; else the
--- writer, if that is here.
+-- the receipt of the session of a place, counted from 0, is there, or the source is halted
+abbrev pub has_end : State → ℕ → Bool
+has_end s place = s.core.halted || is_some (slice_index_or s.places place None)
+
+-- What the session of a place finds that waits for its receipt: that, or that the source is halted; else the writer, if that is here.
 abbrev pub due_of : State → ℕ → Due
 due_of s place =
-    if s.core.halted || is_some (slice_index_or s.places place None) then Ended
+    if has_end s place then Ended
     else if is_some s.home then Lead
     else Wait
 
@@ -174,9 +179,26 @@ abbrev pub set_asleep : State → ℕ → Bool → State
 set_asleep s place sleeps =
     let flags = slice_set s.watch.sleeping place sleeps in record s { watch = record s.watch { sleeping = flags; asleep = count flags } }
 
--- what the session of a place is due, if it sleeps
-abbrev pub called : State → ℕ → Option Due
-called s place = if slice_index_or s.watch.sleeping place false then Some (due_of s place) else None
+-- Who is called of those who sleep, session 1 first: each whose receipt is there, or all where the source is halted; and, if one of the
+-- others is to lead, the first of these.
+abbrev pub calls : Bool → Bool → List Bool → List (Option Receipt) → List Bool
+calls halted leads [] places = []
+calls halted leads (sleeps ∷ sleeping) [] = []
+calls halted leads (sleeps ∷ sleeping) (place ∷ places) =
+    (sleeps && (halted || is_some place || leads)) ∷ calls halted (leads && (not sleeps || halted || is_some place)) sleeping places
+
+-- where the writer is here, and this says so, one is to lead
+abbrev pub called_by : State → Bool → List Bool
+called_by s leads = calls s.core.halted (leads && is_some s.home) s.watch.sleeping s.places
+
+-- of those who slept, those who were not called sleep on
+abbrev pub sleep_on : List Bool → List Bool → List Bool
+sleep_on [] called = []
+sleep_on (sleeps ∷ sleeping) [] = sleeps ∷ sleeping
+sleep_on (sleeps ∷ sleeping) (is_called ∷ called) = (sleeps && not is_called) ∷ sleep_on sleeping called
+
+abbrev pub awoken : State → List Bool → State
+awoken s called = let flags = sleep_on s.watch.sleeping called in record s { watch = record s.watch { sleeping = flags; asleep = count flags } }
 
 -- no more transactions come
 abbrev pub closed_now : State → State

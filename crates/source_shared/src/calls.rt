@@ -1,6 +1,6 @@
 //! What the threads of sessions sleep on.
 
-ghost use Rattle.std.specs.Prelude.{◌<◌};
+ghost use Rattle.std.specs.Prelude.{◌≡◌, ◌<◌, true, false, replicate, slice_set};
 
 use crate::engine::SESSIONS;
 use schema::Memory;
@@ -34,10 +34,52 @@ impl Calls {
         Ok(Calls { all })
     }
 
+    // Wakes those who are called.
+    pub(crate) fn wake(&self, called: &Called) {
+        let mut left = called.count;
+        for place in 0..SESSIONS {
+            if left == 0 {
+                break;
+            }
+            if called.all[place] {
+                left -= 1;
+                self.all[place].notify_one();
+            }
+        }
+    }
+
     // What the session of this place sleeps on.
     pub(crate) fn of(&self, place: usize) -> &Condvar
         requires { place < 256 }
     {
         &self.all[place]
+    }
+}
+
+/// Who is called: for each session whether it is, session 1 first, and how many are.
+#[derive(Drop)]
+pub(crate) struct Called {
+    pub(crate) all: [bool; SESSIONS],
+    count: usize,
+}
+
+impl Called {
+    // Nobody is.
+    pub(crate) fn nobody() -> Called
+        ensures { result.all ≡ replicate 256 false }
+    {
+        Called {
+            all: [false; SESSIONS],
+            count: 0,
+        }
+    }
+
+    // The session of this place is, too.
+    pub(crate) fn add(&mut self, place: usize)
+        requires { place < 256 }
+        ensures { self.new.all ≡ slice_set self.old.all place true }
+    {
+        self.all[place] = true;
+        self.count = self.count.saturating_add(1);
     }
 }

@@ -23,6 +23,7 @@ mod book;
 mod calls;
 mod engine;
 mod errand;
+mod held;
 mod leading;
 mod seat;
 mod shared;

@@ -1,0 +1,164 @@
+//! The engine's lock, and the hold of it.
+//!
+//! Who takes the lock has a `Held`, which is not `Drop`: it ends by `let_go`, or for a while by one of the waits, and by nothing else. Each of
+//! these wakes those who are due by what was done under the lock. So no way out of a function leaves a change untold.
+ghost use Rattle.std.specs.Prelude.{◌≡◌, ◌<◌, false};
+ghost use Rattle.std.specs.Sync.Mutex.{mutex_guard_value};
+ghost use Rattle.source_shared.specs.Engine.{is_awaited};
+
+use crate::book::SourceNaming;
+use crate::calls::Calls;
+use crate::engine::Engine;
+use log_device::Device;
+use std::sync::{Condvar, Mutex, MutexGuard, Wait};
+use std::time::Duration;
+use store_trait::RowStore;
+use tracker_trait::Tracker;
+
+/// So often one who leads, or follows the log, looks whether the lock is free, some microseconds in all.
+const LOOKS: usize = 1000;
+
+/// The engine under its lock, and what threads sleep on until what lies there concerns them.
+#[derive(Drop)]
+pub(crate) struct Desk<S: RowStore, T: Tracker, D: Device, J: SourceNaming> {
+    engine: Mutex<Engine<S, T, D, J>>,
+    calls: Calls,
+    // What those sleep on who wait for records.
+    news: Condvar,
+}
+
+/// The lock, taken.
+pub(crate) struct Held<'a, S: RowStore, T: Tracker, D: Device, J: SourceNaming> {
+    engine: MutexGuard<'a, Engine<S, T, D, J>>,
+    desk: &'a Desk<S, T, D, J>,
+}
+
+impl<S: RowStore, T: Tracker, D: Device + Drop, J: SourceNaming> Desk<S, T, D, J> {
+    pub(crate) fn new(engine: Engine<S, T, D, J>, calls: Calls) -> Desk<S, T, D, J> {
+        Desk {
+            engine: Mutex::new(engine),
+            calls,
+            news: Condvar::new(),
+        }
+    }
+
+    // Takes the lock.
+    pub(crate) fn lock(&self, rt: &impl Wait) -> Held<'_, S, T, D, J> {
+        Held {
+            engine: self.engine.lock(rt),
+            desk: self,
+        }
+    }
+
+    // Takes the lock for who holds up others by sleeping: it looks whether the lock is free before it sleeps.
+    pub(crate) fn lock_soon(&self, rt: &impl Wait) -> Held<'_, S, T, D, J> {
+        for _look in 0..LOOKS {
+            if let Some(engine) = self.engine.try_lock() {
+                return Held { engine, desk: self };
+            }
+        }
+        self.lock(rt)
+    }
+
+    // What lies there, once no thread is left.
+    pub(crate) fn into_engine(self) -> Engine<S, T, D, J> {
+        let Desk {
+            engine,
+            calls: _,
+            news: _,
+        } = self;
+        engine.into_inner()
+    }
+}
+
+impl<'a, S: RowStore, T: Tracker, D: Device + Drop, J: SourceNaming> Held<'a, S, T, D, J> {
+    // What lies under the lock.
+    pub(crate) fn engine(&mut self) -> &mut Engine<S, T, D, J> {
+        &mut *self.engine
+    }
+
+    // Lets go of the lock, and wakes those who are due, one of them to lead.
+    pub(crate) fn let_go(self) {
+        let _desk = self.release(true);
+    }
+
+    // Lets go of the lock, and wakes those who have their end, those who wait for records that came, and, where this says so, one who is to
+    // lead.
+    fn release(mut self, leads: bool) -> &'a Desk<S, T, D, J> {
+        let called = self.engine.call_due(leads);
+        let has_news = self.engine.has_news();
+        let Held { engine, desk } = self;
+        MutexGuard::unlock(engine);
+        desk.calls.wake(&called);
+        if has_news {
+            desk.news.notify_all();
+        }
+        desk
+    }
+
+    // Lets go of the lock until the session of this place is due.
+    pub(crate) fn sleep(mut self, rt: &impl Wait, place: usize) -> Held<'a, S, T, D, J>
+        requires { place < 256 }
+    {
+        self.tell();
+        let Held { engine, desk } = self;
+        let engine = desk.calls.of(place).wait_while(
+            rt,
+            engine,
+            |engine|
+                requires { place < 256 }
+            { engine.waits(place) },
+        );
+        Held { engine, desk }
+    }
+
+    // Lets go of the lock for so many microseconds, unless the session of this place is called before, or is due already.
+    pub(crate) fn sleep_for(
+        mut self,
+        rt: &impl Wait,
+        place: usize,
+        micros: u64,
+    ) -> Held<'a, S, T, D, J>
+        requires { place < 256 }
+    {
+        if !self.engine.waits(place) {
+            return self;
+        }
+        let call = self.desk.calls.of(place);
+        let seen = call.notifications();
+        let desk = self.release(false);
+        call.sleep(rt, seen, Duration::from_micros(micros));
+        let mut held = desk.lock(rt);
+        held.engine.set_sleeping(place, false);
+        held
+    }
+
+    // Lets go of the lock for so many microseconds. Who has to lead does, and comes back: so nobody else is called to.
+    pub(crate) fn nap(self, rt: &impl Wait, micros: u64) -> Held<'a, S, T, D, J> {
+        let desk = self.release(false);
+        let call = Condvar::new();
+        call.sleep(rt, call.notifications(), Duration::from_micros(micros));
+        desk.lock(rt)
+    }
+
+    // Lets go of the lock until the record behind this gno is synced, or no more come.
+    pub(crate) fn await_record(mut self, rt: &impl Wait, gno: u64) -> Held<'a, S, T, D, J>
+        ensures { is_awaited (mutex_guard_value result.engine) gno ≡ false }
+    {
+        self.tell();
+        let Held { engine, desk } = self;
+        let engine = desk
+            .news
+            .wait_while(rt, engine, |engine| engine.is_awaited(gno));
+        Held { engine, desk }
+    }
+
+    // Wakes those who have their end, and those who wait for records that came, under the lock: who waits there lets go of it within the wait.
+    fn tell(&mut self) {
+        let called = self.engine.call_due(false);
+        self.desk.calls.wake(&called);
+        if self.engine.has_news() {
+            self.desk.news.notify_all();
+        }
+    }
+}
