@@ -1,5 +1,5 @@
 -- What is true under the lock stays so, step by step.
-use Rattle.std.proofs.Common.{◌≡◌, ℕ, zero, suc, ◌+◌, ◌-◌, ◌≤◌, true, false, List, [], ◌∷◌, ◌++◌, length, take, drop, replicate, Option, Some, None, IfSome, is_some, get_or, nat_lt, Bor, refl, sym, ap, ◌∙◌, subst, append_assoc, arith}
+use Rattle.std.proofs.Common.{◌≡◌, ◌≢◌, ℕ, zero, suc, ◌+◌, ◌-◌, ◌≤◌, true, false, List, [], ◌∷◌, ◌++◌, length, take, drop, replicate, Option, Some, None, IfSome, IsSome, is_some, get_or, nat_lt, Bor, refl, sym, ap, ◌∙◌, subst, append_assoc, arith}
 use Rattle.std.specs.Prelude.{map, slice_get, IsSomeAnd, ◌==◌, if◌then◌else◌}
 use Rattle.std.proofs.lemmas.Bool.{false≢true}
 use Rattle.std.proofs.lemmas.Bool.Decides.{nat_tests}
@@ -19,7 +19,7 @@ use Rattle.log_file.specs.declared.fault.LogFault.TheVariants.{OutOfTurn}
 use Rattle.log_file.specs.Calls.{confirmed, prepare_cause}
 use Rattle.source_core.proofs.FlushEnds.{group_ends, group_is_counted}
 use Rattle.source_core.specs.Calls.{flushed, Flushes, IsOldest, size_of, with_synced, all_committed, receipts, receipts_for}
-use Rattle.source_shared.specs.Engine.{State, count, IsReady, IsSyncing, AreLaidOut, IsSettled, ArePlaced, IsNewState, committed_receipts, emptied as emptied_at, failed, with_home, landed, given, laid}
+use Rattle.source_shared.specs.Engine.{State, from_prepared, IsErrand, count, IsReady, IsSyncing, AreLaidOut, IsSettled, ArePlaced, IsNewState, committed_receipts, emptied as emptied_at, failed, with_home, landed, given, laid}
 use Rattle.source_shared.proofs.Places.{placed_none, none_placed, both_parts}
 
 -- ---- the groups that wait
@@ -77,12 +77,23 @@ oldest base tables s group groups unsynced h =
 pub is_oldest : (base : List Entry) (tables : List Table) (s : State) (group : GroupValue) (groups : List GroupValue) → s.unsynced ≡ group ∷ groups → IsSettled base tables s → IsOldest s.core group
 is_oldest base tables s group groups unsynced h = let at = oldest base tables s group groups unsynced h in record { are = at.are; whole = at.whole }
 
--- the group that is lent is the oldest
-pub first_lent : (l : List GroupValue) (got : Option (Bor GroupValue)) (x : Bor GroupValue) → is_some got ≡ nat_lt 0 (length l) → IfSome got (λ y. y.now ≡ get_or l 0 y.now) → got ≡ Some x → slice_get l 0 ≡ Some x.now
-first_lent l got x some here is = of l (sym (ap (λ (o : Option (Bor GroupValue)). is_some o) is) ∙ some) (subst (λ (o : Option (Bor GroupValue)). IfSome o (λ y. y.now ≡ get_or l 0 y.now)) is here) where
-  of : (l : List GroupValue) → true ≡ nat_lt 0 (length l) → x.now ≡ get_or l 0 x.now → slice_get l 0 ≡ Some x.now
-  of [] e h = absurd (false≢true (sym e))
-  of (y ∷ l) e h = ap (λ (g : GroupValue). Some g) (sym h)
+-- the first of the groups behind is lent
+pub first_there : (l : List GroupValue) (got : Option (Bor GroupValue)) → is_some got ≡ nat_lt 0 (length l) → l ≢ [] → IsSome got
+first_there [] got some is = absurd (is refl)
+first_there (y ∷ l) None some is = absurd (none (length l) some) where
+  none : (n : ℕ) → false ≡ nat_lt 0 (suc n) → ⊥
+  none n e = grind (arith, nat_tests)
+first_there (y ∷ l) (Some x) some is = refl
+
+pub first_lent : (l : List GroupValue) (got : Option (Bor GroupValue)) (x : Bor GroupValue) → IfSome got (λ y. y.now ≡ get_or l 0 y.now) → got ≡ Some x → l ≢ [] → slice_get l 0 ≡ Some x.now
+first_lent l got x here is some = of l (subst (λ (o : Option (Bor GroupValue)). IfSome o (λ y. y.now ≡ get_or l 0 y.now)) is here) some where
+  of : (l : List GroupValue) → x.now ≡ get_or l 0 x.now → l ≢ [] → slice_get l 0 ≡ Some x.now
+  of [] h some = absurd (some refl)
+  of (y ∷ l) h some = ap (λ (g : GroupValue). Some g) (sym h)
+
+-- where none is prepared that is the oldest
+pub first_behind : (p : Option GroupValue) (behind : List GroupValue) (group : GroupValue) (rest : List GroupValue) → p ≡ None → behind ≡ group ∷ rest → slice_get (from_prepared p behind) 0 ≡ Some group
+first_behind p behind group rest none is = rw (none, is) refl
 
 -- and is the next behind those that are synced
 pub oldest_next : (base : List Entry) (tables : List Table) (s : State) (group : GroupValue) → slice_get s.unsynced 0 ≡ Some group → IsSettled base tables s → prepare_cause s.kept group ≡ None
@@ -171,6 +182,22 @@ flushed_settled base tables s c group sound f h =
 
 -- ---- what is prepared is the oldest
 
+-- a group behind the others
+pub from_prepared_push : (p : Option GroupValue) (behind : List GroupValue) (group : GroupValue) → from_prepared p (behind ++ group ∷ []) ≡ from_prepared p behind ++ group ∷ []
+from_prepared_push None behind group = refl
+from_prepared_push (Some first) behind group = refl
+
+-- the writer leaves with it
+pub leaves : (base : List Entry) (tables : List Table) (s : State) (t : Tail) (group : GroupValue) → s.home ≡ Some t → s.core.halted ≡ false → slice_get s.unsynced 0 ≡ Some group → IsSettled base tables s → IsErrand (record { tail = t; group = group })
+leaves base tables s t group home running at h =
+    let parts = split s.unsynced at in
+    let o = oldest base tables s group parts.0 parts.1 h in
+    let ready = subst (λ (w : Option Tail). IfSome w (λ x. s.core.halted ≡ false → IsReady s.core.synced x)) home h.ready running in
+    record { waiting = ready.waiting; next = omega (arith, o.first, ready.last) } where
+      split : (l : List GroupValue) → slice_get l 0 ≡ Some group → (rest : List GroupValue) × (l ≡ group ∷ rest)
+      split [] e = absurd (cc e)
+      split (x ∷ l) e = (l, ap (λ (y : GroupValue). y ∷ l) (same_Some x group e))
+
 first_is : (prepared_ : Option GroupValue) (unsynced : List GroupValue) (P : GroupValue → Type 0) → IfSome prepared_ (λ group. slice_get unsynced 0 ≡ Some group) → IsSomeAnd prepared_ P
     → (group : GroupValue) × (groups : List GroupValue) × (prepared_ ≡ Some group) × (unsynced ≡ group ∷ groups) × P group
 first_is None unsynced P at some = absurd some
@@ -196,13 +223,6 @@ pub record IsWritten (s old : State) (t : Tail) (group : GroupValue) (groups : L
   pub prepared : s.kept.prepared ≡ Some group
   pub last : t.last ≡ group.last
 
-pub is_written : (base : List Entry) (tables : List Table) (s old : State) (t : Tail) (group : GroupValue) (groups : List GroupValue) → s ≡ old → s.unsynced ≡ group ∷ groups → IsSomeAnd old.kept.prepared (λ x. t.last ≡ x.last) → IsSettled base tables s
-    → IsWritten s old t group groups
-is_written base tables s old t group groups is unsynced some h =
-    let f = prepared_first base tables s old (λ x. t.last ≡ x.last) is h some in
-    let same : f.0 ≡ group = same_Some f.0 group (ap (λ (l : List GroupValue). slice_get l 0) (sym f.3 ∙ unsynced)) in
-    record { is = is; unsynced = unsynced; prepared = f.2 ∙ ap (λ (x : GroupValue). Some x) same; last = f.4 ∙ ap (λ (x : GroupValue). x.last) same }
-
 -- the oldest group is synced
 module _ (base : List Entry) (tables : List Table) (s old : State) (t : Tail) (group : GroupValue) (groups : List GroupValue) (c : Source) (k : Kept) (h : IsSettled base tables s) (w : IsWritten s old t group groups)
     (core : c ≡ with_synced s.core group.last) (confirms : (g : GroupValue) (rs : List Record) → s.kept.prepared ≡ Some g → AreRecordsOf g rs → k ≡ confirmed g rs s.kept) where
@@ -215,6 +235,13 @@ module _ (base : List Entry) (tables : List Table) (s old : State) (t : Tail) (g
       confirms group its w.prepared at.are ∙ (λ i. record s.kept { records = all i; groups = s.kept.groups ++ group ∷ []; prepared = None }) in
       let rest : groups ≡ drop 1 s.unsynced = sym (ap (drop 1) w.unsynced) in
       λ i. record s { core = core i; kept = kept i; home = Some t; unsynced = rest i }
+
+  -- none is prepared any more
+  pub landed_behind : from_prepared k.prepared groups ≡ groups
+  landed_behind =
+      let at = oldest base tables s group groups w.unsynced h in
+      let none : k.prepared ≡ None = ap (λ (x : Kept). x.prepared) (confirms group (drop s.core.synced (take group.last s.core.log)) w.prepared at.are) in
+      ap (λ (o : Option GroupValue). from_prepared o groups) none
 
   pub landed_as : (p : GroupValue) → old.kept.prepared ≡ Some p → record s { core = c; kept = k; home = Some t; unsynced = groups } ≡ landed p (with_home t old)
   landed_as p at =

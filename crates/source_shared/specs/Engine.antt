@@ -1,6 +1,7 @@
 -- What lies under the engine lock, and what is true of it each time that the lock is taken.
 use Rattle.std.specs.Prelude.{◌≡◌, ◌≢◌, ◌⊎◌, ℕ, ◌+◌, ◌-◌, ◌≤◌, nat_le, nat_lt, count_by, find, ◌==◌, ◌&&◌, ◌||◌, not, if◌then◌else◌, Bool, true, false, List, [], ◌∷◌, ◌++◌, length, map, take, drop, replicate, slice_get, slice_set, slice_index_or, Option, Some, None, is_some, is_none, IfSome, IfNone, IsSome, Result, Ok, Err, OnOk, OnErr, IsErrOf}
 use Rattle.std.specs.List.{flat_map, AllByRecursion}
+use Rattle.std.specs.Str.{bytes_eq}
 use Rattle.schema.specs.declared.Table.{Table}
 use Rattle.store_trait.specs.Batch.{Entry}
 use Rattle.record_codec.specs.declared.records.Record.{Record}
@@ -44,6 +45,11 @@ pub record State : Type 0 where
   pub history : List Receipt
   -- who waits, and for what
   pub watch : Watch
+
+-- the groups that are not synced: the prepared one, if one is, and those behind it
+abbrev pub from_prepared : Option GroupValue → List GroupValue → List GroupValue
+from_prepared None behind = behind
+from_prepared (Some group) behind = group ∷ behind
 
 -- it waits for no group, and is behind so many records
 pub record IsReady (synced_ : ℕ) (t : Tail) : Type 0 where
@@ -355,9 +361,13 @@ told (Ok done) = None
 told (Err logs.Memory) = Some Memory
 told (Err fault) = Some Halted
 
+-- the numbers and the bytes are the same
+abbrev pub is_same : GroupValue → GroupValue → Bool
+is_same one other = one.first == other.first && one.last == other.last && bytes_eq one.bytes other.bytes
+
 abbrev pub is_other : Option GroupValue → GroupValue → Bool
 is_other None group = true
-is_other (Some prepared_) group = not (prepared_.first == group.first && prepared_.last == group.last)
+is_other (Some prepared_) group = not (is_same prepared_ group)
 
 -- the group is the prepared one, and the source is not halted
 abbrev pub expects : State → GroupValue → Bool

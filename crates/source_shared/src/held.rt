@@ -73,7 +73,9 @@ impl<S: RowStore, T: Tracker, D: Device + Drop, J: SourceNaming> Desk<S, T, D, J
 
 impl<'a, S: RowStore, T: Tracker, D: Device + Drop, J: SourceNaming> Held<'a, S, T, D, J> {
     // What lies under the lock.
-    pub(crate) fn engine(&mut self) -> &mut Engine<S, T, D, J> {
+    pub(crate) fn engine(&mut self) -> &mut Engine<S, T, D, J>
+        ensures { result.now ≡ mutex_guard_value self.old.engine }
+    {
         &mut *self.engine
     }
 
