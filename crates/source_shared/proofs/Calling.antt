@@ -1,9 +1,10 @@
 -- Who is called of those who sleep, place by place.
 use Rattle.std.proofs.Common.{◌≡◌, ℕ, zero, suc, ◌+◌, ◌-◌, ◌<◌, Bool, true, false, not, ◌&&◌, ◌||◌, if◌then◌else◌, List, [], ◌∷◌, ◌++◌, length, set, replicate, Option, None, is_some, slice_index_or, slice_set, refl, sym, ap, ◌∙◌, subst, append_assoc, arith}
+use Rattle.std.proofs.lemmas.Bool.{false≢true}
 use Rattle.std.proofs.lemmas.List.{length-append}
 use Rattle.std.proofs.lemmas.List.Sums.{sum_by-cons}
 use Rattle.source_core.specs.declared.transaction.Receipt.{Receipt}
-use Rattle.source_shared.specs.Engine.{State, calls, sleep_on, count, called_by, awoken, has_end, set_asleep}
+use Rattle.source_shared.specs.Engine.{State, calls, sleep_on, count, called_by, awoken, has_end, set_asleep, NoneSleepsWithEnd}
 
 -- So many places were looked at, of these who slept and these receipts: who was called there, and who sleeps now.
 pub record IsCalling (halted first : Bool) (slept : List Bool) (places : List (Option Receipt)) (at : ℕ) (leads : Bool) (sleeping called : List Bool) (left : ℕ) : Type 0 where
@@ -245,3 +246,22 @@ all_are_called old leads lead s at last called left lead_is none h =
 
 pub none_left : (old : State) (lead : Bool) (s : State) (at : ℕ) (last : Bool) (called : List Bool) (left : ℕ) → length old.watch.sleeping ≡ at → AreCalled old lead s at last called left → left ≡ 0
 none_left old lead s at last called left long h = at_end old.core.halted lead old.watch.sleeping old.places at last s.watch.sleeping called left long h.calling
+
+-- ---- who sleeps on has no end
+
+waits : (sleeps halted ended leads : Bool) → (sleeps && not (sleeps && (halted || ended || leads))) ≡ true → (halted || ended) ≡ false
+waits false halted ended leads e = absurd (false≢true e)
+waits true true ended leads e = absurd (false≢true e)
+waits true false true leads e = absurd (false≢true e)
+waits true false false leads e = refl
+
+who_sleeps_on : (halted leads : Bool) (slept : List Bool) (places : List (Option Receipt)) (k : ℕ) → length places ≡ length slept → slice_index_or (sleep_on slept (calls halted leads slept places)) k false ≡ true
+    → (halted || is_some (slice_index_or places k None)) ≡ false
+who_sleeps_on halted leads [] places k long e = absurd (false≢true e)
+who_sleeps_on halted leads (x ∷ slept) [] k long e = absurd (omega (arith, long))
+who_sleeps_on halted leads (x ∷ slept) (place ∷ places) zero long e = waits x halted (is_some place) leads e
+who_sleeps_on halted leads (x ∷ slept) (place ∷ places) (suc k) long e = who_sleeps_on halted (leads && (not x || halted || is_some place)) slept places k (omega (arith, long)) e
+
+pub none_sleeps_with_end : (old : State) (leads : Bool) (s : State) (called : List Bool) → length old.watch.sleeping ≡ 256 → length old.places ≡ 256 → called ≡ called_by old leads → s ≡ awoken old called → NoneSleepsWithEnd s
+none_sleeps_with_end old leads s called long many called_is is =
+    rw (is, called_is) (λ place e. who_sleeps_on old.core.halted (leads && is_some old.home) old.watch.sleeping old.places place (many ∙ sym long) e)

@@ -229,6 +229,15 @@ has_news s = not (s.watch.told.0 == length s.kept.records) || (is_over s && not 
 abbrev pub with_told : State → State
 with_told s = record s { watch = record s.watch { told = outlook s } }
 
+-- nobody sleeps who has its end
+abbrev pub NoneSleepsWithEnd : State → Type 0
+NoneSleepsWithEnd s = (place : ℕ) → slice_index_or s.watch.sleeping place false ≡ true → has_end s place ≡ false
+
+-- the same, and those who wait for records were told of all: only so the lock is let go of
+pub record IsTold (s : State) : Type 0 where
+  pub ended : NoneSleepsWithEnd s
+  pub news : has_news s ≡ false
+
 -- ---- what is read of the log
 
 -- the synced record of this gno

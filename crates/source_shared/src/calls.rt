@@ -35,13 +35,14 @@ impl Calls {
     }
 
     // Wakes those who are called.
-    pub(crate) fn wake(&self, called: &Called) {
-        let mut left = called.count;
+    pub(crate) fn wake(&self, called: Called) {
+        let Called { all, count } = called;
+        let mut left = count;
         for place in 0..SESSIONS {
             if left == 0 {
                 break;
             }
-            if called.all[place] {
+            if all[place] {
                 left -= 1;
                 self.all[place].notify_one();
             }
@@ -56,8 +57,14 @@ impl Calls {
     }
 }
 
-/// Who is called: for each session whether it is, session 1 first, and how many are.
-#[derive(Drop)]
+/// Whom who lets go of the lock has to tell. It is not `Drop`, so it can't be forgotten.
+pub(crate) struct News {
+    pub(crate) called: Called,
+    /// Those who wait for records.
+    pub(crate) followers: bool,
+}
+
+/// Who is called: for each session whether it is, session 1 first, and how many are. It is not `Drop`: it ends in `wake`.
 pub(crate) struct Called {
     pub(crate) all: [bool; SESSIONS],
     count: usize,

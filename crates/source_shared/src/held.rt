@@ -4,10 +4,10 @@
 //! these wakes those who are due by what was done under the lock. So no way out of a function leaves a change untold.
 ghost use Rattle.std.specs.Prelude.{◌≡◌, ◌<◌, false};
 ghost use Rattle.std.specs.Sync.Mutex.{mutex_guard_value};
-ghost use Rattle.source_shared.specs.Engine.{is_awaited};
+ghost use Rattle.source_shared.specs.Engine.{is_awaited, IsTold};
 
 use crate::book::SourceNaming;
-use crate::calls::Calls;
+use crate::calls::{Calls, News};
 use crate::engine::Engine;
 use log_device::Device;
 use std::sync::{Condvar, Mutex, MutexGuard, Wait};
@@ -60,6 +60,15 @@ impl<S: RowStore, T: Tracker, D: Device + Drop, J: SourceNaming> Desk<S, T, D, J
         self.lock(rt)
     }
 
+    // Wakes those whom it concerns.
+    fn tell(&self, news: News) {
+        let News { called, followers } = news;
+        self.calls.wake(called);
+        if followers {
+            self.news.notify_all();
+        }
+    }
+
     // What lies there, once no thread is left.
     pub(crate) fn into_engine(self) -> Engine<S, T, D, J> {
         let Desk {
@@ -86,24 +95,20 @@ impl<'a, S: RowStore, T: Tracker, D: Device + Drop, J: SourceNaming> Held<'a, S,
 
     // Lets go of the lock, and wakes those who have their end, those who wait for records that came, and, where this says so, one who is to
     // lead.
-    fn release(mut self, leads: bool) -> &'a Desk<S, T, D, J> {
-        let called = self.engine.call_due(leads);
-        let has_news = self.engine.has_news();
-        let Held { engine, desk } = self;
-        MutexGuard::unlock(engine);
-        desk.calls.wake(&called);
-        if has_news {
-            desk.news.notify_all();
-        }
+    fn release(self, leads: bool) -> &'a Desk<S, T, D, J> {
+        let Held { mut engine, desk } = self;
+        let news = engine.news(leads);
+        free(engine);
+        desk.tell(news);
         desk
     }
 
     // Lets go of the lock until the session of this place is due.
-    pub(crate) fn sleep(mut self, rt: &impl Wait, place: usize) -> Held<'a, S, T, D, J>
+    pub(crate) fn sleep(self, rt: &impl Wait, place: usize) -> Held<'a, S, T, D, J>
         requires { place < 256 }
     {
-        self.tell();
-        let Held { engine, desk } = self;
+        let Held { mut engine, desk } = self;
+        desk.tell(engine.news(false));
         let engine = desk.calls.of(place).wait_while(
             rt,
             engine,
@@ -144,23 +149,23 @@ impl<'a, S: RowStore, T: Tracker, D: Device + Drop, J: SourceNaming> Held<'a, S,
     }
 
     // Lets go of the lock until the record behind this gno is synced, or no more come.
-    pub(crate) fn await_record(mut self, rt: &impl Wait, gno: u64) -> Held<'a, S, T, D, J>
+    pub(crate) fn await_record(self, rt: &impl Wait, gno: u64) -> Held<'a, S, T, D, J>
         ensures { is_awaited (mutex_guard_value result.engine) gno ≡ false }
     {
-        self.tell();
-        let Held { engine, desk } = self;
+        let Held { mut engine, desk } = self;
+        desk.tell(engine.news(false));
         let engine = desk
             .news
             .wait_while(rt, engine, |engine| engine.is_awaited(gno));
         Held { engine, desk }
     }
+}
 
-    // Wakes those who have their end, and those who wait for records that came, under the lock: who waits there lets go of it within the wait.
-    fn tell(&mut self) {
-        let called = self.engine.call_due(false);
-        self.desk.calls.wake(&called);
-        if self.engine.has_news() {
-            self.desk.news.notify_all();
-        }
-    }
+// Lets go of the lock, under which all was told.
+fn free<S: RowStore, T: Tracker, D: Device + Drop, J: SourceNaming>(
+    engine: MutexGuard<'_, Engine<S, T, D, J>>,
+)
+    requires { IsTold (mutex_guard_value engine) }
+{
+    MutexGuard::unlock(engine);
 }
