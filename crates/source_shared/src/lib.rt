@@ -9,9 +9,9 @@
 //! A thread that commits queues its transaction and sleeps until its receipt lies in its place, or until it has to lead: then
 //! it takes the writer of the log file and the oldest group out of the lock, puts the group on the log, and brings the writer
 //! back; under the lock the group is then synced and committed, and the receipts are laid into their places. So one group is
-//! written while the next is flushed, and readers of the log wait for no device. Each holding of the lock ends by waking
-//! those who are due: each whose receipt has come, and one who has to lead. Each session has a condition of its own to sleep on
-//! (`Calls`), so that nobody is woken for another.
+//! written while the next is flushed, and readers of the log wait for no device. Who has the lock has a `Held`, which can't be
+//! dropped: it ends by waking those who are due, each whose receipt has come and one who has to lead, and a wait under it begins so.
+//! Each session has a condition of its own to sleep on (`Calls`), so that nobody is woken for another.
 //!
 //! What is known of a receipt once the lock is let go rides on a history, which exists in proofs alone (`logbook`): the
 //! receipts that all commits gave, in log order. A `Receipt` is a beginning of it with its own place there, and who adds to
