@@ -22,6 +22,8 @@ use Rattle.replica_core.specs.Calls.{next_commit, next_job, is_eligible, dispatc
 use Rattle.replica_shared.specs.Outlet.{Queued, AreInLine, empty_outlet}
 use Rattle.replica_shared.specs.declared.news.News.{News}
 use Rattle.replica_shared.specs.declared.news.Outlook.{Outlook}
+use Rattle.replica_shared.specs.declared.news.Call.{Call}
+use Rattle.replica_shared.specs.declared.news.Call.TheVariants as calls
 use Rattle.replica_shared.specs.declared.news.Next.{Next}
 use Rattle.replica_shared.specs.declared.news.Next.TheVariants as found
 
@@ -183,15 +185,24 @@ outlook_of s = record {
 abbrev pub is_idle : State → Bool
 is_idle s = not (nat_lt 0 (offers s) || s.behind || (is_some s.core.stopped || is_ended s))
 
--- One worker is told where something is left to do, and where there are jobs and their number is another than was told: it
--- takes one, and tells the next. Those who wait for a commit are told where more is published. At a stop and at the end
--- all are told.
+-- all are to be woken, or one is, or nobody
+abbrev pub call_of : Bool → Bool → Call
+call_of true one = calls.All
+call_of false true = calls.One
+call_of false false = calls.Nobody
+
+-- At a stop and at the end all are told. Else one worker is told where something is left to do, and where there are jobs and
+-- their number is another than was told: it takes one, and tells the next. Those who wait for a commit are told where more is
+-- published.
 abbrev pub news_between : Outlook → Outlook → News
 news_between told now = record {
-  work = now.behind || (nat_lt 0 now.offers && (not (now.offers == told.offers) || told.behind));
-  published = nat_lt told.published now.published;
-  over = now.over && not told.over;
+  workers = call_of (now.over && not told.over) (now.behind || (nat_lt 0 now.offers && (not (now.offers == told.offers) || told.behind)));
+  readers = call_of ((now.over && not told.over) || nat_lt told.published now.published) false;
 }
+
+-- what there is was told
+abbrev pub IsTold : State → Type 0
+IsTold s = s.told ≡ outlook_of s
 
 -- ---- what each step leaves
 

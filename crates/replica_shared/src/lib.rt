@@ -17,6 +17,7 @@
 mod coordinator;
 mod gate;
 mod hand;
+mod held;
 mod kept;
 mod naming;
 mod news;

@@ -15,6 +15,7 @@ ghost use Rattle.replica_shared.specs.Feeding.{Receives, Feeds, AreUpTo};
 
 use crate::coordinator::{Coordinator, parts};
 use crate::gate::WorkerGate;
+use crate::held::Lock;
 use crate::naming::ReplicaNaming;
 use crate::news::{Next, Sleepers};
 use crate::outlet::Outlet;
@@ -29,12 +30,9 @@ use relay::{Received, ReplicaFault};
 use replica_core::{ReplicaCore, Wire, WireFault};
 use schema::Memory;
 use std::alloc::Global;
-use std::sync::{Arc, Condvar, Mutex, MutexGuard, Wait};
+use std::sync::{Arc, Mutex, Wait};
 use store_trait::RowStore;
 use uuid::Uuid;
-
-/// So often who brings a record looks whether the lock is free, some microseconds in all.
-const LOOKS: usize = 1000;
 
 /// A replica and its publisher, under one lock. Each call but `new`, `end`, `seat` and `status` takes that lock; `seat` and
 /// `status` have one each of their own. A call waits for as long as others hold its lock. Threads share it by reference.
@@ -51,11 +49,7 @@ pub struct SharedReplica<S: RowStore + Drop, J: ReplicaNaming>
 where
     Version<S, J>: Absorb<Step<J>, State = Common>,
 {
-    held: Mutex<Coordinator<S, J>>,
-    /// Where workers wait.
-    work: Condvar,
-    /// Where those in `wait_for` wait.
-    shown: Condvar,
+    lock: Lock<S, J>,
     jobs: Arc<Jobs>,
     seats: Mutex<Seats<S, J>>,
     watch: Mutex<Watch>,
@@ -96,9 +90,7 @@ impl<S: RowStore + Drop, J: ReplicaNaming> SharedReplica<S, J> {
             }
         };
         Ok(SharedReplica {
-            held: Mutex::new(Coordinator::new(core, publisher, status, places, outlet)),
-            work: Condvar::new(),
-            shown: Condvar::new(),
+            lock: Lock::new(Coordinator::new(core, publisher, status, places, outlet)),
             jobs,
             seats: Mutex::new(Seats::new(seats)),
             watch: Mutex::new(watch),
@@ -117,9 +109,9 @@ impl<S: RowStore + Drop, J: ReplicaNaming> SharedReplica<S, J> {
         ensures foreign { bytes_eq from J.source ≡ false → IsErrAnd result (λ fault. (fault ≡ ReplicaFault.ForeignSource) ⊎ IsStop fault) }
         ensures own { result ≡ Err ReplicaFault.ForeignSource → bytes_eq from J.source ≡ false }
     {
-        let mut held = self.lock_soon(rt);
-        let answer = held.receive(rt, from, new);
-        self.let_go(held);
+        let mut held = self.lock.take_soon(rt);
+        let answer = held.coordinator().receive(rt, from, new);
+        held.let_go();
         answer
     }
 
@@ -137,9 +129,9 @@ impl<S: RowStore + Drop, J: ReplicaNaming> SharedReplica<S, J> {
         if wire.waiting().is_empty() {
             self.feed_first(rt, wire, piece)
         } else {
-            let mut held = self.lock_soon(rt);
-            let answer = held.take(rt, wire, piece);
-            self.let_go(held);
+            let mut held = self.lock.take_soon(rt);
+            let answer = held.coordinator().take(rt, wire, piece);
+            held.let_go();
             answer
         }
     }
@@ -155,21 +147,10 @@ impl<S: RowStore + Drop, J: ReplicaNaming> SharedReplica<S, J> {
         if wire.waiting().is_empty() {
             return Ok(0);
         }
-        let mut held = self.lock_soon(rt);
-        let answer = held.hand(rt, wire);
-        self.let_go(held);
+        let mut held = self.lock.take_soon(rt);
+        let answer = held.coordinator().hand(rt, wire);
+        held.let_go();
         answer
-    }
-
-    // Takes the lock for a record. A worker that commits holds it for a moment, as often as records come, so it looks whether it is free
-    // before it sleeps.
-    fn lock_soon(&self, rt: &impl Wait) -> MutexGuard<'_, Coordinator<S, J>> {
-        for _look in 0..LOOKS {
-            if let Some(held) = self.held.try_lock() {
-                return held;
-            }
-        }
-        self.held.lock(rt)
     }
 
     /// Executes jobs until `close` was called and all accepted records are committed and published. It claims a job under the
@@ -219,12 +200,9 @@ impl<S: RowStore + Drop, J: ReplicaNaming> SharedReplica<S, J> {
 
     // Waits until there is something for a worker, and answers what.
     fn next(&self, rt: &impl Wait) -> Result<Next, ReplicaFault> {
-        let mut held = self.held.lock(rt);
-        held.worker_sleeps();
-        let mut held = self.work.wait_while(rt, held, |held| held.is_idle());
-        let next = held.next(rt);
-        held.worker_wakes();
-        self.let_go(held);
+        let mut held = self.lock.take(rt).wait_for_work(rt);
+        let next = held.coordinator().next(rt);
+        held.let_go();
         next
     }
 
@@ -242,24 +220,10 @@ impl<S: RowStore + Drop, J: ReplicaNaming> SharedReplica<S, J> {
     }
 
     fn hand_in(&self, rt: &impl Wait, done: JobResult) -> Result<(), ReplicaFault> {
-        let mut held = self.held.lock(rt);
-        let handed = held.hand_in(rt, done);
-        self.let_go(held);
+        let mut held = self.lock.take(rt);
+        let handed = held.coordinator().hand_in(rt, done);
+        held.let_go();
         handed
-    }
-
-    // Lets go of the lock, and wakes those whom it concerns what was done under it.
-    fn let_go(&self, mut held: MutexGuard<'_, Coordinator<S, J>>) {
-        let news = held.news();
-        MutexGuard::unlock(held);
-        if news.over {
-            self.work.notify_all();
-        } else if news.work {
-            self.work.notify_one();
-        }
-        if news.over || news.published {
-            self.shown.notify_all();
-        }
     }
 
     /// Waits until the commit of this gno is published, and answers what is published then. `P5` where the replica is
@@ -271,12 +235,9 @@ impl<S: RowStore + Drop, J: ReplicaNaming> SharedReplica<S, J> {
         ensures begins { IfOk result (λ notice. IsPrefix (Load J.base ∷ []) notice) }
         ensures stop { IfErr result IsStop }
     {
-        let mut held = self.held.lock(rt);
-        held.reader_sleeps();
-        let mut held = self.shown.wait_while(rt, held, |held| held.is_awaited(gno));
-        let notice = held.notice(gno);
-        held.reader_wakes();
-        MutexGuard::unlock(held);
+        let mut held = self.lock.take(rt).wait_for_commit(rt, gno);
+        let notice = held.coordinator().notice(gno);
+        held.let_go();
         notice
     }
 
@@ -301,9 +262,9 @@ impl<S: RowStore + Drop, J: ReplicaNaming> SharedReplica<S, J> {
     fn source(&self, rt: &impl Wait) -> Uuid
         ensures { result ≡ J.source }
     {
-        let held = self.held.lock(rt);
-        let source = held.source();
-        MutexGuard::unlock(held);
+        let mut held = self.lock.take(rt);
+        let source = held.coordinator().source();
+        held.let_go();
         source
     }
 
@@ -316,9 +277,9 @@ impl<S: RowStore + Drop, J: ReplicaNaming> SharedReplica<S, J> {
 
     /// How many calls wait now: those of `worker` that have no job, and those of `wait_for`. It takes the lock.
     pub fn sleepers(&self, rt: &impl Wait) -> Sleepers {
-        let held = self.held.lock(rt);
-        let sleepers = held.sleepers();
-        MutexGuard::unlock(held);
+        let mut held = self.lock.take(rt);
+        let sleepers = held.coordinator().sleepers();
+        held.let_go();
         sleepers
     }
 
@@ -332,9 +293,9 @@ impl<S: RowStore + Drop, J: ReplicaNaming> SharedReplica<S, J> {
 
     /// No more records come: workers end once all that were accepted are committed and published.
     pub fn close(&self, rt: &impl Wait) {
-        let mut held = self.held.lock(rt);
-        held.close();
-        self.let_go(held);
+        let mut held = self.lock.take(rt);
+        held.coordinator().close();
+        held.let_go();
     }
 
     /// The core and the publisher, over the tables and the rows that they were made with. What is published are the operations of
@@ -350,13 +311,11 @@ impl<S: RowStore + Drop, J: ReplicaNaming> SharedReplica<S, J> {
         ensures shown { result.0.published ≤ commits_in result.1.published }
     {
         let SharedReplica {
-            held,
-            work: _,
-            shown: _,
+            lock,
             jobs: _,
             seats: _,
             watch: _,
         } = self;
-        held.into_inner().end()
+        lock.into_inner().end()
     }
 }
