@@ -30,5 +30,5 @@ pub use gate::{NoGate, WorkerGate};
 pub use hand::Hand;
 pub use naming::ReplicaNaming;
 pub use news::Sleepers;
-pub use queue::{InLogOrder, Jobs, Pass};
+pub use queue::{Again, InLogOrder, Jobs, Pass};
 pub use shared::SharedReplica;

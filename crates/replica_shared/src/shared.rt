@@ -19,8 +19,9 @@ use crate::held::Lock;
 use crate::naming::ReplicaNaming;
 use crate::news::{Next, Sleepers};
 use crate::outlet::Outlet;
-use crate::queue::{Jobs, Pass};
+use crate::queue::{Again, Jobs, Pass};
 use crate::seats::Seats;
+use crossbeam_utils::Backoff;
 use executor::{Job, JobResult, execute};
 use gtid_set::GtidSet;
 use left_right::Absorb;
@@ -206,14 +207,19 @@ impl<S: RowStore + Drop, J: ReplicaNaming> SharedReplica<S, J> {
         next
     }
 
-    // The job that was claimed: one for each claim lies in the queue.
+    // The job that was claimed. One for each claim lies in the queue: it was pushed under the lock before it was claimed, and nobody
+    // steals without a claim. So a try finds none only while that push is not to be seen yet, or where another takes the first job or
+    // goes on to the queue's next block at this moment. All of these end soon, but for a thread that has its turn taken away
+    // meanwhile: who tries looks a few times, and then yields the processor each time.
     fn steal(&self, rt: &impl Wait, pass: &mut Pass) -> Job
         requires { IsPassOf (arc_value self.now.jobs) pass.old }
         ensures { IsPassOf (arc_value self.now.jobs) pass.new }
     {
+        let backoff = Backoff::new();
         for _ in rt.forever() {
-            if let Some(job) = self.jobs.steal(rt, pass) {
-                return job;
+            match self.jobs.try_steal(rt, pass) {
+                Ok(Some(job)) => return job,
+                Ok(None) | Err(Again) => backoff.snooze(),
             }
         }
         unreachable!()
