@@ -4,14 +4,15 @@ ghost use Rattle.std.specs.Str.{bytes_eq};
 ghost use Rattle.std.specs.Arc.{arc_value};
 ghost use mathlib.Core.List.{IsPrefix};
 ghost use Rattle.store_trait.specs.declared.Op.TheVariants.{Load};
+ghost use Rattle.executor.specs.Job.{IsResult};
 ghost use Rattle.gtid_set.specs.Ids.{takes_source};
 ghost use Rattle.published.specs.History.{IsHistory, commits_in};
 ghost use Rattle.published.specs.Status.{InOrder};
 ghost use Rattle.replica_core.specs.Replica.{operations};
 ghost use Rattle.replica_core.specs.Calls.{new_over};
 ghost use Rattle.replica_shared.specs.Queue.{IsPassOf};
-ghost use Rattle.replica_shared.specs.Together.{IsStop};
-ghost use Rattle.replica_shared.specs.Feeding.{Receives, Feeds, AreUpTo};
+ghost use Rattle.replica_shared.specs.Together.{IsStop, TellsStop};
+ghost use Rattle.replica_shared.specs.Feeding.{Receives, Feeds, AreUpTo, TellsStopOf};
 
 use crate::coordinator::{Coordinator, parts};
 use crate::gate::WorkerGate;
@@ -161,6 +162,10 @@ impl<S: RowStore + Drop, J: ReplicaNaming> SharedReplica<S, J> {
     /// of 64 places, and the next worker takes it first; a job whose push was refused waits in a place of its own, and is pushed
     /// first. What was committed stays, and is published by the next one.
     ///
+    /// A worker that ends with `P9` wakes one more that waits, to do what is left. That one may end so too, and in the end all of them.
+    /// Nothing is done then, and who waits in `wait_for` waits on, until `worker` is called again: it goes on where they ended. Where
+    /// memory may run out, so, call it again behind `P9`.
+    ///
     /// No more jobs are out than the core has workers: a further worker waits, as one does for which there is no job. A job
     /// costs what `execute` does, and under the lock its copying, and the commit and the publication of what it leaves.
     pub fn worker<G: WorkerGate>(
@@ -225,7 +230,9 @@ impl<S: RowStore + Drop, J: ReplicaNaming> SharedReplica<S, J> {
         unreachable!()
     }
 
-    fn hand_in(&self, rt: &impl Wait, done: JobResult) -> Result<(), ReplicaFault> {
+    fn hand_in(&self, rt: &impl Wait, done: JobResult) -> Result<(), ReplicaFault>
+        requires { IsResult done }
+    {
         let mut held = self.lock.take(rt);
         let handed = held.coordinator().hand_in(rt, done);
         held.let_go();
@@ -234,12 +241,12 @@ impl<S: RowStore + Drop, J: ReplicaNaming> SharedReplica<S, J> {
 
     /// Waits until the commit of this gno is published, and answers what is published then. `P5` where the replica is
     /// stopped and that commit is not published, with the number of the record that did not apply. It waits for ever where the
-    /// record of this gno never comes, or no worker runs. It takes no memory.
+    /// record of this gno never comes, or no worker runs, also where all ended with `P9`. It takes no memory.
     pub fn wait_for(&self, rt: &impl Wait, gno: u64) -> Result<Notice<J>, ReplicaFault>
         ensures upto { IfOk result (λ notice. gno ≤ commits_in notice) }
         ensures history { IfOk result (λ notice. IsHistory notice) }
         ensures begins { IfOk result (λ notice. IsPrefix (Load J.base ∷ []) notice) }
-        ensures stop { IfErr result IsStop }
+        ensures stop { IfErr result (TellsStop J.tables J.source J.base gno) }
     {
         let mut held = self.lock.take(rt).wait_for_commit(rt, gno);
         let notice = held.coordinator().notice(gno);
@@ -256,7 +263,7 @@ impl<S: RowStore + Drop, J: ReplicaNaming> SharedReplica<S, J> {
         ensures upto { IfOk result (λ notice. AreUpTo (commits_in notice) set.now) }
         ensures history { IfOk result (λ notice. IsHistory notice) }
         ensures begins { IfOk result (λ notice. IsPrefix (Load J.base ∷ []) notice) }
-        ensures stop { takes_source set.now.source J.source ≡ true → IfErr result IsStop }
+        ensures stop { takes_source set.now.source J.source ≡ true → IfErr result (TellsStopOf J.tables J.source J.base set.now) }
     {
         match set.source() {
             Some(source) if source != self.source(rt) => Err(ReplicaFault::ForeignSource),
