@@ -24,6 +24,7 @@ use Rattle.replica_core.proofs.Handing.{Grows, takes_grow, hands_on_grow, takes_
 use Rattle.replica_shared.specs.Together.{State, IsWhole, words_of}
 use Rattle.replica_shared.specs.Feeding.{left_by_take, SettlesOrLacks, told_behind, TakesAndSettles, HandsAs, Feeds}
 use Rattle.replica_shared.proofs.Commits.{same_operations}
+use Rattle.replica_shared.proofs.Stops.{stops_grown}
 use Rattle.replica_shared.proofs.Whole.{unsettled}
 
 -- ---- more is accepted, or nothing changed
@@ -113,6 +114,7 @@ module _ (tables : List Table) (source : List ℕ) (base : List Entry) where
         kept = h.kept;
         line = h.line;
         claims = h.claims;
+        stops = stops_grown s.core more (record { more = g.more; is = refl }) t.within h.stops;
         rest = unsettled (record s { core = more; behind = true }) refl;
       })
 

@@ -3,6 +3,7 @@ pub mod Standing
 pub mod Places
 pub mod Later
 pub mod Queues
+pub mod Stops
 pub mod Whole
 pub mod Feeding
 pub mod Receiving

@@ -7,16 +7,18 @@ use Rattle.schema.specs.declared.Table.{Table}
 use Rattle.store_trait.specs.Batch.{Entry}
 use Rattle.executor.specs.declared.Job.{Job}
 use Rattle.published.specs.declared.counts.Counts.{Counts}
+use Rattle.relay.specs.declared.ReplicaFault.{ReplicaFault}
 use Rattle.relay.specs.declared.ReplicaFault.TheVariants as faults
 use Rattle.replica_core.specs.Replica.{Replica, dispatched, job_of}
-use Rattle.replica_core.specs.Calls.{new_over, next_commit, next_job, is_eligible, unless_stopped, committed_next, dispatched_next}
+use Rattle.replica_core.specs.Calls.{new_over, next_commit, next_job, is_eligible, unless_stopped, committed_next, dispatched_next, left_by_fault}
 use Rattle.replica_core.specs.Sound.{IsSound}
 use Rattle.replica_core.proofs.Jobs.{job_is_of_its_record}
 use Rattle.replica_core.proofs.Steps.{few_accepted}
 use Rattle.replica_shared.specs.declared.news.Outlook.{Outlook}
 use Rattle.replica_shared.specs.Outlet.{Queued, AreInLine, IsLastOut, empty_outlet}
-use Rattle.replica_shared.specs.Together.{State, AreKept, IsWhole, IsCaughtUp, IsBehindOrCaughtUp, DispatchesOne}
+use Rattle.replica_shared.specs.Together.{State, AreKept, IsWhole, IsCaughtUp, IsBehindOrCaughtUp, DispatchesOne, StopsRightly}
 use Rattle.replica_shared.proofs.Places.{kept_later, dispatched_more}
+use Rattle.replica_shared.proofs.Stops.{runs_rightly}
 
 -- ---- what is left to do
 
@@ -46,8 +48,35 @@ module _ (tables : List Table) (source : List ℕ) (base : List Entry) where
     kept = places;
     line = h.line;
     claims = claims;
+    stops = h.stops;
     rest = λ running not. let is = h.rest running not in record { committed = is.committed; published = is.published; dispatched = is.dispatched; pushed = is.pushed };
   }
+
+-- a result is refused
+pub whole_refused : (tables : List Table) (source : List ℕ) (base : List Entry) (s : State) (r : Replica) (fault : ReplicaFault) (appended : ℕ) (stored : List Counts) → r ≡ left_by_fault s.core fault → StopsRightly (left_by_fault s.core fault) → IsWhole tables source base s appended stored
+    → IsWhole tables source base (record s { core = r }) appended stored
+whole_refused tables source base s r fault appended stored left stops h =
+    subst (λ (x : Replica). IsWhole tables source base (record s { core = x }) appended stored) (sym left) (each fault stops)
+  where
+    each : (told : ReplicaFault) → StopsRightly (left_by_fault s.core told) → IsWhole tables source base (record s { core = left_by_fault s.core told }) appended stored
+    each (faults.Stopped at) may =
+        let t = h.stand in
+        record {
+          stand = record { tables_are = t.tables_are; source_is = t.source_is; base_is = t.base_is; within = t.within; history = t.history; begins = t.begins; shown = t.shown; words = t.words; number = t.number };
+          kept = h.kept;
+          line = h.line;
+          claims = h.claims;
+          stops = may;
+          rest = λ running not. absurd (none-some at (sym running));
+        }
+    each faults.Gap may = h
+    each faults.ForeignSource may = h
+    each faults.Malformed may = h
+    each faults.BadParent may = h
+    each faults.Stranger may = h
+    each faults.Double may = h
+    each faults.WrongInput may = h
+    each faults.Memory may = h
 
 -- ---- the next commit
 
@@ -90,15 +119,16 @@ next_in_line r q job is line free =
     (omega arith, omega arith)
 
 -- one more is dispatched, and its job waits for its push
-pub whole_dispatched : (tables : List Table) (source : List ℕ) (base : List Entry) (s new : State) (appended : ℕ) (stored : List Counts) → s.behind ≡ true → s.outlet.aside ≡ None → DispatchesOne s new → IsWhole tables source base s appended stored
+pub whole_dispatched : (tables : List Table) (source : List ℕ) (base : List Entry) (s new : State) (appended : ℕ) (stored : List Counts) → s.behind ≡ true → s.core.stopped ≡ None → s.outlet.aside ≡ None → DispatchesOne s new → IsWhole tables source base s appended stored
     → IsWhole tables source base new appended stored
-whole_dispatched tables source base s new appended stored behind free one h =
+whole_dispatched tables source base s new appended stored behind running free one h =
     let t = h.stand in
     rw one.left record {
       stand = record { tables_are = t.tables_are; source_is = t.source_is; base_is = t.base_is; within = t.within; history = t.history; begins = t.begins; shown = t.shown; words = t.words; number = t.number };
       kept = kept_later (dispatched s.core) (dispatched (dispatched_next s.core)) s.kept (dispatched_more s.core) h.kept;
       line = next_in_line s.core s.outlet one.job one.is_next h.line free;
       claims = h.claims;
+      stops = runs_rightly (dispatched_next s.core) running;
       rest = unsettled (record s { core = dispatched_next s.core; outlet = record s.outlet { aside = Some one.job } }) behind;
     }
 

@@ -14,11 +14,7 @@ use Rattle.replica_core.specs.Calls.{received}
 use Rattle.replica_core.specs.Wire.{Wire, Hands, Gathers, Takes, piece_taken}
 use Rattle.replica_core.specs.declared.wire.WireFault.{WireFault}
 use Rattle.replica_core.specs.declared.wire.WireFault.TheVariants as wire
-use Rattle.replica_shared.specs.Together.{State, Settles, IsCaughtUp}
-
--- a core of this replica
-abbrev pub IsNamed : List Table → List ℕ → List Entry → Replica → Type 0
-IsNamed tables source base r = (r.tables ≡ tables) × (r.source ≡ source) × (r.base ≡ base)
+use Rattle.replica_shared.specs.Together.{State, Settles, IsCaughtUp, IsNamed, TellsStop}
 
 -- What is answered to a record: what the core's `receive` answers over a core of this replica, or that memory ran out in the place
 -- of an acceptance.
@@ -81,3 +77,9 @@ pub record Feeds (tables : List Table) (source : List ℕ) (base : List Entry) (
 -- all numbers of the set are at most this one
 abbrev pub AreUpTo : ℕ → Ids → Type 0
 AreUpTo n ids = (gno : ℕ) → has_number ids.numbers gno ≡ true → gno ≤ n
+
+-- a stop is told, and the commit of an id of the set is not published
+pub record TellsStopOf (tables : List Table) (source : List ℕ) (base : List Entry) (ids : Ids) (fault : ReplicaFault) : Type 0 where
+  pub gno : ℕ
+  pub has : has_number ids.numbers gno ≡ true
+  pub tells : TellsStop tables source base gno fault

@@ -1,5 +1,5 @@
 -- What lies under the lock of a shared replica, and what is true of it each time that the lock is taken.
-use Rattle.std.specs.Prelude.{◌≡◌, ℕ, ◌+◌, ◌-◌, ◌%◌, ◌<◌, ◌≤◌, Bool, true, false, not, ◌&&◌, ◌||◌, ◌==◌, nat_le, nat_lt, count_by, replicate, IfErr, MatchOption, List, [], ◌∷◌, ◌++◌, length, slice_index_or, slice_set, Option, Some, None, is_some, Result, Ok, Err}
+use Rattle.std.specs.Prelude.{◌≡◌, ◌⊎◌, ℕ, ◌+◌, ◌-◌, ◌%◌, ◌<◌, ◌≤◌, Bool, true, false, not, ◌&&◌, ◌||◌, ◌==◌, nat_le, nat_lt, count_by, replicate, IfErr, IfSome, MatchOption, List, [], ◌∷◌, ◌++◌, length, slice_index_or, slice_set, Option, Some, None, is_some, Result, Ok, Err}
 use mathlib.Core.List.{IsPrefix}
 use Rattle.schema.specs.declared.Table.{Table}
 use Rattle.store_trait.specs.Batch.{Entry}
@@ -13,15 +13,19 @@ use Rattle.published.specs.Status.{counts_of, latest}
 use Rattle.executor.specs.declared.Job.{Job}
 use Rattle.executor.specs.declared.Outcome.{Outcome}
 use Rattle.executor.specs.declared.Outcome.TheVariants as outcomes
+use Rattle.executor.specs.Job.{executed}
 use Rattle.relay.specs.declared.ReplicaFault.{ReplicaFault}
 use Rattle.relay.specs.declared.ReplicaFault.TheVariants as faults
 use Rattle.relay.specs.declared.Received.{Received}
 use Rattle.relay.specs.declared.Received.TheVariants.{Accepted, Skipped}
-use Rattle.replica_core.specs.Replica.{Replica, dispatched, operations}
+use Rattle.replica_core.specs.Replica.{Replica, dispatched, job_of, operations}
 use Rattle.replica_core.specs.Calls.{next_commit, next_job, is_eligible, dispatched_next, with_finished, left_by_fault, with_published, left_by_receive}
+use Rattle.replica_core.specs.Sound.{IsUnderWay}
 use Rattle.replica_shared.specs.Outlet.{Queued, AreInLine, empty_outlet}
 use Rattle.replica_shared.specs.declared.news.News.{News}
 use Rattle.replica_shared.specs.declared.news.Outlook.{Outlook}
+use Rattle.replica_shared.specs.declared.news.Call.{Call}
+use Rattle.replica_shared.specs.declared.news.Call.TheVariants as calls
 use Rattle.replica_shared.specs.declared.news.Next.{Next}
 use Rattle.replica_shared.specs.declared.news.Next.TheVariants as found
 
@@ -57,6 +61,10 @@ state_of core publication closed kept outlet claimed behind told = record {
 -- how far the replica is
 abbrev pub words_of : Replica → Counts
 words_of r = counts_of (length r.accepted) r.committed r.published
+
+-- a core of this replica
+abbrev pub IsNamed : List Table → List ℕ → List Entry → Replica → Type 0
+IsNamed tables source base r = (r.tables ≡ tables) × (r.source ≡ source) × (r.base ≡ base)
 
 -- What the core keeps is true of itself: its rows are those after the committed records. With it, over one base, stand the
 -- publisher and the words of the status. It takes the records of this source.
@@ -120,6 +128,20 @@ abbrev pub TakesOut : List (Option Job) → Option Job → List (Option Job) →
 TakesOut kept None then = ((place : ℕ) → slice_index_or kept place None ≡ None) × (then ≡ kept)
 TakesOut kept (Some job) then = (slice_index_or kept (job.gno % 64) None ≡ Some job) × (then ≡ slice_set kept (job.gno % 64) None)
 
+-- Nothing came of the job that a record could be committed by: its changes do not apply to its rows, or look at other parent
+-- rows than the record states.
+abbrev pub HasNoOutput : Option Job → Type 0
+HasNoOutput None = ⊥
+HasNoOutput (Some job) = (executed job ≡ outcomes.Undefined) ⊎ (executed job ≡ outcomes.WrongRefs)
+
+-- it may stop at the record of this number, which was handed out and is not committed
+abbrev pub MayStopAt : Replica → ℕ → Type 0
+MayStopAt r at = IsUnderWay r at × HasNoOutput (job_of r at)
+
+-- where it stopped it may
+abbrev pub StopsRightly : Replica → Type 0
+StopsRightly r = IfSome r.stopped (MayStopAt r)
+
 -- it tells of a stop
 abbrev pub IsStop : ReplicaFault → Type 0
 IsStop fault = (at : ℕ) × (fault ≡ faults.Stopped at)
@@ -127,6 +149,14 @@ IsStop fault = (at : ℕ) × (fault ≡ faults.Stopped at)
 -- it tells of the stop of this state, in which the commit of this number is not published
 abbrev pub IsStopBehind : State → ℕ → ReplicaFault → Type 0
 IsStopBehind s gno fault = (at : ℕ) × (s.core.stopped ≡ Some at) × (fault ≡ faults.Stopped at) × (commits_in s.publication.published < gno)
+
+-- What a caller knows who is told of a stop: a core of this replica has stopped at that record, as it may, and the commit of this
+-- number is not published.
+pub record TellsStop (tables : List Table) (source : List ℕ) (base : List Entry) (gno : ℕ) (fault : ReplicaFault) : Type 0 where
+  pub state : State
+  pub named : IsNamed tables source base state.core
+  pub stop : IsStopBehind state gno fault
+  pub cause : StopsRightly state.core
 
 -- neither is the commit of this number published, nor is the replica stopped
 abbrev pub is_awaited : State → ℕ → Bool
@@ -163,6 +193,7 @@ pub record IsWhole (tables : List Table) (source : List ℕ) (base : List Entry)
   pub kept : AreKept (dispatched s.core) s.kept
   pub line : AreInLine (dispatched s.core) s.outlet
   pub claims : s.claimed ≤ s.outlet.pushed
+  pub stops : StopsRightly s.core
   pub rest : IsBehindOrCaughtUp s
 
 -- ---- what those who wait are told
@@ -183,15 +214,24 @@ outlook_of s = record {
 abbrev pub is_idle : State → Bool
 is_idle s = not (nat_lt 0 (offers s) || s.behind || (is_some s.core.stopped || is_ended s))
 
--- One worker is told where something is left to do, and where there are jobs and their number is another than was told: it
--- takes one, and tells the next. Those who wait for a commit are told where more is published. At a stop and at the end
--- all are told.
+-- all are to be woken, or one is, or nobody
+abbrev pub call_of : Bool → Bool → Call
+call_of true one = calls.All
+call_of false true = calls.One
+call_of false false = calls.Nobody
+
+-- At a stop and at the end all are told. Else one worker is told where something is left to do, and where there are jobs and
+-- their number is another than was told: it takes one, and tells the next. Those who wait for a commit are told where more is
+-- published.
 abbrev pub news_between : Outlook → Outlook → News
 news_between told now = record {
-  work = now.behind || (nat_lt 0 now.offers && (not (now.offers == told.offers) || told.behind));
-  published = nat_lt told.published now.published;
-  over = now.over && not told.over;
+  workers = call_of (now.over && not told.over) (now.behind || (nat_lt 0 now.offers && (not (now.offers == told.offers) || told.behind)));
+  readers = call_of ((now.over && not told.over) || nat_lt told.published now.published) false;
 }
+
+-- what there is was told
+abbrev pub IsTold : State → Type 0
+IsTold s = s.told ≡ outlook_of s
 
 -- ---- what each step leaves
 

@@ -3,14 +3,15 @@
 ghost use Rattle.std.specs.Prelude.{◌≡◌, ◌⊎◌, ◌≤◌, ◌<◌, ◌+◌, ◌++◌, ◌∷◌, [], true, false, replicate, count_by, length, None, Ok, Err, IfOk, IfErr, IfSome, OnOk, OnErr, IsErrOf, IsOk, IsSome, is_some, if◌then◌else◌};
 ghost use mathlib.Core.List.{IsPrefix};
 ghost use Rattle.store_trait.specs.declared.Op.TheVariants.{Load};
+ghost use Rattle.executor.specs.Job.{IsResult};
 ghost use Rattle.published.specs.History.{IsHistory, commits_in};
 ghost use Rattle.published.specs.Status.{NoneFalls, latest};
 ghost use Rattle.replica_core.specs.Calls.{new_over, received, left_by_receive, is_eligible, finish_fault, IsHandedOut, with_finished, left_by_fault, next_commit, committed_next, unless_stopped, with_published};
 ghost use Rattle.replica_core.specs.Sound.{IsSound, IsUnderWay};
 ghost use Rattle.replica_core.specs.Wire.{Takes};
-ghost use Rattle.replica_shared.specs.Feeding.{IsNamed, left_by_take, SettlesOrLacks, told_behind, TakesAndSettles, HandsAs, HandsAndSettles};
+ghost use Rattle.replica_shared.specs.Feeding.{left_by_take, SettlesOrLacks, told_behind, TakesAndSettles, HandsAs, HandsAndSettles};
 ghost use Rattle.replica_shared.specs.Outlet.{empty_outlet, pushed_aside};
-ghost use Rattle.replica_shared.specs.Together.{State, StoodTogether, words_of, is_awaited, IsStopBehind, IsLater, IsCaughtUp, Settles, IsFaultOf, new_state, left_by_accept, AcceptsAndSettles, left_by_finish, refused_so, HandsIn, NoneIsKept, Finds, FindsBehind, DispatchesOne, DispatchesMore, is_ended, is_idle, offers, outlook_of, news_between, answered, with_waiting, IsAppended, shown, NoneLost, laid, taken_back, TakesOut};
+ghost use Rattle.replica_shared.specs.Together.{State, IsNamed, StopsRightly, StoodTogether, words_of, is_awaited, IsStopBehind, IsLater, IsCaughtUp, Settles, IsFaultOf, new_state, left_by_accept, AcceptsAndSettles, left_by_finish, refused_so, HandsIn, NoneIsKept, Finds, FindsBehind, DispatchesOne, DispatchesMore, is_ended, is_idle, offers, outlook_of, news_between, answered, with_waiting, IsAppended, shown, NoneLost, laid, taken_back, TakesOut};
 
 use crate::kept::Kept;
 use crate::naming::ReplicaNaming;
@@ -288,6 +289,7 @@ impl<S: RowStore + Drop, J: ReplicaNaming> Coordinator<S, J> {
 
     // Takes the result of a job, commits what can be, publishes it at once, and dispatches what then may be.
     pub(crate) fn hand_in(&mut self, rt: &impl Wait, done: JobResult) -> Result<(), ReplicaFault>
+        requires { IsResult done }
         ensures refused { IfSome (finish_fault self.old.core done.job.gno) (λ fault. (result ≡ Err fault) × (self.new ≡ self.old)) }
         ensures other { finish_fault self.old.core done.job.gno ≡ None → ¬ IsHandedOut self.old.core done
             → (result ≡ Err ReplicaFault.WrongInput) × (self.new ≡ self.old) }
@@ -301,6 +303,7 @@ impl<S: RowStore + Drop, J: ReplicaNaming> Coordinator<S, J> {
 
     // The core's call. The job is kept where memory ran out.
     fn finish(&mut self, done: JobResult) -> Result<(), ReplicaFault>
+        requires { IsResult done }
         ensures refused { IfSome (finish_fault self.old.core done.job.gno) (λ fault. result ≡ Err fault) }
         ensures other { finish_fault self.old.core done.job.gno ≡ None → ¬ IsHandedOut self.old.core done
             → result ≡ Err ReplicaFault.WrongInput }
@@ -516,6 +519,8 @@ impl<S: RowStore + Drop, J: ReplicaNaming> Coordinator<S, J> {
         ensures begins { IfOk result (λ notice. IsPrefix (Load J.base ∷ []) notice) }
         ensures published { IfOk result (λ notice. notice ≡ self.now.publication.published) }
         ensures stopped { IfErr result (λ fault. IsStopBehind self.now gno fault) }
+        ensures named { IsNamed J.tables J.source J.base self.now.core }
+        ensures cause { StopsRightly self.now.core }
     {
         let notice = self.publisher.tell();
         if gno <= notice.upto() {

@@ -1,8 +1,9 @@
 //! What a worker finds under the lock, and who is to be told of what a call left.
 ghost use Rattle.std.specs.Prelude.{◌≡◌};
-ghost use Rattle.replica_shared.specs.Together.{news_between};
+ghost use Rattle.replica_shared.specs.Together.{call_of, news_between};
 
 use executor::Job;
+use std::sync::Condvar;
 
 /// What there is for a worker.
 #[derive(Drop)]
@@ -30,15 +31,45 @@ pub struct Outlook {
     pub over: bool,
 }
 
-/// Who is to be told.
-#[derive(Clone, Copy, Debug)]
+/// Who is to be told. It is not `Drop`, so it can't be forgotten.
+#[derive(Debug)]
 pub struct News {
-    /// One worker.
-    pub work: bool,
-    /// All who wait for a commit.
-    pub published: bool,
-    /// All.
-    pub over: bool,
+    /// Those who wait for work.
+    pub workers: Call,
+    /// Those who wait for a commit.
+    pub readers: Call,
+}
+
+/// Who of those who wait for one thing is to be woken. It is not `Drop`: it ends in `ring`.
+#[derive(Debug)]
+pub enum Call {
+    Nobody,
+    One,
+    All,
+}
+
+impl Call {
+    // To all, or to one, or to nobody.
+    fn of(all: bool, one: bool) -> Call
+        ensures { result ≡ call_of all one }
+    {
+        if all {
+            Call::All
+        } else if one {
+            Call::One
+        } else {
+            Call::Nobody
+        }
+    }
+
+    /// Wakes them.
+    pub(crate) fn ring(self, bell: &Condvar) {
+        match self {
+            Call::Nobody => {}
+            Call::One => bell.notify_one(),
+            Call::All => bell.notify_all(),
+        }
+    }
 }
 
 /// How many wait.
@@ -55,10 +86,11 @@ impl Outlook {
     pub(crate) fn since(self, told: Outlook) -> News
         ensures { result ≡ news_between told self }
     {
+        let over = self.over && !told.over;
+        let offers = 0 < self.offers && (self.offers != told.offers || told.behind);
         News {
-            work: self.behind || (0 < self.offers && (self.offers != told.offers || told.behind)),
-            published: told.published < self.published,
-            over: self.over && !told.over,
+            workers: Call::of(over, self.behind || offers),
+            readers: Call::of(over || told.published < self.published, false),
         }
     }
 }

@@ -3,7 +3,7 @@
 //! One pass pushes, and any may steal. The rule: the gnos in the queue rise, and are above every gno that any pass stole; none
 //! of either is above the greatest that was pushed. So no job is pushed twice and none is given twice, whatever the threads do.
 //! What a job has in it the core says, which keeps a copy of its rows.
-ghost use Rattle.std.specs.Prelude.{◌≡◌, ◌<◌, ◌∷◌, IfOk, IfErr, IfSome, OnOk, IfNone};
+ghost use Rattle.std.specs.Prelude.{◌≡◌, ◌<◌, ◌∷◌, IfOk, IfErr, IfSome, OnOk, OnErr, IfNone};
 ghost use Rattle.replica_shared.specs.Queue.{IsPassOf, hand_of, empty_hand, with_pushed, with_stolen, AllBelow};
 
 use crate::hand::Hand;
@@ -48,6 +48,10 @@ impl Outcome<Job, Hand> for Stolen {
 /// What one caller knows of a queue of jobs: what it pushed and stole. It has no bytes.
 pub type Pass = InjectorPass<Job, Hand>;
 
+/// A try to steal met another thread, and is to be made again.
+#[derive(Clone, Copy, Debug, PartialEq, Eq)]
+pub struct Again;
+
 /// The jobs that were dispatched and that no worker took yet, in log order.
 #[derive(Drop)]
 pub struct Jobs {
@@ -83,7 +87,8 @@ impl Jobs {
         self.queue.push_as::<Pushed, _>(rt, pass, job)
     }
 
-    /// Takes the first job, which no pass stole before. `None` where there is none, or another takes one meanwhile.
+    /// Takes the first job, which no pass stole before. `None` where there is none, or another takes one meanwhile: `try_steal` tells
+    /// which.
     pub fn steal(&self, rt: &impl Wait, pass: &mut Pass) -> Option<Job>
         requires queue { IsPassOf self.now pass.old }
         ensures same { IsPassOf self.now pass.new × (pass.new.id ≡ pass.old.id) }
@@ -91,9 +96,27 @@ impl Jobs {
         ensures new { IfSome result (λ job. AllBelow job.gno (hand_of pass.old).stolen) }
         ensures none { IfNone result (hand_of pass.new ≡ hand_of pass.old) }
     {
+        match self.try_steal(rt, pass) {
+            Ok(found) => found,
+            Err(Again) => None,
+        }
+    }
+
+    /// One try to take the first job, which no pass stole before. `None` where the queue was empty at one moment of the call. `Again`
+    /// where another took the first job meanwhile, or goes on to the queue's next block of 31 jobs, for which the others wait: then
+    /// nothing is known.
+    pub fn try_steal(&self, rt: &impl Wait, pass: &mut Pass) -> Result<Option<Job>, Again>
+        requires queue { IsPassOf self.now pass.old }
+        ensures same { IsPassOf self.now pass.new × (pass.new.id ≡ pass.old.id) }
+        ensures job { IfOk result (λ found. IfSome found (λ job. hand_of pass.new ≡ with_stolen (hand_of pass.old) job.gno)) }
+        ensures new { IfOk result (λ found. IfSome found (λ job. AllBelow job.gno (hand_of pass.old).stolen)) }
+        ensures none { IfOk result (λ found. IfNone found (hand_of pass.new ≡ hand_of pass.old)) }
+        ensures again { OnErr result (hand_of pass.new ≡ hand_of pass.old) }
+    {
         match self.queue.steal_as::<Stolen, _>(rt, pass) {
-            Steal::Success(job) => Some(job),
-            Steal::Empty | Steal::Retry => None,
+            Steal::Success(job) => Ok(Some(job)),
+            Steal::Empty => Ok(None),
+            Steal::Retry => Err(Again),
         }
     }
 }

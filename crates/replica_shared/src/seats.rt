@@ -1,5 +1,5 @@
 //! The seats that are not out.
-ghost use Rattle.std.specs.Prelude.{◌≡◌, ◌++◌, ◌∷◌, [], All, IfSome, option_to_list};
+ghost use Rattle.std.specs.Prelude.{◌≡◌, ◌++◌, ◌∷◌, [], All, IfSome, IfNone, option_to_list};
 ghost use Rattle.store_trait.specs.declared.Op.TheVariants.{Load};
 
 use crate::naming::ReplicaNaming;
@@ -36,6 +36,7 @@ impl<S: RowStore + Drop, J: ReplicaNaming> Seats<S, J> {
     pub(crate) fn take(&mut self) -> Option<ReadSeat<S, J>>
         ensures seat { IfSome result (λ seat. seat ≡ Load J.base ∷ []) }
         ensures taken { self.old ≡ self.new ++ option_to_list result }
+        ensures none { IfNone result (self.old ≡ []) }
     {
         self.free.pop()
     }

@@ -4,22 +4,25 @@ ghost use Rattle.std.specs.Str.{bytes_eq};
 ghost use Rattle.std.specs.Arc.{arc_value};
 ghost use mathlib.Core.List.{IsPrefix};
 ghost use Rattle.store_trait.specs.declared.Op.TheVariants.{Load};
+ghost use Rattle.executor.specs.Job.{IsResult};
 ghost use Rattle.gtid_set.specs.Ids.{takes_source};
 ghost use Rattle.published.specs.History.{IsHistory, commits_in};
 ghost use Rattle.published.specs.Status.{InOrder};
 ghost use Rattle.replica_core.specs.Replica.{operations};
 ghost use Rattle.replica_core.specs.Calls.{new_over};
 ghost use Rattle.replica_shared.specs.Queue.{IsPassOf};
-ghost use Rattle.replica_shared.specs.Together.{IsStop};
-ghost use Rattle.replica_shared.specs.Feeding.{Receives, Feeds, AreUpTo};
+ghost use Rattle.replica_shared.specs.Together.{IsStop, TellsStop};
+ghost use Rattle.replica_shared.specs.Feeding.{Receives, Feeds, AreUpTo, TellsStopOf};
 
 use crate::coordinator::{Coordinator, parts};
 use crate::gate::WorkerGate;
+use crate::held::Lock;
 use crate::naming::ReplicaNaming;
 use crate::news::{Next, Sleepers};
 use crate::outlet::Outlet;
-use crate::queue::{Jobs, Pass};
+use crate::queue::{Again, Jobs, Pass};
 use crate::seats::Seats;
+use crossbeam_utils::Backoff;
 use executor::{Job, JobResult, execute};
 use gtid_set::GtidSet;
 use left_right::Absorb;
@@ -29,12 +32,9 @@ use relay::{Received, ReplicaFault};
 use replica_core::{ReplicaCore, Wire, WireFault};
 use schema::Memory;
 use std::alloc::Global;
-use std::sync::{Arc, Condvar, Mutex, MutexGuard, Wait};
+use std::sync::{Arc, Mutex, Wait};
 use store_trait::RowStore;
 use uuid::Uuid;
-
-/// So often who brings a record looks whether the lock is free, some microseconds in all.
-const LOOKS: usize = 1000;
 
 /// A replica and its publisher, under one lock. Each call but `new`, `end`, `seat` and `status` takes that lock; `seat` and
 /// `status` have one each of their own. A call waits for as long as others hold its lock. Threads share it by reference.
@@ -51,11 +51,7 @@ pub struct SharedReplica<S: RowStore + Drop, J: ReplicaNaming>
 where
     Version<S, J>: Absorb<Step<J>, State = Common>,
 {
-    held: Mutex<Coordinator<S, J>>,
-    /// Where workers wait.
-    work: Condvar,
-    /// Where those in `wait_for` wait.
-    shown: Condvar,
+    lock: Lock<S, J>,
     jobs: Arc<Jobs>,
     seats: Mutex<Seats<S, J>>,
     watch: Mutex<Watch>,
@@ -96,9 +92,7 @@ impl<S: RowStore + Drop, J: ReplicaNaming> SharedReplica<S, J> {
             }
         };
         Ok(SharedReplica {
-            held: Mutex::new(Coordinator::new(core, publisher, status, places, outlet)),
-            work: Condvar::new(),
-            shown: Condvar::new(),
+            lock: Lock::new(Coordinator::new(core, publisher, status, places, outlet)),
             jobs,
             seats: Mutex::new(Seats::new(seats)),
             watch: Mutex::new(watch),
@@ -117,9 +111,9 @@ impl<S: RowStore + Drop, J: ReplicaNaming> SharedReplica<S, J> {
         ensures foreign { bytes_eq from J.source ≡ false → IsErrAnd result (λ fault. (fault ≡ ReplicaFault.ForeignSource) ⊎ IsStop fault) }
         ensures own { result ≡ Err ReplicaFault.ForeignSource → bytes_eq from J.source ≡ false }
     {
-        let mut held = self.lock_soon(rt);
-        let answer = held.receive(rt, from, new);
-        self.let_go(held);
+        let mut held = self.lock.take_soon(rt);
+        let answer = held.coordinator().receive(rt, from, new);
+        held.let_go();
         answer
     }
 
@@ -137,9 +131,9 @@ impl<S: RowStore + Drop, J: ReplicaNaming> SharedReplica<S, J> {
         if wire.waiting().is_empty() {
             self.feed_first(rt, wire, piece)
         } else {
-            let mut held = self.lock_soon(rt);
-            let answer = held.take(rt, wire, piece);
-            self.let_go(held);
+            let mut held = self.lock.take_soon(rt);
+            let answer = held.coordinator().take(rt, wire, piece);
+            held.let_go();
             answer
         }
     }
@@ -155,21 +149,10 @@ impl<S: RowStore + Drop, J: ReplicaNaming> SharedReplica<S, J> {
         if wire.waiting().is_empty() {
             return Ok(0);
         }
-        let mut held = self.lock_soon(rt);
-        let answer = held.hand(rt, wire);
-        self.let_go(held);
+        let mut held = self.lock.take_soon(rt);
+        let answer = held.coordinator().hand(rt, wire);
+        held.let_go();
         answer
-    }
-
-    // Takes the lock for a record. A worker that commits holds it for a moment, as often as records come, so it looks whether it is free
-    // before it sleeps.
-    fn lock_soon(&self, rt: &impl Wait) -> MutexGuard<'_, Coordinator<S, J>> {
-        for _look in 0..LOOKS {
-            if let Some(held) = self.held.try_lock() {
-                return held;
-            }
-        }
-        self.held.lock(rt)
     }
 
     /// Executes jobs until `close` was called and all accepted records are committed and published. It claims a job under the
@@ -178,6 +161,10 @@ impl<S: RowStore + Drop, J: ReplicaNaming> SharedReplica<S, J> {
     /// also by this worker's own job, and with `P9` where memory ran out. A job for which it ran out in its execution is kept in one
     /// of 64 places, and the next worker takes it first; a job whose push was refused waits in a place of its own, and is pushed
     /// first. What was committed stays, and is published by the next one.
+    ///
+    /// A worker that ends with `P9` wakes one more that waits, to do what is left. That one may end so too, and in the end all of them.
+    /// Nothing is done then, and who waits in `wait_for` waits on, until `worker` is called again: it goes on where they ended. Where
+    /// memory may run out, so, call it again behind `P9`.
     ///
     /// No more jobs are out than the core has workers: a further worker waits, as one does for which there is no job. A job
     /// costs what `execute` does, and under the lock its copying, and the commit and the publication of what it leaves.
@@ -219,64 +206,51 @@ impl<S: RowStore + Drop, J: ReplicaNaming> SharedReplica<S, J> {
 
     // Waits until there is something for a worker, and answers what.
     fn next(&self, rt: &impl Wait) -> Result<Next, ReplicaFault> {
-        let mut held = self.held.lock(rt);
-        held.worker_sleeps();
-        let mut held = self.work.wait_while(rt, held, |held| held.is_idle());
-        let next = held.next(rt);
-        held.worker_wakes();
-        self.let_go(held);
+        let mut held = self.lock.take(rt).wait_for_work(rt);
+        let next = held.coordinator().next(rt);
+        held.let_go();
         next
     }
 
-    // The job that was claimed: one for each claim lies in the queue.
+    // The job that was claimed. One for each claim lies in the queue: it was pushed under the lock before it was claimed, and nobody
+    // steals without a claim. So a try finds none only while that push is not to be seen yet, or where another takes the first job or
+    // goes on to the queue's next block at this moment. All of these end soon, but for a thread that has its turn taken away
+    // meanwhile: who tries looks a few times, and then yields the processor each time.
     fn steal(&self, rt: &impl Wait, pass: &mut Pass) -> Job
         requires { IsPassOf (arc_value self.now.jobs) pass.old }
         ensures { IsPassOf (arc_value self.now.jobs) pass.new }
     {
+        let backoff = Backoff::new();
         for _ in rt.forever() {
-            if let Some(job) = self.jobs.steal(rt, pass) {
-                return job;
+            match self.jobs.try_steal(rt, pass) {
+                Ok(Some(job)) => return job,
+                Ok(None) | Err(Again) => backoff.snooze(),
             }
         }
         unreachable!()
     }
 
-    fn hand_in(&self, rt: &impl Wait, done: JobResult) -> Result<(), ReplicaFault> {
-        let mut held = self.held.lock(rt);
-        let handed = held.hand_in(rt, done);
-        self.let_go(held);
+    fn hand_in(&self, rt: &impl Wait, done: JobResult) -> Result<(), ReplicaFault>
+        requires { IsResult done }
+    {
+        let mut held = self.lock.take(rt);
+        let handed = held.coordinator().hand_in(rt, done);
+        held.let_go();
         handed
-    }
-
-    // Lets go of the lock, and wakes those whom it concerns what was done under it.
-    fn let_go(&self, mut held: MutexGuard<'_, Coordinator<S, J>>) {
-        let news = held.news();
-        MutexGuard::unlock(held);
-        if news.over {
-            self.work.notify_all();
-        } else if news.work {
-            self.work.notify_one();
-        }
-        if news.over || news.published {
-            self.shown.notify_all();
-        }
     }
 
     /// Waits until the commit of this gno is published, and answers what is published then. `P5` where the replica is
     /// stopped and that commit is not published, with the number of the record that did not apply. It waits for ever where the
-    /// record of this gno never comes, or no worker runs. It takes no memory.
+    /// record of this gno never comes, or no worker runs, also where all ended with `P9`. It takes no memory.
     pub fn wait_for(&self, rt: &impl Wait, gno: u64) -> Result<Notice<J>, ReplicaFault>
         ensures upto { IfOk result (λ notice. gno ≤ commits_in notice) }
         ensures history { IfOk result (λ notice. IsHistory notice) }
         ensures begins { IfOk result (λ notice. IsPrefix (Load J.base ∷ []) notice) }
-        ensures stop { IfErr result IsStop }
+        ensures stop { IfErr result (TellsStop J.tables J.source J.base gno) }
     {
-        let mut held = self.held.lock(rt);
-        held.reader_sleeps();
-        let mut held = self.shown.wait_while(rt, held, |held| held.is_awaited(gno));
-        let notice = held.notice(gno);
-        held.reader_wakes();
-        MutexGuard::unlock(held);
+        let mut held = self.lock.take(rt).wait_for_commit(rt, gno);
+        let notice = held.coordinator().notice(gno);
+        held.let_go();
         notice
     }
 
@@ -289,7 +263,7 @@ impl<S: RowStore + Drop, J: ReplicaNaming> SharedReplica<S, J> {
         ensures upto { IfOk result (λ notice. AreUpTo (commits_in notice) set.now) }
         ensures history { IfOk result (λ notice. IsHistory notice) }
         ensures begins { IfOk result (λ notice. IsPrefix (Load J.base ∷ []) notice) }
-        ensures stop { takes_source set.now.source J.source ≡ true → IfErr result IsStop }
+        ensures stop { takes_source set.now.source J.source ≡ true → IfErr result (TellsStopOf J.tables J.source J.base set.now) }
     {
         match set.source() {
             Some(source) if source != self.source(rt) => Err(ReplicaFault::ForeignSource),
@@ -301,9 +275,9 @@ impl<S: RowStore + Drop, J: ReplicaNaming> SharedReplica<S, J> {
     fn source(&self, rt: &impl Wait) -> Uuid
         ensures { result ≡ J.source }
     {
-        let held = self.held.lock(rt);
-        let source = held.source();
-        MutexGuard::unlock(held);
+        let mut held = self.lock.take(rt);
+        let source = held.coordinator().source();
+        held.let_go();
         source
     }
 
@@ -316,9 +290,9 @@ impl<S: RowStore + Drop, J: ReplicaNaming> SharedReplica<S, J> {
 
     /// How many calls wait now: those of `worker` that have no job, and those of `wait_for`. It takes the lock.
     pub fn sleepers(&self, rt: &impl Wait) -> Sleepers {
-        let held = self.held.lock(rt);
-        let sleepers = held.sleepers();
-        MutexGuard::unlock(held);
+        let mut held = self.lock.take(rt);
+        let sleepers = held.coordinator().sleepers();
+        held.let_go();
         sleepers
     }
 
@@ -332,9 +306,9 @@ impl<S: RowStore + Drop, J: ReplicaNaming> SharedReplica<S, J> {
 
     /// No more records come: workers end once all that were accepted are committed and published.
     pub fn close(&self, rt: &impl Wait) {
-        let mut held = self.held.lock(rt);
-        held.close();
-        self.let_go(held);
+        let mut held = self.lock.take(rt);
+        held.coordinator().close();
+        held.let_go();
     }
 
     /// The core and the publisher, over the tables and the rows that they were made with. What is published are the operations of
@@ -350,13 +324,11 @@ impl<S: RowStore + Drop, J: ReplicaNaming> SharedReplica<S, J> {
         ensures shown { result.0.published ≤ commits_in result.1.published }
     {
         let SharedReplica {
-            held,
-            work: _,
-            shown: _,
+            lock,
             jobs: _,
             seats: _,
             watch: _,
         } = self;
-        held.into_inner().end()
+        lock.into_inner().end()
     }
 }

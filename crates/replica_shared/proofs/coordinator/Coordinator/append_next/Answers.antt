@@ -30,5 +30,6 @@ invariant_of-self-2 g c =
       kept = c.self.invariant.kept;
       line = c.self.invariant.line;
       claims = c.self.invariant.claims;
+      stops = c.self.invariant.stops;
       rest = λ running not. let is = c.self.invariant.rest running not in record { committed = is.committed; published = is.published; dispatched = is.dispatched; pushed = is.pushed };
     }

@@ -5,6 +5,7 @@ use Rattle.replica_core.specs.Calls.{committed_next}
 use Rattle.replica_shared.specs.Outlet.{AreInLine}
 use Rattle.replica_shared.specs.Together.{State, words_of, AreKept}
 use Rattle.replica_shared.proofs.Standing.{left_committed, stand_committed}
+use Rattle.replica_shared.proofs.Stops.{runs_rightly, runs_where_ok}
 use Rattle.replica_shared.proofs.Whole.{unsettled, commit_had, dispatched_stays}
 use Rattle.replica_shared.proofs.coordinator.Coordinator.commit_next.Goals as goal
 
@@ -18,5 +19,6 @@ invariant_of-self-then-is_some g c =
       kept = subst (λ n. AreKept n c.self.inside.kept) (sym same) c.self.invariant.kept;
       line = subst (λ n. AreInLine n c.self.inside.outlet) (sym same) c.self.invariant.line;
       claims = c.self.invariant.claims;
+      stops = runs_rightly (committed_next was) (runs_where_ok was _ _ c.in_ok-next.ensures.answer);
       rest = unsettled _ (ap (λ (s : State). s.behind) c.self.view_is ∙ c.requires);
     }

@@ -3,7 +3,7 @@ use Rattle.replica_shared.proofs.shared.SharedReplica.receive.Goals as goal
 
 pub returns-clause-answer : goal.returns-clause-answer
 returns-clause-answer g c = record {
-  before = c.deref_mut.result.now.core;
+  before = c.coordinator.result.now.core;
   named = c.receive-answer.ensures.named;
   told = c.receive-answer.ensures.answer;
   memory = c.receive-answer.ensures.memory;

@@ -1,0 +1,191 @@
+-- Why a replica stopped stays true at each step.
+use Rattle.std.proofs.Common.{◌≡◌, ◌∙◌, sym, ap, subst, refl, ℕ, ◌+◌, ◌-◌, ◌<◌, ◌≤◌, ◌⊎◌, inl, inr, Bool, true, false, ◌&&◌, ◌||◌, nat_le, List, ◌++◌, length, length-append, take, Option, Some, None, is_some, Result, Ok, Err, IfSome, IfErr, IsErrOf, arith, slice_get, slice_set, get_or}
+use Rattle.std.specs.Option.{option_map_or}
+use Rattle.std.proofs.lemmas.Bool.{cases_eq, and_parts, or_parts, leb-true, leb-false}
+use Rattle.std.proofs.lemmas.Option.{none-some, same_Some, slice_get_within}
+use Rattle.std.proofs.lemmas.List.{length-set, take-append-le}
+use Rattle.schema.proofs.Lists.{get_front}
+use Rattle.schema.specs.declared.Table.{Table}
+use Rattle.rows.specs.Database.{Database}
+use Rattle.store_trait.specs.Batch.{Entry}
+use Rattle.store_trait.specs.Operation.{loaded}
+use Rattle.store_trait.specs.declared.Op.{Op}
+use Rattle.record_codec.specs.Log.{after}
+use Rattle.executor.specs.declared.Job.{Job}
+use Rattle.executor.specs.declared.Outcome.{Outcome}
+use Rattle.executor.specs.declared.Outcome.TheVariants as outcomes
+use Rattle.executor.specs.Job.{Finished, IsResult, executed}
+use Rattle.relay.specs.declared.ReplicaFault.{ReplicaFault}
+use Rattle.relay.specs.declared.ReplicaFault.TheVariants as faults
+use Rattle.replica_core.specs.Replica.{Replica, dispatched, job_of, working_rows, rows_at}
+use Rattle.replica_core.specs.Calls.{finish_fault, was_finished, IsHandedOut, taken_as, with_finished, left_by_fault, stopped_at, unless_stopped}
+use Rattle.replica_core.specs.Sound.{IsUnderWay}
+use Rattle.replica_core.proofs.Handing.{Grows}
+use Rattle.replica_core.proofs.Jobs.{job_at, job_parts}
+use Rattle.replica_core.proofs.Steps.{cause, no_cause}
+use Rattle.replica_shared.specs.Together.{State, HasNoOutput, MayStopAt, StopsRightly, IsNamed, IsStopBehind, TellsStop}
+
+-- one that runs has not stopped anywhere
+pub runs_rightly : (r : Replica) → r.stopped ≡ None → StopsRightly r
+runs_rightly r running = subst (λ (stopped : Option ℕ). IfSome stopped (MayStopAt r)) (sym running) tt
+
+-- it runs, where it answers so
+pub runs_where_ok : {T : Type 0} (r : Replica) (answer told : T) → IsErrOf (Ok answer) faults.Memory ⊎ (Ok answer ≡ unless_stopped r told) → r.stopped ≡ None
+runs_where_ok r answer told (inl lacks) = cc
+runs_where_ok r answer told (inr is) = running r.stopped is
+  where
+    running : (stopped : Option ℕ) → Ok answer ≡ option_map_or (λ gno. Err (faults.Stopped gno)) stopped (Ok told) → stopped ≡ None
+    running None is = refl
+    running (Some at) is = cc
+
+-- ---- more is accepted
+
+job_there : (o : Option Job) → HasNoOutput o → (job : Job) × (o ≡ Some job)
+job_there None none = absurd none
+job_there (Some job) none = (job, refl)
+
+may_grown : (r then : Replica) (at : ℕ) → Grows r then → r.committed ≤ length r.accepted → MayStopAt r at → MayStopAt then at
+may_grown r then at grows within may =
+    let there = job_there (job_of r at) may.1 in
+    let parts = job_parts r at there.0 there.1 in
+    let more : Replica = record r { accepted = r.accepted ++ grows.more } in
+    let got = get_front r.accepted grows.more (at - 1) (slice_get_within r.accepted (at - 1) parts.rec parts.got) ∙ parts.got in
+    let rows = ap (after r.tables (loaded r.base)) (take-append-le r.committed r.accepted grows.more within) ∙ parts.rows_are in
+    let same : job_of more at ≡ job_of r at = job_at more at parts.rec parts.rows got rows ∙ sym (job_at r at parts.rec parts.rows parts.got parts.rows_are) in
+    subst (λ (x : Replica). MayStopAt x at) (sym grows.is) (may.0, subst HasNoOutput (sym same) may.1)
+
+pub stops_grown : (r then : Replica) → Grows r then → r.committed ≤ length r.accepted → StopsRightly r → StopsRightly then
+stops_grown r then grows within h =
+    subst (λ (stopped : Option ℕ). IfSome stopped (MayStopAt then)) (sym (ap (λ (x : Replica). x.stopped) grows.is)) (each r.stopped h)
+  where
+    each : (stopped : Option ℕ) → IfSome stopped (MayStopAt r) → IfSome stopped (MayStopAt then)
+    each None may = tt
+    each (Some at) may = may_grown r then at grows within may
+
+-- ---- a result
+
+-- where nothing refuses it, the replica runs, and its record is under way
+pub free_runs : (r : Replica) (gno : ℕ) → finish_fault r gno ≡ None → (r.stopped ≡ None) × IsUnderWay r gno
+free_runs r gno free =
+    let so = no_cause r.stopped (nat_le 1 gno && nat_le gno (dispatched r)) (was_finished r gno) free in
+    let within = and_parts (nat_le 1 gno) (nat_le gno (dispatched r)) so.1 in
+    let behind = or_parts (nat_le gno r.committed) (get_or r.under_way (gno - r.committed - 1) false) so.2 in
+    (so.0, (leb-false gno r.committed behind.0, leb-true gno (dispatched r) within.1))
+
+-- two answers of one fault
+same_fault : (a b : ReplicaFault) (x y : Finished) → ◌≡◌ {A = Result (Unit {0}) (ReplicaFault × Finished)} (Err (a, x)) (Err (b, y)) → a ≡ b
+same_fault a b x y is = let pair : (a, x) ≡ (b, y) = cc is in ap (λ (p : ReplicaFault × Finished). p.0) pair
+
+-- a result that stops the replica has no output
+taken_stops : (done back : Finished) (at : ℕ) (o : Outcome) → taken_as done o ≡ Err (faults.Stopped at, back) → ((o ≡ outcomes.Undefined) ⊎ (o ≡ outcomes.WrongRefs)) × (done.job.gno ≡ at)
+taken_stops done back at (outcomes.Output batch) is = cc
+taken_stops done back at outcomes.Undefined is = (inl refl, cc (same_fault (faults.Stopped done.job.gno) (faults.Stopped at) done back is))
+taken_stops done back at outcomes.WrongRefs is = (inr refl, cc (same_fault (faults.Stopped done.job.gno) (faults.Stopped at) done back is))
+taken_stops done back at outcomes.Memory is = absurd (cc (same_fault faults.Memory (faults.Stopped at) done back is))
+
+-- and it is that of its job
+came : (o e : Outcome) → (o ≡ outcomes.Undefined) ⊎ (o ≡ outcomes.WrongRefs) → (o ≡ outcomes.Memory) ⊎ (o ≡ e) → (e ≡ outcomes.Undefined) ⊎ (e ≡ outcomes.WrongRefs)
+came o e (inl none) (inl lacks) = cc
+came o e (inr wrong) (inl lacks) = cc
+came o e (inl none) (inr same) = inl (sym same ∙ none)
+came o e (inr wrong) (inr same) = inr (sym same ∙ wrong)
+
+no_output : (o : Option Job) (done : Finished) → ((o ≡ Some done.job → ⊥) → ⊥) → (o ≡ Some done.job → (executed done.job ≡ outcomes.Undefined) ⊎ (executed done.job ≡ outcomes.WrongRefs)) → HasNoOutput o
+no_output None done handed none = absurd (handed (λ is. none-some done.job is))
+no_output (Some job) done handed none = by_outcome (executed job) refl
+  where
+    its : Some job ≡ Some done.job → (executed job ≡ outcomes.Undefined) ⊎ (executed job ≡ outcomes.WrongRefs)
+    its is =
+        let same : executed job ≡ executed done.job = ap executed (same_Some job done.job is) in
+        elim (none is) [ inl not ↦ inl (same ∙ not) | inr wrong ↦ inr (same ∙ wrong) ]
+
+    not_output : (e : Outcome) (batch : List Entry) → (e ≡ outcomes.Undefined) ⊎ (e ≡ outcomes.WrongRefs) → e ≡ outcomes.Output batch → ⊥
+    not_output e batch (inl none) is = cc
+    not_output e batch (inr wrong) is = cc
+
+    not_memory : (e : Outcome) → (e ≡ outcomes.Undefined) ⊎ (e ≡ outcomes.WrongRefs) → e ≡ outcomes.Memory → ⊥
+    not_memory e (inl none) is = cc
+    not_memory e (inr wrong) is = cc
+
+    by_outcome : (e : Outcome) → executed job ≡ e → (executed job ≡ outcomes.Undefined) ⊎ (executed job ≡ outcomes.WrongRefs)
+    by_outcome (outcomes.Output batch) is = absurd (handed (λ same. not_output (executed job) batch (its same) is))
+    by_outcome outcomes.Undefined is = inl is
+    by_outcome outcomes.WrongRefs is = inr is
+    by_outcome outcomes.Memory is = absurd (handed (λ same. not_memory (executed job) (its same) is))
+
+-- what the core's `finish` tells of a result
+pub record Finishes (r : Replica) (done : Finished) (result : Result (Unit {0}) (ReplicaFault × Finished)) : Type 0 where
+  pub of_job : IsResult done
+  pub refused : IfSome (finish_fault r done.job.gno) (λ fault. result ≡ Err (fault, done))
+  pub other : finish_fault r done.job.gno ≡ None → (IsHandedOut r done → ⊥) → result ≡ Err (faults.WrongInput, done)
+  pub taken : finish_fault r done.job.gno ≡ None → IsHandedOut r done → result ≡ taken_as done done.outcome
+
+-- a stop that was there before
+stopped_from : (stopped : Option ℕ) (known taken : Bool) (at : ℕ) → cause stopped known taken ≡ Some (faults.Stopped at) → stopped ≡ Some at
+stopped_from None true true at is = cc
+stopped_from None true false at is = cc
+stopped_from None false taken at is = cc
+stopped_from (Some gno) known taken at is =
+    let same : faults.Stopped gno ≡ faults.Stopped at = same_Some (faults.Stopped gno) (faults.Stopped at) is in
+    let number : gno ≡ at = cc same in
+    ap Some number
+
+-- the fault of an answer is the one that is told
+told_so : (told fault : ReplicaFault) (done back : Finished) (result : Result (Unit {0}) (ReplicaFault × Finished)) → result ≡ Err (told, back) → result ≡ Err (fault, done) → fault ≡ told
+told_so told fault done back result is refused = sym (same_fault told fault back done (sym is ∙ refused))
+
+may_stop : (r : Replica) (done back : Finished) (at : ℕ) (result : Result (Unit {0}) (ReplicaFault × Finished)) → result ≡ Err (faults.Stopped at, back) → Finishes r done result → StopsRightly r → MayStopAt r at
+may_stop r done back at result is f h = each (finish_fault r gno) refl f.refused
+  where
+    gno : ℕ
+    gno = done.job.gno
+
+    stays : (stopped : Option ℕ) → stopped ≡ Some at → IfSome stopped (MayStopAt r) → MayStopAt r at
+    stays stopped same may = subst (λ (o : Option ℕ). IfSome o (MayStopAt r)) same may
+
+    wrong : faults.WrongInput ≡ faults.Stopped at → ⊥
+    wrong same = cc
+
+    fresh : finish_fault r gno ≡ None → MayStopAt r at
+    fresh free =
+        let handed : (IsHandedOut r done → ⊥) → ⊥ = λ not. wrong (told_so (faults.Stopped at) faults.WrongInput done back result is (f.other free not)) in
+        let told : IsHandedOut r done → ((done.outcome ≡ outcomes.Undefined) ⊎ (done.outcome ≡ outcomes.WrongRefs)) × (gno ≡ at) =
+        λ of. taken_stops done back at done.outcome (sym (f.taken free of) ∙ is) in
+        let none : HasNoOutput (job_of r gno) = no_output (job_of r gno) done handed (λ of. came done.outcome (executed done.job) (told of).0 f.of_job) in
+        elim (cases_eq gno at) [
+          | inl here ↦ subst (MayStopAt r) here ((free_runs r gno free).1, none)
+          | inr elsewhere ↦ absurd (handed (λ of. elsewhere (told of).1))
+        ]
+
+    each : (fault : Option ReplicaFault) → finish_fault r gno ≡ fault → IfSome fault (λ x. result ≡ Err (x, done)) → MayStopAt r at
+    each None free refused = fresh free
+    each (Some fault) cause_is refused =
+        let same : fault ≡ faults.Stopped at = told_so (faults.Stopped at) fault done back result is refused in
+        stays r.stopped
+        (stopped_from r.stopped (nat_le 1 gno && nat_le gno (dispatched r)) (was_finished r gno) at (cause_is ∙ ap Some same))
+        h
+
+pub stops_refused : (r : Replica) (done back : Finished) (told : ReplicaFault) (result : Result (Unit {0}) (ReplicaFault × Finished)) → result ≡ Err (told, back) → Finishes r done result → StopsRightly r → StopsRightly (left_by_fault r told)
+stops_refused r done back (faults.Stopped at) result is f h = may_stop r done back at result is f h
+stops_refused r done back faults.Gap result is f h = h
+stops_refused r done back faults.ForeignSource result is f h = h
+stops_refused r done back faults.Malformed result is f h = h
+stops_refused r done back faults.BadParent result is f h = h
+stops_refused r done back faults.Stranger result is f h = h
+stops_refused r done back faults.Double result is f h = h
+stops_refused r done back faults.WrongInput result is f h = h
+stops_refused r done back faults.Memory result is f h = h
+
+-- a result that is taken
+pub runs_where_taken : (r : Replica) (done : Finished) (result : Result (Unit {0}) (ReplicaFault × Finished)) → result ≡ Ok tt → IfSome (finish_fault r done.job.gno) (λ fault. result ≡ Err (fault, done)) → r.stopped ≡ None
+runs_where_taken r done result is refused = (free_runs r done.job.gno (free (finish_fault r done.job.gno) refused)).0
+  where
+    free : (fault : Option ReplicaFault) → IfSome fault (λ x. result ≡ Err (x, done)) → fault ≡ None
+    free None told = refl
+    free (Some fault) told = let same : Ok tt ≡ Err (fault, done) = sym is ∙ told in absurd (cc same)
+
+-- ---- what is told
+
+pub tells_stop : {T : Type 0} (tables : List Table) (source : List ℕ) (base : List Entry) (gno : ℕ) (s : State) (result : Result T ReplicaFault) → IsNamed tables source base s.core → StopsRightly s.core → IfErr result (λ fault. IsStopBehind s gno fault) → IfErr result (TellsStop tables source base gno)
+tells_stop tables source base gno s (Ok x) named cause stop = tt
+tells_stop tables source base gno s (Err fault) named cause stop = record { state = s; named = named; stop = stop; cause = cause }
