@@ -8,11 +8,14 @@ use btree_store::BTreeStore;
 use commit_order_tracker::CommitOrder;
 use log_device::MemoryDevice;
 use published::{LeftRight, open};
-use replica_core::{ReplicaCore, Wire};
+use record_codec::CodecFault;
+use relay::ReplicaFault;
+use replica_core::{ReplicaCore, Wire, WireFault};
 use replica_shared::{ReplicaNaming, SharedReplica};
 use source_shared::{SharedSource, SourceNaming};
 use std::alloc::Global;
 use std::sync::Wait;
+use std::thread::yield_now;
 use uuid::Uuid;
 
 /// The source's identifier.
@@ -66,8 +69,30 @@ pub fn send<J: SourceNaming, K: ReplicaNaming>(
         if count == 0 {
             break;
         }
-        replica.feed(rt, &mut wire, &bytes)?;
+        feed(rt, replica, &mut wire, &bytes)?;
         sent = sent.saturating_add(count);
     }
     Ok(())
+}
+
+/// Hands the bytes over, and calls again where memory lacks: with the same bytes where none of them was taken, else with none, for the
+/// records that wait.
+fn feed<K: ReplicaNaming>(
+    rt: &impl Wait,
+    replica: &Replica<K>,
+    wire: &mut Wire,
+    bytes: &[u8],
+) -> Result<(), WireFault> {
+    let mut piece = bytes;
+    for _ in rt.forever() {
+        match replica.feed(rt, wire, piece) {
+            Ok(_) => return Ok(()),
+            Err(WireFault::Codec(CodecFault::Memory)) => {}
+            Err(WireFault::Waiting(ReplicaFault::Memory)) => {}
+            Err(WireFault::Replica(ReplicaFault::Memory)) => piece = &[],
+            Err(fault) => return Err(fault),
+        }
+        yield_now();
+    }
+    unreachable!()
 }

@@ -1,5 +1,6 @@
 //! A program of one's own over the pair. Two threads commit at the source; its log goes to the replica as bytes; a reader
-//! waits there for both commits, and reads. Then both sides end, and are compared.
+//! waits there for both commits, and reads. Then both sides end, and are compared. Where memory lacks, what leaves something under way
+//! is called again; else both sides end, and the program says why.
 //!
 //! `docs/EMBEDDING.md` goes through it.
 #![tactic(auto)]
@@ -21,13 +22,15 @@ use relay::ReplicaFault;
 use replica_shared::{NoGate, ReplicaNaming};
 use rows::{Change, Row};
 use schema::{RowId, Schema, Table};
-use source_shared::{Receipt, SharedSource, SourceNaming};
+use source_core::SourceFault;
+use source_shared::{Receipt, SessionSeat, SharedSource, SourceNaming};
 use std::alloc::Global;
+use std::fmt::Display;
 use std::io;
 use std::marker::Brand;
 use std::process::ExitCode;
 use std::sync::Wait;
-use std::thread::{Threads, join};
+use std::thread::{Threads, join, yield_now};
 use store_trait::Batch;
 use trouble::Trouble;
 use uuid::Uuid;
@@ -47,15 +50,21 @@ struct Told {
 
 fn main(rt: HostRuntime) -> ExitCode {
     match open(&rt, rt.alloc()) {
-        Ok(told) => match tell(rt, &told) {
+        Ok(told) => match tell(&rt, &told) {
             Ok(()) => ExitCode::SUCCESS,
-            Err(_) => ExitCode::FAILURE,
+            Err(error) => fail(&rt, &error),
         },
-        Err(_) => ExitCode::FAILURE,
+        Err(trouble) => fail(&rt, &trouble),
     }
 }
 
-fn tell(rt: HostRuntime, told: &Told) -> io::Result<()> {
+/// Says why the program stops, in a line. Where that can't be written either the status alone says that it did.
+fn fail<D: Display>(rt: &impl Eprint, why: &D) -> ExitCode {
+    let _ = eprintln!(rt; "{why}");
+    ExitCode::FAILURE
+}
+
+fn tell(rt: &impl Print, told: &Told) -> io::Result<()> {
     println!(rt; "{} commits at the replica", told.commits)?;
     println!(rt; "{} {}", balance(&told.first), balance(&told.second))?;
     println!(rt; "a beginning of the source's log: {}", told.is_beginning)
@@ -127,6 +136,7 @@ fn run<J: SourceNaming + Send + Sync, K: ReplicaNaming + Send + Sync, R: Threads
     let source: Source<J> = SharedSource::new(alloc, source, log, receipts)?;
     let replica: Replica<K> = new_replica(rt, alloc, replica, publication)?;
     let met = meet(rt, alloc, &source, &replica);
+    // No thread is left, whatever they came to. A publisher has to be closed; a source may be dropped.
     let (replica, publisher) = replica.end();
     drop(publisher.close(rt));
     let (receipts, mut told) = met?;
@@ -147,12 +157,14 @@ fn meet<J: SourceNaming + Send + Sync, K: ReplicaNaming + Send + Sync, R: Thread
         || commit(rt, source, 1, 10, 500),
         || commit(rt, source, 2, 20, 700),
     );
-    let receipts = vec![in alloc; first?, second?]?;
+    // However these end, each side is told that no more comes.
     source.close(rt);
-    send(rt, alloc, source, replica)?;
+    let sent = send(rt, alloc, source, replica);
     replica.close(rt);
+    sent?;
+    let receipts = vec![in alloc; first?, second?]?;
     // Of two closures the second is called first where no thread can be made, so the one that waits is the first.
-    let (published, worked) = join(rt, || replica.wait_for(rt, 2), || works(rt, alloc, replica));
+    let (published, worked) = join(rt, || replica.wait_for(rt, 2), || work(rt, alloc, replica));
     worked?;
     Ok((receipts, read(rt, replica, published?)?))
 }
@@ -177,7 +189,22 @@ fn commit<J: SourceNaming>(
         },
     )?;
     source.prepare(rt, &mut seat)?;
-    Ok(source.commit(rt, &mut seat)?)
+    Ok(commit_prepared(rt, source, &mut seat)?)
+}
+
+/// Commits the seat's transaction. Where memory lacks it stays where it is in the stages, and the same call takes it up there.
+fn commit_prepared<J: SourceNaming>(
+    rt: &impl Wait,
+    source: &Source<J>,
+    seat: &mut SessionSeat<J>,
+) -> Result<Receipt<J>, SourceFault> {
+    for _ in rt.forever() {
+        match source.commit(rt, seat) {
+            Err(SourceFault::Memory) => yield_now(),
+            answer => return answer,
+        }
+    }
+    unreachable!()
 }
 
 /// The row of an account.
@@ -188,13 +215,20 @@ fn row(account: i64) -> RowId {
     }
 }
 
-/// A worker's call ends once all is committed, since the replica was told that no more comes.
-fn works<K: ReplicaNaming>(
+/// Works until all is committed, since the replica was told that no more comes. A worker that lacks memory ends, and wakes one more,
+/// which may end too: the whole pool may end so, and who waits for a commit waits on. So it is called again.
+fn work<K: ReplicaNaming>(
     rt: &impl Wait,
     alloc: Global,
     replica: &Replica<K>,
 ) -> Result<(), ReplicaFault> {
-    replica.worker(rt, alloc, &NoGate)
+    for _ in rt.forever() {
+        match replica.worker(rt, alloc, &NoGate) {
+            Err(ReplicaFault::Memory) => yield_now(),
+            ended => return ended,
+        }
+    }
+    unreachable!()
 }
 
 /// What a reader sees that was told of the commits.
