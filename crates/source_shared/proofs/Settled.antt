@@ -1,7 +1,8 @@
 -- What is true under the lock stays so, step by step.
-use Rattle.std.proofs.Common.{◌≡◌, ◌≢◌, ℕ, zero, suc, ◌+◌, ◌-◌, ◌≤◌, false, List, [], ◌∷◌, ◌++◌, length, take, drop, replicate, Option, Some, None, IfSome, IsSome, is_some, get_or, nat_lt, Bor, refl, sym, ap, ◌∙◌, subst, append_assoc, arith}
+use Rattle.std.proofs.Common.{◌≡◌, ◌≢◌, ℕ, zero, suc, ◌+◌, ◌-◌, ◌≤◌, Bool, true, false, ◌||◌, slice_index_or, slice_set, inl, inr, List, [], ◌∷◌, ◌++◌, length, take, drop, replicate, Option, Some, None, IfSome, IsSome, is_some, get_or, nat_lt, Bor, refl, sym, ap, ◌∙◌, subst, append_assoc, arith}
 use Rattle.std.specs.Prelude.{map, slice_get, IsSomeAnd, ◌==◌, if◌then◌else◌}
-use Rattle.std.proofs.lemmas.Bool.Decides.{nat_tests}
+use Rattle.std.proofs.lemmas.Bool.{false≢true}
+use Rattle.std.proofs.lemmas.Bool.Decides.{nat_tests, eqb_tells}
 use Rattle.std.specs.Option.{option_map}
 use Rattle.std.proofs.lemmas.Option.{IfSome_then, same_Some}
 use Rattle.std.proofs.lemmas.List.{take-append-le, take-append-drop, take_at, drop_at, length-append, map-append, length-set, length-replicate, length-take-le, length-drop}
@@ -18,7 +19,7 @@ use Rattle.log_file.specs.declared.fault.LogFault.TheVariants.{OutOfTurn}
 use Rattle.log_file.specs.Calls.{confirmed, prepare_cause}
 use Rattle.source_core.proofs.FlushEnds.{group_ends, group_is_counted}
 use Rattle.source_core.specs.Calls.{flushed, Flushes, IsOldest, size_of, with_synced, all_committed, receipts, receipts_for}
-use Rattle.source_shared.specs.Engine.{State, from_prepared, IsErrand, count, IsReady, IsSyncing, AreLaidOut, IsSettled, ArePlaced, IsNewState, committed_receipts, emptied as emptied_at, failed, with_home, landed, given, laid}
+use Rattle.source_shared.specs.Engine.{State, Watch, NoneSleepsWithEnd, has_end, set_asleep, stirred_now, from_prepared, IsErrand, count, IsReady, IsSyncing, AreLaidOut, IsSettled, ArePlaced, IsNewState, committed_receipts, emptied as emptied_at, failed, with_home, landed, given, laid}
 use Rattle.source_shared.proofs.Places.{placed_none, none_placed, both_parts}
 
 -- ---- the groups that wait
@@ -110,11 +111,23 @@ oldest_next base tables s group at h =
 
 -- other sessions, and another queue
 pub sessions_settled : (base : List Entry) (tables : List Table) (s : State) (sessions : List (Option Open)) (queue : List ℕ) → IsSettled base tables s → IsSettled base tables (record s { core = record s.core { sessions = sessions; queue = queue } })
-sessions_settled base tables s sessions queue h = record { base_is = h.base_is; tables_is = h.tables_is; syncing = h.syncing; ready = h.ready; out = h.out; receipts = h.receipts; watch = h.watch }
+sessions_settled base tables s sessions queue h = record { base_is = h.base_is; tables_is = h.tables_is; syncing = h.syncing; ready = h.ready; out = h.out; receipts = h.receipts; watch = h.watch; calm = h.calm }
 
 -- the source is halted
 pub failed_settled : (base : List Entry) (tables : List Table) (s : State) → IsSettled base tables s → IsSettled base tables (failed s)
-failed_settled base tables s h = record { base_is = h.base_is; tables_is = h.tables_is; syncing = h.syncing; ready = IfSome_then s.home h.ready (λ t ready e. absurd cc); out = h.out; receipts = h.receipts; watch = h.watch }
+failed_settled base tables s h = record { base_is = h.base_is; tables_is = h.tables_is; syncing = h.syncing; ready = IfSome_then s.home h.ready (λ t ready e. absurd cc); out = h.out; receipts = h.receipts; watch = record { sessions = h.watch.sessions; asleep = h.watch.asleep }; calm = λ e. absurd (false≢true (sym e)) }
+
+-- where there was no receipt there is none once a place is emptied
+none_in : (places : List (Option Receipt)) (k j : ℕ) → is_some (slice_index_or places j None) ≡ false → is_some (slice_index_or (slice_set places k None) j None) ≡ false
+none_in [] k j e = refl
+none_in (place ∷ places) zero zero e = refl
+none_in (place ∷ places) zero (suc j) e = e
+none_in (place ∷ places) (suc k) zero e = e
+none_in (place ∷ places) (suc k) (suc j) e = none_in places k j e
+
+no_end : (halted : Bool) (old new : Bool) → (old ≡ false → new ≡ false) → (halted || old) ≡ false → (halted || new) ≡ false
+no_end true old new none e = e
+no_end false old new none e = none e
 
 -- a place is emptied
 pub emptied : (base : List Entry) (tables : List Table) (s : State) (k : ℕ) → IsSettled base tables s → IsSettled base tables (emptied_at s k)
@@ -128,11 +141,12 @@ emptied base tables s k h =
       out = h.out;
       receipts = record { history_is = laid_.history_is; placed = placed_none s.history 1 s.places k laid_.placed; places = length-set s.places k None ∙ laid_.places; seats = laid_.seats };
       watch = h.watch;
+      calm = λ e place sleeps. no_end s.core.halted (is_some (slice_index_or s.places place None)) (is_some (slice_index_or (slice_set s.places k None) place None)) (none_in s.places k place) (h.calm e place sleeps);
     }
 
 -- the writer is here, and ready unless the source is halted
 home_settled : (base : List Entry) (tables : List Table) (s : State) (t : Tail) → (s.core.halted ≡ false → IsReady s.core.synced t) → IsSettled base tables s → IsSettled base tables (with_home t s)
-home_settled base tables s t ready h = record { base_is = h.base_is; tables_is = h.tables_is; syncing = h.syncing; ready = ready; out = tt; receipts = h.receipts; watch = h.watch }
+home_settled base tables s t ready h = record { base_is = h.base_is; tables_is = h.tables_is; syncing = h.syncing; ready = ready; out = tt; receipts = h.receipts; watch = h.watch; calm = h.calm }
 
 front_push : (unsynced : List GroupValue) (first group : GroupValue) → slice_get unsynced 0 ≡ Some first → slice_get (unsynced ++ group ∷ []) 0 ≡ Some first
 front_push [] first group e = absurd cc
@@ -177,6 +191,7 @@ flushed_settled base tables s c group sound f h =
       out = h.out;
       receipts = subst (λ (l : List Receipt). AreLaidOut l s.history s.places s.out) (sym (λ i. receipts_for (owners i) (log i))) h.receipts;
       watch = h.watch;
+      calm = h.calm;
     })
 
 -- ---- what is prepared is the oldest
@@ -267,13 +282,14 @@ module _ (base : List Entry) (tables : List Table) (s old : State) (t : Tail) (g
         out = tt;
         receipts = h.receipts;
         watch = h.watch;
+        calm = h.calm;
       })
 
 -- a commit
 pub given_settled : (base : List Entry) (tables : List Table) (s : State) (c : Source) (places : List (Option Receipt)) (history : List Receipt) → c ≡ all_committed s.core → ArePlaced history 1 places → length places ≡ length s.places
-    → history ≡ receipts_for (take s.core.synced s.core.owners) (take s.core.synced s.core.log) → IsSettled base tables s → IsSettled base tables (record s { core = c; places = places; history = history })
+    → history ≡ receipts_for (take s.core.synced s.core.owners) (take s.core.synced s.core.log) → IsSettled base tables s → IsSettled base tables (stirred_now (record s { core = c; places = places; history = history }))
 given_settled base tables s c places history is placed long history_is h =
-    subst (λ (k : Source). IsSettled base tables (record s { core = k; places = places; history = history })) (sym is)
+    subst (λ (k : Source). IsSettled base tables (stirred_now (record s { core = k; places = places; history = history }))) (sym is)
     (record {
       base_is = h.base_is;
       tables_is = h.tables_is;
@@ -281,18 +297,44 @@ given_settled base tables s c places history is placed long history_is h =
       ready = h.ready;
       out = h.out;
       receipts = record { history_is = history_is; placed = placed; places = long ∙ h.receipts.places; seats = h.receipts.seats };
-      watch = h.watch;
+      watch = record { sessions = h.watch.sessions; asleep = h.watch.asleep };
+      calm = λ e. absurd (false≢true (sym e));
     })
 
 pub given_is : (s old : State) (c : Source) (places : List (Option Receipt)) (history : List Receipt) → s ≡ old → c ≡ all_committed s.core → places ≡ laid (receipts s.core) s.places → history ≡ receipts_for (take s.core.synced s.core.owners) (take s.core.synced s.core.log)
-    → record s { core = c; places = places; history = history } ≡ given old
-given_is s old c places history same is places_are history_is = (λ i. record s { core = is i; places = places_are i; history = history_is i }) ∙ ap (λ (x : State). given x) same
+    → stirred_now (record s { core = c; places = places; history = history }) ≡ given old
+given_is s old c places history same is places_are history_is = (λ i. stirred_now (record s { core = is i; places = places_are i; history = history_is i })) ∙ ap (λ (x : State). given x) same
 
 -- ---- who waits
 
 count_none : (n : ℕ) → count (replicate n false) ≡ 0
 count_none zero = refl
 count_none (suc n) = count_none n
+
+none_of : (n k : ℕ) → slice_index_or (replicate n false) k false ≡ false
+none_of zero k = refl
+none_of (suc n) zero = refl
+none_of (suc n) (suc k) = none_of n k
+
+-- where nobody sleeps who has its end the session of a place may begin to, if it has not its own
+pub set_settled : (s : State) (k : ℕ) (sleeps : Bool) → (sleeps ≡ true → has_end s k ≡ false) → NoneSleepsWithEnd s → NoneSleepsWithEnd (set_asleep s k sleeps)
+set_settled s k sleeps may none place e =
+    elim (eqb_tells place k) [
+      | inl same ↦ subst (λ (n : ℕ). has_end s n ≡ false) (sym same.1) (may (here s.watch.sleeping k (subst (λ (n : ℕ). slice_index_or (slice_set s.watch.sleeping k sleeps) n false ≡ true) same.1 e)))
+      | inr apart ↦ none place (there s.watch.sleeping k place apart.1 e)
+    ]
+  where
+    here : (l : List Bool) (j : ℕ) → slice_index_or (slice_set l j sleeps) j false ≡ true → sleeps ≡ true
+    here [] j e = absurd (false≢true e)
+    here (x ∷ l) zero e = e
+    here (x ∷ l) (suc j) e = here l j e
+
+    there : (l : List Bool) (j i : ℕ) → i ≢ j → slice_index_or (slice_set l j sleeps) i false ≡ true → slice_index_or l i false ≡ true
+    there [] j i apart e = e
+    there (x ∷ l) zero zero apart e = absurd (apart refl)
+    there (x ∷ l) zero (suc i) apart e = e
+    there (x ∷ l) (suc j) zero apart e = e
+    there (x ∷ l) (suc j) (suc i) apart e = there l j i (λ same. apart (ap suc same)) e
 
 -- a source that was just made, over a log without records
 pub new_settled : (log : Log) (s : State) (t : Tail) → s.core ≡ new_source s.core.tables s.core.base s.core.limit s.core.kind → log.waiting ≡ None → s.home ≡ Some t → AreHalves s.kept t → IsNewState s.core log s
@@ -324,4 +366,5 @@ new_settled log s t core waiting home halves new =
         seats = ap length new.out ∙ length-replicate 256 false;
       };
       watch = rw new.watch (record { sessions = length-replicate 256 false; asleep = sym (count_none 256) });
+      calm = λ e place sleeps. absurd (false≢true (sym (none_of 256 place) ∙ subst (λ (w : Watch). slice_index_or w.sleeping place false ≡ true) new.watch sleeps));
     }

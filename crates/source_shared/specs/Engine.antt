@@ -28,6 +28,8 @@ pub record Watch : Type 0 where
   pub closed : Bool
   -- what those were told last who wait for records: how many are synced, and whether no more come
   pub told : ℕ × Bool
+  -- whether one may sleep who has its end, and was not called since
+  pub stirred : Bool
 
 pub record State : Type 0 where
   pub core : Source
@@ -104,6 +106,14 @@ pub record AreLaidOut (committed history : List Receipt) (places_ : List (Option
   pub places : length places_ ≡ 256
   pub seats : length out ≡ 256
 
+-- the receipt of the session of a place, counted from 0, is there, or the source is halted
+abbrev pub has_end : State → ℕ → Bool
+has_end s place = s.core.halted || is_some (slice_index_or s.places place None)
+
+-- nobody sleeps who has its end
+abbrev pub NoneSleepsWithEnd : State → Type 0
+NoneSleepsWithEnd s = (place : ℕ) → slice_index_or s.watch.sleeping place false ≡ true → has_end s place ≡ false
+
 -- The core keeps of itself that its log is legal over its base, that its rows are those after the committed records, and
 -- that no more are committed than synced, and synced than flushed.
 pub record IsSettled (base : List Entry) (tables : List Table) (s : State) : Type 0 where
@@ -116,6 +126,8 @@ pub record IsSettled (base : List Entry) (tables : List Table) (s : State) : Typ
   pub out : IfNone s.home (IsSome s.kept.prepared)
   pub receipts : AreLaidOut (committed_receipts s.core) s.history s.places s.out
   pub watch : IsWatch s.watch
+  -- unless that is noted nobody sleeps who has its end
+  pub calm : s.watch.stirred ≡ false → NoneSleepsWithEnd s
 
 -- the session has no seat yet
 abbrev pub seat_fault : State → ℕ → Option SourceFault
@@ -134,7 +146,7 @@ pub record IsCommitted (s : Source) (r : Receipt) : Type 0 where
 
 -- nobody waits, and nobody was told anything
 abbrev pub nobody : Watch
-nobody = record { sleeping = replicate 256 false; asleep = 0; closed = false; told = (0, false) }
+nobody = record { sleeping = replicate 256 false; asleep = 0; closed = false; told = (0, false); stirred = false }
 
 -- a source without receipts, over this core and this log
 pub record IsNewState (core : Source) (log : Log) (s : State) : Type 0 where
@@ -162,10 +174,6 @@ enqueue_fault s seat = if seat.underway then session_fault s.core seat.session N
 
 abbrev pub enqueued : State → Seat → State
 enqueued s seat = if seat.underway then s else record s { core = queued s.core seat.session }
-
--- the receipt of the session of a place, counted from 0, is there, or the source is halted
-abbrev pub has_end : State → ℕ → Bool
-has_end s place = s.core.halted || is_some (slice_index_or s.places place None)
 
 -- What the session of a place finds that waits for its receipt: that, or that the source is halted; else the writer, if that is here.
 abbrev pub due_of : State → ℕ → Due
@@ -226,14 +234,14 @@ outlook s = (length s.kept.records, is_over s)
 abbrev pub has_news : State → Bool
 has_news s = not (s.watch.told.0 == length s.kept.records) || (is_over s && not s.watch.told.1)
 
+-- nobody sleeps any more who has its end
+abbrev pub with_calm : State → State
+with_calm s = record s { watch = record s.watch { stirred = false } }
+
 abbrev pub with_told : State → State
 with_told s = record s { watch = record s.watch { told = outlook s } }
 
--- nobody sleeps who has its end
-abbrev pub NoneSleepsWithEnd : State → Type 0
-NoneSleepsWithEnd s = (place : ℕ) → slice_index_or s.watch.sleeping place false ≡ true → has_end s place ≡ false
-
--- the same, and those who wait for records were told of all: only so the lock is let go of
+-- nobody sleeps who has its end, and those who wait for records were told of all: only so the lock is let go of
 pub record IsTold (s : State) : Type 0 where
   pub ended : NoneSleepsWithEnd s
   pub news : has_news s ≡ false
@@ -268,13 +276,17 @@ pub record AppendsSynced (s : State) (gno count : ℕ) (old new : List ℕ) : Ty
 
 -- ---- what receipts, groups and the writer leave
 
+-- one may sleep now who has its end
+abbrev pub stirred_now : State → State
+stirred_now s = record s { watch = record s.watch { stirred = true } }
+
 -- the receipt of a place was taken
 abbrev pub emptied : State → ℕ → State
 emptied s place = record s { places = slice_set s.places place None }
 
 -- the source is halted
 abbrev pub failed : State → State
-failed s = record s { core = halted s.core }
+failed s = stirred_now (record s { core = halted s.core })
 
 -- the writer is here
 abbrev pub with_home : Tail → State → State
@@ -299,7 +311,7 @@ laid (r ∷ rs) places = laid rs (laid_one r places)
 
 -- the synced records are committed, and their receipts given
 abbrev pub given : State → State
-given s = record s { core = all_committed s.core; places = laid (receipts s.core) s.places; history = committed_receipts (all_committed s.core) }
+given s = stirred_now (record s { core = all_committed s.core; places = laid (receipts s.core) s.places; history = committed_receipts (all_committed s.core) })
 
 -- what was queued is the last of the groups that wait
 pub record FlushesLast (old : State) (group : GroupValue) (new : State) : Type 0 where

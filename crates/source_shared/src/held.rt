@@ -93,6 +93,16 @@ impl<'a, S: RowStore, T: Tracker, D: Device + Drop, J: SourceNaming> Held<'a, S,
         let _desk = self.release(true);
     }
 
+    // The same for who could not be called to lead, and changed nothing that concerns who sleeps: where all was told it looks at nobody.
+    pub(crate) fn done(self) {
+        let Held { engine, desk } = self;
+        if engine.is_calm() {
+            free(engine);
+        } else {
+            Held { engine, desk }.let_go();
+        }
+    }
+
     // Lets go of the lock, and wakes those who have their end, those who wait for records that came, and, where this says so, one who is to
     // lead.
     fn release(self, leads: bool) -> &'a Desk<S, T, D, J> {
