@@ -1,10 +1,10 @@
 -- Who is called of those who sleep, place by place.
-use Rattle.std.proofs.Common.{◌≡◌, ℕ, zero, suc, ◌+◌, ◌-◌, ◌<◌, Bool, true, false, not, ◌&&◌, ◌||◌, if◌then◌else◌, List, [], ◌∷◌, ◌++◌, length, replicate, Option, None, is_some, slice_index_or, slice_set, refl, sym, ap, ◌∙◌, subst, append_assoc, arith}
+use Rattle.std.proofs.Common.{◌≡◌, ◌⊎◌, inl, inr, ℕ, zero, suc, ◌+◌, ◌-◌, ◌<◌, Bool, true, false, not, ◌&&◌, ◌||◌, if◌then◌else◌, List, [], ◌∷◌, ◌++◌, length, replicate, Option, None, is_some, slice_index_or, slice_set, refl, sym, ap, ◌∙◌, subst, append_assoc, arith}
 use Rattle.std.proofs.lemmas.Bool.{false≢true}
 use Rattle.std.proofs.lemmas.List.{length-append}
 use Rattle.std.proofs.lemmas.List.Sums.{sum_by-cons}
 use Rattle.source_core.specs.declared.transaction.Receipt.{Receipt}
-use Rattle.source_shared.specs.Engine.{State, calls, sleep_on, count, called_by, awoken, has_end, set_asleep, NoneSleepsWithEnd}
+use Rattle.source_shared.specs.Engine.{State, calls, sleep_on, count, called_by, awoken, has_end, set_asleep, NoneSleepsWithEnd, NobodyIsCalled}
 
 -- So many places were looked at, of these who slept and these receipts: who was called there, and who sleeps now.
 pub record IsCalling (halted first : Bool) (slept : List Bool) (places : List (Option Receipt)) (at : ℕ) (leads : Bool) (sleeping called : List Bool) (left : ℕ) : Type 0 where
@@ -265,3 +265,31 @@ who_sleeps_on halted leads (x ∷ slept) (place ∷ places) (suc k) long e = who
 pub none_sleeps_with_end : (old : State) (leads : Bool) (s : State) (called : List Bool) → length old.watch.sleeping ≡ 256 → length old.places ≡ 256 → called ≡ called_by old leads → s ≡ awoken old called → NoneSleepsWithEnd s
 none_sleeps_with_end old leads s called long many called_is is =
     rw (is, called_is) (λ place e. who_sleeps_on old.core.halted (leads && is_some old.home) old.watch.sleeping old.places place (many ∙ sym long) e)
+
+-- ---- where nobody is called
+
+or_false : (b : Bool) → (b || false) ≡ b
+or_false true = refl
+or_false false = refl
+
+-- none has its end, and none is to lead
+none_called_by_end : (halted : Bool) (slept : List Bool) (places : List (Option Receipt)) → ((k : ℕ) → slice_index_or slept k false ≡ true → (halted || is_some (slice_index_or places k None)) ≡ false) → (k : ℕ) → slice_index_or (calls halted false slept places) k false ≡ false
+none_called_by_end halted [] places none k = refl
+none_called_by_end halted (x ∷ slept) [] none k = refl
+none_called_by_end halted (x ∷ slept) (place ∷ places) none zero = first x (none 0) where
+  first : (b : Bool) → (b ≡ true → (halted || is_some place) ≡ false) → (b && (halted || is_some place || false)) ≡ false
+  first false h = refl
+  first true h = or_false (halted || is_some place) ∙ h refl
+none_called_by_end halted (x ∷ slept) (place ∷ places) none (suc k) = none_called_by_end halted slept places (λ j e. none (suc j) e) k
+
+-- nobody sleeps
+none_called_awake : (halted leads : Bool) (slept : List Bool) (places : List (Option Receipt)) → count slept ≡ 0 → (k : ℕ) → slice_index_or (calls halted leads slept places) k false ≡ false
+none_called_awake halted leads [] places none k = refl
+none_called_awake halted leads (x ∷ slept) [] none k = refl
+none_called_awake halted leads (true ∷ slept) (place ∷ places) none k = absurd (omega (arith, sym (one_more slept) ∙ none))
+none_called_awake halted leads (false ∷ slept) (place ∷ places) none zero = refl
+none_called_awake halted leads (false ∷ slept) (place ∷ places) none (suc k) = none_called_awake halted (leads && true) slept places none k
+
+pub calls_nobody : (s : State) (leads : Bool) → NoneSleepsWithEnd s → ((leads && is_some s.home) ≡ false) ⊎ (count s.watch.sleeping ≡ 0) → NobodyIsCalled s leads
+calls_nobody s leads none (inl no_lead) = rw no_lead (none_called_by_end s.core.halted s.watch.sleeping s.places none)
+calls_nobody s leads none (inr nobody) = none_called_awake s.core.halted (leads && is_some s.home) s.watch.sleeping s.places nobody

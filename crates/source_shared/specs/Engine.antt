@@ -205,6 +205,9 @@ calls halted leads (sleeps ∷ sleeping) (place ∷ places) =
 abbrev pub called_by : State → Bool → List Bool
 called_by s leads = calls s.core.halted (leads && is_some s.home) s.watch.sleeping s.places
 
+abbrev pub NobodyIsCalled : State → Bool → Type 0
+NobodyIsCalled s leads = (place : ℕ) → slice_index_or (called_by s leads) place false ≡ false
+
 -- of those who slept, those who were not called sleep on
 abbrev pub sleep_on : List Bool → List Bool → List Bool
 sleep_on [] called = []

@@ -61,8 +61,10 @@ impl<S: RowStore, T: Tracker, D: Device + Drop, J: SourceNaming> Desk<S, T, D, J
     }
 
     // Wakes those whom it concerns.
-    fn tell(&self, news: News) {
-        let News { called, followers } = news;
+    fn tell(&self, news: Option<News>) {
+        let Some(News { called, followers }) = news else {
+            return;
+        };
         self.calls.wake(called);
         if followers {
             self.news.notify_all();
@@ -93,14 +95,9 @@ impl<'a, S: RowStore, T: Tracker, D: Device + Drop, J: SourceNaming> Held<'a, S,
         let _desk = self.release(true);
     }
 
-    // The same for who could not be called to lead, and changed nothing that concerns who sleeps: where all was told it looks at nobody.
+    // The same for who could not be called to lead, and changed nothing that concerns who sleeps: so it calls nobody to lead.
     pub(crate) fn done(self) {
-        let Held { engine, desk } = self;
-        if engine.is_calm() {
-            free(engine);
-        } else {
-            Held { engine, desk }.let_go();
-        }
+        let _desk = self.release(false);
     }
 
     // Lets go of the lock, and wakes those who have their end, those who wait for records that came, and, where this says so, one who is to
