@@ -1,15 +1,13 @@
 -- Why a replica stopped stays true at each step.
-use Rattle.std.proofs.Common.{◌≡◌, ◌∙◌, sym, ap, subst, refl, ℕ, ◌+◌, ◌-◌, ◌<◌, ◌≤◌, ◌⊎◌, inl, inr, Bool, true, false, ◌&&◌, ◌||◌, nat_le, List, ◌++◌, length, length-append, take, Option, Some, None, is_some, Result, Ok, Err, IfSome, IfErr, IsErrOf, arith, slice_get, slice_set, get_or}
+use Rattle.std.proofs.Common.{◌≡◌, ◌∙◌, sym, ap, subst, refl, ℕ, ◌-◌, ◌≤◌, ◌⊎◌, inl, inr, Bool, true, false, ◌&&◌, nat_le, List, ◌++◌, length, Option, Some, None, Result, Ok, Err, IfSome, IfErr, IsErrOf, get_or}
 use Rattle.std.specs.Option.{option_map_or}
 use Rattle.std.proofs.lemmas.Bool.{cases_eq, and_parts, or_parts, leb-true, leb-false}
 use Rattle.std.proofs.lemmas.Option.{none-some, same_Some, slice_get_within}
-use Rattle.std.proofs.lemmas.List.{length-set, take-append-le}
+use Rattle.std.proofs.lemmas.List.{take-append-le}
 use Rattle.schema.proofs.Lists.{get_front}
 use Rattle.schema.specs.declared.Table.{Table}
-use Rattle.rows.specs.Database.{Database}
 use Rattle.store_trait.specs.Batch.{Entry}
 use Rattle.store_trait.specs.Operation.{loaded}
-use Rattle.store_trait.specs.declared.Op.{Op}
 use Rattle.record_codec.specs.Log.{after}
 use Rattle.executor.specs.declared.Job.{Job}
 use Rattle.executor.specs.declared.Outcome.{Outcome}
@@ -17,8 +15,8 @@ use Rattle.executor.specs.declared.Outcome.TheVariants as outcomes
 use Rattle.executor.specs.Job.{Finished, IsResult, executed}
 use Rattle.relay.specs.declared.ReplicaFault.{ReplicaFault}
 use Rattle.relay.specs.declared.ReplicaFault.TheVariants as faults
-use Rattle.replica_core.specs.Replica.{Replica, dispatched, job_of, working_rows, rows_at}
-use Rattle.replica_core.specs.Calls.{finish_fault, was_finished, IsHandedOut, taken_as, with_finished, left_by_fault, stopped_at, unless_stopped}
+use Rattle.replica_core.specs.Replica.{Replica, dispatched, job_of}
+use Rattle.replica_core.specs.Calls.{finish_fault, was_finished, IsHandedOut, taken_as, left_by_fault, unless_stopped}
 use Rattle.replica_core.specs.Sound.{IsUnderWay}
 use Rattle.replica_core.proofs.Handing.{Grows}
 use Rattle.replica_core.proofs.Jobs.{job_at, job_parts}
@@ -175,14 +173,6 @@ stops_refused r done back faults.Stranger result is f h = h
 stops_refused r done back faults.Double result is f h = h
 stops_refused r done back faults.WrongInput result is f h = h
 stops_refused r done back faults.Memory result is f h = h
-
--- a result that is taken
-pub runs_where_taken : (r : Replica) (done : Finished) (result : Result (Unit {0}) (ReplicaFault × Finished)) → result ≡ Ok tt → IfSome (finish_fault r done.job.gno) (λ fault. result ≡ Err (fault, done)) → r.stopped ≡ None
-runs_where_taken r done result is refused = (free_runs r done.job.gno (free (finish_fault r done.job.gno) refused)).0
-  where
-    free : (fault : Option ReplicaFault) → IfSome fault (λ x. result ≡ Err (x, done)) → fault ≡ None
-    free None told = refl
-    free (Some fault) told = let same : Ok tt ≡ Err (fault, done) = sym is ∙ told in absurd (cc same)
 
 -- ---- what is told
 
