@@ -24,7 +24,7 @@ fn is_spelled(alloc: Global, record: &Record, bytes: &[u8]) -> Result<bool, Fail
 #[test]
 fn records_are_spelled_again(rt: HostRuntime) -> Result<(), Fail> {
     assert!(rt; is_spelled(rt.alloc(), &inserted(rt.alloc())?, &INSERT)?);
-    assert!(rt; is_spelled(rt.alloc(), &updated(rt.alloc())?, &UPDATE)?);
+    assert!(rt; is_spelled(rt.alloc(), &again!(updated(rt.alloc()))?, &UPDATE)?);
     assert!(rt; is_spelled(rt.alloc(), &child(rt.alloc())?, &CHILD)?);
     Ok(())
 }
