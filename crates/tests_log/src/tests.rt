@@ -1,8 +1,10 @@
+mod damage;
 mod devices;
 mod entries;
 mod ids;
 mod logs;
 mod makers;
+mod reader;
 mod records;
 mod streams;
 mod texts;

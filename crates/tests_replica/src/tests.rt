@@ -5,5 +5,6 @@ mod greatest;
 mod makers;
 mod marks;
 mod parents;
-mod results;
+mod refusals;
 mod steps;
+mod wires;

@@ -1,6 +1,8 @@
 //! Records and groups: spellings from outside, and calls at the bounds.
 
-use crate::tests::makers::{CHILD, child, decode_again, greatest, group_of, three};
+use crate::tests::makers::{
+    CHILD, INSERT, UPDATE, child, decode_again, greatest, group_of, inserted, three, updated,
+};
 use record_codec::{Record, encode, encoded_len, record_in, same_records};
 use std::alloc::Global;
 use std::test::Fail;
@@ -18,9 +20,11 @@ fn is_spelled(alloc: Global, record: &Record, bytes: &[u8]) -> Result<bool, Fail
     )
 }
 
-/// Refs or a flag that are written and read in the same wrong way.
+/// Columns, a mask, refs or a flag that are written and read in the same wrong way.
 #[test]
-fn a_record_is_spelled_again(rt: HostRuntime) -> Result<(), Fail> {
+fn records_are_spelled_again(rt: HostRuntime) -> Result<(), Fail> {
+    assert!(rt; is_spelled(rt.alloc(), &inserted(rt.alloc())?, &INSERT)?);
+    assert!(rt; is_spelled(rt.alloc(), &again!(updated(rt.alloc()))?, &UPDATE)?);
     assert!(rt; is_spelled(rt.alloc(), &child(rt.alloc())?, &CHILD)?);
     Ok(())
 }

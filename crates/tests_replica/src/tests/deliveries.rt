@@ -10,7 +10,6 @@ use std::process::Abort;
 use std::test::Fail;
 use tests_log::common::{record, source};
 use tests_stores::common;
-use uuid::Uuid;
 
 type Answer = Result<Received, ReplicaFault>;
 
@@ -28,7 +27,7 @@ enum Does {
 }
 
 /// Records that are delivered in this order, by number, parent and what they do, with the answer to each.
-fn worked() -> [(u64, u64, Does, Answer); 22] {
+fn worked() -> [(u64, u64, Does, Answer); 21] {
     let accepted = Ok(Received::Accepted);
     let skipped = Ok(Received::Skipped);
     let malformed = Err(ReplicaFault::Malformed);
@@ -36,7 +35,6 @@ fn worked() -> [(u64, u64, Does, Answer); 22] {
     let uncovered = Err(ReplicaFault::BadParent);
     [
         (0, 0, Does::Inserts(10), malformed),
-        (2, 1, Does::Inserts(10), gap),
         (1, 0, Does::Inserts(10), accepted),
         (1, 0, Does::Inserts(10), skipped),
         // An update waits for the insert of its row.
@@ -83,26 +81,16 @@ fn delivered(alloc: Global, gno: u64, parent: u64, does: Does) -> Result<Record,
     }
 }
 
-/// The record is received of this source, and this is the answer.
-fn receives(rt: &impl Abort, relay: &mut Relay, from: Uuid, new: &Record, want: Answer) {
-    assert_eq!(rt; relay.receive(from, new), want, "at {}", new.gno);
+/// The record is received, and this is the answer.
+fn receives(rt: &impl Abort, relay: &mut Relay, new: &Record, want: Answer) {
+    assert_eq!(rt; relay.receive(source(), new), want, "at {}", new.gno);
 }
 
 fn receives_all(rt: &(impl Abort + AllocGlobal), relay: &mut Relay) -> Result<(), Memory> {
     for (gno, parent, does, want) in worked() {
         let new = delivered(rt.alloc(), gno, parent, does)?;
-        receives(rt, relay, source(), &new, want);
+        receives(rt, relay, &new, want);
     }
-    Ok(())
-}
-
-/// A record of another source, and one whose sequence number is another than its gno.
-fn receives_others(rt: &(impl Abort + AllocGlobal), relay: &mut Relay) -> Result<(), Memory> {
-    let mut new = delivered(rt.alloc(), 8, 0, Does::Inserts(14))?;
-    new.sequence = 9;
-    let other = Uuid::from_u128(1);
-    receives(rt, relay, other, &new, Err(ReplicaFault::ForeignSource));
-    receives(rt, relay, source(), &new, Err(ReplicaFault::Malformed));
     Ok(())
 }
 
@@ -111,7 +99,6 @@ fn receives_others(rt: &(impl Abort + AllocGlobal), relay: &mut Relay) -> Result
 fn worked_deliveries_are_answered(rt: HostRuntime) -> Result<(), Memory> {
     let mut relay = Relay::new(rt.alloc(), family(rt.alloc())?, source());
     receives_all(&rt, &mut relay)?;
-    receives_others(&rt, &mut relay)?;
     assert_eq!(rt; relay.accepted().len(), 7);
     Ok(())
 }

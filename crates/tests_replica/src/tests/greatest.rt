@@ -1,8 +1,8 @@
 //! A record of as many changes and refs as there may be: each change moves a child row from one parent to another.
 
-use crate::tests::makers::{family, greatest, rows_of_greatest};
+use crate::tests::makers::{RELATED, family, greatest, rows_of_greatest};
 use executor::{Job, JobResult, Outcome, execute};
-use record_codec::{Flags, Record, Refs, decode};
+use record_codec::{Record, Refs, decode};
 use relay::{Received, Relay};
 use schema::Memory;
 use std::alloc::Global;
@@ -33,12 +33,8 @@ fn all_refs(alloc: Global) -> Result<Refs, Memory> {
 fn moves(alloc: Global) -> Result<Record, Memory> {
     let plain = greatest(alloc, 1024)?;
     let refs = all_refs(alloc)?;
-    let flags = Flags {
-        fk: true,
-        missing_keys: false,
-    };
     Ok(Record {
-        flags,
+        flags: RELATED,
         refs,
         ..plain
     })

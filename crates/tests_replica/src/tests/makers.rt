@@ -3,7 +3,7 @@
 ghost use Rattle.std.specs.Prelude.{◌≤◌};
 
 use btree_store::BTreeStore;
-use record_codec::{Record, Refs};
+use record_codec::{Flags, Record, Refs};
 use replica_core::ReplicaCore;
 use rows::{Change, Named, Row};
 use schema::{Memory, RowId, Schema, Table};
@@ -17,7 +17,20 @@ pub type Entry = (RowId, Option<Row>);
 
 pub type Replica = ReplicaCore<BTreeStore>;
 
-fn table(id: u16, columns: u8) -> Table {
+/// The flags of a record that writes neither a table with kin nor a keyless one.
+pub const PLAIN: Flags = Flags {
+    fk: false,
+    missing_keys: false,
+};
+
+/// The flags of a record that writes a table with kin.
+pub const RELATED: Flags = Flags {
+    fk: true,
+    missing_keys: false,
+};
+
+/// A keyed table by itself.
+pub fn table(id: u16, columns: u8) -> Table {
     Table {
         id,
         columns,
@@ -97,17 +110,29 @@ pub fn rows_of_greatest(alloc: Global, wide: Option<i64>) -> Result<Batch, Memor
     Batch::from_entries(entries).ok_or(Memory)
 }
 
+/// A new replica of these tables and rows.
+pub fn replica_over(
+    alloc: Global,
+    schema: Schema,
+    store: BTreeStore,
+    workers: usize,
+) -> Result<Replica, Memory>
+    requires some { 1 ≤ workers }
+    requires few { workers ≤ 64 }
+{
+    if fits(&schema, &store) {
+        ReplicaCore::new(alloc, schema, source(), store, workers)
+    } else {
+        Err(Memory)
+    }
+}
+
 /// A new replica of these rows.
 pub fn replica_of(alloc: Global, store: BTreeStore, workers: usize) -> Result<Replica, Memory>
     requires some { 1 ≤ workers }
     requires few { workers ≤ 64 }
 {
-    let schema = schema(alloc)?;
-    if schema.is_flat() && fits(&schema, &store) {
-        ReplicaCore::new(alloc, schema, source(), store, workers)
-    } else {
-        Err(Memory)
-    }
+    replica_over(alloc, schema(alloc)?, store, workers)
 }
 
 /// A new replica of no rows.

@@ -1,6 +1,7 @@
 //! Child rows and their parents: what comes of a job by the refs that its record states, and what a relay answers to flags
 //! and refs.
 
+use crate::tests::makers::{PLAIN, RELATED};
 use executor::{Job, Outcome, execute};
 use record_codec::{Flags, Record, Refs};
 use relay::{Received, Relay, ReplicaFault};
@@ -154,11 +155,6 @@ fn input_of(alloc: Global, does: Does, names: Names) -> Result<Batch, Memory> {
     Batch::from_entries(rows).ok_or(Memory)
 }
 
-const RELATED: Flags = Flags {
-    fk: true,
-    missing_keys: false,
-};
-
 fn job_of(alloc: Global, does: Does, names: Names) -> Result<Job, Memory> {
     let rec = record_of(alloc, does, RELATED, names)?;
     let input = input_of(alloc, does, names)?;
@@ -209,21 +205,15 @@ fn refs_are_exactly_the_parents(rt: HostRuntime) -> Result<(), Memory> {
     Ok(())
 }
 
-const PLAIN: Flags = Flags {
-    fk: false,
-    missing_keys: false,
-};
-
 const KEYLESS: Flags = Flags {
     fk: false,
     missing_keys: true,
 };
 
 /// What a relay answers to each of these as its first record: whether it is accepted.
-fn forms() -> [(Does, Flags, Names, bool); 21] {
+fn forms() -> [(Does, Flags, Names, bool); 19] {
     [
         (Does::Inserts, PLAIN, Names::Nothing, true),
-        (Does::Inserts, RELATED, Names::Nothing, false),
         (Does::Inserts, KEYLESS, Names::Nothing, false),
         (Does::InsertsKeyless, KEYLESS, Names::Nothing, true),
         (Does::InsertsKeyless, PLAIN, Names::Nothing, false),
@@ -231,7 +221,6 @@ fn forms() -> [(Does, Flags, Names, bool); 21] {
         (Does::InsertsParent, PLAIN, Names::Nothing, false),
         (Does::InsertsChild(1), RELATED, Names::First, true),
         (Does::InsertsChild(1), PLAIN, Names::First, false),
-        (Does::InsertsChild(1), RELATED, Names::Nothing, false),
         (Does::InsertsChild(1), RELATED, Names::Second, false),
         (Does::InsertsChild(1), RELATED, Names::Three, true),
         // A ref is of a table that is a parent, whatever the changes are.

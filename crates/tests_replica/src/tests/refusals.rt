@@ -1,0 +1,222 @@
+//! Records that no source writes or that do not apply, and results that are handed in wrong: what the replica answers.
+
+use crate::tests::makers::{
+    PLAIN, RELATED, Replica, insert_of, replica, replica_over, schema, table,
+};
+use crate::tests::steps::{
+    accepts, commit_next, commits, dispatch, hands_in, job, publishes, receive,
+};
+use btree_store::BTreeStore;
+use executor::Job;
+use record_codec::{Flags, Record};
+use relay::{Received, ReplicaFault};
+use rows::{Change, Row};
+use schema::{Memory, RowId, Schema, Table};
+use std::alloc::Global;
+use std::process::Abort;
+use std::test::Fail;
+use store_trait::{Batch, RowStore};
+use tests_log::common::{record, source};
+use tests_stores::common::{insert, row, update};
+use uuid::Uuid;
+
+/// Tables 1 and 2 by themselves, table 3 with its child 4, and the keyless table 5.
+fn tables(alloc: Global) -> Result<Schema, Memory> {
+    let child = Table {
+        parent: Some((0, 3)),
+        ..table(4, 1)
+    };
+    let keyless = Table {
+        keyed: false,
+        ..table(5, 1)
+    };
+    let list = vec![in alloc; table(1, 2), table(2, 2), table(3, 1), child, keyless]?;
+    Schema::new(list).map_err(|_| Memory)
+}
+
+/// A new replica of these tables, in which (3, 1) = [0] and its child (4, 9) = [1] are.
+fn of_tables(alloc: Global) -> Result<Replica, Memory> {
+    let base = vec![in alloc; (row(3, 1), Row::new(&[0])), (row(4, 9), Row::new(&[1]))]?;
+    let mut store = BTreeStore::new(alloc);
+    store.put_all(&Batch::from_entries(base).ok_or(Memory)?)?;
+    replica_over(alloc, tables(alloc)?, store, 2)
+}
+
+/// What a record without refs says: its gno, sequence and parent, its flags, and its change.
+type Said = ([u64; 3], Flags, Change);
+
+fn record_of(alloc: Global, said: Said) -> Result<Record, Memory> {
+    let ([gno, sequence, parent], flags, change) = said;
+    let plain = record(alloc, gno, parent, change)?;
+    Ok(Record {
+        sequence,
+        flags,
+        ..plain
+    })
+}
+
+/// Which result is handed in once record 1 is dispatched.
+#[derive(Clone, Copy, Debug)]
+enum Handed {
+    /// Its own.
+    Own,
+    /// Its own, once one was taken.
+    Second,
+    /// Its own, once one was taken and committed.
+    Late,
+    /// One of this number.
+    Numbered(u64),
+    /// One over this row in the place of the one that was handed out.
+    Over(RowId, Option<Row>),
+}
+
+/// What a record says, where it comes from, what is answered to it, and which result is handed in then, with its refusal.
+type Case = (
+    Said,
+    Uuid,
+    Result<Received, ReplicaFault>,
+    Option<(Handed, ReplicaFault)>,
+);
+
+/// Records that lie, records that do not apply, and results that are not that of the job, for a new replica each.
+fn cases() -> Result<[Case; 13], Memory> {
+    let new = insert(row(1, 10), &[5, 6])?;
+    let child = insert(row(4, 8), &[1])?;
+    let absent = update(row(1, 10), 0, 7)?;
+    let deleted = Change::Delete { row: row(4, 9) };
+    let first = ([1, 1, 0], PLAIN, new);
+    let (own, other) = (source(), Uuid::from_u128(1));
+    let accepted = Ok(Received::Accepted);
+    let foreign = Err(ReplicaFault::ForeignSource);
+    let malformed = Err(ReplicaFault::Malformed);
+    let gap = Err(ReplicaFault::Gap);
+    let stops = Some((Handed::Own, ReplicaFault::Stopped(1)));
+    let stranger = Some((Handed::Numbered(5), ReplicaFault::Stranger));
+    let second = Some((Handed::Second, ReplicaFault::Double));
+    let late = Some((Handed::Late, ReplicaFault::Double));
+    let other_id = Some((Handed::Over(row(1, 11), None), ReplicaFault::WrongInput));
+    let other_row = Some((
+        Handed::Over(row(1, 10), Row::new(&[5, 6])),
+        ReplicaFault::WrongInput,
+    ));
+    Ok([
+        (([0, 1, 0], PLAIN, new), other, foreign, None),
+        (([1, 2, 0], PLAIN, new), own, malformed, None),
+        (([1, 1, 1], PLAIN, new), own, malformed, None),
+        (([1, 1, 0], RELATED, new), own, malformed, None),
+        (([1, 1, 0], RELATED, child), own, malformed, None),
+        (([2, 2, 0], PLAIN, new), own, gap, None),
+        (([1, 1, 0], PLAIN, absent), own, accepted, stops),
+        (([1, 1, 0], RELATED, deleted), own, accepted, stops),
+        (first, own, accepted, stranger),
+        (first, own, accepted, second),
+        (first, own, accepted, late),
+        (first, own, accepted, other_id),
+        (first, own, accepted, other_row),
+    ])
+}
+
+/// The job whose result is handed in, where this one was dispatched.
+fn handed_job(
+    rt: &(impl Abort + AllocGlobal),
+    replica: &mut Replica,
+    handed: Handed,
+    job: Job,
+) -> Result<Job, Memory> {
+    match handed {
+        Handed::Own => Ok(job),
+        Handed::Second => {
+            hands_in(rt, replica, job.copy(), Ok(()))?;
+            Ok(job)
+        }
+        Handed::Late => {
+            hands_in(rt, replica, job.copy(), Ok(()))?;
+            commits(rt, replica, Some(1));
+            Ok(job)
+        }
+        Handed::Numbered(gno) => Ok(Job { gno, ..job }),
+        Handed::Over(id, there) => {
+            let rows = vec![in rt.alloc(); (id, there)]?;
+            let input = Batch::from_entries(rows).ok_or(Memory)?;
+            Ok(Job { input, ..job })
+        }
+    }
+}
+
+/// Each call but those that only look at the replica is refused for the stop: the record of this job, and a result of a number that
+/// was not dispatched, among them.
+fn is_stopped(
+    rt: &(impl Abort + AllocGlobal),
+    replica: &mut Replica,
+    job: Job,
+) -> Result<(), Memory> {
+    let stopped = ReplicaFault::Stopped(1);
+    assert_eq!(rt; receive(replica, &job.rec), Err(stopped));
+    assert_eq!(rt; dispatch(replica).err(), Some(stopped));
+    assert_eq!(rt; commit_next(replica), Err(stopped));
+    publishes(rt, replica, 0, Err(stopped));
+    assert_eq!(rt; replica.executed().err(), Some(stopped));
+    hands_in(rt, replica, Ok(Job { gno: 5, ..job }), Err(stopped))?;
+    assert_eq!(rt; (replica.stopped(), replica.pending().len()), (Some(1), 0));
+    Ok(())
+}
+
+/// The record is answered so, and then the result.
+fn is_answered(
+    rt: &(impl Abort + AllocGlobal),
+    replica: &mut Replica,
+    case: Case,
+) -> Result<(), Fail> {
+    let (said, from, answer, refused) = case;
+    let new = record_of(rt.alloc(), said)?;
+    assert_eq!(rt; replica.receive(from, &new), answer, "{said:?}");
+    if let Some((handed, fault)) = refused {
+        let job = job(rt, replica, 1)?;
+        let job = handed_job(rt, replica, handed, job)?;
+        hands_in(rt, replica, job.copy(), Err(fault))?;
+        if replica.stopped().is_some() {
+            is_stopped(rt, replica, job)?;
+        }
+    }
+    Ok(())
+}
+
+/// A lie that is believed, or that is told as another; a record that does not apply and does not stop the replica, or a call that
+/// passes over the stop; a result that is taken for one of a job that was handed out: in the definitions themselves.
+#[test]
+fn lying_records_and_results_are_refused(rt: HostRuntime) -> Result<(), Fail> {
+    for case in cases()? {
+        let mut replica = of_tables(rt.alloc())?;
+        is_answered(&rt, &mut replica, case)?;
+    }
+    Ok(())
+}
+
+/// The result of this number, of a job that was not handed out, is refused.
+fn is_stranger(
+    rt: &(impl Abort + AllocGlobal),
+    replica: &mut Replica,
+    gno: u64,
+) -> Result<(), Memory> {
+    let rec = insert_of(rt.alloc(), gno, 10)?;
+    let job = Job::new(gno, rec, Batch::new(rt.alloc()), schema(rt.alloc())?);
+    hands_in(rt, replica, Ok(job), Err(ReplicaFault::Stranger))
+}
+
+/// Of two records that were accepted none is dispatched, and then one.
+fn has_strangers(rt: &(impl Abort + AllocGlobal), replica: &mut Replica) -> Result<(), Fail> {
+    accepts(rt, replica, &insert_of(rt.alloc(), 1, 10)?);
+    accepts(rt, replica, &insert_of(rt.alloc(), 2, 11)?);
+    is_stranger(rt, replica, 1)?;
+    job(rt, replica, 1)?;
+    is_stranger(rt, replica, 0)?;
+    is_stranger(rt, replica, 2)?;
+    Ok(())
+}
+
+/// A result of a record that was accepted and not dispatched is told as one of a job, in the definitions themselves.
+#[test]
+fn results_before_their_dispatch_are_refused(rt: HostRuntime) -> Result<(), Fail> {
+    let mut replica = replica(rt.alloc(), 2)?;
+    has_strangers(&rt, &mut replica)
+}
