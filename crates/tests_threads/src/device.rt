@@ -1,12 +1,25 @@
-//! A device in memory that does as it is told: its syncs take a while, one is held, and writes find no memory.
+//! A device in memory that does as it is told: its syncs take a while, a call is held, and writes find no memory.
 
 use log_device::{Device, DeviceFault, MemoryDevice};
 use std::sync::atomic::{AtomicBool, AtomicU64, Ordering};
-use std::thread::sleep;
+use std::thread::{sleep, yield_now};
 use std::time::{Clock, Duration};
 
 /// How many milliseconds a thread waits for another to come so far.
 pub const PATIENCE: u32 = 3000;
+
+/// How often one who holds others up lets them run, at most.
+pub const TURNS: u32 = 1_000_000;
+
+/// Which call of the device is held until it is freed, in some turns at most.
+#[derive(Clone, Copy, Drop)]
+pub enum Hold {
+    None,
+    /// The sync of this number.
+    Sync(u64),
+    /// A write that finds no memory.
+    Refusal,
+}
 
 /// What the device is told, and what it tells.
 #[derive(Drop)]
@@ -16,18 +29,19 @@ pub struct Orders<'r, R: Clock> {
     pub refusals: AtomicU64,
     /// How many milliseconds a sync takes.
     pub millis: u64,
-    /// The sync of this number is held until it is freed, for a while at most.
-    pub held: u64,
+    held: Hold,
     /// How often it was synced.
     syncs: AtomicU64,
-    /// It is in the sync that is held.
+    /// It is in the call that is held.
     pub entered: AtomicBool,
     /// That may go on.
     pub freed: AtomicBool,
+    /// It went on before.
+    pub is_late: AtomicBool,
 }
 
 impl<'r, R: Clock> Orders<'r, R> {
-    pub fn new(rt: &'r R, millis: u64, held: u64) -> Orders<'r, R> {
+    pub fn new(rt: &'r R, millis: u64, held: Hold) -> Orders<'r, R> {
         Orders {
             rt,
             refusals: AtomicU64::new(0),
@@ -36,6 +50,7 @@ impl<'r, R: Clock> Orders<'r, R> {
             syncs: AtomicU64::new(0),
             entered: AtomicBool::new(false),
             freed: AtomicBool::new(false),
+            is_late: AtomicBool::new(false),
         }
     }
 
@@ -49,6 +64,9 @@ impl<'r, R: Clock> Orders<'r, R> {
         let left = self.refusals.load(Ordering::SeqCst);
         self.refusals
             .store(left.saturating_sub(1), Ordering::SeqCst);
+        if left > 0 && matches!(self.held, Hold::Refusal) {
+            self.hold();
+        }
         left > 0
     }
 
@@ -58,9 +76,21 @@ impl<'r, R: Clock> Orders<'r, R> {
         if self.millis > 0 {
             sleep(self.rt, Duration::from_millis(self.millis));
         }
-        if before.wrapping_add(1) == self.held {
-            self.entered.store(true, Ordering::SeqCst);
-            comes(self.rt, &self.freed);
+        if matches!(self.held, Hold::Sync(number) if before.wrapping_add(1) == number) {
+            self.hold();
+        }
+    }
+
+    /// Frees the device, late enough for the sessions behind it to sleep.
+    pub fn free_soon(&self) {
+        sleep(self.rt, Duration::from_millis(20));
+        self.freed.store(true, Ordering::SeqCst);
+    }
+
+    fn hold(&self) {
+        self.entered.store(true, Ordering::SeqCst);
+        if !comes_in_turns(&self.freed) {
+            self.is_late.store(true, Ordering::SeqCst);
         }
     }
 }
@@ -72,6 +102,17 @@ pub fn comes(clock: &impl Clock, flag: &AtomicBool) -> bool {
             return true;
         }
         sleep(clock, Duration::from_millis(1));
+    }
+    false
+}
+
+/// Whether the flag is set before the turns end, in each of which another thread may run.
+pub fn comes_in_turns(flag: &AtomicBool) -> bool {
+    for _ in 0..TURNS {
+        if flag.load(Ordering::SeqCst) {
+            return true;
+        }
+        yield_now();
     }
     false
 }

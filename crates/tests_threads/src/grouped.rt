@@ -1,18 +1,19 @@
 //! Groups of several sessions: behind one for which the device found no memory, and where a sync is slow.
 
 use crate::device::Orders;
+use crate::held::are_flushed;
 use crate::makers::insert;
-use crate::sources::{Shared, beside, write};
+use crate::sources::{Shared, beside, transact, write};
 use schema::Memory;
 use source_core::SourceFault;
 use source_shared::{Receipt, SessionSeat, SourceNaming};
 use std::alloc::Global;
 use std::process::Abort;
-use std::sync::atomic::Ordering;
+use std::sync::atomic::{AtomicBool, Ordering};
 use std::sync::{Mutex, Wait};
 use std::test::Fail;
-use std::thread::Threads;
-use std::time::Clock;
+use std::thread::{Threads, join, sleep};
+use std::time::{Clock, CpuClock, Duration};
 
 /// The first session's group finds no memory, as often as other sessions are to write it: they stay queued. The last session writes it,
 /// and the transactions of these with its own as one group.
@@ -115,4 +116,172 @@ where
         Err(Memory)?;
     }
     Ok(committed)
+}
+
+/// The first session's group is held, and finds no memory then, as it does not with the next of the two who sleep behind it. Neither
+/// calls again, and the other one gets its receipt all the same; and then they do.
+pub fn give_up<J, R>(
+    rt: &R,
+    source: &Shared<'_, J, R>,
+    receipts: &Mutex<Vec<Receipt<J>>>,
+    orders: &Orders<'_, R>,
+) -> Result<usize, Fail>
+where
+    J: SourceNaming + Send + Sync,
+    R: Threads + Wait + Abort + Clock + Sync,
+{
+    let mut one = prepared(rt, source, 1)?;
+    let mut two = prepared(rt, source, 2)?;
+    let mut three = prepared(rt, source, 3)?;
+    orders.refusals.store(2, Ordering::SeqCst);
+    let ((third, (second, first)), _) = join(
+        rt,
+        || join(
+            rt,
+            || committed_behind(rt, source, receipts, &mut three),
+            || join(
+                rt,
+                || committed_behind(rt, source, receipts, &mut two),
+                || committed_behind(rt, source, receipts, &mut one),
+            ),
+        ),
+        || {
+            are_flushed(rt, source, 2);
+            orders.free_soon();
+        },
+    );
+    // (Where there is no memory for a thread, or for what a commit does, all may be refused.)
+    second.or(third)?;
+    assert!(rt;
+        first.is_err() && (second.is_err() || third.is_err()),
+        "too few are refused"
+    );
+    is_committed(rt, source, receipts, &mut one, first)?;
+    is_committed(rt, source, receipts, &mut two, second)?;
+    is_committed(rt, source, receipts, &mut three, third)?;
+    Ok(3)
+}
+
+/// The session has its own number as that of its commit. One that was refused calls again.
+fn is_committed<J: SourceNaming, R: Wait + Abort + Clock>(
+    rt: &R,
+    source: &Shared<'_, J, R>,
+    receipts: &Mutex<Vec<Receipt<J>>>,
+    seat: &mut SessionSeat<J>,
+    ended: Result<u64, SourceFault>,
+) -> Result<(), SourceFault> {
+    let given = match ended {
+        Ok(gno) => gno,
+        Err(_) => committed(rt, source, receipts, seat)?,
+    };
+    assert_eq!(rt; given, seat.session() as u64);
+    Ok(())
+}
+
+/// Commits what is prepared, once a record for each session before this one is flushed, and answers its number. It lacks memory where they
+/// are not in time.
+fn committed_behind<J: SourceNaming, R: Wait + Clock>(
+    rt: &R,
+    source: &Shared<'_, J, R>,
+    receipts: &Mutex<Vec<Receipt<J>>>,
+    seat: &mut SessionSeat<J>,
+) -> Result<u64, SourceFault> {
+    if !are_flushed(rt, source, (seat.session() as u64).saturating_sub(1)) {
+        return Err(SourceFault::Memory);
+    }
+    committed(rt, source, receipts, seat)
+}
+
+/// Two sessions commit twenty times each, in turn, and another begins, writes and aborts beside them: it waits for the lock for less
+/// than a fourth of the time that it sleeps. The receipt of one who gave up lies there all the time, so that each leader waits as long as
+/// it may for others to come.
+pub fn nap_beside<J, R>(
+    rt: &R,
+    source: &Shared<'_, J, R>,
+    receipts: &Mutex<Vec<Receipt<J>>>,
+    orders: &Orders<'_, R>,
+) -> Result<usize, Fail>
+where
+    J: SourceNaming + Send + Sync,
+    R: Threads + Wait + Abort + Clock + CpuClock + Sync,
+{
+    let mut refused = prepared(rt, source, 1)?;
+    let mut other = source.session(rt, 2)?;
+    orders.refusals.store(1, Ordering::SeqCst);
+    assert_eq!(rt;
+        source.commit(rt, &mut refused).err(),
+        Some(SourceFault::Memory)
+    );
+    let over = AtomicBool::new(false);
+    let (paces, (third, fourth)) = join(
+        rt,
+        || abort_all(rt, source, &mut other, &over),
+        || {
+            let ended = join(
+                rt,
+                || commit_in_turn(rt, source, receipts, 3),
+                || commit_in_turn(rt, source, receipts, 4),
+            );
+            over.store(true, Ordering::SeqCst);
+            ended
+        },
+    );
+    third?;
+    fourth?;
+    let (waited, slept) = paces?;
+    assert!(rt;
+        waited.saturating_mul(4) < slept,
+        "{waited:?} of waiting, {slept:?} of sleep"
+    );
+    committed(rt, source, receipts, &mut refused)?;
+    Ok(41)
+}
+
+/// Commits twenty inserts, each once the record of the other session in front of it is flushed.
+fn commit_in_turn<J: SourceNaming, R: Wait + Clock>(
+    rt: &R,
+    source: &Shared<'_, J, R>,
+    receipts: &Mutex<Vec<Receipt<J>>>,
+    session: u16,
+) -> Result<(), SourceFault> {
+    let mut seat = source.session(rt, session)?;
+    let first = (session as u64).saturating_sub(2);
+    for turn in 0..20 {
+        if !are_flushed(rt, source, first + 2 * turn) {
+            return Err(SourceFault::Memory);
+        }
+        let change = insert(session as i64 * 100 + turn as i64, [5, 6])?;
+        transact(rt, source, &mut seat, &change, receipts)?;
+    }
+    Ok(())
+}
+
+/// Begins, writes and aborts now and then until the others are over. How long it waited in these calls, and how long it slept between them.
+fn abort_all<J: SourceNaming, R: Wait + Clock + CpuClock>(
+    rt: &R,
+    source: &Shared<'_, J, R>,
+    seat: &mut SessionSeat<J>,
+    over: &AtomicBool,
+) -> Result<(Duration, Duration), SourceFault> {
+    let change = insert(0, [5, 6])?;
+    let start = idle(rt);
+    let mut slept = Duration::ZERO;
+    for _ in rt.forever() {
+        if over.load(Ordering::SeqCst) {
+            break;
+        }
+        let before = idle(rt);
+        sleep(rt, Duration::from_micros(200));
+        slept = slept.saturating_add(idle(rt).saturating_sub(before));
+        write(rt, source, seat, &change)?;
+        source.abort(rt, seat)?;
+    }
+    let waited = idle(rt).saturating_sub(start).saturating_sub(slept);
+    Ok((waited, slept))
+}
+
+/// How long this thread did not run, since some start.
+fn idle(clock: &(impl Clock + CpuClock)) -> Duration {
+    let passed = clock.monotonic().unwrap_or(Duration::ZERO);
+    passed.saturating_sub(clock.thread_cpu_time().unwrap_or(Duration::ZERO))
 }

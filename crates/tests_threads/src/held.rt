@@ -1,6 +1,6 @@
 //! A source whose device holds a sync: what others do meanwhile, and what they are told where it fails then.
 
-use crate::device::{Orders, PATIENCE, comes};
+use crate::device::{Orders, PATIENCE};
 use crate::followed::follow;
 use crate::makers::insert;
 use crate::sources::{Shared, transact};
@@ -15,7 +15,7 @@ use std::test::Fail;
 use std::thread::{Threads, join, sleep};
 use std::time::{Clock, Duration};
 
-/// The first session commits, then the second, and two more while its group is held.
+/// The first session's group is held, the second's is flushed beside it, and two more sleep behind both.
 pub fn is_held<'a, J, R>(
     rt: &R,
     source: &Shared<'a, J, R>,
@@ -26,25 +26,32 @@ where
     J: SourceNaming + Send + Sync,
     R: Threads + Wait + Abort + Clock + Sync,
 {
-    // (It sleeps no more: to wake it in the place of those who are to lead would leave them asleep.)
-    commit_one(rt, source, receipts, 1)?;
-    let ((second, (third, fourth)), looked) = join(
+    // (The first does not sleep: to wake it in the place of those who are to lead would leave them asleep.)
+    let (((first, second), (third, fourth)), looked) = join(
         rt,
         || join(
             rt,
-            || commit_one(rt, source, receipts, 2),
             || join(
                 rt,
-                || commit_behind(rt, source, receipts, orders, 3),
-                || commit_behind(rt, source, receipts, orders, 4),
+                || commit_one(rt, source, receipts, 1),
+                || commit_behind(rt, source, receipts, 1, 2),
+            ),
+            || join(
+                rt,
+                || commit_behind(rt, source, receipts, 2, 3),
+                || commit_behind(rt, source, receipts, 2, 4),
             ),
         ),
-        || look(rt, source, orders, 2),
+        || look(rt, source, orders),
     );
     // (Where there is no memory for a thread, the sessions commit one after another.)
     let hidden = looked.ok_or(Memory)?;
-    assert!(rt; hidden, "the second record is shown before it is synced");
-    assert_eq!(rt; second?, 2);
+    assert!(rt; hidden, "the first record is shown before it is synced");
+    assert!(rt;
+        !orders.is_late.load(Ordering::SeqCst),
+        "the second is not flushed beside it"
+    );
+    assert_eq!(rt; [first, second], [Ok(1), Ok(2)]);
     third?;
     fourth?;
     Ok(4)
@@ -70,12 +77,12 @@ where
             rt,
             || join(
                 rt,
-                || commit_behind(rt, source, receipts, orders, 2),
+                || commit_behind(rt, source, receipts, 1, 2),
                 || follow(rt, alloc, source),
             ),
             || commit_or_close(rt, source, receipts),
         ),
-        || look(rt, source, orders, 1),
+        || look(rt, source, orders),
     );
     looked.ok_or(Memory)?;
     for ended in [first, second] {
@@ -113,39 +120,46 @@ fn commit_one<J: SourceNaming, R: Wait + Clock>(
     Ok(transact(rt, source, &mut seat, &change, receipts)?.1)
 }
 
-/// The same, once the device is in its sync. It lacks memory where that does not come in time: then there was none for the first
-/// one's thread.
+/// The same, once so many records are flushed. It lacks memory where they are not in time: then there was none for another one's thread.
 fn commit_behind<J: SourceNaming, R: Wait + Clock>(
     rt: &R,
     source: &Shared<'_, J, R>,
     receipts: &Mutex<Vec<Receipt<J>>>,
-    orders: &Orders<'_, R>,
+    count: u64,
     session: u16,
 ) -> Result<u64, SourceFault> {
-    if !comes(rt, &orders.entered) {
+    if !are_flushed(rt, source, count) {
         return Err(SourceFault::Memory);
     }
     commit_one(rt, source, receipts, session)
 }
 
-/// Frees the device soon after a record behind this one is flushed, and answers whether this one was hidden then. `None` where
-/// none is flushed in time.
+/// Whether so many records are flushed before the patience ends.
+pub fn are_flushed<J: SourceNaming, R: Wait + Clock>(
+    rt: &R,
+    source: &Shared<'_, J, R>,
+    count: u64,
+) -> bool {
+    for _ in 0..PATIENCE {
+        if source.flushed(rt).is_ok_and(|flushed| flushed >= count) {
+            return true;
+        }
+        sleep(rt, Duration::from_millis(1));
+    }
+    false
+}
+
+/// Frees the device soon after the second record is flushed, and answers whether the first was hidden then. `None` where it is not
+/// flushed in time.
 fn look<J: SourceNaming, R: Wait + Clock>(
     rt: &R,
     source: &Shared<'_, J, R>,
     orders: &Orders<'_, R>,
-    gno: u64,
 ) -> Option<bool> {
     let mut hidden = None;
-    for _ in 0..PATIENCE {
-        if source.flushed(rt).is_ok_and(|count| count > gno) {
-            hidden = Some(matches!(source.record(rt, gno), Ok(None)));
-            break;
-        }
-        sleep(rt, Duration::from_millis(1));
+    if are_flushed(rt, source, 2) {
+        hidden = Some(matches!(source.record(rt, 1), Ok(None)));
     }
-    // (Long enough for the sessions behind it to sleep.)
-    sleep(rt, Duration::from_millis(20));
-    orders.freed.store(true, Ordering::SeqCst);
+    orders.free_soon();
     hidden
 }

@@ -12,7 +12,7 @@ mod grouped;
 #[cfg(test)]
 mod held;
 #[cfg(test)]
-mod lacking;
+mod jobs;
 #[cfg(test)]
 mod makers;
 #[cfg(test)]
@@ -21,6 +21,8 @@ mod publishing;
 mod replicas;
 #[cfg(test)]
 mod sources;
+#[cfg(test)]
+mod stores;
 #[cfg(test)]
 mod unlocked;
 #[cfg(test)]

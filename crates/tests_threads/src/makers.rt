@@ -4,7 +4,7 @@ ghost use Rattle.published.specs.History.{IsCommit};
 ghost use Rattle.replica_core.specs.Calls.{new_over};
 ghost use Rattle.source_core.specs.Source.{new_source};
 
-use crate::lacking::Lacking;
+use crate::stores::Store;
 use btree_store::BTreeStore;
 use commit_order_tracker::CommitOrder;
 use published::Answer;
@@ -24,7 +24,7 @@ pub const SOURCE: u128 = 0x8c5f8f9a_1111_11ef_9d3a_0242ac120002;
 pub const ONE: RowId = RowId { table: 1, key: 10 };
 
 /// Table 1, of 2 columns.
-fn schema(alloc: Global) -> Result<Schema, Memory> {
+pub fn schema(alloc: Global) -> Result<Schema, Memory> {
     let tables = vec![in alloc;
         Table {
             id: 1,
@@ -50,11 +50,10 @@ pub fn source(alloc: Global) -> Result<SourceCore<BTreeStore, CommitOrder>, Memo
 }
 
 /// A replica of no rows, with three workers.
-pub fn replica(alloc: Global) -> Result<ReplicaCore<Lacking<BTreeStore>>, Memory>
+pub fn replica(alloc: Global, store: Store) -> Result<ReplicaCore<Store>, Memory>
     ensures { IfOk result (λ core. core ≡ new_over core.tables core.source core.base core.workers) }
 {
     let schema = schema(alloc)?;
-    let store = Lacking::new(BTreeStore::new(alloc), 0);
     if !schema.is_flat() || !fits(&schema, &store) {
         return Err(Memory);
     }

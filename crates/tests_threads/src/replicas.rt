@@ -1,14 +1,14 @@
 //! The shared replica: its calls made again, a record that does not apply, and workers in threads.
 ghost use Rattle.std.specs.Prelude.{◌≡◌, IfOk};
+ghost use Rattle.std.specs.FinMap.{empty};
 ghost use Rattle.replica_core.specs.Calls.{new_over};
 
-use crate::device::{PATIENCE, comes};
-use crate::lacking::Lacking;
+use crate::device::{PATIENCE, comes_in_turns};
 use crate::makers::{ONE, SOURCE, insert, replica, set};
+use crate::stores::{Notes, Store, copies, is_stored, working};
 use crate::unlocked::is_unlocked;
 use crate::watched::{Order, is_crowded, is_empty, is_handed_in_late, is_refused, is_watched};
 use crate::wires::{come_in_pieces, is_damaged, is_kept_waiting, sets_are_shown, wake_workers};
-use btree_store::BTreeStore;
 use published::{Answer, Beginning, Counts, LeftRight, OpenError, open};
 use record_codec::Record;
 use relay::{Received, ReplicaFault};
@@ -19,18 +19,18 @@ use schema::Memory;
 use std::alloc::Global;
 use std::marker::Brand;
 use std::process::Abort;
-use std::sync::Wait;
 use std::sync::atomic::{AtomicBool, Ordering};
+use std::sync::{Arc, Wait};
 use std::test::Fail;
 use std::thread::{Threads, join, sleep};
 use std::time::{Clock, Duration};
 use tests_log::common::record;
 use uuid::Uuid;
 
-type Core = ReplicaCore<Lacking<BTreeStore>>;
+type Core = ReplicaCore<Store>;
 
 /// A shared replica of three workers.
-pub type Shared<J> = SharedReplica<Lacking<BTreeStore>, J>;
+pub type Shared<J> = SharedReplica<Store, J>;
 
 /// What is done with a shared replica of three workers and one seat.
 #[derive(Clone, Copy, Drop)]
@@ -39,11 +39,11 @@ pub enum Course {
     Alone,
     /// One worker does all up to the second record, which does not apply.
     Stopping,
-    /// Three workers and one who waits are there before the records.
+    /// Three workers and two who wait are there before the records.
     Beside,
     /// They sleep when a record comes that does not apply.
     AsleepAtStop,
-    /// Two of the workers and the one who waits sleep when no more records come, before the only result.
+    /// Two of the workers and those who wait sleep when no more records come, before the only result.
     AsleepAtEnd,
     /// No record comes.
     Empty,
@@ -71,6 +71,8 @@ pub enum Course {
     Sets,
     /// Large records are executed, and another takes the lock meanwhile.
     Unlocked,
+    /// One result commits all three, and the first commit is slow.
+    Stored,
 }
 
 /// Catches a shared call that gives up where memory is there, also once it was refused, and a job that was kept then and is
@@ -86,13 +88,14 @@ fn what_does_not_apply_stops_again(rt: HostRuntime) -> Result<(), Fail> {
     runs(&rt, rt.alloc(), Course::Stopping)
 }
 
-/// Catches workers that execute one at a time, and one who sleeps and is not woken by a record, a commit or the end.
+/// Catches workers that execute one at a time, or hand in only in their turn, and one who sleeps and is not woken by a record, a
+/// commit or the end.
 #[test]
 fn three_workers_execute_side_by_side(rt: HostRuntime) -> Result<(), Fail> {
     runs(&rt, rt.alloc(), Course::Beside)
 }
 
-/// Catches a stop that leaves a worker asleep, or one who waits for a commit, and one that tells another number than that of the
+/// Catches a stop that leaves a worker asleep, or one of those who wait for a commit, and one that tells another number than that of the
 /// record that did not apply.
 #[test]
 fn a_stop_wakes_all_who_sleep(rt: HostRuntime) -> Result<(), Fail> {
@@ -147,6 +150,12 @@ fn others_get_the_lock_while_a_job_is_executed(rt: HostRuntime) -> Result<(), Fa
     runs(&rt, rt.alloc(), Course::Unlocked)
 }
 
+/// Catches a status that waits for the lock, and a result that publishes each of its commits by itself.
+#[test]
+fn one_result_publishes_three_commits_at_once(rt: HostRuntime) -> Result<(), Fail> {
+    runs(&rt, rt.alloc(), Course::Stored)
+}
+
 /// Makes a replica and its records, and does with them what the course says.
 pub fn runs<R: Threads + Wait + Abort + Clock + Sync>(
     rt: &R,
@@ -168,14 +177,39 @@ fn has_run<R: Threads + Wait + Abort + Clock + Sync>(
     let Ok(records) = records(alloc, course) else {
         return Ok(false);
     };
-    let Ok((core, beginning)) = parts(alloc) else {
+    let Ok(notes) = Arc::new(alloc, Notes::new()) else {
         return Ok(false);
     };
-    run_over::<Brand, R>(rt, alloc, core, beginning, course, &records)
+    // (The first batch that is put into a copy is that of the rows of the start.)
+    let refused = if matches!(course, Course::Refused) {
+        2
+    } else {
+        0
+    };
+    let Ok(copies) = copies(alloc, refused, &notes) else {
+        return Ok(false);
+    };
+    let Ok((core, beginning)) = parts(alloc, &notes) else {
+        return Ok(false);
+    };
+    let plan = Plan {
+        course,
+        records,
+        notes,
+    };
+    run_over::<Brand, R>(rt, alloc, core, beginning, copies, &plan)
+}
+
+/// What is done, and with which records.
+#[derive(Drop)]
+struct Plan {
+    course: Course,
+    records: [Record; 3],
+    notes: Arc<Notes>,
 }
 
 /// Three records: a row is inserted, another one is inserted or (where that stops the replica) set, and the first is set, or
-/// (the same) one that is not there.
+/// (the same) one that is not there, or a third one is inserted.
 fn records(alloc: Global, course: Course) -> Result<[Record; 3], Memory> {
     let second = match course {
         Course::Stopping | Course::AsleepAtStop | Course::WatchedStop => set(11, 1)?,
@@ -183,6 +217,7 @@ fn records(alloc: Global, course: Course) -> Result<[Record; 3], Memory> {
     };
     let (parent, third) = match course {
         Course::Late => (0, set(12, 7)?),
+        Course::Stored => (0, insert(12, [1, 1])?),
         _ => (1, set(10, 7)?),
     };
     Ok([
@@ -193,11 +228,11 @@ fn records(alloc: Global, course: Course) -> Result<[Record; 3], Memory> {
 }
 
 /// The core and a publication of its rows.
-fn parts(alloc: Global) -> Result<(Core, Beginning), Memory>
+fn parts(alloc: Global, notes: &Arc<Notes>) -> Result<(Core, Beginning), Memory>
     ensures core { IfOk result (λ parts. parts.0 ≡ new_over parts.0.tables parts.0.source parts.0.base parts.0.workers) }
     ensures rows { IfOk result (λ parts. parts.1.base ≡ parts.0.base) }
 {
-    let core = replica(alloc)?;
+    let core = replica(alloc, working(alloc, notes)?)?;
     let beginning = Beginning::of(core.base().copy()?);
     Ok((core, beginning))
 }
@@ -207,8 +242,8 @@ fn run_over<J: ReplicaNaming + Send + Sync, R: Threads + Wait + Abort + Clock + 
     alloc: Global,
     core: Core,
     beginning: Beginning,
-    course: Course,
-    records: &[Record],
+    copies: (Store, Store),
+    plan: &Plan,
 ) -> Result<bool, Fail>
     requires core { core ≡ new_over core.tables core.source core.base core.workers }
     requires rows { beginning.base ≡ core.base }
@@ -216,21 +251,17 @@ fn run_over<J: ReplicaNaming + Send + Sync, R: Threads + Wait + Abort + Clock + 
     requires source { core.source ≡ J.source }
     requires base { core.base ≡ J.base }
     requires book { beginning.book ≡ J.book }
+    requires copies { (copies.0.inner ≡ empty) × (copies.1.inner ≡ empty) }
 {
-    // (The first batch that is put into a copy is that of the rows of the start.)
-    let refused = if matches!(course, Course::Refused) {
-        2
-    } else {
-        0
-    };
-    let shared: Shared<J> = match shared(rt, alloc, core, beginning, refused) {
+    let records = &plan.records;
+    let shared: Shared<J> = match shared(rt, alloc, core, beginning, copies) {
         Ok(shared) => shared,
         Err(cause) => {
             assert_eq!(rt; cause, OpenError::Memory);
             return Ok(false);
         }
     };
-    let run = match course {
+    let run = match plan.course {
         Course::Alone => works(rt, alloc, &shared, records),
         Course::Stopping => stops(rt, alloc, &shared, records),
         Course::Beside => beside(rt, alloc, &shared, records),
@@ -249,6 +280,7 @@ fn run_over<J: ReplicaNaming + Send + Sync, R: Threads + Wait + Abort + Clock + 
         Course::Asleep => wake_workers(rt, alloc, &shared, records),
         Course::Sets => sets_are_shown(rt, alloc, &shared, records),
         Course::Unlocked => is_unlocked(rt, alloc, &shared),
+        Course::Stored => is_stored(rt, alloc, &shared, records, &plan.notes),
     };
     let ends = ended(rt, shared);
     let published = run?;
@@ -256,13 +288,13 @@ fn run_over<J: ReplicaNaming + Send + Sync, R: Threads + Wait + Abort + Clock + 
     Ok(true)
 }
 
-/// A shared replica with one seat. A copy for readers refuses its batch of this number, where that is not 0.
+/// A shared replica with one seat.
 fn shared<J: ReplicaNaming, R: Wait>(
     rt: &R,
     alloc: Global,
     core: Core,
     beginning: Beginning,
-    refused: u64,
+    copies: (Store, Store),
 ) -> Result<Shared<J>, OpenError>
     requires core { core ≡ new_over core.tables core.source core.base core.workers }
     requires rows { beginning.base ≡ core.base }
@@ -270,14 +302,11 @@ fn shared<J: ReplicaNaming, R: Wait>(
     requires source { core.source ≡ J.source }
     requires base { core.base ≡ J.base }
     requires book { beginning.book ≡ J.book }
+    requires copies { (copies.0.inner ≡ empty) × (copies.1.inner ≡ empty) }
 {
-    let (publisher, seats) = open::<Lacking<BTreeStore>, J, R, LeftRight>(
-        rt,
-        alloc,
-        beginning,
-        Lacking::new(BTreeStore::new(alloc), refused),
-        Lacking::new(BTreeStore::new(alloc), refused),
-        1,
+    let (first, second) = copies;
+    let (publisher, seats) = open::<Store, J, R, LeftRight>(
+        rt, alloc, beginning, first, second, 1,
     )?;
     Ok(SharedReplica::new(rt, alloc, core, publisher, seats)?)
 }
@@ -329,6 +358,7 @@ fn send<J: ReplicaNaming>(rt: &(impl Wait + Abort), shared: &Shared<J>, records:
         assert_eq!(rt; receive(rt, shared, record), Ok(Received::Accepted));
         assert_eq!(rt; receive(rt, shared, record), Ok(Received::Skipped));
     }
+    assert_eq!(rt; shared.status(rt).received, records.len() as u64);
     shared.close(rt);
 }
 
@@ -494,7 +524,8 @@ pub fn shows<J: ReplicaNaming>(
         upto: published,
     };
     assert_eq!(rt; seat.read(ONE), Some(read));
-    assert_eq!(rt; shared.status(rt), counts(published, published));
+    let status = shared.status(rt);
+    assert_eq!(rt; [status.committed, status.published], [published; 2]);
     Ok(published)
 }
 
@@ -507,122 +538,140 @@ pub fn counts(committed: u64, published: u64) -> Counts {
     }
 }
 
-/// It holds each job until it is opened, for a while at most. A job that is entered while another is held opens it.
+/// It holds the first job until that of another number was left, in some turns at most, or until it is opened.
 #[derive(Drop)]
-pub struct Held<'a, R: Clock> {
-    rt: &'a R,
-    open: AtomicBool,
-    /// A job is held, or goes on.
-    entered: AtomicBool,
-    /// Another was entered meanwhile.
-    met: AtomicBool,
+pub struct Held {
+    other: u64,
+    is_open: AtomicBool,
+    /// The first goes on.
+    is_over: AtomicBool,
+    /// The other was left before.
+    has_met: AtomicBool,
 }
 
-impl<'a, R: Clock> Held<'a, R> {
-    pub fn new(rt: &'a R, open: bool) -> Held<'a, R> {
+impl Held {
+    pub fn new(other: u64) -> Held {
         Held {
-            rt,
-            open: AtomicBool::new(open),
-            entered: AtomicBool::new(false),
-            met: AtomicBool::new(false),
+            other,
+            is_open: AtomicBool::new(false),
+            is_over: AtomicBool::new(false),
+            has_met: AtomicBool::new(false),
         }
     }
 
-    /// Whether two jobs were there at one time.
+    pub fn open(&self) {
+        self.is_open.store(true, Ordering::SeqCst);
+    }
+
+    /// Whether the other was left while the first was held.
     pub fn has_met(&self) -> bool {
-        self.met.load(Ordering::SeqCst)
+        self.has_met.load(Ordering::SeqCst)
     }
 }
 
-impl<'a, R: Clock> WorkerGate for Held<'a, R> {
-    fn entered(&self, _gno: u64) {
-        if self.entered.swap(true, Ordering::SeqCst) {
-            self.met.store(true, Ordering::SeqCst);
-            self.open.store(true, Ordering::SeqCst);
+impl WorkerGate for Held {
+    fn entered(&self, gno: u64) {
+        if gno == 1 {
+            comes_in_turns(&self.is_open);
+            self.is_over.store(true, Ordering::SeqCst);
         }
-        comes(self.rt, &self.open);
     }
 
-    fn left(&self, _gno: u64) {
-        self.entered.store(false, Ordering::SeqCst);
+    fn left(&self, gno: u64) {
+        if gno == self.other {
+            let is_held = !self.is_over.load(Ordering::SeqCst);
+            self.has_met.store(is_held, Ordering::SeqCst);
+            self.open();
+        }
     }
 }
 
-/// How three workers ended, and what one who waited for a commit was told.
-type Met = ([Result<(), ReplicaFault>; 3], Result<u64, ReplicaFault>);
+/// How three workers ended, and what two who waited for a commit were told.
+type Met = (
+    [Result<(), ReplicaFault>; 3],
+    [Result<u64, ReplicaFault>; 2],
+);
 
-/// Three workers with this gate, and one who waits for this commit, beside the one who hands over the records, and opens the
+/// Three workers with this gate, and two who wait for this commit, beside the one who hands over the records, and opens the
 /// gate then.
 fn run_threads<J: ReplicaNaming + Send + Sync, R: Threads + Wait + Clock + Sync>(
     rt: &R,
     alloc: Global,
     shared: &Shared<J>,
     records: &[Record],
-    gate: &Held<'_, R>,
+    gate: &Held,
     gno: u64,
     steps: &[Step],
 ) -> Result<Met, ReplicaFault> {
-    let ((one, two), (three, (waited, fed))) = join(
+    let (((one, two), three), (waited, fed)) = join(
         rt,
         || join(
             rt,
-            || shared.worker(rt, alloc, gate),
+            || join(
+                rt,
+                || shared.worker(rt, alloc, gate),
+                || shared.worker(rt, alloc, gate),
+            ),
             || shared.worker(rt, alloc, gate),
         ),
         || join(
             rt,
-            || shared.worker(rt, alloc, gate),
-            || join(
-                rt,
-                || shared.wait_for(rt, gno).map(|notice| notice.upto()),
-                || feed_and_open(rt, shared, records, gate, steps),
-            ),
+            || join(rt, || shown(rt, shared, gno), || shown(rt, shared, gno)),
+            || feed_and_open(rt, shared, records, gate, steps),
         ),
     );
     fed?;
-    Ok(([one, two, three], waited))
+    Ok(([one, two, three], [waited.0, waited.1]))
+}
+
+/// How many commits are published once that of this number is.
+fn shown<J: ReplicaNaming>(
+    rt: &impl Wait,
+    shared: &Shared<J>,
+    gno: u64,
+) -> Result<u64, ReplicaFault> {
+    shared.wait_for(rt, gno).map(|notice| notice.upto())
 }
 
 fn feed_and_open<J: ReplicaNaming, R: Wait + Clock>(
     rt: &R,
     shared: &Shared<J>,
     records: &[Record],
-    gate: &Held<'_, R>,
+    gate: &Held,
     steps: &[Step],
 ) -> Result<(), ReplicaFault> {
     let fed = feed(rt, shared, records, steps);
-    gate.open.store(true, Ordering::SeqCst);
+    gate.open();
     fed
 }
 
-/// The first two jobs are executed at one time. All sleep before the first record, before the last and at the end.
+/// The second job is executed while the first is held. All sleep before the first record, before the last and at the end.
 fn beside<J: ReplicaNaming + Send + Sync, R: Threads + Wait + Abort + Clock + Sync>(
     rt: &R,
     alloc: Global,
     shared: &Shared<J>,
     records: &[Record],
 ) -> Result<u64, Fail> {
-    let gate = Held::new(rt, false);
+    let gate = Held::new(2);
     let steps = [
-        Step::Sleep(3, 1),
+        Step::Sleep(3, 2),
         Step::Take(1, 2),
         Step::Show(2),
-        Step::Sleep(3, 1),
+        Step::Sleep(3, 2),
         Step::Take(3, 3),
         Step::Show(3),
         Step::Sleep(3, 0),
     ];
     let met = run_threads(rt, alloc, shared, records, &gate, 3, &steps)?;
-    assert_eq!(rt; met, ([Ok(()); 3], Ok(3)));
+    assert_eq!(rt; met, ([Ok(()); 3], [Ok(3); 2]));
     // (Where there is no memory for a thread, the workers run one after another.)
     if !gate.has_met() {
         Err(Memory)?;
     }
-    assert!(rt; !gate.entered.load(Ordering::SeqCst), "a job was not left");
     shows(rt, shared, 3, [7, 6])
 }
 
-/// Three workers and one who waits for a commit sleep when the second record comes, which does not apply.
+/// Three workers and two who wait for the third commit sleep when the second record comes, which does not apply.
 fn stops_sleepers<J: ReplicaNaming + Send + Sync, R: Threads + Wait + Abort + Clock + Sync>(
     rt: &R,
     alloc: Global,
@@ -630,29 +679,30 @@ fn stops_sleepers<J: ReplicaNaming + Send + Sync, R: Threads + Wait + Abort + Cl
     records: &[Record],
 ) -> Result<u64, Fail> {
     let steps = [
-        Step::Sleep(3, 1),
+        Step::Sleep(3, 2),
         Step::Take(1, 1),
         Step::Show(1),
-        Step::Sleep(3, 1),
+        Step::Sleep(3, 2),
         Step::Take(2, 2),
     ];
-    let gate = Held::new(rt, true);
-    let met = run_threads(rt, alloc, shared, records, &gate, 2, &steps)?;
+    let gate = Held::new(0);
+    gate.open();
+    let met = run_threads(rt, alloc, shared, records, &gate, 3, &steps)?;
     let stopped = ReplicaFault::Stopped(2);
-    assert_eq!(rt; met, ([Err(stopped); 3], Err(stopped)));
+    assert_eq!(rt; met, ([Err(stopped); 3], [Err(stopped); 2]));
     Ok(1)
 }
 
-/// Two workers and one who waits for a commit sleep, and a third executes the only record, when no more come.
+/// Two workers and two who wait for a commit sleep, and a third executes the only record, when no more come.
 fn ends_sleepers<J: ReplicaNaming + Send + Sync, R: Threads + Wait + Abort + Clock + Sync>(
     rt: &R,
     alloc: Global,
     shared: &Shared<J>,
     records: &[Record],
 ) -> Result<u64, Fail> {
-    let steps = [Step::Take(1, 1), Step::Sleep(2, 1)];
-    let gate = Held::new(rt, false);
+    let steps = [Step::Take(1, 1), Step::Sleep(2, 2)];
+    let gate = Held::new(0);
     let met = run_threads(rt, alloc, shared, records, &gate, 1, &steps)?;
-    assert_eq!(rt; met, ([Ok(()); 3], Ok(1)));
+    assert_eq!(rt; met, ([Ok(()); 3], [Ok(1); 2]));
     Ok(1)
 }

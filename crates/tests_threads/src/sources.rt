@@ -2,9 +2,9 @@
 ghost use Rattle.std.specs.Prelude.{◌≡◌, [], None};
 ghost use Rattle.source_core.specs.Source.{new_source};
 
-use crate::device::{InMemory, Ordered, Orders};
+use crate::device::{Hold, InMemory, Ordered, Orders};
 use crate::followed::{are_bytes, follow, is_followed};
-use crate::grouped::{is_refused, is_shared};
+use crate::grouped::{give_up, is_refused, is_shared, nap_beside};
 use crate::held::{are_told, is_held};
 use crate::makers::{ONE, SOURCE, insert, set, source};
 use btree_store::BTreeStore;
@@ -20,7 +20,7 @@ use std::process::Abort;
 use std::sync::{Mutex, Wait};
 use std::test::Fail;
 use std::thread::{Threads, map_indices};
-use std::time::Clock;
+use std::time::{Clock, CpuClock};
 use uuid::Uuid;
 
 type Core = SourceCore<BTreeStore, CommitOrder>;
@@ -41,17 +41,22 @@ enum Course {
     Beside,
     /// The first group's writes find no memory, for all sessions but the last.
     Refused,
-    /// The second group's sync is held.
+    /// Two of three sessions give up, the first one's group being held.
+    GiveUp,
+    /// The first group's sync is held.
     Held,
     /// A sync takes a millisecond.
     Slow,
+    /// The same, beside a session that aborts all that it writes.
+    Napping,
     /// Two threads follow the log while a session commits three times.
     Followed,
     /// The first group's sync is held, and the write behind it fails.
     Told,
 }
 
-/// Catches a shared call that gives up where memory is there, also once it was refused.
+/// Catches a shared call that gives up where memory is there, also once it was refused, a seat that is given out twice, and
+/// records that are not counted as flushed.
 #[test]
 fn two_sessions_commit_again(rt: HostRuntime) -> Result<(), Fail> {
     runs(&rt, rt.alloc(), Course::InTurn)
@@ -76,6 +81,12 @@ fn the_greatest_group_waits_behind_a_refused_one(rt: HostRuntime) -> Result<(), 
     runs(&rt, rt.alloc(), Course::Refused)
 }
 
+/// Catches one who finds no memory, gives up, and leaves those asleep who would have led in its place.
+#[test]
+fn who_gives_up_wakes_the_next(rt: HostRuntime) -> Result<(), Fail> {
+    runs(&rt, rt.alloc(), Course::GiveUp)
+}
+
 /// Catches a group that is flushed only once the one before it is synced, a reader of the log who waits for the device, a
 /// record that is shown before it is synced, and sessions that sleep on though one has to lead.
 #[test]
@@ -87,6 +98,12 @@ fn flushes_beside_a_sync(rt: HostRuntime) -> Result<(), Fail> {
 #[test]
 fn sixteen_sessions_share_syncs(rt: HostRuntime) -> Result<(), Fail> {
     runs(&rt, rt.alloc(), Course::Slow)
+}
+
+/// Catches one who waits for others to come, or for the device, and keeps the lock meanwhile.
+#[test]
+fn others_get_the_lock_while_a_leader_naps(rt: HostRuntime) -> Result<(), Fail> {
+    runs(&rt, rt.alloc(), Course::Napping)
 }
 
 /// Catches one who follows the log and sleeps on where a record came, or where no more come.
@@ -101,7 +118,7 @@ fn who_sleeps_is_told_of_a_failure(rt: HostRuntime) -> Result<(), Fail> {
     runs(&rt, rt.alloc(), Course::Told)
 }
 
-fn runs<R: Threads + Wait + Abort + Clock + Sync>(
+fn runs<R: Threads + Wait + Abort + Clock + CpuClock + Sync>(
     rt: &R,
     alloc: Global,
     course: Course,
@@ -113,18 +130,19 @@ fn runs<R: Threads + Wait + Abort + Clock + Sync>(
 }
 
 /// Whether there was memory for the source.
-fn has_run<R: Threads + Wait + Abort + Clock + Sync>(
+fn has_run<R: Threads + Wait + Abort + Clock + CpuClock + Sync>(
     rt: &R,
     alloc: Global,
     course: Course,
 ) -> Result<bool, Fail> {
     // (The log file calls its device four times before it syncs the first group, and syncs it once.)
     let (nth, millis, held) = match course {
-        Course::Failing => (5, 0, 0),
-        Course::Held => (0, 0, 4),
-        Course::Slow => (0, 1, 0),
-        Course::Told => (6, 0, 2),
-        _ => (0, 0, 0),
+        Course::Failing => (5, 0, Hold::None),
+        Course::GiveUp => (0, 0, Hold::Refusal),
+        Course::Held => (0, 0, Hold::Sync(2)),
+        Course::Slow | Course::Napping => (0, 1, Hold::None),
+        Course::Told => (6, 0, Hold::Sync(2)),
+        _ => (0, 0, Hold::None),
     };
     let orders = Orders::new(rt, millis, held);
     let device = Ordered {
@@ -141,7 +159,7 @@ fn has_run<R: Threads + Wait + Abort + Clock + Sync>(
     run_over::<Brand, R>(rt, alloc, core, log, Beginning::new(), course, &orders)
 }
 
-fn run_over<'a, J: SourceNaming + Send + Sync, R: Threads + Wait + Abort + Clock + Sync>(
+fn run_over<'a, J: SourceNaming + Send + Sync, R: Threads + Wait + Abort + Clock + CpuClock + Sync>(
     rt: &R,
     alloc: Global,
     core: Core,
@@ -169,7 +187,11 @@ fn run_over<'a, J: SourceNaming + Send + Sync, R: Threads + Wait + Abort + Clock
 }
 
 /// Does what is to be done. The receipts, and how many records are flushed then; `None` where there was no room for receipts.
-fn commit_all<'a, J: SourceNaming + Send + Sync, R: Threads + Wait + Abort + Clock + Sync>(
+fn commit_all<
+    'a,
+    J: SourceNaming + Send + Sync,
+    R: Threads + Wait + Abort + Clock + CpuClock + Sync,
+>(
     rt: &R,
     alloc: Global,
     source: &Shared<'a, J, R>,
@@ -185,8 +207,10 @@ fn commit_all<'a, J: SourceNaming + Send + Sync, R: Threads + Wait + Abort + Clo
         Course::Failing => halts(rt, source, &receipts),
         Course::Beside => beside(rt, alloc, source, &receipts, 4, 10),
         Course::Refused => is_refused(rt, alloc, source, &receipts, orders),
+        Course::GiveUp => give_up(rt, source, &receipts, orders),
         Course::Held => is_held(rt, source, &receipts, orders),
         Course::Slow => is_shared(rt, alloc, source, &receipts, orders),
+        Course::Napping => nap_beside(rt, source, &receipts, orders),
         Course::Followed => is_followed(rt, alloc, source, &receipts),
         Course::Told => are_told(rt, alloc, source, &receipts, orders),
     }?;
@@ -256,11 +280,20 @@ fn in_turn<J: SourceNaming, R: Wait + Abort + Clock>(
 ) -> Result<usize, Fail> {
     let mut one = source.session(rt, 1)?;
     let mut last = source.session(rt, 256)?;
+    for session in [1, 256] {
+        assert_eq!(rt;
+            source.session(rt, session).err(),
+            Some(SourceFault::AlreadyOpen)
+        );
+    }
     let change = insert(10, [5, 6])?;
     write(rt, source, &mut one, &change)?;
     source.abort(rt, &mut one)?;
+    assert_eq!(rt; source.flushed(rt), Ok(0));
     let first = transact(rt, source, &mut last, &change, receipts);
+    assert_eq!(rt; source.flushed(rt), Ok(1));
     let second = transact(rt, source, &mut one, &set(10, 7)?, receipts);
+    assert_eq!(rt; source.flushed(rt), Ok(2));
     assert_eq!(rt;
         [first, second],
         [Ok((Prepared::Parent(0), 1)), Ok((Prepared::Parent(1), 2))]

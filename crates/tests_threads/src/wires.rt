@@ -48,7 +48,8 @@ fn a_refused_record_waits(rt: HostRuntime) -> Result<(), Fail> {
     runs(&rt, rt.alloc(), Course::Waiting)
 }
 
-/// Catches bytes whose records wake no worker that sleeps, and a worker that is woken and wakes no other where more is left.
+/// Catches bytes whose records wake no worker that sleeps, a worker that is woken and wakes no other where more is left, and one that
+/// waits with its result for that of the record in front.
 #[test]
 fn bytes_wake_two_workers(rt: HostRuntime) -> Result<(), Fail> {
     runs(&rt, rt.alloc(), Course::Asleep)
@@ -157,7 +158,7 @@ pub fn is_kept_waiting<J: ReplicaNaming>(
     shows(rt, shared, 3, [7, 6])
 }
 
-/// Two workers sleep when the bytes of all records come at once. The first two are executed at one time.
+/// Two workers sleep when the bytes of the first two records come at once. The second is executed while the first is held.
 pub fn wake_workers<J, R>(
     rt: &R,
     alloc: Global,
@@ -168,8 +169,9 @@ where
     J: ReplicaNaming + Send + Sync,
     R: Threads + Wait + Abort + Clock + Sync,
 {
-    let bytes = spelled(alloc, records)?;
-    let gate = Held::new(rt, false);
+    let (_, two) = records.split_last().ok_or("a record")?;
+    let bytes = spelled(alloc, two)?;
+    let gate = Held::new(2);
     let ((one, two), shown) = join(
         rt,
         || join(
@@ -184,10 +186,10 @@ where
     }
     one?;
     two?;
-    shows(rt, shared, 3, [7, 6])
+    shows(rt, shared, 2, [5, 6])
 }
 
-/// Feeds the bytes once two workers sleep, waits until their records are published, and closes, however that ends. Whether they
+/// Feeds the bytes once two workers sleep, waits until both records are published, and closes, however that ends. Whether they
 /// are.
 fn show_asleep<J: ReplicaNaming>(
     rt: &(impl Wait + Clock),
@@ -202,7 +204,7 @@ fn show_asleep<J: ReplicaNaming>(
     let in_time = sleep_all(rt, shared, asleep);
     let mut wire = Wire::new(alloc, Uuid::from_u128(SOURCE));
     let told = told(rt, shared, &mut wire, bytes);
-    let shown = in_time && told == Ok(Ok(3)) && shared.wait_for(rt, 3).is_ok();
+    let shown = in_time && told == Ok(Ok(2)) && shared.wait_for(rt, 2).is_ok();
     shared.close(rt);
     told?.map_err(|_| Memory)?;
     Ok(shown)
