@@ -61,13 +61,28 @@ impl<S: RowStore, T: Tracker, D: Device + Drop, J: SourceNaming> Desk<S, T, D, J
     }
 
     // Wakes those whom it concerns.
-    fn tell(&self, news: Option<News>) {
-        let Some(News { called, followers }) = news else {
-            return;
-        };
+    fn tell(&self, news: News) {
+        let News { called, followers } = news;
         self.calls.wake(called);
         if followers {
             self.news.notify_all();
+        }
+    }
+
+    // Lets go of the lock, and wakes those whom it concerns. (Who has nobody to wake makes no room for them.)
+    #[inline(never)]
+    fn free_and_tell(&self, mut engine: MutexGuard<'_, Engine<S, T, D, J>>, leads: bool) {
+        let news = engine.news(leads);
+        free(engine);
+        self.tell(news);
+    }
+
+    // Wakes those whom it concerns, but nobody to lead, before the lock is let go of within a wait.
+    #[inline(never)]
+    fn tell_before(&self, engine: &mut Engine<S, T, D, J>) {
+        if !engine.is_quiet(false) {
+            let news = engine.news(false);
+            self.tell(news);
         }
     }
 
@@ -103,10 +118,12 @@ impl<'a, S: RowStore, T: Tracker, D: Device + Drop, J: SourceNaming> Held<'a, S,
     // Lets go of the lock, and wakes those who have their end, those who wait for records that came, and, where this says so, one who is to
     // lead.
     fn release(self, leads: bool) -> &'a Desk<S, T, D, J> {
-        let Held { mut engine, desk } = self;
-        let news = engine.news(leads);
-        free(engine);
-        desk.tell(news);
+        let Held { engine, desk } = self;
+        if engine.is_quiet(leads) {
+            free(engine);
+        } else {
+            desk.free_and_tell(engine, leads);
+        }
         desk
     }
 
@@ -115,7 +132,7 @@ impl<'a, S: RowStore, T: Tracker, D: Device + Drop, J: SourceNaming> Held<'a, S,
         requires { place < 256 }
     {
         let Held { mut engine, desk } = self;
-        desk.tell(engine.news(false));
+        desk.tell_before(&mut engine);
         let engine = desk.calls.of(place).wait_while(
             rt,
             engine,
@@ -160,7 +177,7 @@ impl<'a, S: RowStore, T: Tracker, D: Device + Drop, J: SourceNaming> Held<'a, S,
         ensures { is_awaited (mutex_guard_value result.engine) gno ≡ false }
     {
         let Held { mut engine, desk } = self;
-        desk.tell(engine.news(false));
+        desk.tell_before(&mut engine);
         let engine = desk
             .news
             .wait_while(rt, engine, |engine| engine.is_awaited(gno));
