@@ -1,4 +1,5 @@
 mod again;
+mod courses;
 mod limits;
 mod makers;
 mod one_thread;

@@ -1,7 +1,8 @@
-//! What the tests begin with: a table, changes of its rows, and both sides.
+//! What the tests begin with: tables, changes of their rows, and both sides.
 
-ghost use Rattle.std.specs.Prelude.{◌≡◌, IfOk};
+ghost use Rattle.std.specs.Prelude.{◌≡◌, ◌≤◌, [], List, IfOk};
 ghost use Rattle.std.specs.FinMap.{empty};
+ghost use Rattle.schema.specs.declared.Table.{Table as ATable};
 ghost use Rattle.source_core.specs.Source.{new_source};
 ghost use Rattle.replica_core.specs.Calls.{new_over};
 ghost use Rattle.world.specs.Fresh.{IsNew};
@@ -13,11 +14,15 @@ use commit_order_tracker::CommitOrder;
 use log_device::MemoryDevice;
 use log_file::LogFault;
 use rows::{Change, Named, Row};
-use schema::{RowId, Schema, Table};
+use schema::{Memory, RowId, Schema, Table};
 use std::alloc::Global;
-use store_trait::Batch;
+use store_trait::{Batch, RowStore};
+use tests_stores::common::five_tables;
+use tracker_trait::Tracker;
 use uuid::Uuid;
+use vector_store::VectorStore;
 use world::{Pair, PairParts, World, pair_of};
+use writeset_trackers::WriteSetTracker;
 
 /// The identifier of the source.
 pub const SOURCE: [u8; 16] = [1; 16];
@@ -26,7 +31,7 @@ pub const SOURCE: [u8; 16] = [1; 16];
 pub type InMemory = Pair<BTreeStore, CommitOrder, MemoryDevice>;
 
 /// Both sides in memory, as one world.
-pub type InOne = World<BTreeStore, CommitOrder, MemoryDevice, BTreeStore>;
+pub type InOne<S, T> = World<S, T, MemoryDevice, S>;
 
 /// A row of table 1.
 pub fn row(key: i64) -> RowId {
@@ -39,8 +44,13 @@ pub fn columns(first: i64, second: i64) -> Row {
 }
 
 pub fn insert(key: i64, first: i64, second: i64) -> Change {
+    insert_of(row(key), first, second)
+}
+
+/// An insert of any table's row.
+pub fn insert_of(row: RowId, first: i64, second: i64) -> Change {
     Change::Insert {
-        row: row(key),
+        row,
         values: columns(first, second),
     }
 }
@@ -98,13 +108,60 @@ pub fn sides(alloc: Global) -> Result<InMemory, LogFault>
 }
 
 /// The same as one world.
-pub fn world(alloc: Global) -> Result<InOne, LogFault>
+pub fn world(alloc: Global) -> Result<InOne<BTreeStore, CommitOrder>, LogFault>
     ensures { IfOk result (λ world. IsWorld (λ rows. rows) (seen world)) }
 {
     let (schema, base) = (schema(alloc)?, Batch::new(alloc));
+    world_of(alloc, schema, base, 2, parts(alloc), BTreeStore::new(alloc))
+}
+
+/// A parent.
+pub const PARENT: RowId = RowId { table: 3, key: 1 };
+
+/// A child of it.
+pub const CHILD: RowId = RowId { table: 4, key: 9 };
+
+/// The parent and its child.
+fn kin(alloc: Global) -> Result<Batch, Memory> {
+    let rows = [(PARENT, Some(columns(0, 0))), (CHILD, Some(columns(1, 0)))];
+    Batch::from_entries(Vec::from_slice(alloc, &rows)?).ok_or(Memory)
+}
+
+/// One world of a parent with its child, over tables with kin and one without keys: with one worker, vectors, and parents by the
+/// rows that were written.
+pub fn world_of_kin(alloc: Global) -> Result<InOne<VectorStore, WriteSetTracker>, LogFault>
+    ensures { IfOk result (λ world. IsWorld (λ rows. rows) (seen world)) }
+{
+    let parts = PairParts {
+        rows: VectorStore::new(alloc),
+        copy: VectorStore::new(alloc),
+        tracker: WriteSetTracker::with_limit(alloc, 25_000)?,
+        device: MemoryDevice::new(alloc),
+    };
+    let (schema, base) = (five_tables(alloc)?, kin(alloc)?);
+    world_of(alloc, schema, base, 1, parts, VectorStore::new(alloc))
+}
+
+/// Both sides of these parts as one world, whose readers see the rows in a store of their own.
+fn world_of<S: RowStore + Drop, T: Tracker + Drop>(
+    alloc: Global,
+    schema: Schema,
+    base: Batch,
+    workers: usize,
+    parts: PairParts<S, T, MemoryDevice>,
+    shown: S,
+) -> Result<InOne<S, T>, LogFault>
+    requires some { 1 ≤ workers }
+    requires few { workers ≤ 64 }
+    requires rows { S.contents parts.rows ≡ empty }
+    requires copy { S.contents parts.copy ≡ empty }
+    requires tracker { (ts : List ATable) → T.agrees parts.tracker ts [] }
+    requires shown { S.contents shown ≡ empty }
+    ensures { IfOk result (λ world. IsWorld S.contents (seen world)) }
+{
     let identifier = Uuid::from_bytes(SOURCE);
-    match pair_of(alloc, schema, identifier, &base, LIMIT, 2, parts(alloc))? {
-        Some(sides) => Ok(sides.into_world(alloc, base, BTreeStore::new(alloc))?),
+    match pair_of(alloc, schema, identifier, &base, LIMIT, workers, parts)? {
+        Some(sides) => Ok(sides.into_world(alloc, base, shown)?),
         None => Err(LogFault::OutOfTurn),
     }
 }
