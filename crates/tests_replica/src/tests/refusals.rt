@@ -11,7 +11,7 @@ use executor::Job;
 use record_codec::{Flags, Record};
 use relay::{Received, ReplicaFault};
 use rows::{Change, Row};
-use schema::{Memory, RowId, Schema, Table};
+use schema::{Memory, Schema, Table};
 use std::alloc::Global;
 use std::process::Abort;
 use std::test::Fail;
@@ -42,12 +42,34 @@ fn of_tables(alloc: Global) -> Result<Replica, Memory> {
     replica_over(alloc, tables(alloc)?, store, 2)
 }
 
-/// What a record without refs says: its gno, sequence and parent, its flags, and its change.
-type Said = ([u64; 3], Flags, Change);
+/// What a record does.
+#[derive(Clone, Copy, Debug)]
+enum Does {
+    /// It inserts (1, 10) = [5, 6].
+    Inserts,
+    /// It inserts (4, 8) = [1], a child of (3, 1).
+    InsertsChild,
+    /// It updates (1, 10), which is not there.
+    Updates,
+    /// It deletes (4, 9), a child of (3, 1).
+    DeletesChild,
+}
+
+fn change_of(does: Does) -> Result<Change, Memory> {
+    match does {
+        Does::Inserts => insert(row(1, 10), &[5, 6]),
+        Does::InsertsChild => insert(row(4, 8), &[1]),
+        Does::Updates => update(row(1, 10), 0, 7),
+        Does::DeletesChild => Ok(Change::Delete { row: row(4, 9) }),
+    }
+}
+
+/// What a record without refs says: its gno, sequence and parent, its flags, and what it does.
+type Said = ([u64; 3], Flags, Does);
 
 fn record_of(alloc: Global, said: Said) -> Result<Record, Memory> {
-    let ([gno, sequence, parent], flags, change) = said;
-    let plain = record(alloc, gno, parent, change)?;
+    let ([gno, sequence, parent], flags, does) = said;
+    let plain = record(alloc, gno, parent, change_of(does)?)?;
     Ok(Record {
         sequence,
         flags,
@@ -66,8 +88,10 @@ enum Handed {
     Late,
     /// One of this number.
     Numbered(u64),
-    /// One over this row in the place of the one that was handed out.
-    Over(RowId, Option<Row>),
+    /// One over another row than (1, 10).
+    OtherId,
+    /// One over (1, 10) with columns.
+    OtherRow,
 }
 
 /// What a record says, where it comes from, what is answered to it, and which result is handed in then, with its refusal.
@@ -79,12 +103,8 @@ type Case = (
 );
 
 /// Records that lie, records that do not apply, and results that are not that of the job, for a new replica each.
-fn cases() -> Result<[Case; 13], Memory> {
-    let new = insert(row(1, 10), &[5, 6])?;
-    let child = insert(row(4, 8), &[1])?;
-    let absent = update(row(1, 10), 0, 7)?;
-    let deleted = Change::Delete { row: row(4, 9) };
-    let first = ([1, 1, 0], PLAIN, new);
+fn cases() -> [Case; 13] {
+    let first = ([1, 1, 0], PLAIN, Does::Inserts);
     let (own, other) = (source(), Uuid::from_u128(1));
     let accepted = Ok(Received::Accepted);
     let foreign = Err(ReplicaFault::ForeignSource);
@@ -94,26 +114,38 @@ fn cases() -> Result<[Case; 13], Memory> {
     let stranger = Some((Handed::Numbered(5), ReplicaFault::Stranger));
     let second = Some((Handed::Second, ReplicaFault::Double));
     let late = Some((Handed::Late, ReplicaFault::Double));
-    let other_id = Some((Handed::Over(row(1, 11), None), ReplicaFault::WrongInput));
-    let other_row = Some((
-        Handed::Over(row(1, 10), Row::new(&[5, 6])),
-        ReplicaFault::WrongInput,
-    ));
-    Ok([
-        (([0, 1, 0], PLAIN, new), other, foreign, None),
-        (([1, 2, 0], PLAIN, new), own, malformed, None),
-        (([1, 1, 1], PLAIN, new), own, malformed, None),
-        (([1, 1, 0], RELATED, new), own, malformed, None),
-        (([1, 1, 0], RELATED, child), own, malformed, None),
-        (([2, 2, 0], PLAIN, new), own, gap, None),
-        (([1, 1, 0], PLAIN, absent), own, accepted, stops),
-        (([1, 1, 0], RELATED, deleted), own, accepted, stops),
+    let other_id = Some((Handed::OtherId, ReplicaFault::WrongInput));
+    let other_row = Some((Handed::OtherRow, ReplicaFault::WrongInput));
+    [
+        (([0, 1, 0], PLAIN, Does::Inserts), other, foreign, None),
+        (([1, 2, 0], PLAIN, Does::Inserts), own, malformed, None),
+        (([1, 1, 1], PLAIN, Does::Inserts), own, malformed, None),
+        (([1, 1, 0], RELATED, Does::Inserts), own, malformed, None),
+        (
+            ([1, 1, 0], RELATED, Does::InsertsChild),
+            own,
+            malformed,
+            None,
+        ),
+        (([2, 2, 0], PLAIN, Does::Inserts), own, gap, None),
+        (([1, 1, 0], PLAIN, Does::Updates), own, accepted, stops),
+        (
+            ([1, 1, 0], RELATED, Does::DeletesChild),
+            own,
+            accepted,
+            stops,
+        ),
         (first, own, accepted, stranger),
         (first, own, accepted, second),
         (first, own, accepted, late),
         (first, own, accepted, other_id),
         (first, own, accepted, other_row),
-    ])
+    ]
+}
+
+/// The rows of a job that looks at this one alone.
+fn input_of(alloc: Global, key: i64, there: Option<Row>) -> Result<Batch, Memory> {
+    Batch::from_entries(vec![in alloc; (row(1, key), there)]?).ok_or(Memory)
 }
 
 /// The job whose result is handed in, where this one was dispatched.
@@ -135,9 +167,12 @@ fn handed_job(
             Ok(job)
         }
         Handed::Numbered(gno) => Ok(Job { gno, ..job }),
-        Handed::Over(id, there) => {
-            let rows = vec![in rt.alloc(); (id, there)]?;
-            let input = Batch::from_entries(rows).ok_or(Memory)?;
+        Handed::OtherId => {
+            let input = input_of(rt.alloc(), 11, None)?;
+            Ok(Job { input, ..job })
+        }
+        Handed::OtherRow => {
+            let input = input_of(rt.alloc(), 10, Row::new(&[5, 6]))?;
             Ok(Job { input, ..job })
         }
     }
@@ -185,7 +220,7 @@ fn is_answered(
 /// passes over the stop; a result that is taken for one of a job that was handed out: in the definitions themselves.
 #[test]
 fn lying_records_and_results_are_refused(rt: HostRuntime) -> Result<(), Fail> {
-    for case in cases()? {
+    for case in cases() {
         let mut replica = of_tables(rt.alloc())?;
         is_answered(&rt, &mut replica, case)?;
     }

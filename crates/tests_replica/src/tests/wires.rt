@@ -12,7 +12,7 @@ use tests_log::common::{source, spelled};
 
 /// What is taken, and what comes of it.
 #[derive(Clone, Copy, Debug)]
-struct Take {
+struct Case {
     /// The numbers of the records that wait.
     waiting: &'static [u64],
     /// The numbers of the piece's records, and what stands behind them in it.
@@ -25,8 +25,8 @@ struct Take {
     left: usize,
 }
 
-fn takes() -> [Take; 5] {
-    let all = Take {
+fn cases() -> [Case; 5] {
+    let all = Case {
         waiting: &[1, 2],
         piece: &[3],
         behind: &[],
@@ -37,28 +37,28 @@ fn takes() -> [Take; 5] {
     [
         all,
         // Those that are skipped are counted too.
-        Take {
+        Case {
             waiting: &[1, 1, 2],
             piece: &[2, 3],
             answer: Ok(5),
             ..all
         },
         // Of a piece with a fault nothing is taken; those that waited are.
-        Take {
+        Case {
             behind: &[0; 4],
             answer: Err(WireFault::Codec(CodecFault::BadLength)),
             accepted: &[1, 2],
             ..all
         },
         // A refused record waits, and those behind it.
-        Take {
+        Case {
             piece: &[3, 5, 6],
             answer: Err(WireFault::Replica(ReplicaFault::Gap)),
             left: 2,
             ..all
         },
         // Where one that waited is refused again, the piece is not looked at.
-        Take {
+        Case {
             waiting: &[1, 3, 4],
             piece: &[2],
             answer: Err(WireFault::Waiting(ReplicaFault::Gap)),
@@ -78,21 +78,36 @@ fn bytes_of(alloc: Global, numbers: &[u64]) -> Result<Vec<u8>, Memory> {
     Ok(bytes)
 }
 
+/// A wire over which these bytes came; their records wait.
+fn wire_of(alloc: Global, bytes: &[u8]) -> Result<Wire, CodecFault> {
+    let mut wire = Wire::new(alloc, source());
+    wire.gather(bytes)?;
+    Ok(wire)
+}
+
+fn take(wire: &mut Wire, replica: &mut Replica, piece: &[u8]) -> Result<u64, WireFault> {
+    wire.take(replica, piece)
+}
+
+fn accepted(alloc: Global, replica: &Replica) -> Result<Vec<u8>, Memory> {
+    spelled(alloc, replica.accepted())
+}
+
+/// The piece is taken so behind the records that wait.
 fn is_taken(
     rt: &(impl Abort + AllocGlobal),
     replica: &mut Replica,
-    take: Take,
+    case: &Case,
 ) -> Result<(), Fail> {
-    let mut wire = Wire::new(rt.alloc(), source());
-    wire.gather(&bytes_of(rt.alloc(), take.waiting)?)?;
-    let mut piece = bytes_of(rt.alloc(), take.piece)?;
-    piece.extend_from_slice(take.behind)?;
-    assert_eq!(rt; wire.take(replica, &piece), take.answer, "{take:?}");
-    assert_eq!(rt; wire.waiting().len(), take.left, "{take:?}");
-    let accepted = bytes_of(rt.alloc(), take.accepted)?;
+    let mut wire = wire_of(rt.alloc(), &bytes_of(rt.alloc(), case.waiting)?)?;
+    let mut piece = bytes_of(rt.alloc(), case.piece)?;
+    piece.extend_from_slice(case.behind)?;
+    assert_eq!(rt; take(&mut wire, replica, &piece), case.answer, "{case:?}");
+    assert_eq!(rt; wire.waiting().len(), case.left, "{case:?}");
+    let wanted = bytes_of(rt.alloc(), case.accepted)?;
     assert!(rt;
-        spelled(rt.alloc(), replica.accepted())?.as_slice() == accepted.as_slice(),
-        "{take:?}"
+        accepted(rt.alloc(), replica)?.as_slice() == wanted.as_slice(),
+        "{case:?}"
     );
     Ok(())
 }
@@ -101,9 +116,9 @@ fn is_taken(
 /// told where records wait.
 #[test]
 fn pieces_come_behind_records_that_wait(rt: HostRuntime) -> Result<(), Fail> {
-    for take in takes() {
+    for case in cases() {
         let mut replica = replica(rt.alloc(), 1)?;
-        is_taken(&rt, &mut replica, take)?;
+        is_taken(&rt, &mut replica, &case)?;
     }
     Ok(())
 }
