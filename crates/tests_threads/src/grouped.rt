@@ -229,6 +229,10 @@ where
     third?;
     fourth?;
     let (waited, slept) = paces?;
+    // (Where there is no memory for a thread, it begins once all is over.)
+    if slept.is_zero() {
+        Err(Memory)?;
+    }
     assert!(rt;
         waited.saturating_mul(4) < slept,
         "{waited:?} of waiting, {slept:?} of sleep"

@@ -603,25 +603,26 @@ fn run_threads<J: ReplicaNaming + Send + Sync, R: Threads + Wait + Clock + Sync>
     gno: u64,
     steps: &[Step],
 ) -> Result<Met, ReplicaFault> {
-    let (((one, two), three), (waited, fed)) = join(
+    // (A worker stands on each side: where no thread can be made for one side, the other ends without it.)
+    let ((one, two), (three, ((first, second), fed))) = join(
         rt,
         || join(
             rt,
-            || join(
-                rt,
-                || shared.worker(rt, alloc, gate),
-                || shared.worker(rt, alloc, gate),
-            ),
+            || shared.worker(rt, alloc, gate),
             || shared.worker(rt, alloc, gate),
         ),
         || join(
             rt,
-            || join(rt, || shown(rt, shared, gno), || shown(rt, shared, gno)),
-            || feed_and_open(rt, shared, records, gate, steps),
+            || shared.worker(rt, alloc, gate),
+            || join(
+                rt,
+                || join(rt, || shown(rt, shared, gno), || shown(rt, shared, gno)),
+                || feed_and_open(rt, shared, records, gate, steps),
+            ),
         ),
     );
     fed?;
-    Ok(([one, two, three], [waited.0, waited.1]))
+    Ok(([one, two, three], [first, second]))
 }
 
 /// How many commits are published once that of this number is.
