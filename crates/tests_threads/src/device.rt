@@ -9,7 +9,7 @@ use std::time::{Clock, Duration};
 pub const PATIENCE: u32 = 3000;
 
 /// How often one who holds others up lets them run, at most.
-pub const TURNS: u32 = 1_000_000;
+const TURNS: u32 = 1_000_000;
 
 /// Which call of the device is held until it is freed, in some turns at most.
 #[derive(Clone, Copy, Drop)]

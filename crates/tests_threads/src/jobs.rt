@@ -2,7 +2,7 @@
 ghost use Rattle.std.specs.Prelude.{◌≡◌};
 ghost use Rattle.replica_shared.specs.Queue.{IsPassOf, hand_of};
 
-use crate::device::TURNS;
+use crate::device::PATIENCE;
 use crate::makers::{insert, schema};
 use executor::Job;
 use replica_shared::{Jobs, Pass};
@@ -12,7 +12,8 @@ use std::process::Abort;
 use std::sync::Wait;
 use std::sync::atomic::{AtomicBool, AtomicU64, Ordering};
 use std::test::Fail;
-use std::thread::{Threads, join, yield_now};
+use std::thread::{Threads, join, sleep, yield_now};
+use std::time::{Clock, Duration};
 use store_trait::Batch;
 use tests_log::common::record;
 
@@ -54,13 +55,13 @@ impl Loot {
         }
     }
 
-    /// Whether there comes to be room for the job of this number.
-    fn has_room(&self, gno: u64) -> bool {
-        for _ in 0..TURNS {
+    /// Whether there is room for the job of this number before the patience ends.
+    fn has_room(&self, clock: &impl Clock, gno: u64) -> bool {
+        for _ in 0..PATIENCE {
             if gno < self.count.load(Ordering::SeqCst).saturating_add(ROOM) {
                 return true;
             }
-            yield_now();
+            sleep(clock, Duration::from_millis(1));
         }
         false
     }
@@ -72,7 +73,10 @@ fn two_steal_what_one_pushes(rt: HostRuntime) -> Result<(), Fail> {
     push_beside(&rt, rt.alloc())
 }
 
-fn push_beside<R: Threads + Wait + Abort + Sync>(rt: &R, alloc: Global) -> Result<(), Fail> {
+fn push_beside<R: Threads + Wait + Abort + Clock + Sync>(
+    rt: &R,
+    alloc: Global,
+) -> Result<(), Fail> {
     let change = insert(10, [5, 6])?;
     let job = Job::new(
         1,
@@ -104,7 +108,7 @@ fn push_beside<R: Threads + Wait + Abort + Sync>(rt: &R, alloc: Global) -> Resul
 
 /// Pushes all jobs, copies of this one. It waits where many lie there, until that is in vain.
 fn push_all(
-    rt: &impl Wait,
+    rt: &(impl Wait + Clock),
     jobs: &Jobs,
     mut pass: Pass,
     job: &Job,
@@ -116,7 +120,7 @@ fn push_all(
 {
     let mut waits = true;
     for gno in 1..=JOBS {
-        waits = waits && loot.has_room(gno);
+        waits = waits && loot.has_room(rt, gno);
         let mut next = job.copy()?;
         next.gno = gno;
         jobs.push(rt, &mut pass, next).map_err(|_| Memory)?;

@@ -179,7 +179,7 @@ where
             || work(rt, alloc, shared, &gate),
             || work(rt, alloc, shared, &gate),
         ),
-        || show_asleep(rt, alloc, shared, &bytes),
+        || show_asleep(rt, alloc, shared, &bytes, &gate),
     );
     if !shown? || !gate.has_met() {
         Err(Memory)?;
@@ -189,13 +189,14 @@ where
     shows(rt, shared, 2, [5, 6])
 }
 
-/// Feeds the bytes once two workers sleep, waits until both records are published, and closes, however that ends. Whether they
-/// are.
+/// Feeds the bytes once two workers sleep, waits until both records are published, and closes and opens the gate, however that ends.
+/// Whether they are.
 fn show_asleep<J: ReplicaNaming>(
     rt: &(impl Wait + Clock),
     alloc: Global,
     shared: &Shared<J>,
     bytes: &[u8],
+    gate: &Held,
 ) -> Result<bool, Memory> {
     let asleep = Sleepers {
         workers: 2,
@@ -206,6 +207,7 @@ fn show_asleep<J: ReplicaNaming>(
     let told = told(rt, shared, &mut wire, bytes);
     let shown = in_time && told == Ok(Ok(2)) && shared.wait_for(rt, 2).is_ok();
     shared.close(rt);
+    gate.open();
     told?.map_err(|_| Memory)?;
     Ok(shown)
 }
