@@ -98,7 +98,7 @@ fn decoded(alloc: Global, bytes: &[u8]) -> Result<(Vec<i64>, usize), Fault> {
 fn first_fault(alloc: Global, bytes: &[u8], records: &mut Vec<Record>) -> Option<CodecFault> {
     let mut stream = Stream::new(alloc);
     for byte in bytes {
-        if let Err(fault) = again!(stream.feed(&[*byte], records)) {
+        if let Err(fault) = again!(CodecFault::Memory => stream.feed(&[*byte], records)) {
             return Some(fault);
         }
     }
@@ -111,11 +111,11 @@ fn is_streamed(rt: &(impl Abort + AllocGlobal), bytes: &[u8], place: usize) -> R
     let fault = first_fault(rt.alloc(), bytes, &mut records);
     let mut rest = bytes;
     for record in &records {
-        let (fields, len) = again!(read(rt.alloc(), rest))?;
+        let (fields, len) = again!(Fault::Memory => read(rt.alloc(), rest))?;
         assert_eq!(rt; again!(fields_of(rt.alloc(), record))?, fields, "{place}");
         rest = rest.get(len..).ok_or("bytes of a record")?;
     }
-    let wanted = again!(read(rt.alloc(), rest)).err();
+    let wanted = again!(Fault::Memory => read(rt.alloc(), rest)).err();
     assert_eq!(rt;
         Some(fault.map_or(Fault::Short, fault_of)),
         wanted,
@@ -132,8 +132,8 @@ fn is_read_alike(rt: &(impl Abort + AllocGlobal), bytes: &[u8], place: usize) ->
         _ => 107,
     };
     let record = bytes.get(front..).ok_or("a record")?;
-    let wanted = again!(read(rt.alloc(), record));
-    let answer = again!(decoded(rt.alloc(), record));
+    let wanted = again!(Fault::Memory => read(rt.alloc(), record));
+    let answer = again!(Fault::Memory => decoded(rt.alloc(), record));
     assert_eq!(rt; answer, wanted, "{place}");
     is_streamed(rt, bytes, place)
 }
