@@ -1,3 +1,4 @@
+mod crashes;
 mod damage;
 mod devices;
 mod entries;

@@ -1,6 +1,7 @@
-//! Calls of a device in memory, one of which needs room.
+//! Calls of a device in memory, one of which needs room, and what a crash may leave of a device that keeps it.
 
-use log_device::{Device, MemoryDevice};
+use log_device::{CrashDevice, Device, DeviceFault, MemoryDevice};
+use std::alloc::AllocError;
 use std::test::Fail;
 use tests_stores::again;
 
@@ -21,5 +22,49 @@ fn writes_reads_and_cuts_again(rt: HostRuntime) -> Result<(), Fail> {
     device.cut(4)?;
     device.sync()?;
     assert_eq!(rt; device.bytes(), [5, 0, 6, 7].as_slice());
+    Ok(())
+}
+
+/// A crash device whose contents are all the kept one, of another moment, in another order, or longer or shorter: each of them
+/// may be left.
+#[test]
+fn what_a_crash_may_leave_again(rt: HostRuntime) -> Result<(), Fail> {
+    let mut device = CrashDevice::new(rt.alloc());
+    again!(device.write_at(1, &[1, 2]))?;
+    again!(device.sync())?;
+    again!(device.cut(2))?;
+    again!(device.write_at(1, &[7, 8, 9]))?;
+    assert_eq!(rt; device.moments(), 5);
+    let images = again!(device.images(4))?;
+    let wanted: [&[u8]; 8] = [
+        &[0, 1, 2],
+        &[0, 1, 2, 0],
+        &[0, 7, 8],
+        &[0, 7, 8, 9],
+        &[0, 0, 0],
+        &[0, 0, 0, 0],
+        &[0, 255, 255],
+        &[0, 255, 255, 255],
+    ];
+    for (image, wanted) in images.iter().zip(wanted) {
+        assert_eq!(rt; image.as_slice(), wanted);
+    }
+    Ok(())
+}
+
+/// A failed write of which a crash leaves nothing.
+#[test]
+fn a_failed_write_may_stand(rt: HostRuntime) -> Result<(), Fail> {
+    let mut device = CrashDevice::failing(rt.alloc(), 1);
+    assert_eq!(rt; device.write_at(0, &[5]), Err(DeviceFault::Failed));
+    assert_eq!(rt; device.len(), 0);
+    if device.moments() == 1 {
+        return Err(AllocError)?;
+    }
+    let images = device.images(1)?;
+    assert_eq!(rt;
+        images.last().map(|image| image.as_slice()),
+        Some([255].as_slice())
+    );
     Ok(())
 }
