@@ -12,6 +12,9 @@ use Rattle.record_codec.specs.declared.records.Record.{Record}
 use Rattle.record_codec.proofs.Holding.{Hold-push, numbered_behind}
 use Rattle.record_codec.specs.Group.{GroupValue, AreNumbered, AreRecordsOf, Hold}
 use Rattle.record_codec.proofs.Numbered.{numbered-append}
+use Rattle.log_file.specs.declared.form.Form.{Form}
+use Rattle.log_file.specs.declared.form.Form.TheVariants.{One}
+use Rattle.log_file.specs.Head.{BeginsAt, next_of}
 use Rattle.log_file.specs.Log.{Log, Kept, Tail, waiting_of, log_of, AreHalves}
 use Rattle.source_core.specs.declared.transaction.Receipt.{Receipt}
 use Rattle.source_core.specs.Source.{Source, Open, IsSound, new_source}
@@ -99,12 +102,12 @@ first_behind p behind group rest none is = rw (none, is) refl
 pub oldest_next : (base : List Entry) (tables : List Table) (s : State) (group : GroupValue) → slice_get s.unsynced 0 ≡ Some group → IsSettled base tables s → prepare_cause s.kept group ≡ None
 oldest_next base tables s group at h =
     let parts = split s.unsynced at in
-    let o = oldest base tables s group parts.0 parts.1 h in in_turn group.first (length s.kept.records) (omega (arith, o.first, h.syncing.many)) where
+    let o = oldest base tables s group parts.0 parts.1 h in in_turn group.first (next_of s.kept.head s.kept.records) (omega (arith, o.first, h.syncing.first, h.syncing.many)) where
       split : (l : List GroupValue) → slice_get l 0 ≡ Some group → (rest : List GroupValue) × (l ≡ group ∷ rest)
       split [] e = absurd (cc e)
       split (x ∷ l) e = (l, ap (λ (y : GroupValue). y ∷ l) (same_Some x group e))
 
-      in_turn : (a b : ℕ) → a ≡ b + 1 → (if a == b + 1 then None else Some OutOfTurn) ≡ None
+      in_turn : (a b : ℕ) → a ≡ b → (if a == b then None else Some OutOfTurn) ≡ None
       in_turn a b e = grind (arith, nat_tests)
 
 -- ---- steps
@@ -160,6 +163,7 @@ flushed_syncing core c group kept unsynced sound f h =
     let next : group.first ≡ core.synced + 1 + length (drop core.synced core.log) =
     omega (arith, (group_ends core c group sound f).0, length-drop core.synced core.log, sound.synced_within) in
     record {
+      first = h.first;
       records = h.records ∙ sym (take-append-le core.synced core.log f.records sound.synced_within);
       many = h.many;
       held = subst (Hold (unsynced ++ group ∷ [])) (sym behind) (Hold-push unsynced (drop core.synced core.log) group f.records h.held f.group_of);
@@ -207,7 +211,7 @@ leaves base tables s t group home running at h =
     let parts = split s.unsynced at in
     let o = oldest base tables s group parts.0 parts.1 h in
     let ready = subst (λ (w : Option Tail). IfSome w (λ x. s.core.halted ≡ false → IsReady s.core.synced x)) home h.ready running in
-    record { waiting = ready.waiting; next = omega (arith, o.first, ready.last) } where
+    record { waiting = ready.waiting; next = o.first ∙ sym ready.next } where
       split : (l : List GroupValue) → slice_get l 0 ≡ Some group → (rest : List GroupValue) × (l ≡ group ∷ rest)
       split [] e = absurd (cc e)
       split (x ∷ l) e = (l, ap (λ (y : GroupValue). y ∷ l) (same_Some x group e))
@@ -223,19 +227,19 @@ prepared_first : (base : List Entry) (tables : List Table) (s old : State) (P : 
 prepared_first base tables s old P is h some = first_is s.kept.prepared s.unsynced P h.syncing.prepared (subst (λ (x : State). IsSomeAnd x.kept.prepared P) (sym is) some)
 
 -- the writer that was to write it is ready again
-pub taken_back : (base : List Entry) (tables : List Table) (s old : State) (t : Tail) → s ≡ old → IsSettled base tables s → IsSomeAnd old.kept.prepared (λ group. group.first ≡ t.last + 1) → t.waiting ≡ None
+pub taken_back : (base : List Entry) (tables : List Table) (s old : State) (t : Tail) → s ≡ old → IsSettled base tables s → IsSomeAnd old.kept.prepared (λ group. group.first ≡ t.next) → t.waiting ≡ None
     → IsSettled base tables (with_home t s)
 taken_back base tables s old t is h some waiting =
-    let f = prepared_first base tables s old (λ group. group.first ≡ t.last + 1) is h some in
+    let f = prepared_first base tables s old (λ group. group.first ≡ t.next) is h some in
     let at = oldest base tables s f.0 f.1 f.3 h in
-    home_settled base tables s t (λ running. record { waiting = waiting; last = omega (arith, f.4, at.first) }) h
+    home_settled base tables s t (λ running. record { waiting = waiting; next = sym f.4 ∙ at.first }) h
 
 -- The oldest group of a state, which is seen as this one, is the prepared one, and this writer wrote it.
 pub record IsWritten (s old : State) (t : Tail) (group : GroupValue) (groups : List GroupValue) : Type 0 where
   pub is : s ≡ old
   pub unsynced : s.unsynced ≡ group ∷ groups
   pub prepared : s.kept.prepared ≡ Some group
-  pub last : t.last ≡ group.last
+  pub next : t.next ≡ group.last + 1
 
 -- the oldest group is synced
 module _ (base : List Entry) (tables : List Table) (s old : State) (t : Tail) (group : GroupValue) (groups : List GroupValue) (c : Source) (k : Kept) (h : IsSettled base tables s) (w : IsWritten s old t group groups)
@@ -271,6 +275,7 @@ module _ (base : List Entry) (tables : List Table) (s old : State) (t : Tail) (g
         base_is = h.base_is;
         tables_is = h.tables_is;
         syncing = record {
+          first = h.syncing.first;
           records = refl;
           many = length-take-le group.last s.core.log at.within;
           held = subst (λ (l : List GroupValue). Hold l (drop group.last s.core.log)) (sym rest) at.rest;
@@ -278,7 +283,7 @@ module _ (base : List Entry) (tables : List Table) (s old : State) (t : Tail) (g
           prepared = tt;
           numbered = at.numbered;
         };
-        ready = λ running. record { waiting = waiting; last = w.last };
+        ready = λ running. record { waiting = waiting; next = w.next };
         out = tt;
         receipts = h.receipts;
         watch = h.watch;
@@ -336,6 +341,10 @@ set_settled s k sleeps may none place e =
     there (x ∷ l) (suc j) zero apart e = e
     there (x ∷ l) (suc j) (suc i) apart e = there l j i (λ same. apart (ap suc same)) e
 
+-- a log begins with record 1
+first_gno : (form : Form) (first : ℕ) → BeginsAt form first → first ≡ 1
+first_gno One first begins = begins
+
 -- a source that was just made, over a log without records
 pub new_settled : (log : Log) (s : State) (t : Tail) → s.core ≡ new_source s.core.tables s.core.base s.core.limit s.core.kind → log.waiting ≡ None → s.home ≡ Some t → AreHalves s.kept t → IsNewState s.core log s
     → IsSettled s.core.base s.core.tables s
@@ -345,11 +354,13 @@ new_settled log s t core waiting home halves new =
     let none = made s.core core in
     let both : log_of s.kept t ≡ log = subst (λ (o : Option Tail). IfSome o (λ x. log_of s.kept x ≡ log)) home new.home in
     let prepared : s.kept.prepared ≡ None = ap (λ (l : Log). l.waiting) both ∙ waiting in
+    let first = first_gno s.kept.head.form s.kept.head.first halves.is_log.head.first in
     let many : length s.kept.records ≡ s.core.synced = ap length new.kept ∙ sym none.2 in
     record {
       base_is = refl;
       tables_is = refl;
       syncing = record {
+        first = first;
         records = new.kept ∙ sym none.0;
         many = many;
         held = subst (λ (l : List GroupValue). Hold l (drop s.core.synced s.core.log)) (sym new.unsynced) none.1;
@@ -357,7 +368,7 @@ new_settled log s t core waiting home halves new =
         prepared = subst (λ (o : Option GroupValue). IfSome o (λ group. slice_get s.unsynced 0 ≡ Some group)) (sym prepared) tt;
         numbered = subst (AreNumbered (s.core.synced + 1)) (sym none.1) tt;
       };
-      ready = rw home (λ running. record { waiting = halves.waits ∙ ap (option_map waiting_of) prepared; last = halves.last ∙ many });
+      ready = rw home (λ running. record { waiting = halves.waits ∙ ap (option_map waiting_of) prepared; next = omega (arith, halves.next, first, many) });
       out = rw home tt;
       receipts = record {
         history_is = new.history ∙ sym none.3;

@@ -53,10 +53,10 @@ abbrev pub from_prepared : Option GroupValue → List GroupValue → List GroupV
 from_prepared None behind = behind
 from_prepared (Some group) behind = group ∷ behind
 
--- it waits for no group, and is behind so many records
+-- it waits for no group, and writes behind so many records
 pub record IsReady (synced_ : ℕ) (t : Tail) : Type 0 where
   pub waiting : t.waiting ≡ None
-  pub last : t.last ≡ synced_
+  pub next : t.next ≡ synced_ + 1
 
 -- the receipt is one of these, at its number
 pub record IsKnown (history : List Receipt) (r : Receipt) : Type 0 where
@@ -84,7 +84,8 @@ pub record IsWatch (w : Watch) : Type 0 where
 -- What lies between flush and sync, of a log whose first so many records are synced, and of the sizes in which the others were
 -- flushed.
 pub record IsSyncing (log : List Record) (synced_ : ℕ) (group_sizes : List ℕ) (kept : Kept) (unsynced : List GroupValue) : Type 0 where
-  -- readers see just the records that are synced
+  -- readers see just the records that are synced, from the first one on
+  pub first : kept.head.first ≡ 1
   pub records : kept.records ≡ take synced_ log
   -- and that many
   pub many : length kept.records ≡ synced_
@@ -351,11 +352,11 @@ pub record Trip : Type 0 where
 -- the group is the next
 pub record IsErrand (e : Trip) : Type 0 where
   pub waiting : e.tail.waiting ≡ None
-  pub next : e.group.first ≡ e.tail.last + 1
+  pub next : e.group.first ≡ e.tail.next
 
 -- It was written, and the writer is behind it; or memory lacked, and all is as it was.
 pub record IsBack (e : Trip) (done : Result (Unit {0}) LogFault) : Type 0 where
-  pub written : OnOk done ((e.tail.waiting ≡ None) × (e.tail.last ≡ e.group.last))
+  pub written : OnOk done ((e.tail.waiting ≡ None) × (e.tail.next ≡ e.group.last + 1))
   pub lacked : IsErrOf done logs.Memory → IsErrand e
 
 -- the writer leaves with the oldest group, which is prepared
