@@ -329,7 +329,7 @@ NoneIsLeft s = NoneIsKept s.kept × (s.outlet.pushed ≤ s.claimed)
 -- from then on exactly at the end.
 abbrev pub Finds : State → Next → State → Type 0
 Finds s (found.Kept job) then = TakesOut s.kept (Some job) then.kept × (then ≡ record s { kept = then.kept })
-Finds s found.Claim then = NoneIsKept s.kept × (s.claimed < s.outlet.pushed) × (then ≡ with_claim s)
+Finds s (found.Claim claim) then = NoneIsKept s.kept × (s.claimed < s.outlet.pushed) × (then ≡ with_claim s)
 Finds s found.Nothing then = NoneIsLeft s × (is_ended s ≡ false) × (then ≡ s)
 Finds s found.Ended then = NoneIsLeft s × (is_ended s ≡ true) × (then ≡ s)
 

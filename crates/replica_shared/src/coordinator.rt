@@ -15,8 +15,9 @@ ghost use Rattle.replica_shared.specs.Together.{State, IsNamed, StopsRightly, St
 
 use crate::kept::Kept;
 use crate::naming::ReplicaNaming;
-use crate::news::{News, Next, Outlook, Sleepers};
+use crate::news::{Looks, News, Next, Outlook, Sleepers};
 use crate::outlet::Outlet;
+use crate::queue::Claim;
 use executor::{Job, JobResult};
 use left_right::Absorb;
 use published::{Common, Counts, Notice, Publisher, Status, Step, Version, Watch};
@@ -50,6 +51,7 @@ where
     /// What those who wait were told last.
     told: Outlook,
     sleepers: Sleepers,
+    looks: Looks,
 }
 
 impl<S: RowStore + Drop, J: ReplicaNaming> Model for Coordinator<S, J>
@@ -101,6 +103,10 @@ impl<S: RowStore + Drop, J: ReplicaNaming> Coordinator<S, J> {
                 over: false,
             },
             sleepers: Sleepers {
+                workers: 0,
+                readers: 0,
+            },
+            looks: Looks {
                 workers: 0,
                 readers: 0,
             },
@@ -270,7 +276,7 @@ impl<S: RowStore + Drop, J: ReplicaNaming> Coordinator<S, J> {
     {
         if self.claimed < self.outlet.pushed() {
             self.claimed += 1;
-            Next::Claim
+            Next::Claim(Claim::new())
         } else if self.is_ended() {
             Next::Ended
         } else {
@@ -505,7 +511,7 @@ impl<S: RowStore + Drop, J: ReplicaNaming> Coordinator<S, J> {
     }
 
     // Whether neither the commit of this gno is published nor the replica stopped.
-    pub(crate) fn is_awaited(&self, gno: u64) -> bool
+    fn is_awaited(&self, gno: u64) -> bool
         ensures { result ≡ is_awaited self.now gno }
     {
         !(gno <= self.publisher.tell().upto() || self.core.stopped().is_some())
@@ -549,6 +555,7 @@ impl<S: RowStore + Drop, J: ReplicaNaming> Coordinator<S, J> {
             behind: _,
             told: _,
             sleepers: _,
+            looks: _,
         } = self;
         (core, publisher)
     }
@@ -561,7 +568,7 @@ impl<S: RowStore + Drop, J: ReplicaNaming> Coordinator<S, J> {
     }
 
     // Whether there is nothing for a worker.
-    pub(crate) fn is_idle(&self) -> bool
+    fn is_idle(&self) -> bool
         ensures { result ≡ is_idle self.now }
     {
         let now = self.outlook();
@@ -631,6 +638,29 @@ impl<S: RowStore + Drop, J: ReplicaNaming> Coordinator<S, J> {
     // How many wait.
     pub(crate) fn sleepers(&self) -> Sleepers {
         self.sleepers
+    }
+
+    // A call of `worker` that waits looks. Whether there is nothing for it.
+    pub(crate) fn worker_looks(&mut self) -> bool
+        ensures idle { result ≡ is_idle self.old }
+        ensures same { self.new ≡ self.old }
+    {
+        self.looks.workers = self.looks.workers.saturating_add(1);
+        self.is_idle()
+    }
+
+    // A call of `wait_for` that waits for this gno looks. Whether it has to wait still.
+    pub(crate) fn reader_looks(&mut self, gno: u64) -> bool
+        ensures awaited { result ≡ is_awaited self.old gno }
+        ensures same { self.new ≡ self.old }
+    {
+        self.looks.readers = self.looks.readers.saturating_add(1);
+        self.is_awaited(gno)
+    }
+
+    // How often those who wait looked.
+    pub(crate) fn looks(&self) -> Looks {
+        self.looks
     }
 }
 

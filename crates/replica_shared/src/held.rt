@@ -1,17 +1,19 @@
 //! The lock, and who holds it.
 //!
 //! Who has the lock has a `Held`, which is not `Drop`: neither an end of a scope nor a `?` can let it go. It ends in `let_go`, or in a
-//! wait, and both tell first whom it concerns what was done. Only this module takes it apart.
+//! wait, and both tell first whom it concerns what was done. Only this module takes it apart, and the mutex in it (`Locked`) goes free
+//! only where that was asked for.
 ghost use Rattle.std.specs.Prelude.{◌≡◌, false};
 ghost use Rattle.std.specs.Sync.Mutex.{mutex_guard_value};
-ghost use Rattle.replica_shared.specs.Together.{IsTold, is_awaited, is_idle};
+ghost use Rattle.replica_shared.specs.Together.{is_awaited, is_idle};
 
 use crate::coordinator::Coordinator;
+use crate::locked::Locked;
 use crate::naming::ReplicaNaming;
 use crate::news::News;
 use left_right::Absorb;
 use published::{Common, Step, Version};
-use std::sync::{Condvar, Mutex, MutexGuard, Wait};
+use std::sync::{Condvar, Mutex, Wait};
 use store_trait::RowStore;
 
 /// So often who brings a record looks whether the lock is free, some microseconds in all.
@@ -35,7 +37,7 @@ where
     Version<S, J>: Absorb<Step<J>, State = Common>,
 {
     lock: &'a Lock<S, J>,
-    guard: MutexGuard<'a, Coordinator<S, J>>,
+    locked: Locked<'a, S, J>,
 }
 
 impl<S: RowStore + Drop, J: ReplicaNaming> Lock<S, J> {
@@ -51,7 +53,7 @@ impl<S: RowStore + Drop, J: ReplicaNaming> Lock<S, J> {
     pub(crate) fn take(&self, rt: &impl Wait) -> Held<'_, S, J> {
         Held {
             lock: self,
-            guard: self.coordinator.lock(rt),
+            locked: Locked::take(rt, &self.coordinator),
         }
     }
 
@@ -59,8 +61,8 @@ impl<S: RowStore + Drop, J: ReplicaNaming> Lock<S, J> {
     /// free before it sleeps.
     pub(crate) fn take_soon(&self, rt: &impl Wait) -> Held<'_, S, J> {
         for _look in 0..LOOKS {
-            if let Some(guard) = self.coordinator.try_lock() {
-                return Held { lock: self, guard };
+            if let Some(locked) = Locked::take_if_free(&self.coordinator) {
+                return Held { lock: self, locked };
             }
         }
         self.take(rt)
@@ -82,78 +84,41 @@ impl<S: RowStore + Drop, J: ReplicaNaming> Lock<S, J> {
         workers.ring(&self.work);
         readers.ring(&self.shown);
     }
-
-    // Frees the lock. All that there is was told.
-    fn free(&self, guard: MutexGuard<'_, Coordinator<S, J>>)
-        requires { IsTold (mutex_guard_value guard) }
-    {
-        MutexGuard::unlock(guard);
-    }
-
-    // Frees the lock until there is something for a worker. All that there is was told.
-    fn free_while_idle<'a>(
-        &self,
-        rt: &impl Wait,
-        guard: MutexGuard<'a, Coordinator<S, J>>,
-    ) -> MutexGuard<'a, Coordinator<S, J>>
-        requires { IsTold (mutex_guard_value guard) }
-        ensures { is_idle (mutex_guard_value result) ≡ false }
-    {
-        self.work.wait_while(rt, guard, |held| held.is_idle())
-    }
-
-    // Frees the lock until the commit of this gno is published, or the replica is stopped. All that there is was told.
-    fn free_while_awaited<'a>(
-        &self,
-        rt: &impl Wait,
-        guard: MutexGuard<'a, Coordinator<S, J>>,
-        gno: u64,
-    ) -> MutexGuard<'a, Coordinator<S, J>>
-        requires { IsTold (mutex_guard_value guard) }
-        ensures { is_awaited (mutex_guard_value result) gno ≡ false }
-    {
-        self.shown
-            .wait_while(rt, guard, |held| held.is_awaited(gno))
-    }
 }
 
 impl<'a, S: RowStore + Drop, J: ReplicaNaming> Held<'a, S, J> {
     /// What lies under the lock.
     pub(crate) fn coordinator(&mut self) -> &mut Coordinator<S, J>
-        ensures { result.now ≡ mutex_guard_value self.old.guard }
+        ensures { result.now ≡ mutex_guard_value self.old.locked.guard }
     {
-        &mut *self.guard
+        self.locked.coordinator()
     }
 
     /// Lets go of the lock, and tells what was done.
     pub(crate) fn let_go(self) {
-        let Held { lock, mut guard } = self;
-        let news = guard.news();
-        lock.free(guard);
+        let Held { lock, mut locked } = self;
+        let news = locked.news();
+        locked.free();
         lock.tell(news);
     }
 
     /// Tells what was done, and lets go of the lock until there is something for a worker.
     pub(crate) fn wait_for_work(self, rt: &impl Wait) -> Held<'a, S, J>
-        ensures { is_idle (mutex_guard_value result.guard) ≡ false }
+        ensures { is_idle (mutex_guard_value result.locked.guard) ≡ false }
     {
-        let Held { lock, mut guard } = self;
-        guard.worker_sleeps();
-        lock.tell(guard.news());
-        let mut guard = lock.free_while_idle(rt, guard);
-        guard.worker_wakes();
-        Held { lock, guard }
+        let Held { lock, mut locked } = self;
+        lock.tell(locked.news());
+        let locked = locked.free_while_idle(rt, &lock.work);
+        Held { lock, locked }
     }
 
     /// Tells what was done, and lets go of the lock until the commit of this gno is published, or the replica is stopped.
     pub(crate) fn wait_for_commit(self, rt: &impl Wait, gno: u64) -> Held<'a, S, J>
-        ensures { is_awaited (mutex_guard_value result.guard) gno ≡ false }
+        ensures { is_awaited (mutex_guard_value result.locked.guard) gno ≡ false }
     {
-        let Held { lock, mut guard } = self;
-        guard.reader_sleeps();
-        lock.tell(guard.news());
-        let mut guard = lock.free_while_awaited(rt, guard, gno);
-        guard.reader_wakes();
-        Held { lock, guard }
+        let Held { lock, mut locked } = self;
+        lock.tell(locked.news());
+        let locked = locked.free_while_awaited(rt, &lock.shown, gno);
+        Held { lock, locked }
     }
 }

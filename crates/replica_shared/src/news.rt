@@ -2,16 +2,16 @@
 ghost use Rattle.std.specs.Prelude.{◌≡◌};
 ghost use Rattle.replica_shared.specs.Together.{call_of, news_between};
 
+use crate::queue::Claim;
 use executor::Job;
 use std::sync::Condvar;
 
-/// What there is for a worker.
-#[derive(Drop)]
+/// What there is for a worker. It is not `Drop`, so that no job of the queue is claimed and left there.
 pub enum Next {
     /// A job for which memory ran out before.
     Kept(Job),
     /// One of the jobs in the queue: it is this worker's to steal.
-    Claim,
+    Claim(Claim),
     /// None now.
     Nothing,
     /// None from now on: no more records come, and all that did are committed and published.
@@ -76,6 +76,15 @@ impl Call {
 #[derive(Clone, Copy, Debug, PartialEq, Eq)]
 pub struct Sleepers {
     /// Calls of `worker` that have no job.
+    pub workers: u64,
+    /// Calls of `wait_for`.
+    pub readers: u64,
+}
+
+/// How often those who wait looked whether there is what they wait for: once as they begin to wait, and once each time that they wake.
+#[derive(Clone, Copy, Debug, PartialEq, Eq)]
+pub struct Looks {
+    /// Calls of `worker`.
     pub workers: u64,
     /// Calls of `wait_for`.
     pub readers: u64,

@@ -12,6 +12,7 @@ use crossbeam_deque::{Injector, InjectorPass, Steal};
 use executor::Job;
 use schema::Memory;
 use std::alloc::Global;
+use std::marker::PhantomData;
 use std::sync::Wait;
 
 /// The rule.
@@ -51,6 +52,17 @@ pub type Pass = InjectorPass<Job, Hand>;
 /// A try to steal met another thread, and is to be made again.
 #[derive(Clone, Copy, Debug, PartialEq, Eq)]
 pub struct Again;
+
+/// A worker's claim to one of the jobs in a queue. It is not `Drop`: it ends as a job is stolen for it, and by nothing else.
+pub struct Claim {
+    of: PhantomData<Job>,
+}
+
+impl Claim {
+    pub(crate) fn new() -> Claim {
+        Claim { of: PhantomData }
+    }
+}
 
 /// The jobs that were dispatched and that no worker took yet, in log order.
 #[derive(Drop)]
@@ -117,6 +129,25 @@ impl Jobs {
             Steal::Success(job) => Ok(Some(job)),
             Steal::Empty => Ok(None),
             Steal::Retry => Err(Again),
+        }
+    }
+
+    /// One try to take the first job for a claim. Where it finds none, or met another thread, the claim comes back.
+    pub(crate) fn try_claimed(
+        &self,
+        rt: &impl Wait,
+        pass: &mut Pass,
+        claim: Claim,
+    ) -> Result<Job, Claim>
+        requires { IsPassOf self.now pass.old }
+        ensures { IsPassOf self.now pass.new }
+    {
+        match self.try_steal(rt, pass) {
+            Ok(Some(job)) => {
+                let Claim { of: _ } = claim;
+                Ok(job)
+            }
+            Ok(None) | Err(Again) => Err(claim),
         }
     }
 }

@@ -18,9 +18,9 @@ use crate::coordinator::{Coordinator, parts};
 use crate::gate::WorkerGate;
 use crate::held::Lock;
 use crate::naming::ReplicaNaming;
-use crate::news::{Next, Sleepers};
+use crate::news::{Looks, Next, Sleepers};
 use crate::outlet::Outlet;
-use crate::queue::{Again, Jobs, Pass};
+use crate::queue::{Claim, Jobs, Pass};
 use crate::seats::Seats;
 use crossbeam_utils::Backoff;
 use executor::{Job, JobResult, execute};
@@ -196,7 +196,7 @@ impl<S: RowStore + Drop, J: ReplicaNaming> SharedReplica<S, J> {
         for _ in rt.forever() {
             match self.next(rt)? {
                 Next::Kept(job) => return Ok(Some(job)),
-                Next::Claim => return Ok(Some(self.steal(rt, pass))),
+                Next::Claim(claim) => return Ok(Some(self.steal(rt, pass, claim))),
                 Next::Ended => return Ok(None),
                 Next::Nothing => {}
             }
@@ -216,16 +216,18 @@ impl<S: RowStore + Drop, J: ReplicaNaming> SharedReplica<S, J> {
     // steals without a claim. So a try finds none only while that push is not to be seen yet, or where another takes the first job or
     // goes on to the queue's next block at this moment. All of these end soon, but for a thread that has its turn taken away
     // meanwhile: who tries looks a few times, and then yields the processor each time.
-    fn steal(&self, rt: &impl Wait, pass: &mut Pass) -> Job
+    fn steal(&self, rt: &impl Wait, pass: &mut Pass, claim: Claim) -> Job
         requires { IsPassOf (arc_value self.now.jobs) pass.old }
         ensures { IsPassOf (arc_value self.now.jobs) pass.new }
     {
         let backoff = Backoff::new();
+        let mut claim = claim;
         for _ in rt.forever() {
-            match self.jobs.try_steal(rt, pass) {
-                Ok(Some(job)) => return job,
-                Ok(None) | Err(Again) => backoff.snooze(),
+            match self.jobs.try_claimed(rt, pass, claim) {
+                Ok(job) => return job,
+                Err(back) => claim = back,
             }
+            backoff.snooze();
         }
         unreachable!()
     }
@@ -294,6 +296,15 @@ impl<S: RowStore + Drop, J: ReplicaNaming> SharedReplica<S, J> {
         let sleepers = held.coordinator().sleepers();
         held.let_go();
         sleepers
+    }
+
+    /// How often calls that wait looked whether there is what they wait for, since the replica was made: each once as it begins to wait,
+    /// and once more each time that it wakes. So it tells how many were woken between two calls of it. It takes the lock.
+    pub fn looks(&self, rt: &impl Wait) -> Looks {
+        let mut held = self.lock.take(rt);
+        let looks = held.coordinator().looks();
+        held.let_go();
+        looks
     }
 
     /// How many records were accepted, and how many of these are committed and published. It does not wait for a worker that
