@@ -16,6 +16,7 @@ use Rattle.record_codec.specs.Spelling.{spelling}
 use Rattle.source_core.specs.declared.fault.SourceFault.TheVariants as source
 use Rattle.source_core.specs.Source.{Source, seen_row}
 use Rattle.source_core.specs.Calls.{begin_fault, write_fault, read_fault, prepare_fault, prepare_answer, queue_fault, abort_fault, halted_fault, AreNextRecords, seen_log}
+use Rattle.log_file.specs.Head.{new_head}
 use Rattle.log_file.specs.Text.{text}
 use Rattle.replica_core.proofs.Apart.{slice_get-take}
 use Rattle.world.specs.declared.events.Event.{Event}
@@ -88,7 +89,7 @@ module _ (setup : Setup) (log other : List Record) (past : Past) (agree : Agree 
       (λ i. record { first = group.0; last = group.1; bytes = flat_map spelling (drop (group.0 - 1) (same i)) } ∷ same_groups groups all.1 i)
 
   same_text : log_text setup log past ≡ log_text setup other past
-  same_text = ap (text setup.identifier) (same_groups (synced_groups past) agree.groups)
+  same_text = ap (text (new_head setup.identifier)) (same_groups (synced_groups past) agree.groups)
 
   read_below : published past ≤ flushed past
   read_below =

@@ -31,7 +31,7 @@ ReadSays setup log upto event row = Unit {0}
 abbrev pub Says : Setup → List Record → Past → Event → Reply → Type 0
 Says setup log past event (replies.Flushed first stamps) = (first ≡ flushed past + 1) × (stamps ≡ map stamp_of (next_records log past)) × (event ≡ events.Flush)
 Says setup log past event (replies.Synced first last) = (groups : List (ℕ × ℕ)) × (unsynced past ≡ (first, last) ∷ groups)
-Says setup log past event (replies.Committed first last) = last ≡ synced past
+Says setup log past event (replies.Committed first last) = (first ≡ source_committed past + 1) × (last ≡ synced past)
 Says setup log past event replies.Accepted = (gno : ℕ) × (event ≡ events.Deliver gno) × (gno ≤ synced past) × (gno ≡ accepted past + 1)
 Says setup log past event (replies.Job gno) = dispatched past < accepted past
 Says setup log past event (replies.Commit gno) = (gno ≡ replica_committed past + 1) × (1 ≤ length (under_way past))
@@ -106,7 +106,7 @@ sync_says setup log past false (group ∷ groups) reply e h =
 
 commit_says : (setup : Setup) (log : List Record) (past : Past) (all : Bool) → Says setup log past events.Commit (if all then replies.Nothing else replies.Committed (source_committed past + 1) (synced past))
 commit_says setup log past true = tt
-commit_says setup log past false = refl
+commit_says setup log past false = (refl, refl)
 
 -- only the next record is accepted, once it is synced, and only a gap is refused
 deliver_says : (setup : Setup) (log : List Record) (past : Past) (gno : ℕ) (is_synced_ old next : Bool) → (is_synced_ ≡ true → gno ≤ synced past) → (next ≡ true → gno ≡ accepted past + 1) →

@@ -1,6 +1,6 @@
 -- The laws of runs with legal replies.
-use Rattle.std.proofs.Common.{◌≡◌, ◌∙◌, sym, ap, subst, refl, ℕ, zero, suc, ◌+◌, ◌≤◌, List, [], ◌∷◌, take, drop, Some, slice_get, inl, inr, arith, cond, count_by}
-use Rattle.std.proofs.lemmas.Bool.{false≢true}
+use Rattle.std.proofs.Common.{◌≡◌, ◌∙◌, sym, ap, subst, refl, ℕ, zero, suc, ◌+◌, ◌<◌, ◌≤◌, List, [], ◌∷◌, take, drop, Some, slice_get, inl, inr, arith, cond, count_by}
+use Rattle.std.proofs.lemmas.Bool.{false≢true, cases_lt}
 use Rattle.std.proofs.lemmas.Option.{none-some, same_Some}
 use Rattle.std.proofs.lemmas.List.Sums.{sum_by-cons}
 use Rattle.std.proofs.lemmas.List.{take-append-drop}
@@ -13,11 +13,11 @@ use Rattle.world.specs.declared.events.Event.{Event}
 use Rattle.world.specs.declared.events.Event.TheVariants as events
 use Rattle.world.specs.declared.events.Reply.{Reply}
 use Rattle.world.specs.declared.events.Reply.TheVariants as replies
-use Rattle.world.specs.Past.{Past, replica_committed, published}
+use Rattle.world.specs.Past.{Past, flushed, synced, replica_committed, published}
 use Rattle.world.specs.Legal.{Setup, Allowed, AreAllowed, AreLegal}
-use Rattle.world.specs.Laws.{pairs_after, past_at, is_commit, ReadsArePrefixes, ReadsAreAnswered, ReadsAreSynced, ReadsNeverGoBack, PublishedWithin, NumbersNeverFall, NoneFalls, EachCommitOnceInOrder, NothingUnsyncedIsAccepted, RefusesOnlyGaps, OperationsLeaveRows}
+use Rattle.world.specs.Laws.{pairs_after, past_at, is_commit, ReadsArePrefixes, ReadsAreAnswered, ReadsAreSynced, ReadsNeverGoBack, PublishedWithin, NumbersNeverFall, NoneFalls, CommittedAreSynced, EachCommitOnceInOrder, NothingUnsyncedIsAccepted, RefusesOnlyGaps, OperationsLeaveRows}
 use Rattle.world.proofs.LawsReplies.{Says, says}
-use Rattle.world.proofs.LawsSteps.{Holds, at_first, step, in_order, same, onward, grows}
+use Rattle.world.proofs.LawsSteps.{Follow, Holds, at_first, step, in_order, same, onward, grows}
 
 -- each reply has its event, and is allowed behind the pairs before it
 pub allowed_at : (setup : Setup) (log : List Record) (past : Past) (es : List Event) (rs : List Reply) → AreAllowed setup log past es rs → (place : ℕ) (reply : Reply) → slice_get rs place ≡ Some reply →
@@ -99,6 +99,39 @@ pub in_log_order : EachCommitOnceInOrder
 in_log_order setup log es rs legal place gno got =
     let at = said_at setup log es rs legal place (replies.Commit gno) got in
     omega (arith, at.2.0, commits_until setup log [] es rs legal.allowed place)
+
+-- ---- what is synced
+
+-- a reply by which this record is one of the synced ones says so
+synced_by : (setup : Setup) (log : List Record) (past : Past) (event : Event) (reply : Reply) (gno : ℕ) → Says setup log past event reply → Holds log past → synced past < gno → gno ≤ synced ((event, reply) ∷ past) →
+    (from to : ℕ) × (reply ≡ replies.Synced from to) × (from ≤ gno) × (gno ≤ to)
+synced_by setup log past event (replies.Synced first last) gno s h behind within =
+    let all : Follow (synced past) ((first, last) ∷ s.0) (flushed past) = subst (λ g. Follow (synced past) g (flushed past)) s.1 h.source.follow in
+    (first, last, refl, omega (arith, all.0, behind), within)
+synced_by setup log past event reply gno s h behind within = absurd (omega (arith, behind, within))
+
+-- a record that is synced at some moment, and was not at the first, was told so before
+synced_before : (setup : Setup) (log : List Record) (past : Past) (es : List Event) (rs : List Reply) → AreAllowed setup log past es rs → Holds log past → (place gno : ℕ) → synced past < gno →
+    gno ≤ synced (pairs_after past (take place es) (take place rs)) → (before from to : ℕ) × (before < place) × (slice_get rs before ≡ Some (replies.Synced from to)) × (from ≤ gno) × (gno ≤ to)
+synced_before setup log past es rs allowed h zero gno behind within = absurd (omega (arith, behind, within))
+synced_before setup log past [] [] allowed h (suc place) gno behind within = absurd (omega (arith, behind, within))
+synced_before setup log past [] (r ∷ rs) allowed h (suc place) gno behind within = absurd allowed
+synced_before setup log past (e ∷ es) [] allowed h (suc place) gno behind within = absurd allowed
+synced_before setup log past (e ∷ es) (r ∷ rs) allowed h (suc place) gno behind within =
+    let so = says setup log past e r allowed.0 in
+    elim (cases_lt (synced ((e, r) ∷ past)) gno) [
+      | inl later ↦
+          let told = synced_before setup log ((e, r) ∷ past) es rs allowed.1 (step setup log past e r so h) place gno later within in
+          (suc told.0, told.1, told.2, omega (arith, told.3), told.4, told.5, told.6)
+      | inr now ↦
+          let told = synced_by setup log past e r gno so h behind now in
+          (0, told.0, told.1, omega arith, ap Some told.2, told.3, told.4)
+    ]
+
+pub committed_before : CommittedAreSynced
+committed_before setup log es rs legal place first last gno got least within =
+    let at = said_at setup log es rs legal place (replies.Committed first last) got in
+    synced_before setup log [] es rs legal.allowed (at_first log) place gno (omega (arith, at.2.0, least)) (omega (arith, at.2.1, within))
 
 -- ---- what is accepted, and what is refused
 

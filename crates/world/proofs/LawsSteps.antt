@@ -81,7 +81,7 @@ step setup log past event (replies.Synced first last) s h =
       shown = h.shown;
     }
 step setup log past event (replies.Committed first last) s h =
-    record { source = record { follow = h.source.follow; in_log = h.source.in_log; committed_within = omega (arith, s) }; delivered = h.delivered; jobs = h.jobs; shown = h.shown }
+    record { source = record { follow = h.source.follow; in_log = h.source.in_log; committed_within = omega (arith, s.1) }; delivered = h.delivered; jobs = h.jobs; shown = h.shown }
 step setup log past event replies.Accepted s h =
     let jobs : JobsInOrder (accepted past + 1) (dispatched past) (under_way past) (replica_committed past) = record { dispatched_within = omega (arith, h.jobs.dispatched_within); counted = h.jobs.counted } in
     record { source = h.source; delivered = omega (arith, s.2, s.3); jobs = jobs; shown = h.shown }
@@ -149,7 +149,7 @@ rise setup log past event (replies.Flushed first stamps) s h o = (o.0, o.1, o.2,
 rise setup log past event (replies.Synced first last) s h o =
     let all : Follow (synced past) ((first, last) ∷ s.0) (flushed past) = subst (λ g. Follow (synced past) g (flushed past)) s.1 h.source.follow in
     (o.0, o.1, o.2, o.3, o.4, all.1, o.6)
-rise setup log past event (replies.Committed first last) s h o = (o.0, o.1, o.2, o.3, omega (arith, s, h.source.committed_within), o.5, o.6)
+rise setup log past event (replies.Committed first last) s h o = (o.0, o.1, o.2, o.3, omega (arith, s.1, h.source.committed_within), o.5, o.6)
 rise setup log past event replies.Accepted s h o = (o.0, o.1, o.2, omega arith, o.4, o.5, o.6)
 rise setup log past event (replies.Job gno) s h o = (o.0, o.1, omega arith, o.3, o.4, o.5, o.6)
 rise setup log past event (replies.Commit gno) s h o = (o.0, omega arith, o.2, o.3, o.4, o.5, o.6)

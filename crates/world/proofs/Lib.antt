@@ -20,5 +20,7 @@ pub mod LawsSides
 pub mod LawsRefs
 pub mod LawsRecords
 pub mod LawsOne
+pub mod LawsCrash
 pub mod Run
+pub mod Crash
 pub mod Alike

@@ -25,12 +25,12 @@ pub take_longer : (log longer : List Record) → IsPrefix log longer → (n : �
 take_longer log longer more n h = ap (λ l. take n l) (sym more.1) ∙ take-append-le n log more.0 h
 
 -- whichever longer log is meant, the pairs say that the source stands as it does
-pub source_is : {R : Type 0} (setup : Setup) (past : Past) (w : World R) (log : List Record) → Stands setup past w → IsPrefix w.source.log log → source_at setup log past ≡ w.source
+pub source_is : {D R : Type 0} (setup : Setup) (past : Past) (w : World D R) (log : List Record) → Stands setup past w → IsPrefix w.source.log log → source_at setup log past ≡ w.source
 source_is setup past w log st longer =
     let same : take (flushed past) log ≡ take (flushed past) w.source.log = take_longer w.source.log log longer (flushed past) (omega (arith, st.source.flushed)) in
     ap (λ (l : List Record). record (source_at setup log past) { log = l }) same ∙ sym st.source.is
 
-pub replica_is : {R : Type 0} (contents : R → Database) (setup : Setup) (past : Past) (w : World R) (log : List Record) → IsWorld contents w → Stands setup past w → IsPrefix w.source.log log → replica_at setup log past ≡ w.replica
+pub replica_is : {D R : Type 0} (contents : R → Database) (setup : Setup) (past : Past) (w : World D R) (log : List Record) → IsWorld contents w → Stands setup past w → IsPrefix w.source.log log → replica_at setup log past ≡ w.replica
 replica_is contents setup past w log h st longer =
     let within : accepted past ≤ length w.source.log = omega (arith, st.replica.accepted, h.wire.within, h.source.sound.synced_within) in
     let same : take (accepted past) log ≡ take (accepted past) w.source.log = take_longer w.source.log log longer (accepted past) within in
@@ -44,17 +44,17 @@ unfailed reply log none = record {
 }
 
 -- an event that changes nothing
-pub stays : {R : Type 0} (contents : R → Database) (w : World R) (event : Event) (reply : Reply) → IsWorld contents w → is_failure reply ≡ false →
+pub stays : {D R : Type 0} (contents : R → Database) (w : World D R) (event : Event) (reply : Reply) → IsWorld contents w → is_failure reply ≡ false →
     ((setup : Setup) (past : Past) → Stands setup past w → Stands setup ((event, reply) ∷ past) w) →
     ((setup : Setup) (past : Past) (log : List Record) → Stands setup past w → IsPrefix w.source.log log → Allowed setup log past event reply) → Goes contents w event reply w
-stays contents w event reply h none stands allowed = record { world = h; grows = prefix_refl w.source.log; device = unfailed reply w.wire.log none; stands = stands; allowed = allowed }
+stays contents w event reply h none stands allowed = record { world = h; grows = prefix_refl w.source.log; device = unfailed reply w.wire.log none; still = λ _. refl; stands = stands; allowed = allowed }
 
 -- the pairs say that the source runs where it does, and that it is halted where it is
-pub halted_as : {R : Type 0} (setup : Setup) (past : Past) (w : World R) (b : Bool) → Stands setup past w → w.source.halted ≡ b → halted past ≡ b
+pub halted_as : {D R : Type 0} (setup : Setup) (past : Past) (w : World D R) (b : Bool) → Stands setup past w → w.source.halted ≡ b → halted past ≡ b
 halted_as setup past w b st e = ap (λ (s : Source). s.halted) (sym st.source.is) ∙ e
 
 -- of a source that runs, and of what is there, memory may be asked
-pub asks_of : {R : Type 0} (setup : Setup) (past : Past) (w : World R) (b : Bool) → Stands setup past w → w.source.halted ≡ false → b ≡ true → (not (halted past) && b) ≡ true
+pub asks_of : {D R : Type 0} (setup : Setup) (past : Past) (w : World D R) (b : Bool) → Stands setup past w → w.source.halted ≡ false → b ≡ true → (not (halted past) && b) ≡ true
 asks_of setup past w b st runs is = and_from _ b (ap not (halted_as setup past w false st runs)) is
 
 -- a call that lacks memory was made of a source that runs
@@ -65,11 +65,15 @@ runs_if_lacking true later answer refused memory = absurd (other (sym (ap result
 runs_if_lacking false later answer refused memory = refl
 
 -- the same world, with another source, or with another replica
-abbrev pub with_source : {R : Type 0} → World R → Source → World R
+abbrev pub with_source : {D R : Type 0} → World D R → Source → World D R
 with_source w s = record w { source = s }
 
-abbrev pub with_replica : {R : Type 0} → World R → Replica → World R
+abbrev pub with_replica : {D R : Type 0} → World D R → Replica → World D R
 with_replica w r = record w { replica = r }
+
+-- the same world, with its log's device as another one
+abbrev pub with_device : {D R : Type 0} → World D R → D → World D R
+with_device w d = record w { wire = record w.wire { device = d } }
 
 -- the source, as the pairs say that it stands, with these transactions of its sessions
 abbrev pub with_transactions : Setup → List Record → Past → List (Option Open) → Source
@@ -84,7 +88,7 @@ source_untold setup past log s event reply says is = record {
 }
 
 -- a pair of which no side has anything
-pub untold : {R : Type 0} (setup : Setup) (past : Past) (w : World R) (event : Event) (reply : Reply) → ((k : ℕ) → transaction_after past k event reply (transaction_of past k) ≡ transaction_of past k) → Stands setup past w →
+pub untold : {D R : Type 0} (setup : Setup) (past : Past) (w : World D R) (event : Event) (reply : Reply) → ((k : ℕ) → transaction_after past k event reply (transaction_of past k) ≡ transaction_of past k) → Stands setup past w →
     SidesAre (with_transactions setup w.source.log past (transactions ((event, reply) ∷ past))) (flushed past) setup.identifier (unsynced past) (synced_groups past) (replica_at setup w.source.log past) (accepted past) (dispatched past) w.source w.wire w.replica
 untold setup past w event reply says st = record {
   source = source_untold setup past w.source.log w.source event reply says st.source;

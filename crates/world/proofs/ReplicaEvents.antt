@@ -62,15 +62,15 @@ only_memory {T} r asked fault going answer (inr told) is = absurd (other (sym (r
   other e = cc e
 
 -- the same world, with another replica and other jobs
-abbrev pub with_jobs : {R : Type 0} → World R → Replica → List (Option Job) → World R
+abbrev pub with_jobs : {D R : Type 0} → World D R → Replica → List (Option Job) → World D R
 with_jobs w r jobs = record w { replica = r; jobs = jobs }
 
 -- what is due asks for memory, whichever pairs the world stands for
-abbrev pub Asks : {R : Type 0} → World R → Event → Type 0
+abbrev pub Asks : {D R : Type 0} → World D R → Event → Type 0
 Asks w event = (setup : Setup) (past : Past) (log : List Record) → Stands setup past w → IsPrefix w.source.log log → asks_memory setup log past event ≡ true
 
 -- a call that was refused for want of memory leaves the world as it was
-pub lacks : {R : Type 0} (contents : R → Database) (w : World R) (event : Event) (next : Replica) (jobs : List (Option Job)) → IsWorld contents w → Asks w event → tells_memory event (replies.Replica faults.Memory) ≡ true →
+pub lacks : {D R : Type 0} (contents : R → Database) (w : World D R) (event : Event) (next : Replica) (jobs : List (Option Job)) → IsWorld contents w → Asks w event → tells_memory event (replies.Replica faults.Memory) ≡ true →
     ((setup : Setup) (past : Past) → Stands setup past w → Stands setup ((event, replies.Replica faults.Memory) ∷ past) w) → next ≡ w.replica → jobs ≡ w.jobs → Goes contents w event (replies.Replica faults.Memory) (with_jobs w next jobs)
 lacks {R} contents w event next jobs h asks tells stands same kept =
     subst (λ (r : Replica). Goes {R = R} contents w event (replies.Replica faults.Memory) (with_jobs w r jobs)) (sym same)
@@ -93,7 +93,7 @@ front_has (suc a) (suc d) (r ∷ log) test = ap (λ (b : Bool). b && option_map_
   both m n = grind (arith, nat_tests)
 
 -- the pairs say that the next record may be dispatched where the replica finds it so
-eligible_as : {R : Type 0} (contents : R → Database) (setup : Setup) (past : Past) (w : World R) (log : List Record) → IsWorld contents w → Stands setup past w → IsPrefix w.source.log log → may_dispatch setup log past ≡ is_eligible w.replica
+eligible_as : {D R : Type 0} (contents : R → Database) (setup : Setup) (past : Past) (w : World D R) (log : List Record) → IsWorld contents w → Stands setup past w → IsPrefix w.source.log log → may_dispatch setup log past ≡ is_eligible w.replica
 eligible_as contents setup past w log h st longer =
     let r = replica_at setup log past in
     let same : r ≡ w.replica = replica_is contents setup past w log h st longer in
@@ -104,7 +104,7 @@ eligible_as contents setup past w log h st longer =
     ∙ ap (λ (n : ℕ). option_map_or test (slice_get (take (accepted past) log) n) false && nat_lt (length (under_way past)) setup.workers) count
     ∙ ap is_eligible same
 
-reply_as : {R : Type 0} (contents : R → Database) (setup : Setup) (past : Past) (w : World R) (log : List Record) (b : Bool) → IsWorld contents w → Stands setup past w → IsPrefix w.source.log log → is_eligible w.replica ≡ b →
+reply_as : {D R : Type 0} (contents : R → Database) (setup : Setup) (past : Past) (w : World D R) (log : List Record) (b : Bool) → IsWorld contents w → Stands setup past w → IsPrefix w.source.log log → is_eligible w.replica ≡ b →
     dispatch_reply setup log past ≡ (if b then replies.Job (dispatched_at w.replica + 1) else replies.Nothing)
 reply_as contents setup past w log b h st longer e =
     (λ i. if (eligible_as contents setup past w log h st longer ∙ e) i then replies.Job (st.replica.dispatched i + 1) else replies.Nothing)
@@ -116,7 +116,7 @@ handed_out r job is = by (is_eligible r) refl is where
   by true e k = (e, k)
   by false e k = absurd (none-some job k)
 
-pub dispatch_goes : {R : Type 0} (contents : R → Database) (w : World R) (job : Job) (next : Replica) (jobs : List (Option Job)) → IsWorld contents w → next_job w.replica ≡ Some job → next ≡ dispatched_next w.replica → jobs ≡ w.jobs ++ Some job ∷ [] →
+pub dispatch_goes : {D R : Type 0} (contents : R → Database) (w : World D R) (job : Job) (next : Replica) (jobs : List (Option Job)) → IsWorld contents w → next_job w.replica ≡ Some job → next ≡ dispatched_next w.replica → jobs ≡ w.jobs ++ Some job ∷ [] →
     Goes contents w events.Dispatch (replies.Job job.gno) (with_jobs w next jobs)
 dispatch_goes {R} contents w job next jobs h is leaves kept =
     let out = handed_out w.replica job is in
@@ -127,6 +127,7 @@ dispatch_goes {R} contents w job next jobs h is leaves kept =
       world = record { source = h.source; wire = h.wire; replica = h.replica; jobs = jobs_dispatched w.replica w.jobs job h.jobs out.1; readers = h.readers };
       grows = prefix_refl w.source.log;
       device = unfailed _ w.wire.log refl;
+      still = λ _. refl;
       stands = λ setup past st. record {
         source = source_untold setup past w.source.log w.source events.Dispatch (replies.Job job.gno) (λ k. refl) st.source;
         wire = st.wire;
@@ -135,20 +136,20 @@ dispatch_goes {R} contents w job next jobs h is leaves kept =
       allowed = λ setup past log st longer. inr (ap replies.Job its ∙ sym (reply_as contents setup past w log true h st longer out.0));
     }))
 
-pub dispatch_lacks : {R : Type 0} (contents : R → Database) (w : World R) (next : Replica) (jobs : List (Option Job)) → IsWorld contents w → is_eligible w.replica ≡ true → next ≡ w.replica → jobs ≡ w.jobs → Goes contents w events.Dispatch (replies.Replica faults.Memory) (with_jobs w next jobs)
+pub dispatch_lacks : {D R : Type 0} (contents : R → Database) (w : World D R) (next : Replica) (jobs : List (Option Job)) → IsWorld contents w → is_eligible w.replica ≡ true → next ≡ w.replica → jobs ≡ w.jobs → Goes contents w events.Dispatch (replies.Replica faults.Memory) (with_jobs w next jobs)
 dispatch_lacks contents w next jobs h eligible same kept = lacks contents w events.Dispatch next jobs h (λ setup past log st longer. eligible_as contents setup past w log h st longer ∙ eligible) refl (λ setup past st. untold setup past w events.Dispatch (replies.Replica faults.Memory) (λ k. refl) st) same kept
 
-pub dispatch_idle : {R : Type 0} (contents : R → Database) (w : World R) → IsWorld contents w → is_eligible w.replica ≡ false → Goes contents w events.Dispatch replies.Nothing w
+pub dispatch_idle : {D R : Type 0} (contents : R → Database) (w : World D R) → IsWorld contents w → is_eligible w.replica ≡ false → Goes contents w events.Dispatch replies.Nothing w
 dispatch_idle contents w h idle =
     stays contents w events.Dispatch replies.Nothing h refl (λ setup past st. untold setup past w events.Dispatch replies.Nothing (λ k. refl) st)
     (λ setup past log st longer. inr (sym (reply_as contents setup past w log false h st longer idle)))
 
 -- of what is accepted, the first n records are those of the log
-pub accepted_front : {R : Type 0} (contents : R → Database) (w : World R) (n : ℕ) → IsWorld contents w → n ≤ length w.replica.accepted → take n w.replica.accepted ≡ take n w.source.log
+pub accepted_front : {D R : Type 0} (contents : R → Database) (w : World D R) (n : ℕ) → IsWorld contents w → n ≤ length w.replica.accepted → take n w.replica.accepted ≡ take n w.source.log
 accepted_front contents w n h within = ap (take n) h.wire.front ∙ take-take n (length w.replica.accepted) w.source.log within
 
 -- what readers see is the source's database after the published commits, whichever longer log is meant
-pub shown_rows : {R : Type 0} (contents : R → Database) (setup : Setup) (past : Past) (w : World R) (log : List Record) → IsWorld contents w → Stands setup past w → IsPrefix w.source.log log →
+pub shown_rows : {D R : Type 0} (contents : R → Database) (setup : Setup) (past : Past) (w : World D R) (log : List Record) → IsWorld contents w → Stands setup past w → IsPrefix w.source.log log →
     rows_after setup log (published past) ≡ Some (contents w.shown.store)
 shown_rows contents setup past w log h st longer =
     let n = w.replica.published in
@@ -159,7 +160,7 @@ shown_rows contents setup past w log h st longer =
     (λ i. after (sym st.replica.is i).tables (loaded (sym st.replica.is i).base) (take (number i) log)) ∙ ap (after w.replica.tables (loaded w.replica.base)) front ∙ h.readers.rows
 
 -- they are what the operations leave
-pub shows_operations : {R : Type 0} (contents : R → Database) (w : World R) → IsWorld contents w → ShowsOperations contents w
+pub shows_operations : {D R : Type 0} (contents : R → Database) (w : World D R) → IsWorld contents w → ShowsOperations contents w
 shows_operations contents w h =
     let n = w.replica.published in
     let front = accepted_front contents w n h (omega (arith, h.readers.later, h.readers.there)) in
@@ -167,7 +168,7 @@ shows_operations contents w h =
     (λ i. after (sym h.replica.tables i) (loaded (sym h.replica.base i)) (sym front i)) ∙ h.readers.rows in
     sym (ap (λ k. left_by (operations w.source.tables w.source.base w.source.log k)) h.readers.shows ∙ left_by-operations w.source.tables w.source.base w.source.log n (contents w.shown.store) here)
 
-pub read_goes : {R : Type 0} (contents : R → Database) (w : World R) (id : RowId) (row : Option (List ℤ)) (upto : ℕ) → IsWorld contents w → row ≡ get (contents w.shown.store) id → upto ≡ w.shown.upto →
+pub read_goes : {D R : Type 0} (contents : R → Database) (w : World D R) (id : RowId) (row : Option (List ℤ)) (upto : ℕ) → IsWorld contents w → row ≡ get (contents w.shown.store) id → upto ≡ w.shown.upto →
     Goes contents w (events.Read id) (replies.Read upto row) w
 read_goes {R} contents w id row upto h row_is upto_is = stays contents w _ _ h refl (λ setup past st. untold setup past w (events.Read id) (replies.Read upto row) (λ k. refl) st) (λ setup past log st longer.
     let number : upto ≡ published past = upto_is ∙ h.readers.shows ∙ ap (λ (r : Replica). r.published) st.replica.is in
@@ -176,18 +177,18 @@ read_goes {R} contents w id row upto h row_is upto_is = stays contents w _ _ h r
 
 -- ---- the ids that are executed
 
-pub executed_goes : {R : Type 0} (contents : R → Database) (w : World R) (ids : Ids) → IsWorld contents w → executed_ids w.replica ≡ ids → Goes contents w events.Executed (replies.Executed ids) w
+pub executed_goes : {D R : Type 0} (contents : R → Database) (w : World D R) (ids : Ids) → IsWorld contents w → executed_ids w.replica ≡ ids → Goes contents w events.Executed (replies.Executed ids) w
 executed_goes contents w ids h is = stays contents w _ _ h refl (λ setup past st. untold setup past w events.Executed (replies.Executed ids) (λ k. refl) st) (λ setup past log st longer.
     inr (ap replies.Executed (sym is ∙ ap executed_ids st.replica.is)))
 
 -- memory lacks only where there are some
-pub executed_lacks : {R : Type 0} (contents : R → Database) (w : World R) → IsWorld contents w → 0 < w.replica.committed → Goes contents w events.Executed (replies.Replica faults.Memory) w
+pub executed_lacks : {D R : Type 0} (contents : R → Database) (w : World D R) → IsWorld contents w → 0 < w.replica.committed → Goes contents w events.Executed (replies.Replica faults.Memory) w
 executed_lacks contents w h some = stays contents w _ _ h refl (λ setup past st. untold setup past w events.Executed (replies.Replica faults.Memory) (λ k. refl) st) (λ setup past log st longer.
     let said : replica_committed past ≡ w.replica.committed = ap (λ (r : Replica). r.committed) (sym st.replica.is) in
     inl (and_from _ true (lt-ltb 0 (replica_committed past) (omega (arith, said, some))) refl))
 
 -- want of memory leaves the replica as it was
-pub no_memory : {R : Type 0} (contents : R → Database) (w : World R) (event : Event) (next : Replica) → IsWorld contents w → Asks w event → tells_memory event (replies.Replica faults.Memory) ≡ true →
+pub no_memory : {D R : Type 0} (contents : R → Database) (w : World D R) (event : Event) (next : Replica) → IsWorld contents w → Asks w event → tells_memory event (replies.Replica faults.Memory) ≡ true →
     ((setup : Setup) (past : Past) → Stands setup past w → Stands setup ((event, replies.Replica faults.Memory) ∷ past) w) → next ≡ w.replica → Goes contents w event (replies.Replica faults.Memory) (with_replica w next)
 no_memory contents w event next h asks tells stands same = lacks contents w event next w.jobs h asks tells stands same refl
 
@@ -196,7 +197,7 @@ beginning_leaves_rows : (s : Source) → IsLegalLog s.tables (loaded s.base) s.l
 beginning_leaves_rows s legal n = beginning_leaves s.tables (loaded s.base) (take n s.log) (drop n s.log) (subst (λ (l : List Record). IsLegalLog s.tables (loaded s.base) l) (sym (take-append-drop n s.log)) legal)
 
 -- the changes of each record that was accepted apply behind those before it
-pub accepted_leaves : {R : Type 0} (contents : R → Database) (w : World R) (n : ℕ) → IsWorld contents w → n ≤ length w.replica.accepted → (db : Database) × (after w.replica.tables (loaded w.replica.base) (take n w.replica.accepted) ≡ Some db)
+pub accepted_leaves : {D R : Type 0} (contents : R → Database) (w : World D R) (n : ℕ) → IsWorld contents w → n ≤ length w.replica.accepted → (db : Database) × (after w.replica.tables (loaded w.replica.base) (take n w.replica.accepted) ≡ Some db)
 accepted_leaves contents w n h within =
     let front = accepted_front contents w n h within in
     let leaves = beginning_leaves_rows w.source h.source.sound.legal n in
@@ -221,13 +222,13 @@ pub some_under : (under : List Bool) → get_or under 0 false ≡ true → 1 ≤
 some_under [] e = absurd (cc e)
 some_under (u ∷ under) e = omega arith
 
-next_as : {R : Type 0} (contents : R → Database) (setup : Setup) (past : Past) (w : World R) (log : List Record) (b : Bool) → IsWorld contents w → Stands setup past w → IsPrefix w.source.log log → get_or w.replica.under_way 0 false ≡ b →
+next_as : {D R : Type 0} (contents : R → Database) (setup : Setup) (past : Past) (w : World D R) (log : List Record) (b : Bool) → IsWorld contents w → Stands setup past w → IsPrefix w.source.log log → get_or w.replica.under_way 0 false ≡ b →
     next_reply past ≡ (if b then replies.Commit (w.replica.committed + 1) else replies.Nothing)
 next_as contents setup past w log b h st longer e =
     let same = replica_is contents setup past w log h st longer in
     (λ i. if (ap (λ (r : Replica). get_or r.under_way 0 false) same ∙ e) i then replies.Commit ((same i).committed + 1) else replies.Nothing)
 
-pub next_goes : {R : Type 0} (contents : R → Database) (w : World R) (gno : ℕ) (next : Replica) (jobs : List (Option Job)) → IsWorld contents w → IsSound w.replica → next_commit w.replica ≡ Some gno → next ≡ committed_next w.replica → jobs ≡ drop 1 w.jobs →
+pub next_goes : {D R : Type 0} (contents : R → Database) (w : World D R) (gno : ℕ) (next : Replica) (jobs : List (Option Job)) → IsWorld contents w → IsSound w.replica → next_commit w.replica ≡ Some gno → next ≡ committed_next w.replica → jobs ≡ drop 1 w.jobs →
     Goes contents w events.Next (replies.Commit gno) (with_jobs w next jobs)
 next_goes {R} contents w gno next jobs h sound is leaves kept =
     let done = committed_is w.replica gno is in
@@ -246,6 +247,7 @@ next_goes {R} contents w gno next jobs h sound is leaves kept =
       };
       grows = prefix_refl w.source.log;
       device = unfailed _ w.wire.log refl;
+      still = λ _. refl;
       stands = λ setup past st. record {
         source = source_untold setup past w.source.log w.source events.Next (replies.Commit gno) (λ k. refl) st.source;
         wire = st.wire;
@@ -254,7 +256,7 @@ next_goes {R} contents w gno next jobs h sound is leaves kept =
       allowed = λ setup past log st longer. inr (ap replies.Commit done.1 ∙ sym (next_as contents setup past w log true h st longer done.0));
     }))
 
-pub next_nothing : {R : Type 0} (contents : R → Database) (w : World R) (next : Replica) → IsWorld contents w → next_commit w.replica ≡ None → next ≡ w.replica → Goes contents w events.Next replies.Nothing (with_replica w next)
+pub next_nothing : {D R : Type 0} (contents : R → Database) (w : World D R) (next : Replica) → IsWorld contents w → next_commit w.replica ≡ None → next ≡ w.replica → Goes contents w events.Next replies.Nothing (with_replica w next)
 next_nothing {R} contents w next h is same =
     subst (λ (r : Replica). Goes {R = R} contents w events.Next replies.Nothing (with_replica w r)) (sym same)
     (stays contents w events.Next replies.Nothing h refl (λ setup past st. untold setup past w events.Next replies.Nothing (λ k. refl) st)
@@ -265,7 +267,7 @@ some_is : (o : Option ℕ) → IsSome o → (n : ℕ) × (o ≡ Some n)
 some_is None h = absurd (false≢true h)
 some_is (Some n) h = (n, refl)
 
-pub next_lacks : {R : Type 0} (contents : R → Database) (w : World R) (next : Replica) → IsWorld contents w → IsSome (next_commit w.replica) → next ≡ w.replica → Goes contents w events.Next (replies.Replica faults.Memory) (with_replica w next)
+pub next_lacks : {D R : Type 0} (contents : R → Database) (w : World D R) (next : Replica) → IsWorld contents w → IsSome (next_commit w.replica) → next ≡ w.replica → Goes contents w events.Next (replies.Replica faults.Memory) (with_replica w next)
 next_lacks contents w next h due same =
     let one = some_is (next_commit w.replica) due in
     no_memory contents w events.Next next h

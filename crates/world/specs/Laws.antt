@@ -70,6 +70,12 @@ pub record AreInOrder (log : List Record) (past : Past) : Type 0 where
   pub synced_within : synced past ≤ flushed past
   pub flushed_within : flushed past ≤ length log
 
+-- Each record that is told as committed at the source was told as synced before.
+abbrev pub CommittedAreSynced : Type 0
+CommittedAreSynced = (setup : Setup) (log : List Record) (events_ : List Event) (replies_ : List Reply) → AreLegal setup log events_ replies_ →
+    (place first last gno : ℕ) → slice_get replies_ place ≡ Some (replies.Committed first last) → first ≤ gno → gno ≤ last →
+    (before from to : ℕ) × (before < place) × (slice_get replies_ before ≡ Some (replies.Synced from to)) × (from ≤ gno) × (gno ≤ to)
+
 -- At each moment the numbers are in order.
 abbrev pub PublishedWithin : Type 0
 PublishedWithin = (setup : Setup) (log : List Record) (events_ : List Event) (replies_ : List Reply) → AreLegal setup log events_ replies_ →

@@ -15,6 +15,7 @@ use Rattle.record_codec.specs.Spelling.{spelling, HasSpelling}
 use Rattle.source_core.specs.declared.fault.SourceFault.{SourceFault}
 use Rattle.source_core.specs.declared.fault.SourceFault.TheVariants as source
 use Rattle.log_file.specs.declared.fault.LogFault.TheVariants as log_file
+use Rattle.log_file.specs.Head.{new_head}
 use Rattle.log_file.specs.Text.{text}
 use Rattle.source_core.specs.Source.{Source, seen_row}
 use Rattle.source_core.specs.Calls.{begin_fault, write_fault, read_fault, prepare_fault, prepare_answer, queue_fault, abort_fault, halted_fault, AreNextRecords, seen_log}
@@ -121,7 +122,7 @@ group_between log ends = record {
 
 -- the log file as its device is to have it: its header, the synced groups, and the last gate
 abbrev pub log_text : Setup → List Record → Past → List ℕ
-log_text setup log past = text setup.identifier (map (group_between log) (synced_groups past))
+log_text setup log past = text (new_head setup.identifier) (map (group_between log) (synced_groups past))
 
 -- Only synced records are delivered. The next one is accepted, one that was accepted before is skipped, and each other
 -- refused as a gap.

@@ -8,3 +8,4 @@ pub mod Put
 pub mod Laws
 pub mod Fresh
 pub mod Run
+pub mod Crash

@@ -17,7 +17,7 @@ use Rattle.world.specs.Laws.{pairs_after}
 use Rattle.world.specs.State.{World, IsWorld, Stands, IsCounted}
 
 -- The world came by these events and replies from a new one.
-pub record HasRun {R : Type 0} (contents : R → Database) (setup : Setup) (events_ : List Event) (replies_ : List Reply) (w : World R) : Type 0 where
+pub record HasRun {D R : Type 0} (contents : R → Database) (setup : Setup) (events_ : List Event) (replies_ : List Reply) (w : World D R) : Type 0 where
   pub world : IsWorld contents w
   -- it is the one that the pairs leave
   pub stands : Stands setup (pairs_after [] events_ replies_) w
@@ -40,5 +40,5 @@ pub record TellFailures (replies_ : List Reply) (old new : Log) : Type 0 where
 
 -- Readers have the rows that the operations of the published records leave of an empty store: as many of the source's
 -- log as they are told.
-abbrev pub ShowsOperations : {R : Type 0} → (R → Database) → World R → Type 0
+abbrev pub ShowsOperations : {D R : Type 0} → (R → Database) → World D R → Type 0
 ShowsOperations contents w = contents w.shown.store ≡ left_by (operations w.source.tables w.source.base w.source.log w.shown.upto)

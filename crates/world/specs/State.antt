@@ -1,6 +1,6 @@
 -- How the parts of a world stand together, and to the pairs of event and reply so far.
 use mathlib.Core.List.{IsPrefix}
-use Rattle.std.specs.Prelude.{◌≡◌, ℕ, ◌+◌, ◌≤◌, Bool, true, false, if◌then◌else◌, List, ◌∷◌, length, map, take, drop, slice_index_or, Option, Some, None}
+use Rattle.std.specs.Prelude.{◌≡◌, ℕ, ◌+◌, ◌≤◌, Bool, true, false, if◌then◌else◌, List, ◌∷◌, length, map, take, drop, slice_get, slice_index_or, Option, Some, None}
 use Rattle.rows.specs.Database.{Database}
 use Rattle.store_trait.specs.Operation.{batch_of, loaded}
 use Rattle.record_codec.specs.declared.records.Record.{Record}
@@ -13,25 +13,29 @@ use Rattle.store_trait.specs.Batch.{Entry}
 use Rattle.executor.specs.declared.Job.{Job}
 use Rattle.replica_core.specs.Replica.{Replica, dispatched as dispatched_at, job_of, commits}
 use Rattle.published.specs.Plain.{Shown}
+use Rattle.log_file.specs.Head.{new_head}
 use Rattle.log_file.specs.Log.{Log}
 use Rattle.log_file.specs.Calls.{ends as ends_of}
 use Rattle.world.specs.Put.{FailedBy, DeviceFailed}
 use Rattle.world.specs.declared.events.Event.{Event}
+use Rattle.world.specs.declared.events.Event.TheVariants as events
 use Rattle.world.specs.declared.events.Reply.{Reply}
 use Rattle.world.specs.Past.{Past, flushed, accepted, dispatched, unsynced, synced_groups, is_failure}
 use Rattle.world.specs.Legal.{Setup, source_at, replica_at, Allowed}
 
 -- what lies between the two sides
-pub record Wire : Type 0 where
+pub record Wire (D : Type 0) : Type 0 where
   -- the log file, which has the groups that are synced
   pub log : Log
+  -- what it is on
+  pub device : D
   -- the groups that are flushed and not synced, the oldest first
   pub waiting : List GroupValue
 
 -- a world as the values of its parts
-pub record World (R : Type 0) : Type 0 where
+pub record World (D R : Type 0) : Type 0 where
   pub source : Source
-  pub wire : Wire
+  pub wire : Wire D
   pub replica : Replica
   -- for each record dispatched and not committed, in order, its job, where it waits to be executed
   pub jobs : List (Option Job)
@@ -42,17 +46,19 @@ pub record World (R : Type 0) : Type 0 where
 pub record IsSource (s : Source) : Type 0 where
   pub sound : IsSound s
 
--- The wire of a source with this log, of which so many records are synced: these are the log file's, and its groups hold
--- them; the groups that wait hold the rest. The source is halted where the log file failed; where it did not, no group is
--- in it that waits for its sync. The groups that wait are as they were flushed. What came over the wire is a beginning of the
--- synced log.
-pub record IsWire (log : List Record) (synced_ : ℕ) (sizes_ : List ℕ) (halted_ : Bool) (accepted_ : List Record) (wire : Wire) : Type 0 where
+-- The wire of a source with this log, of which so many records are synced: these are the log file's, from the first on, and its
+-- groups hold them; the groups that wait hold the rest. The source is halted where the log file failed; where it did not, no group is
+-- in it that waits for its sync, and where it did, none but the oldest of those that wait. The groups that wait are as they were
+-- flushed. What came over the wire is a beginning of the synced log.
+pub record IsWire {D : Type 0} (log : List Record) (synced_ : ℕ) (sizes_ : List ℕ) (halted_ : Bool) (accepted_ : List Record) (wire : Wire D) : Type 0 where
+  pub first : wire.log.head.first ≡ 1
   pub on_log : Hold wire.log.groups (take synced_ log)
   pub records : wire.log.records ≡ take synced_ log
   pub waiting : Hold wire.waiting (drop synced_ log)
   pub sizes : sizes_ ≡ map size_of wire.waiting
   pub failed : wire.log.failed ≡ halted_
   pub ready : wire.log.failed ≡ false → wire.log.waiting ≡ None
+  pub staged : (group : GroupValue) → wire.log.waiting ≡ Some group → slice_get wire.waiting 0 ≡ Some group
   pub front : accepted_ ≡ take (length accepted_) log
   pub within : length accepted_ ≤ synced_
 
@@ -84,10 +90,10 @@ pub record IsShown {R : Type 0} (contents : R → Database) (ts : List Table) (b
   pub are : shown.waiting ≡ map batch_of (drop published_ (commits ts (loaded base) accepted_ upto))
 
 -- What is true of every world, whatever came before.
-pub record IsWorld {R : Type 0} (contents : R → Database) (w : World R) : Type 0 where
+pub record IsWorld {D R : Type 0} (contents : R → Database) (w : World D R) : Type 0 where
   pub source : IsSource w.source
   pub wire : IsWire w.source.log w.source.synced w.source.group_sizes w.source.halted w.replica.accepted w.wire
-  pub replica : IsReplica w.source.tables w.source.base w.wire.log.source w.replica.tables w.replica.base w.replica.source w.replica.stopped
+  pub replica : IsReplica w.source.tables w.source.base w.wire.log.head.source w.replica.tables w.replica.base w.replica.source w.replica.stopped
   pub jobs : HasJobs w.replica w.jobs
   pub readers : IsShown contents w.replica.tables w.replica.base w.replica.accepted w.replica.committed w.replica.published w.shown
 
@@ -97,8 +103,8 @@ pub record SourceIs (said : Source) (flushed_ : ℕ) (s : Source) : Type 0 where
   pub is : s ≡ said
 
 -- The log file is that of this source; these groups are flushed and not synced, and these are synced.
-pub record WireIs (identifier_ : List ℕ) (unsynced_ synced_ : List (ℕ × ℕ)) (wire : Wire) : Type 0 where
-  pub identifier : wire.log.source ≡ identifier_
+pub record WireIs {D : Type 0} (identifier_ : List ℕ) (unsynced_ synced_ : List (ℕ × ℕ)) (wire : Wire D) : Type 0 where
+  pub head : wire.log.head ≡ new_head identifier_
   pub unsynced : map ends_of wire.waiting ≡ unsynced_
   pub synced : map ends_of wire.log.groups ≡ synced_
 
@@ -109,13 +115,13 @@ pub record ReplicaIs (said : Replica) (accepted_ dispatched_ : ℕ) (r : Replica
   pub is : r ≡ said
 
 -- Each side is as it is said to be. What readers see follows from the replica's side.
-pub record SidesAre (source_ : Source) (flushed_ : ℕ) (identifier_ : List ℕ) (unsynced_ synced_ : List (ℕ × ℕ)) (replica_ : Replica) (accepted_ dispatched_ : ℕ) (s : Source) (wire_ : Wire) (r : Replica) : Type 0 where
+pub record SidesAre {D : Type 0} (source_ : Source) (flushed_ : ℕ) (identifier_ : List ℕ) (unsynced_ synced_ : List (ℕ × ℕ)) (replica_ : Replica) (accepted_ dispatched_ : ℕ) (s : Source) (wire_ : Wire D) (r : Replica) : Type 0 where
   pub source : SourceIs source_ flushed_ s
   pub wire : WireIs identifier_ unsynced_ synced_ wire_
   pub replica : ReplicaIs replica_ accepted_ dispatched_ r
 
 -- the world is the one that the pairs so far leave
-abbrev pub Stands : {R : Type 0} → Setup → Past → World R → Type 0
+abbrev pub Stands : {D R : Type 0} → Setup → Past → World D R → Type 0
 Stands setup past w =
     SidesAre (source_at setup w.source.log past) (flushed past) setup.identifier (unsynced past) (synced_groups past) (replica_at setup w.source.log past) (accepted past) (dispatched past) w.source w.wire w.replica
 
@@ -131,11 +137,12 @@ pub record TellsFailure (reply : Reply) (old new : Log) : Type 0 where
   pub counted : IsCounted old.faults reply new.faults
   pub seen : old.failed ≡ false → new.failed ≡ true → DeviceFailed old new
 
--- One event: the world stays one, its log grows at its end, and, whatever pairs the world stood for, it stands
+-- One event: the world stays one, its log grows at its end, what is no sync leaves the device as it was, and, whatever pairs the world stood for, it stands
 -- for these and the new one, and the reply is allowed by each log that the world's log begins.
-pub record Goes {R : Type 0} (contents : R → Database) (old : World R) (event : Event) (reply : Reply) (new : World R) : Type 0 where
+pub record Goes {D R : Type 0} (contents : R → Database) (old : World D R) (event : Event) (reply : Reply) (new : World D R) : Type 0 where
   pub world : IsWorld contents new
   pub grows : IsPrefix old.source.log new.source.log
   pub device : TellsFailure reply old.wire.log new.wire.log
+  pub still : (event ≡ events.Sync → ⊥) → new.wire.device ≡ old.wire.device
   pub stands : (setup : Setup) (past : Past) → Stands setup past old → Stands setup ((event, reply) ∷ past) new
   pub allowed : (setup : Setup) (past : Past) (log : List Record) → Stands setup past old → IsPrefix new.source.log log → Allowed setup log past event reply

@@ -8,6 +8,7 @@ ghost use Rattle.world.specs.Laws.{
   ReadsNeverGoBack,
   PublishedWithin,
   NumbersNeverFall,
+  CommittedAreSynced,
   EachCommitOnceInOrder,
   NothingUnsyncedIsAccepted,
   RefusesOnlyGaps,
@@ -18,6 +19,10 @@ ghost use Rattle.world.specs.Laws.{
   BeginningHasRows,
   SeatsSeeTheSource,
 };
+ghost use Rattle.world.specs.Crash.{SyncedOutlives};
+
+use log_device::Device;
+use store_trait::RowStore;
 
 /// Each read at the replica is answered, with the row as the source had it after a beginning of its log that is synced.
 pub fn reads_are_prefixes()
@@ -36,6 +41,17 @@ pub fn reads_never_go_back()
 pub fn published_within()
     ensures in_order { PublishedWithin }
     ensures never_fall { NumbersNeverFall }
+{}
+
+/// Each record that is answered as committed was answered as synced before.
+pub fn committed_are_synced()
+    ensures { CommittedAreSynced }
+{}
+
+/// Whatever a crash leaves of a run, at any moment of an event or between two: opening it finds all records that were answered as
+/// synced by then, and no record that was not flushed.
+pub fn synced_outlives<D: Device, R: RowStore>()
+    ensures { SyncedOutlives R.contents D.may_leave D.moment D.left_since }
 {}
 
 /// The replica commits each record once, in the order of the log.

@@ -1,0 +1,5 @@
+use Rattle.world.proofs.LawsCrash.{outlives}
+use Rattle.world.proofs.laws.synced_outlives.Goals as goal
+
+pub returns : goal.returns
+returns g c = outlives g.R.RowStore.contents g.D.Device.may_leave g.D.Device.moment g.D.Device.left_since
