@@ -28,7 +28,7 @@ pub struct Orders<'r, R: Clock> {
     /// So many more writes past the end find no memory.
     pub refusals: AtomicU64,
     /// How many milliseconds a sync takes.
-    pub millis: u64,
+    pub millis: AtomicU64,
     held: Hold,
     /// How often it was synced.
     syncs: AtomicU64,
@@ -45,7 +45,7 @@ impl<'r, R: Clock> Orders<'r, R> {
         Orders {
             rt,
             refusals: AtomicU64::new(0),
-            millis,
+            millis: AtomicU64::new(millis),
             held,
             syncs: AtomicU64::new(0),
             entered: AtomicBool::new(false),
@@ -73,8 +73,9 @@ impl<'r, R: Clock> Orders<'r, R> {
     /// A sync.
     fn syncs(&self) {
         let before = self.syncs.fetch_add(1, Ordering::SeqCst);
-        if self.millis > 0 {
-            sleep(self.rt, Duration::from_millis(self.millis));
+        let millis = self.millis.load(Ordering::SeqCst);
+        if millis > 0 {
+            sleep(self.rt, Duration::from_millis(millis));
         }
         if matches!(self.held, Hold::Sync(number) if before.wrapping_add(1) == number) {
             self.hold();
@@ -130,6 +131,14 @@ impl<'a, D: Device, R: Clock> Device for Ordered<'a, D, R> {
     ghost faults = { λ d. D.faults d.inner };
 
     ghost may_leave = { λ d left. D.may_leave d.inner left };
+
+    ghost moment = { λ d. D.moment d.inner };
+
+    ghost left_since = { λ d t left. D.left_since d.inner t left };
+
+    ghost counts_now = { λ d t left earlier now. D.counts_now d.inner t left earlier now };
+
+    ghost only_now = { λ d left since. D.only_now d.inner left since };
 
     fn len(&self) -> u64 {
         self.inner.len()

@@ -10,8 +10,11 @@ use std::alloc::Global;
 use std::process::Abort;
 use std::sync::{Mutex, Wait};
 use std::test::Fail;
-use std::thread::{Threads, join};
-use std::time::Clock;
+use std::thread::{Threads, join, sleep};
+use std::time::{Clock, Duration};
+
+/// So many milliseconds one waits until others sleep.
+const FALL_ASLEEP: u64 = 20;
 
 /// A session commits three times while two other threads follow the log from 0 on, until no more come.
 pub fn is_followed<J, R>(
@@ -40,13 +43,14 @@ where
     Ok(3)
 }
 
-/// Commits three inserts, and closes the source, whatever came of them.
+/// Commits three inserts, and closes the source, whatever came of them. Those who follow sleep each time.
 fn commit_three<J: SourceNaming, R: Wait + Clock>(
     rt: &R,
     source: &Shared<'_, J, R>,
     receipts: &Mutex<Vec<Receipt<J>>>,
 ) -> Result<(), SourceFault> {
     let done = commit_up_to(rt, source, receipts, 3);
+    sleep(rt, Duration::from_millis(FALL_ASLEEP));
     source.close(rt);
     done
 }
@@ -59,6 +63,7 @@ fn commit_up_to<J: SourceNaming, R: Wait + Clock>(
 ) -> Result<(), SourceFault> {
     let mut seat = source.session(rt, 7)?;
     for key in 1..=last {
+        sleep(rt, Duration::from_millis(FALL_ASLEEP));
         transact(rt, source, &mut seat, &insert(key, [key, 0])?, receipts)?;
     }
     Ok(())

@@ -3,17 +3,17 @@
 use crate::device::Orders;
 use crate::held::are_flushed;
 use crate::makers::insert;
-use crate::sources::{Shared, beside, transact, write};
+use crate::sources::{Shared, beside, write};
 use schema::Memory;
 use source_core::SourceFault;
 use source_shared::{Receipt, SessionSeat, SourceNaming};
 use std::alloc::Global;
 use std::process::Abort;
-use std::sync::atomic::{AtomicBool, Ordering};
+use std::sync::atomic::Ordering;
 use std::sync::{Mutex, Wait};
 use std::test::Fail;
-use std::thread::{Threads, join, sleep};
-use std::time::{Clock, CpuClock, Duration};
+use std::thread::{Threads, join};
+use std::time::Clock;
 
 /// The first session's group finds no memory, as often as other sessions are to write it: they stay queued. The last session writes it,
 /// and the transactions of these with its own as one group.
@@ -74,7 +74,7 @@ fn are_committed<J: SourceNaming, R: Wait + Abort + Clock>(
 }
 
 /// The seat of the session, whose insert is prepared.
-fn prepared<J: SourceNaming, R: Wait + Clock>(
+pub fn prepared<J: SourceNaming, R: Wait + Clock>(
     rt: &R,
     source: &Shared<'_, J, R>,
     session: u16,
@@ -86,7 +86,7 @@ fn prepared<J: SourceNaming, R: Wait + Clock>(
 }
 
 /// Commits what is prepared, and answers its number.
-fn committed<J: SourceNaming, R: Wait + Clock>(
+pub fn committed<J: SourceNaming, R: Wait + Clock>(
     rt: &R,
     source: &Shared<'_, J, R>,
     receipts: &Mutex<Vec<Receipt<J>>>,
@@ -98,7 +98,9 @@ fn committed<J: SourceNaming, R: Wait + Clock>(
     Ok(gno)
 }
 
-/// Sixteen sessions commit twenty times each, in groups that have more than one of them, one with another.
+/// Sixteen sessions commit twenty times each. They share nearly all of their syncs: each that comes back from a group comes to the next one in
+/// time. Where one leads alone and the others behind it that makes two groups for each turn. (So often it is done again at most, with other
+/// sessions, where the machine has no time for these threads; or no memory for threads, and the sessions commit one after another.)
 pub fn is_shared<J, R>(
     rt: &R,
     alloc: Global,
@@ -110,12 +112,16 @@ where
     J: SourceNaming + Send + Sync,
     R: Threads + Wait + Clock + Sync,
 {
-    let committed = beside(rt, alloc, source, receipts, 16, 20)?;
-    // (Where there is no memory for a thread, the sessions commit one after another.)
-    if orders.groups() > committed as u64 / 2 {
-        Err(Memory)?;
+    let mut committed = 0usize;
+    for round in 0..3 {
+        let before = orders.groups();
+        let more = beside(rt, alloc, source, receipts, (16 * round, 16), 20)?;
+        committed = committed.saturating_add(more);
+        if orders.groups().saturating_sub(before) < 36 {
+            return Ok(committed);
+        }
     }
-    Ok(committed)
+    Err(Memory)?
 }
 
 /// The first session's group is held, and finds no memory then, as it does not with the next of the two who sleep behind it. Neither
@@ -190,102 +196,4 @@ fn committed_behind<J: SourceNaming, R: Wait + Clock>(
         return Err(SourceFault::Memory);
     }
     committed(rt, source, receipts, seat)
-}
-
-/// Two sessions commit twenty times each, in turn, and another begins, writes and aborts beside them: it waits for the lock for less
-/// than a fourth of the time that it sleeps. The receipt of one who gave up lies there all the time, so that each leader waits as long as
-/// it may for others to come.
-pub fn nap_beside<J, R>(
-    rt: &R,
-    source: &Shared<'_, J, R>,
-    receipts: &Mutex<Vec<Receipt<J>>>,
-    orders: &Orders<'_, R>,
-) -> Result<usize, Fail>
-where
-    J: SourceNaming + Send + Sync,
-    R: Threads + Wait + Abort + Clock + CpuClock + Sync,
-{
-    let mut refused = prepared(rt, source, 1)?;
-    let mut other = source.session(rt, 2)?;
-    orders.refusals.store(1, Ordering::SeqCst);
-    assert_eq!(rt;
-        source.commit(rt, &mut refused).err(),
-        Some(SourceFault::Memory)
-    );
-    let over = AtomicBool::new(false);
-    let (paces, (third, fourth)) = join(
-        rt,
-        || abort_all(rt, source, &mut other, &over),
-        || {
-            let ended = join(
-                rt,
-                || commit_in_turn(rt, source, receipts, 3),
-                || commit_in_turn(rt, source, receipts, 4),
-            );
-            over.store(true, Ordering::SeqCst);
-            ended
-        },
-    );
-    third?;
-    fourth?;
-    let (waited, slept) = paces?;
-    // (Where there is no memory for a thread, it begins once all is over.)
-    if slept.is_zero() {
-        Err(Memory)?;
-    }
-    assert!(rt;
-        waited.saturating_mul(4) < slept,
-        "{waited:?} of waiting, {slept:?} of sleep"
-    );
-    committed(rt, source, receipts, &mut refused)?;
-    Ok(41)
-}
-
-/// Commits twenty inserts, each once the record of the other session in front of it is flushed.
-fn commit_in_turn<J: SourceNaming, R: Wait + Clock>(
-    rt: &R,
-    source: &Shared<'_, J, R>,
-    receipts: &Mutex<Vec<Receipt<J>>>,
-    session: u16,
-) -> Result<(), SourceFault> {
-    let mut seat = source.session(rt, session)?;
-    let first = (session as u64).saturating_sub(2);
-    for turn in 0..20 {
-        if !are_flushed(rt, source, first + 2 * turn) {
-            return Err(SourceFault::Memory);
-        }
-        let change = insert(session as i64 * 100 + turn as i64, [5, 6])?;
-        transact(rt, source, &mut seat, &change, receipts)?;
-    }
-    Ok(())
-}
-
-/// Begins, writes and aborts now and then until the others are over. How long it waited in these calls, and how long it slept between them.
-fn abort_all<J: SourceNaming, R: Wait + Clock + CpuClock>(
-    rt: &R,
-    source: &Shared<'_, J, R>,
-    seat: &mut SessionSeat<J>,
-    over: &AtomicBool,
-) -> Result<(Duration, Duration), SourceFault> {
-    let change = insert(0, [5, 6])?;
-    let start = idle(rt);
-    let mut slept = Duration::ZERO;
-    for _ in rt.forever() {
-        if over.load(Ordering::SeqCst) {
-            break;
-        }
-        let before = idle(rt);
-        sleep(rt, Duration::from_micros(200));
-        slept = slept.saturating_add(idle(rt).saturating_sub(before));
-        write(rt, source, seat, &change)?;
-        source.abort(rt, seat)?;
-    }
-    let waited = idle(rt).saturating_sub(start).saturating_sub(slept);
-    Ok((waited, slept))
-}
-
-/// How long this thread did not run, since some start.
-fn idle(clock: &(impl Clock + CpuClock)) -> Duration {
-    let passed = clock.monotonic().unwrap_or(Duration::ZERO);
-    passed.saturating_sub(clock.thread_cpu_time().unwrap_or(Duration::ZERO))
 }

@@ -140,11 +140,11 @@ pub fn are_flushed<J: SourceNaming, R: Wait + Clock>(
     source: &Shared<'_, J, R>,
     count: u64,
 ) -> bool {
-    for _ in 0..PATIENCE {
+    for _ in 0..5 * PATIENCE {
         if source.flushed(rt).is_ok_and(|flushed| flushed >= count) {
             return true;
         }
-        sleep(rt, Duration::from_millis(1));
+        sleep(rt, Duration::from_micros(200));
     }
     false
 }

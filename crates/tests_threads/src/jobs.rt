@@ -5,7 +5,7 @@ ghost use Rattle.replica_shared.specs.Queue.{IsPassOf, hand_of};
 use crate::device::PATIENCE;
 use crate::makers::{insert, schema};
 use executor::Job;
-use replica_shared::{Jobs, Pass};
+use replica_shared::{Again, Jobs, Pass};
 use schema::Memory;
 use std::alloc::Global;
 use std::process::Abort;
@@ -23,12 +23,17 @@ const JOBS: u64 = 100_000;
 /// So many lie in the queue at most, as long as any are stolen.
 const ROOM: u64 = 1000;
 
+/// So many lie there at least where one steals, as long as any are pushed: so those who steal meet.
+const LEAST: u64 = 100;
+
 /// What was stolen.
 #[derive(Drop)]
 struct Loot {
     /// Whether each job was.
     each: Vec<AtomicBool>,
     count: AtomicU64,
+    /// How many were pushed.
+    pushed: AtomicU64,
     /// No more are pushed.
     is_over: AtomicBool,
 }
@@ -42,6 +47,7 @@ impl Loot {
         Ok(Loot {
             each,
             count: AtomicU64::new(0),
+            pushed: AtomicU64::new(0),
             is_over: AtomicBool::new(false),
         })
     }
@@ -67,7 +73,7 @@ impl Loot {
     }
 }
 
-/// Catches a job that no thread gets, that two get, or that one gets behind a later one.
+/// Catches a job that no thread gets, that two get, or that one gets behind a later one, and a queue that is told to be empty and is not.
 #[test]
 fn two_steal_what_one_pushes(rt: HostRuntime) -> Result<(), Fail> {
     push_beside(&rt, rt.alloc())
@@ -91,8 +97,8 @@ fn push_beside<R: Threads + Wait + Abort + Clock + Sync>(
         rt,
         || join(
             rt,
-            || steal_all(rt, &jobs, &loot),
-            || steal_all(rt, &jobs, &loot),
+            || steal_all(rt, &jobs, &loot, true),
+            || steal_all(rt, &jobs, &loot, false),
         ),
         || {
             let pushed = push_all(rt, &jobs, pass, &job, &loot);
@@ -101,7 +107,10 @@ fn push_beside<R: Threads + Wait + Abort + Clock + Sync>(
         },
     );
     pushed?;
-    assert!(rt; one && two, "a job came twice, or behind a later one");
+    assert!(rt;
+        one && two,
+        "a job came twice, or behind a later one, or was not seen"
+    );
     assert_eq!(rt; loot.count.load(Ordering::SeqCst), JOBS);
     Ok(())
 }
@@ -124,26 +133,49 @@ fn push_all(
         let mut next = job.copy()?;
         next.gno = gno;
         jobs.push(rt, &mut pass, next).map_err(|_| Memory)?;
+        loot.pushed.store(gno, Ordering::SeqCst);
     }
     Ok(())
 }
 
-/// Steals until no more are pushed. Whether each gno was above the one before, and new.
-fn steal_all(rt: &impl Wait, jobs: &Jobs, loot: &Loot) -> bool {
+/// Steals until no more are pushed. Whether each gno was above the one before, and new; and, of one who is told so, whether the queue was
+/// empty: of the jobs that had been pushed all were stolen, and the other one may have one in hand.
+fn steal_all(rt: &impl Wait, jobs: &Jobs, loot: &Loot, is_told: bool) -> bool {
     let mut pass = jobs.pass();
     let mut last = 0;
     for _ in rt.forever() {
         let is_over = loot.is_over.load(Ordering::SeqCst);
-        if let Some(job) = jobs.steal(rt, &mut pass) {
-            if job.gno <= last || !loot.is_new(job.gno) {
+        let pushed = loot.pushed.load(Ordering::SeqCst);
+        if !is_over && pushed < loot.count.load(Ordering::SeqCst).saturating_add(LEAST) {
+            yield_now();
+            continue;
+        }
+        match steal(rt, jobs, &mut pass, is_told) {
+            Ok(Some(job)) => {
+                if job.gno <= last || !loot.is_new(job.gno) {
+                    return false;
+                }
+                last = job.gno;
+            }
+            Ok(None) if loot.count.load(Ordering::SeqCst).saturating_add(1) < pushed => {
                 return false;
             }
-            last = job.gno;
-        } else if is_over {
-            return true;
-        } else {
-            yield_now();
+            Ok(None) if is_over => return true,
+            Err(Again) if is_over && !is_told => return true,
+            _ => yield_now(),
         }
     }
     unreachable!()
+}
+
+/// One try to steal, by the call that tells whether the queue is empty, or by the other one.
+fn steal(rt: &impl Wait, jobs: &Jobs, pass: &mut Pass, is_told: bool) -> Result<Option<Job>, Again>
+    requires { IsPassOf jobs.now pass.old }
+    ensures { IsPassOf jobs.now pass.new }
+{
+    if is_told {
+        jobs.try_steal(rt, pass)
+    } else {
+        jobs.steal(rt, pass).map(Some).ok_or(Again)
+    }
 }

@@ -16,6 +16,8 @@ mod jobs;
 #[cfg(test)]
 mod makers;
 #[cfg(test)]
+mod napping;
+#[cfg(test)]
 mod publishing;
 #[cfg(test)]
 mod replicas;

@@ -36,7 +36,7 @@ pub fn schema(alloc: Global) -> Result<Schema, Memory> {
     Schema::new(tables).map_err(|_| Memory)
 }
 
-/// A source of no rows, for 512 records.
+/// A source of no rows, for 1024 records.
 pub fn source(alloc: Global) -> Result<SourceCore<BTreeStore, CommitOrder>, Memory>
     ensures { IfOk result (λ core. core ≡ new_source core.tables core.base core.limit core.kind) }
 {
@@ -45,7 +45,7 @@ pub fn source(alloc: Global) -> Result<SourceCore<BTreeStore, CommitOrder>, Memo
     if !schema.is_flat() || !fits(&schema, &store) {
         return Err(Memory);
     }
-    let core = SourceCore::new(alloc, schema, store, CommitOrder, 512)?;
+    let core = SourceCore::new(alloc, schema, store, CommitOrder, 1024)?;
     Ok(core)
 }
 

@@ -7,7 +7,9 @@ use crate::device::{PATIENCE, comes_in_turns};
 use crate::makers::{ONE, SOURCE, insert, replica, set};
 use crate::stores::{Notes, Store, copies, is_stored, working};
 use crate::unlocked::is_unlocked;
-use crate::watched::{Order, is_crowded, is_empty, is_handed_in_late, is_refused, is_watched};
+use crate::watched::{
+    Order, are_woken_one_by_one, is_crowded, is_empty, is_handed_in_late, is_refused, is_watched,
+};
 use crate::wires::{come_in_pieces, is_damaged, is_kept_waiting, sets_are_shown, wake_workers};
 use published::{Answer, Beginning, Counts, LeftRight, OpenError, open};
 use record_codec::Record;
@@ -53,6 +55,8 @@ pub enum Course {
     WatchedStop,
     /// More calls of `worker` than workers.
     Crowded,
+    /// The same, and the records come one by one, each once all sleep.
+    Woken,
     /// The first commit's publication finds no memory.
     Refused,
     /// A result is handed in once another has stopped the replica.
@@ -130,6 +134,12 @@ fn a_gate_sees_the_stop(rt: HostRuntime) -> Result<(), Fail> {
 #[test]
 fn more_calls_than_workers_end(rt: HostRuntime) -> Result<(), Fail> {
     runs(&rt, rt.alloc(), Course::Crowded)
+}
+
+/// Catches a record that wakes all who sleep, or two, in the place of one.
+#[test]
+fn a_record_wakes_one_of_seven(rt: HostRuntime) -> Result<(), Fail> {
+    runs(&rt, rt.alloc(), Course::Woken)
 }
 
 /// Catches a status that shows as published what is committed alone, and a worker that ends once it made up for a publication.
@@ -271,6 +281,7 @@ fn run_over<J: ReplicaNaming + Send + Sync, R: Threads + Wait + Abort + Clock + 
         Course::Watched => watches(rt, alloc, &shared, records),
         Course::WatchedStop => watches_stop(rt, alloc, &shared, records),
         Course::Crowded => crowds(rt, alloc, &shared, records),
+        Course::Woken => are_woken_one_by_one(rt, alloc, &shared, records),
         Course::Refused => is_refused(rt, alloc, &shared, records),
         Course::Late => is_handed_in_late(rt, alloc, &shared, records),
         Course::Sevens => come_in_pieces(rt, alloc, &shared, records, 7),

@@ -4,9 +4,10 @@ ghost use Rattle.source_core.specs.Source.{new_source};
 
 use crate::device::{Hold, InMemory, Ordered, Orders};
 use crate::followed::{are_bytes, follow, is_followed};
-use crate::grouped::{give_up, is_refused, is_shared, nap_beside};
+use crate::grouped::{give_up, is_refused, is_shared};
 use crate::held::{are_told, is_held};
 use crate::makers::{ONE, SOURCE, insert, set, source};
+use crate::napping::{nap_alone, wait_beside};
 use btree_store::BTreeStore;
 use commit_order_tracker::CommitOrder;
 use log_device::{FaultyDevice, MemoryDevice};
@@ -20,7 +21,7 @@ use std::process::Abort;
 use std::sync::{Mutex, Wait};
 use std::test::Fail;
 use std::thread::{Threads, map_indices};
-use std::time::{Clock, CpuClock};
+use std::time::Clock;
 use uuid::Uuid;
 
 type Core = SourceCore<BTreeStore, CommitOrder>;
@@ -47,8 +48,10 @@ enum Course {
     Held,
     /// A sync takes a millisecond.
     Slow,
-    /// The same, beside a session that aborts all that it writes.
-    Napping,
+    /// The same, where two sessions commit in turn.
+    Aside,
+    /// The same, and then one commits alone.
+    NappingAlone,
     /// Two threads follow the log while a session commits three times.
     Followed,
     /// The first group's sync is held, and the write behind it fails.
@@ -94,16 +97,23 @@ fn flushes_beside_a_sync(rt: HostRuntime) -> Result<(), Fail> {
     runs(&rt, rt.alloc(), Course::Held)
 }
 
-/// Catches sessions that sync one by one where a sync is slow.
+/// Catches sessions that sync one by one where a sync is slow, leaders who do not wait for those who come back from the group before, or keep
+/// the lock meanwhile, and groups that are flushed beside one that is not slow.
 #[test]
 fn sixteen_sessions_share_syncs(rt: HostRuntime) -> Result<(), Fail> {
     runs(&rt, rt.alloc(), Course::Slow)
 }
 
-/// Catches one who waits for others to come, or for the device, and keeps the lock meanwhile.
+/// Catches one who waits beside a group of another and keeps the lock meanwhile.
 #[test]
-fn others_get_the_lock_while_a_leader_naps(rt: HostRuntime) -> Result<(), Fail> {
-    runs(&rt, rt.alloc(), Course::Napping)
+fn who_waits_beside_a_group_leaves_it_the_lock(rt: HostRuntime) -> Result<(), Fail> {
+    runs(&rt, rt.alloc(), Course::Aside)
+}
+
+/// Catches a leader who naps on though nobody comes, since a receipt lies there that nobody takes.
+#[test]
+fn a_leader_to_whom_nobody_comes_naps_once(rt: HostRuntime) -> Result<(), Fail> {
+    runs(&rt, rt.alloc(), Course::NappingAlone)
 }
 
 /// Catches one who follows the log and sleeps on where a record came, or where no more come.
@@ -118,7 +128,7 @@ fn who_sleeps_is_told_of_a_failure(rt: HostRuntime) -> Result<(), Fail> {
     runs(&rt, rt.alloc(), Course::Told)
 }
 
-fn runs<R: Threads + Wait + Abort + Clock + CpuClock + Sync>(
+fn runs<R: Threads + Wait + Abort + Clock + Sync>(
     rt: &R,
     alloc: Global,
     course: Course,
@@ -130,7 +140,7 @@ fn runs<R: Threads + Wait + Abort + Clock + CpuClock + Sync>(
 }
 
 /// Whether there was memory for the source.
-fn has_run<R: Threads + Wait + Abort + Clock + CpuClock + Sync>(
+fn has_run<R: Threads + Wait + Abort + Clock + Sync>(
     rt: &R,
     alloc: Global,
     course: Course,
@@ -140,7 +150,7 @@ fn has_run<R: Threads + Wait + Abort + Clock + CpuClock + Sync>(
         Course::Failing => (5, 0, Hold::None),
         Course::GiveUp => (0, 0, Hold::Refusal),
         Course::Held => (0, 0, Hold::Sync(2)),
-        Course::Slow | Course::Napping => (0, 1, Hold::None),
+        Course::Slow | Course::Aside | Course::NappingAlone => (0, 1, Hold::None),
         Course::Told => (6, 0, Hold::Sync(2)),
         _ => (0, 0, Hold::None),
     };
@@ -159,7 +169,7 @@ fn has_run<R: Threads + Wait + Abort + Clock + CpuClock + Sync>(
     run_over::<Brand, R>(rt, alloc, core, log, Beginning::new(), course, &orders)
 }
 
-fn run_over<'a, J: SourceNaming + Send + Sync, R: Threads + Wait + Abort + Clock + CpuClock + Sync>(
+fn run_over<'a, J: SourceNaming + Send + Sync, R: Threads + Wait + Abort + Clock + Sync>(
     rt: &R,
     alloc: Global,
     core: Core,
@@ -169,8 +179,8 @@ fn run_over<'a, J: SourceNaming + Send + Sync, R: Threads + Wait + Abort + Clock
     orders: &Orders<'a, R>,
 ) -> Result<bool, Fail>
     requires core { core ≡ new_source core.tables core.base core.limit core.kind }
-    requires records { log.records ≡ [] }
-    requires waiting { log.waiting ≡ None }
+    requires records { log.log.records ≡ [] }
+    requires waiting { log.log.waiting ≡ None }
     requires base { core.base ≡ J.base }
     requires tables { core.tables ≡ J.tables }
     requires named { beginning ≡ J.book }
@@ -187,11 +197,7 @@ fn run_over<'a, J: SourceNaming + Send + Sync, R: Threads + Wait + Abort + Clock
 }
 
 /// Does what is to be done. The receipts, and how many records are flushed then; `None` where there was no room for receipts.
-fn commit_all<
-    'a,
-    J: SourceNaming + Send + Sync,
-    R: Threads + Wait + Abort + Clock + CpuClock + Sync,
->(
+fn commit_all<'a, J: SourceNaming + Send + Sync, R: Threads + Wait + Abort + Clock + Sync>(
     rt: &R,
     alloc: Global,
     source: &Shared<'a, J, R>,
@@ -205,12 +211,13 @@ fn commit_all<
     let flushed = match course {
         Course::InTurn => in_turn(rt, alloc, source, &receipts),
         Course::Failing => halts(rt, source, &receipts),
-        Course::Beside => beside(rt, alloc, source, &receipts, 4, 10),
+        Course::Beside => beside(rt, alloc, source, &receipts, (0, 4), 10),
         Course::Refused => is_refused(rt, alloc, source, &receipts, orders),
         Course::GiveUp => give_up(rt, source, &receipts, orders),
         Course::Held => is_held(rt, source, &receipts, orders),
         Course::Slow => is_shared(rt, alloc, source, &receipts, orders),
-        Course::Napping => nap_beside(rt, source, &receipts, orders),
+        Course::Aside => wait_beside(rt, source, &receipts),
+        Course::NappingAlone => nap_alone(rt, source, &receipts, orders),
         Course::Followed => is_followed(rt, alloc, source, &receipts),
         Course::Told => are_told(rt, alloc, source, &receipts, orders),
     }?;
@@ -245,7 +252,7 @@ pub fn transact<J: SourceNaming, R: Wait + Clock>(
 }
 
 /// Commits, and once more where it lacked memory.
-fn commit<J: SourceNaming, R: Wait + Clock>(
+pub fn commit<J: SourceNaming, R: Wait + Clock>(
     rt: &R,
     source: &Shared<'_, J, R>,
     seat: &mut SessionSeat<J>,
@@ -330,29 +337,30 @@ fn halts<J: SourceNaming, R: Wait + Abort + Clock>(
     Ok(1)
 }
 
-/// So many sessions commit inserts of so many rows of their own each, side by side.
+/// Behind the first number so many sessions commit inserts of so many rows of their own each, side by side.
 pub fn beside<J, R>(
     rt: &R,
     alloc: Global,
     source: &Shared<'_, J, R>,
     receipts: &Mutex<Vec<Receipt<J>>>,
-    sessions: usize,
+    sessions: (usize, usize),
     rows: u16,
 ) -> Result<usize, Fail>
 where
     J: SourceNaming + Send + Sync,
     R: Threads + Wait + Clock + Sync,
 {
+    let (first, count) = sessions;
     let each = map_indices(
         rt,
         alloc,
-        sessions,
-        &|place| commit_each(rt, source, receipts, place, rows),
+        count,
+        &|place| commit_each(rt, source, receipts, place.saturating_add(first), rows),
     )?;
     for committed in each {
         committed?;
     }
-    Ok(sessions.saturating_mul(rows as usize))
+    Ok(count.saturating_mul(rows as usize))
 }
 
 /// Commits inserts of so many rows, by the session in front of so many others, which are the last.

@@ -1,19 +1,20 @@
 //! What a worker's gate sees, what a replica without records answers, more calls of `worker` than there are workers, and a worker
 //! that ends before another one's result is in.
 
+use crate::device::PATIENCE;
 use crate::makers::ONE;
-use crate::replicas::{Shared, Step, counts, feed, receive_each, shows, work};
+use crate::replicas::{Shared, Step, counts, feed, receive, receive_each, shows, sleep_all, work};
 use published::{Answer, Counts};
 use record_codec::Record;
 use relay::ReplicaFault;
-use replica_shared::{NoGate, ReplicaNaming, WorkerGate};
+use replica_shared::{NoGate, ReplicaNaming, Sleepers, WorkerGate};
 use std::alloc::Global;
 use std::process::Abort;
 use std::sync::Wait;
 use std::sync::atomic::{AtomicU64, Ordering};
 use std::test::Fail;
-use std::thread::{Threads, join, map_indices};
-use std::time::Clock;
+use std::thread::{Threads, join, map_indices, sleep};
+use std::time::{Clock, Duration};
 
 /// It notes for each job its number and how many commits are published, as it is entered and as it is left: two digits each.
 #[derive(Drop)]
@@ -109,6 +110,79 @@ pub fn is_crowded<J: ReplicaNaming + Send + Sync, R: Threads + Wait + Clock + Sy
         ended?;
     }
     Ok(())
+}
+
+/// So often seven who sleep look while three records come one by one: one is woken for each, and looks once more before it sleeps again. It
+/// is 24 times where all are woken, and 9 where two are. (One who was about to sleep when a record came may look once more.)
+const LOOKS: u64 = 6;
+
+/// Seven calls of `worker` sleep before each record, and behind the last.
+pub fn are_woken_one_by_one<J, R>(
+    rt: &R,
+    alloc: Global,
+    shared: &Shared<J>,
+    records: &[Record],
+) -> Result<u64, Fail>
+where
+    J: ReplicaNaming + Send + Sync,
+    R: Threads + Wait + Abort + Clock + Sync,
+{
+    let (worked, looks) = join(
+        rt,
+        || map_indices(rt, alloc, 7, &|_place| shared.worker(rt, alloc, &NoGate)),
+        || {
+            let looks = look_on(rt, shared, records);
+            shared.close(rt);
+            looks
+        },
+    );
+    let looks = looks?;
+    for ended in worked? {
+        ended?;
+    }
+    assert!(rt; LOOKS <= looks && looks <= LOOKS + 1, "{looks} looks");
+    shows(rt, shared, 3, [7, 6])
+}
+
+/// How often seven workers look that sleep when each record comes, until they all sleep again. It lacks memory where they don't in time.
+fn look_on<J: ReplicaNaming>(
+    rt: &(impl Wait + Clock),
+    shared: &Shared<J>,
+    records: &[Record],
+) -> Result<u64, ReplicaFault> {
+    let mut looks = 0u64;
+    for record in records {
+        let before = looks_of_seven(rt, shared)?;
+        receive(rt, shared, record)?;
+        shared.wait_for(rt, record.gno)?;
+        let after = looks_of_seven(rt, shared)?;
+        looks = looks.saturating_add(after.saturating_sub(before));
+    }
+    Ok(looks)
+}
+
+/// How often workers looked, once seven sleep and nobody looked for some time.
+fn looks_of_seven<J: ReplicaNaming>(
+    rt: &(impl Wait + Clock),
+    shared: &Shared<J>,
+) -> Result<u64, ReplicaFault> {
+    let asleep = Sleepers {
+        workers: 7,
+        readers: 0,
+    };
+    let mut seen = 0;
+    for _ in 0..PATIENCE {
+        if !sleep_all(rt, shared, asleep) {
+            return Err(ReplicaFault::Memory);
+        }
+        let looks = shared.looks(rt).workers;
+        if looks == seen {
+            return Ok(seen);
+        }
+        seen = looks;
+        sleep(rt, Duration::from_millis(20));
+    }
+    Err(ReplicaFault::Memory)
 }
 
 /// It notes the number of each job that is entered, a digit each; but a number once where it is entered twice in a row.
