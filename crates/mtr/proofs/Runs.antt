@@ -18,14 +18,14 @@ use Rattle.mtr.specs.Pair.{BeginsWith, GoesOn, Prints, setup_of}
 use Rattle.mtr.specs.Printing.{line_of}
 use Rattle.mtr.proofs.Pieces.{along}
 
-run_along : {R : Type 0} (contents : R → Database) (setup : Setup) (es fs : List Event) (rs ss : List Reply) (w : World R) → es ≡ fs → rs ≡ ss → HasRun contents setup es rs w → HasRun contents setup fs ss w
+run_along : {D R : Type 0} (contents : R → Database) (setup : Setup) (es fs : List Event) (rs ss : List Reply) (w : World D R) → es ≡ fs → rs ≡ ss → HasRun contents setup es rs w → HasRun contents setup fs ss w
 run_along contents setup es fs rs ss w e r h =
     let P : List Event → Type 0 = λ x. HasRun contents setup x ss w in
     let Q : List Reply → Type 0 = λ x. HasRun contents setup es x w in
     subst P e (subst Q r h)
 
 -- nothing was done
-pub goes_nowhere : {R : Type 0} (contents : R → Database) (w : World R) (before : Option (List ℕ)) → GoesOn contents w w [] before before
+pub goes_nowhere : {D R : Type 0} (contents : R → Database) (w : World D R) (before : Option (List ℕ)) → GoesOn contents w w [] before before
 goes_nowhere contents w before = record {
   replies = [];
   goes_on = λ setup es rs h. run_along contents setup es (es ++ []) rs (rs ++ []) w (sym (append-nil es)) (sym (append-nil rs)) h;
@@ -33,7 +33,7 @@ goes_nowhere contents w before = record {
 }
 
 -- one piece more
-pub goes_further : {R : Type 0} (contents : R → Database) (old now new : World R) (events piece : List Event) (before printed after : Option (List ℕ))
+pub goes_further : {D R : Type 0} (contents : R → Database) (old now new : World D R) (events piece : List Event) (before printed after : Option (List ℕ))
     → GoesOn contents old now events before printed → GoesOn contents now new piece printed after → GoesOn contents old new (events ++ piece) before after
 goes_further contents old now new events piece before printed after so_far more = record {
   replies = so_far.replies ++ more.replies;
@@ -48,7 +48,7 @@ pub behind_piece : (events rest piece behind all : List Event) → events ++ res
 behind_piece events rest piece behind all e cut = append_assoc events piece behind ∙ ap (λ r. events ++ r) (sym cut) ∙ e
 
 -- what a new world prints that goes on by the events of a script
-pub prints : {R : Type 0} (contents : R → Database) (script : Said) (kind : Kind) (workers : ℕ) (old new : World R) (before after : Option (List ℕ)) → BeginsWith contents kind workers script.tables script.base old → GoesOn contents old new script.events before after → Prints kind workers script before after
+pub prints : {D R : Type 0} (contents : R → Database) (script : Said) (kind : Kind) (workers : ℕ) (old new : World D R) (before after : Option (List ℕ)) → BeginsWith contents kind workers script.tables script.base old → GoesOn contents old new script.events before after → Prints kind workers script before after
 prints contents script kind workers old new before after begins goes =
     let setup = setup_of kind script.tables begins.base workers in
     let legal = (goes.goes_on setup [] [] begins.starts).legal in

@@ -41,11 +41,11 @@ choice_rule name choices default = record (new_rule name) {
   defaults = default ∷ [];
 }
 
--- the option `--NAME N` of a number from 1 to the greatest, with this default
-abbrev pub number_rule : Text → ℕ → Text → Rule
-number_rule name greatest default = record (new_rule name) {
+-- the option `--NAME N` of a number from the least to the greatest, with this default
+abbrev pub number_rule : Text → ℕ → ℕ → Text → Rule
+number_rule name least greatest default = record (new_rule name) {
   long = Some name;
-  parser = Some (parsers.Unsigned 1 greatest);
+  parser = Some (parsers.Unsigned least greatest);
   value_names = 1;
   defaults = default ∷ [];
 }
@@ -55,19 +55,24 @@ abbrev pub sides_app : Text → Names → App
 sides_app name names = with_rule (with_rule (with_rule (with_rule (new_app name)
     (choice_rule (codes "tracker") names.trackers (codes "commit-order")))
     (choice_rule (codes "store") names.stores (codes "btree")))
-    (number_rule (codes "history") 1000000 (codes "25000")))
-    (number_rule (codes "workers") 64 (codes "4"))
+    (number_rule (codes "history") 1 1000000 (codes "25000")))
+    (number_rule (codes "workers") 1 64 (codes "4"))
+
+-- the greatest number of a call of the log's device
+abbrev pub most_calls : ℕ
+most_calls = 9223372036854775807
 
 -- `run`
 abbrev pub run_app : Names → App
-run_app names = sides_app (codes "run") names
+run_app names = with_rule (sides_app (codes "run") names)
+    (number_rule (codes "fail") 0 most_calls (codes "0"))
 
 -- `threads`
 abbrev pub threads_app : Names → App
 threads_app names = with_rule (with_rule (with_rule (sides_app (codes "threads") names)
-    (number_rule (codes "sessions") 16 (codes "4")))
-    (number_rule (codes "transactions") 1000 (codes "10")))
-    (number_rule (codes "seats") 32 (codes "2"))
+    (number_rule (codes "sessions") 1 16 (codes "4")))
+    (number_rule (codes "transactions") 1 1000 (codes "10")))
+    (number_rule (codes "seats") 1 32 (codes "2"))
 
 -- `decode`
 abbrev pub decode_app : App
@@ -80,11 +85,11 @@ program names =
     let top = record app.top { no_binary_name = true; subcommand_required = true; has_version = true; propagate_version = true } in
     with_subcommand (with_subcommand (with_subcommand (record app { top = top }) (run_app names).top) (threads_app names).top) decode_app.top
 
--- the number from 1 to the greatest that an option has by the words, or by its default, as what was found has it
-abbrev pub number_of : Text → ℕ → List Row → Option ℕ
-number_of name greatest rows = do
+-- the number from the least to the greatest that an option has by the words, or by its default, as what was found has it
+abbrev pub number_of : Text → ℕ → ℕ → List Row → Option ℕ
+number_of name least greatest rows = do
   text ← one_of name rows
-  if is_unsigned_in 1 greatest text then Some (digits_value 10 (without_leading_plus text)) else None
+  if is_unsigned_in least greatest text then Some (digits_value 10 (without_leading_plus text)) else None
 
 -- the mode of this name
 abbrev pub mode_named : Text → Option Tracking
@@ -114,21 +119,22 @@ abbrev pub sides_of : List Row → Option Sides
 sides_of rows = do
   tracker ← mode_of rows
   store ← store_of rows
-  history ← number_of (codes "history") 1000000 rows
-  workers ← number_of (codes "workers") 64 rows
+  history ← number_of (codes "history") 1 1000000 rows
+  workers ← number_of (codes "workers") 1 64 rows
   Some (record { tracker = tracker; store = store; history = history; workers = workers })
 
 abbrev pub run_options : List Row → Option Options
 run_options rows = do
   sides ← sides_of rows
-  Some (Run sides)
+  fail ← number_of (codes "fail") 0 most_calls rows
+  Some (Run sides fail)
 
 abbrev pub threads_options : List Row → Option Options
 threads_options rows = do
   sides ← sides_of rows
-  sessions ← number_of (codes "sessions") 16 rows
-  transactions ← number_of (codes "transactions") 1000 rows
-  seats ← number_of (codes "seats") 32 rows
+  sessions ← number_of (codes "sessions") 1 16 rows
+  transactions ← number_of (codes "transactions") 1 1000 rows
+  seats ← number_of (codes "seats") 1 32 rows
   Some (Threads (record { sides = sides; sessions = sessions; transactions = transactions; seats = seats }))
 
 -- what a subcommand of this name asks for, with what was found behind it
@@ -149,16 +155,20 @@ pub record AsksFor (words : List Text) (asked : Options) : Type 0 where
   pub are : AreNames names
   pub named : options_of names words ≡ Some asked
 
+-- a number from the least to the greatest
+abbrev pub IsWithin : ℕ → ℕ → ℕ → Type 0
+IsWithin least greatest n = (least ≤ n) × (n ≤ greatest)
+
 -- a number from 1 to the greatest
 abbrev pub IsUpTo : ℕ → ℕ → Type 0
-IsUpTo greatest n = (1 ≤ n) × (n ≤ greatest)
+IsUpTo = IsWithin 1
 
 -- each number is in its range
 abbrev pub AreSides : Sides → Type 0
 AreSides sides = IsUpTo 1000000 sides.history × IsUpTo 64 sides.workers
 
 abbrev pub IsInRange : Options → Type 0
-IsInRange (Run sides) = AreSides sides
+IsInRange (Run sides fail) = AreSides sides × IsWithin 0 most_calls fail
 IsInRange (Threads plan) = AreSides plan.sides × IsUpTo 16 plan.sessions × IsUpTo 1000 plan.transactions × IsUpTo 32 plan.seats
 IsInRange Decode = Unit {0}
 
@@ -168,7 +178,7 @@ default_sides = record { tracker = modes.CommitOrder; store = stores.BTree; hist
 
 -- the name of a subcommand, and what it asks for where nothing stands behind it
 abbrev pub IsByDefault : Text → Options → Type 0
-IsByDefault name (Run sides) = (name ≡ codes "run") × (sides ≡ default_sides)
+IsByDefault name (Run sides fail) = (name ≡ codes "run") × (sides ≡ default_sides) × (fail ≡ 0)
 IsByDefault name (Threads plan) = (name ≡ codes "threads") × (plan ≡ record { sides = default_sides; sessions = 4; transactions = 10; seats = 2 })
 IsByDefault name Decode = name ≡ codes "decode"
 

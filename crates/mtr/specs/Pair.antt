@@ -36,14 +36,14 @@ abbrev pub setup_of : Kind → List Table → List Entry → ℕ → Setup
 setup_of kind ts base workers = record { identifier = source; tables = ts; base = all_rows (put_batch base empty); limit = 9223372036854775807; kind = kind; workers = workers }
 
 -- The world is new: it has a tracker of this kind, so many workers, these tables, and these rows at the start, in some order.
-pub record BeginsWith {R : Type 0} (contents : R → Database) (kind : Kind) (workers : ℕ) (tables : List Table) (rows : List (RowId × List ℤ)) (w : World R) : Type 0 where
+pub record BeginsWith {D R : Type 0} (contents : R → Database) (kind : Kind) (workers : ℕ) (tables : List Table) (rows : List (RowId × List ℤ)) (w : World D R) : Type 0 where
   pub base : List Entry
   pub given : IsPermutation (map present rows) base
   pub starts : HasRun contents (setup_of kind tables base workers) [] [] w
 
 -- The world goes on by these events from whatever runs it came by, by the source's own log, and the lines of
 -- the replies are appended, in order.
-pub record GoesOn {R : Type 0} (contents : R → Database) (old new : World R) (events : List Event) (before printed : Option (List ℕ)) : Type 0 where
+pub record GoesOn {D R : Type 0} (contents : R → Database) (old new : World D R) (events : List Event) (before printed : Option (List ℕ)) : Type 0 where
   pub replies : List Reply
   pub goes_on : (setup : Setup) (es : List Event) (rs : List Reply) → HasRun contents setup es rs old → HasRun contents setup (es ++ events) (rs ++ replies) new
   pub lines : Appends before printed (lines_of replies)

@@ -1,5 +1,5 @@
 -- What the sessions of `threads` write, what their rows are in the end, when both sides came to the same, and what is printed.
-use Rattle.std.specs.Prelude.{◌≡◌, ℕ, ℤ, pos, ◌+◌, ◌-◌, ◌*◌, ◌≤◌, nat_lt, nat_le, if◌then◌else◌, Bool, true, List, [], ◌∷◌, ◌++◌, All, take, codes, Option, Some, None, option_and_then}
+use Rattle.std.specs.Prelude.{◌≡◌, ℕ, ℤ, pos, ◌+◌, ◌-◌, ◌*◌, ◌≤◌, nat_lt, nat_le, if◌then◌else◌, Bool, true, List, [], ◌∷◌, ◌++◌, All, length, take, codes, Option, Some, None, option_and_then}
 use mathlib.Core.List.{IsPrefix}
 use Rattle.std.specs.List.{list_all}
 use Rattle.std.specs.FinMap.{get}
@@ -20,6 +20,7 @@ use Rattle.rows.specs.declared.Change.TheVariants.{Insert, Update}
 use Rattle.mtr.specs.Reading.{NoneFalls, AreTold}
 use Rattle.mtr.specs.declared.ending.Ending.{Ending}
 use Rattle.mtr.specs.declared.ending.Ending.TheVariants as endings
+use Rattle.mtr.specs.declared.options.Plan.{Plan}
 use Rattle.mtr.specs.declared.threads.ended.Ended.{Ended}
 use Rattle.mtr.specs.declared.threads.reading.Shown.{Shown}
 use Rattle.mtr.specs.declared.threads.Verdict.{Verdict}
@@ -62,9 +63,15 @@ pub record IsEnded {S T : Type 0} (e : Ended S T) : Type 0 where
   pub counted : e.replica.published ≤ commits_in shown
   pub told : All (λ v. AreTold shown v.items) e.readings.items
 
--- What was compared: both sides began with the same rows, and what the replica accepted is a beginning of the source's log; it
--- published as many commits as it told, and no reader saw more.
-pub record Agree {S T : Type 0} (e : Ended S T) : Type 0 where
+-- as many workers did all that there was, and as many readers read, as planned
+pub record TookPart {S T : Type 0} (plan : Plan) (e : Ended S T) : Type 0 where
+  pub workers : e.workers ≡ plan.sides.workers
+  pub readers : length e.readings.items ≡ plan.seats
+
+-- What was compared: all that was planned took part, both sides began with the same rows, and what the replica accepted is a
+-- beginning of the source's log; it published as many commits as it told, and no reader saw more.
+pub record Agree {S T : Type 0} (plan : Plan) (e : Ended S T) : Type 0 where
+  pub took_part : TookPart plan e
   pub counted : e.replica.published ≡ e.published
   pub rows : loaded e.source.base ≡ loaded e.replica.base
   pub begins : IsPrefix e.replica.accepted e.source.log
@@ -82,8 +89,10 @@ pub record AreOfSource (s : Source) (most : ℕ) (shown : List Shown) : Type 0 w
 
 -- Both sides came to the same. They are over one schema and began with the same rows, and what the replica accepted is a
 -- beginning of the source's log, which is legal over these. The receipts are those of committed records, the greatest of them
--- this one; so many commits are published at the replica, and whatever its readers saw, the source's database had.
-pub record AreEqual {S T : Type 0} (log published : ℕ) (e : Ended S T) : Type 0 where
+-- this one; so many commits are published at the replica, and whatever its readers saw, the source's database had. All workers
+-- and readers that were planned took part.
+pub record AreEqual {S T : Type 0} (log published : ℕ) (plan : Plan) (e : Ended S T) : Type 0 where
+  pub took_part : TookPart plan e
   pub legal : IsSoundSource e.source
   pub sound : IsSoundReplica e.replica
   pub tables : e.replica.tables ≡ e.source.tables
@@ -96,14 +105,14 @@ pub record AreEqual {S T : Type 0} (log published : ℕ) (e : Ended S T) : Type 
   pub answers : All (λ v. AreOfSource e.source published v.items) e.readings.items
 
 -- a verdict of equal sides is of two that are, and the other of two that do not agree
-abbrev pub Holds : {S T : Type 0} → Verdict → Ended S T → Type 0
-Holds (verdicts.Equal log published) e = AreEqual log published e
-Holds verdicts.Different e = ¬ Agree e
+abbrev pub Holds : {S T : Type 0} → Verdict → Plan → Ended S T → Type 0
+Holds (verdicts.Equal log published) plan e = AreEqual log published plan e
+Holds verdicts.Different plan e = ¬ Agree plan e
 
 -- the verdict is that of these two sides; where a call was refused before they ended they count as different
-abbrev pub IsVerdictOf : {S T : Type 0} → Verdict → Option (Ended S T) → Type 0
-IsVerdictOf verdict None = verdict ≡ verdicts.Different
-IsVerdictOf verdict (Some e) = IsEnded e × Holds verdict e
+abbrev pub IsVerdictOf : {S T : Type 0} → Verdict → Plan → Option (Ended S T) → Type 0
+IsVerdictOf verdict plan None = verdict ≡ verdicts.Different
+IsVerdictOf verdict plan (Some e) = IsEnded e × Holds verdict plan e
 
 -- what is printed, and the ending with it
 abbrev pub verdict_text : Verdict → List ℕ
@@ -115,8 +124,8 @@ ending_for (verdicts.Equal log published) = endings.Done
 ending_for verdicts.Different = endings.Different
 
 -- the line of the verdict of these two sides is printed
-pub record PrintsVerdict {S T : Type 0} (ending : Ending) (ended : Option (Ended S T)) (before printed : Option (List ℕ)) : Type 0 where
+pub record PrintsVerdict {S T : Type 0} (plan : Plan) (ending : Ending) (ended : Option (Ended S T)) (before printed : Option (List ℕ)) : Type 0 where
   pub verdict : Verdict
-  pub holds : IsVerdictOf verdict ended
+  pub holds : IsVerdictOf verdict plan ended
   pub ends : ending ≡ ending_for verdict
   pub line : Appends before printed (verdict_text verdict ++ 10 ∷ [])

@@ -3,7 +3,7 @@
 ghost use Rattle.std.specs.Prelude.{◌≡◌, [], ◌∷◌, false, map, codes, option_map, option_and_then, Some, IfOk, IfErr, IfSome, IfNone, MatchResult};
 ghost use Rattle.clap.specs.Words.{Text, app_of, rule_of, rows_of, found_of, kind_of, fault_of, subcommand_rows_of};
 ghost use Rattle.clap.specs.declared.builder.command.Command.TheViews.{out-Command as fields_of};
-ghost use Rattle.mtr.specs.Options.{program, run_app, sides_app, threads_app, decode_app, choice_rule, number_rule, AreNames, mode_of, store_of, number_of, IsUpTo, AreSides, sides_of, threads_options, options_for, AsksFor, TellsFaults, IsInRange, IsByDefault, IsOfKind};
+ghost use Rattle.mtr.specs.Options.{program, run_app, sides_app, threads_app, decode_app, choice_rule, number_rule, AreNames, mode_of, store_of, number_of, most_calls, IsWithin, AreSides, sides_of, threads_options, options_for, AsksFor, TellsFaults, IsInRange, IsByDefault, IsOfKind};
 
 use crate::options::{LineFault, Options, Plan, Sides, Store, mode_named};
 use clap::error::ErrorKind;
@@ -14,6 +14,9 @@ use tracker_trait::Tracking;
 
 /// What `--version` prints behind the program's name.
 const VERSION: &str = "1.0.0";
+
+/// The greatest number of a call of the log's device.
+const MOST_CALLS: usize = 9223372036854775807;
 
 /// What is told of a word that is not UTF-8.
 pub const NOT_UTF8: &str = "\
@@ -76,7 +79,10 @@ fn options_for(name: &str, found: &ArgMatches) -> Option<Options>
     ensures ranges { IfSome result IsInRange }
 {
     match name {
-        "run" => Some(Options::Run(sides(found)?)),
+        "run" => Some(Options::Run {
+            sides: sides(found)?,
+            fail: number(found, "fail", 0, MOST_CALLS)?,
+        }),
         "threads" => Some(Options::Threads(plan(found)?)),
         "decode" => Some(Options::Decode),
         _ => None,
@@ -90,9 +96,9 @@ fn plan(found: &ArgMatches) -> Option<Plan>
 {
     Some(Plan {
         sides: sides(found)?,
-        sessions: number(found, "sessions", 16)?,
-        transactions: number(found, "transactions", 1000)?,
-        seats: number(found, "seats", 32)?,
+        sessions: number(found, "sessions", 1, 16)?,
+        transactions: number(found, "transactions", 1, 1000)?,
+        seats: number(found, "seats", 1, 32)?,
     })
 }
 
@@ -104,8 +110,8 @@ fn sides(found: &ArgMatches) -> Option<Sides>
     Some(Sides {
         tracker: tracker(found)?,
         store: store(found)?,
-        history: number(found, "history", 1_000_000)?,
-        workers: number(found, "workers", 64)?,
+        history: number(found, "history", 1, 1_000_000)?,
+        workers: number(found, "workers", 1, 64)?,
     })
 }
 
@@ -124,12 +130,12 @@ fn store(found: &ArgMatches) -> Option<Store>
 }
 
 /// The number of an option.
-fn number(found: &ArgMatches, name: &str, greatest: usize) -> Option<usize>
-    ensures value { result ≡ number_of name.now greatest (rows_of (found_of found.now)) }
-    ensures range { IfSome result (IsUpTo greatest) }
+fn number(found: &ArgMatches, name: &str, least: usize, greatest: usize) -> Option<usize>
+    ensures value { result ≡ number_of name.now least greatest (rows_of (found_of found.now)) }
+    ensures range { IfSome result (IsWithin least greatest) }
 {
     let number = found.get_one(name)?;
-    if 1 <= number && number <= greatest {
+    if least <= number && number <= greatest {
         Some(number)
     } else {
         None
@@ -167,7 +173,7 @@ fn run_command<'a>(alloc: Global, names: Names<'a>) -> Result<Command<'a>, Alloc
     ensures shape { IfOk result (λ command. app_of command ≡ run_app names.entry) }
     ensures local { IfOk result (λ command. (fields_of command).has_globals ≡ false) }
 {
-    sides_command(alloc, "run", "Runs the script on standard input", names)
+    sides_command(alloc, "run", "Runs the script on standard input", names)?.arg(fail_option(alloc))
 }
 
 fn threads_command<'a>(alloc: Global, names: Names<'a>) -> Result<Command<'a>, AllocError>
@@ -285,7 +291,7 @@ fn number_option<'a>(
     default: &'a str,
     help: &'a str,
 ) -> Arg<'a>
-    ensures rule { rule_of result ≡ number_rule name.entry.now greatest default.entry.now }
+    ensures rule { rule_of result ≡ number_rule name.entry.now 1 greatest default.entry.now }
     ensures local { result.global ≡ false }
 {
     Arg::new(alloc, name)
@@ -294,6 +300,19 @@ fn number_option<'a>(
         .default_value(default)
         .help(help)
         .value_parser(value_parser!(usize).range(1..=i64::from(greatest)))
+}
+
+/// The option `--fail N`.
+fn fail_option<'a>(alloc: Global) -> Arg<'a>
+    ensures rule { rule_of result ≡ number_rule (codes "fail") 0 most_calls (codes "0") }
+    ensures local { result.global ≡ false }
+{
+    Arg::new(alloc, "fail")
+        .long("fail")
+        .value_name("N")
+        .default_value("0")
+        .help("The call of the log's device that fails; 0 for none")
+        .value_parser(value_parser!(usize).range(0..=i64::MAX))
 }
 
 /// The fault that `clap` tells.

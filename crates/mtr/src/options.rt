@@ -11,7 +11,11 @@ use tracker_trait::Tracking;
 #[derive(Clone, Copy)]
 pub enum Options {
     /// `run`: a script is read on standard input and run over both sides.
-    Run(Sides),
+    Run {
+        sides: Sides,
+        /// The call of the log's device that fails, of all its calls counted from 1; none where it is 0.
+        fail: usize,
+    },
     /// `threads`: sessions, workers and readers run in threads of their own.
     Threads(Plan),
     /// `decode`: a log file is read on standard input as hexadecimal text, and its records are printed.

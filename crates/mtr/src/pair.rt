@@ -1,4 +1,4 @@
-//! What both sides are made of: equal rows, and parts in memory.
+//! What both sides are made of: equal rows, and new stores.
 
 ghost use Rattle.std.specs.Prelude.{◌≡◌, map, IfOk, IfSome, IfNone, IsPermutation};
 ghost use Rattle.std.specs.FinMap.{empty};
@@ -8,14 +8,14 @@ ghost use Rattle.schema.specs.RowId.{same_row};
 ghost use Rattle.mtr.specs.Pair.{present};
 
 use btree_store::BTreeStore;
-use log_device::MemoryDevice;
+use log_device::Device;
 use rows::Row;
 use schema::{Memory, RowId};
 use std::alloc::{AllocError, Global};
 use store_trait::{Batch, RowStore};
 use tracker_trait::Tracker;
 use vector_store::VectorStore;
-use world::{PairParts, World};
+use world::PairParts;
 
 /// The identifier of the program's source, 6d747200-0000-4000-8000-000000000001.
 pub const SOURCE: [u8; 16] = [
@@ -61,14 +61,13 @@ impl NewStore for VectorStore {
     }
 }
 
-/// A world in memory.
-pub type InMemory<S, T> = World<S, T, MemoryDevice, S>;
-
-/// The parts of a pair in memory, whose records get their parents by this tracker. It takes no memory.
-pub fn parts_in_memory<S: NewStore, T: Tracker>(
+/// The parts of a pair over no rows, whose records get their parents by this tracker and whose log is on this device. It takes
+/// no memory.
+pub fn parts_over<S: NewStore, T: Tracker, D: Device>(
     alloc: Global,
     tracker: T,
-) -> PairParts<S, T, MemoryDevice>
+    device: D,
+) -> PairParts<S, T, D>
     ensures rows { S.contents result.rows ≡ empty }
     ensures copy { S.contents result.copy ≡ empty }
     ensures tracker { result.tracker ≡ tracker }
@@ -77,6 +76,6 @@ pub fn parts_in_memory<S: NewStore, T: Tracker>(
         rows: S::without_rows(alloc),
         copy: S::without_rows(alloc),
         tracker,
-        device: MemoryDevice::new(alloc),
+        device,
     }
 }

@@ -14,7 +14,7 @@ ghost use Rattle.mtr.specs.Pair.{IsNewTracker, BeginsWith, GoesOn, Prints, Print
 use crate::ending::Stop;
 use crate::events::Piece;
 use crate::options::{Sides, Store};
-use crate::pair::{InMemory, MAX_RECORDS, NewStore, SOURCE, base_of, parts_in_memory};
+use crate::pair::{MAX_RECORDS, NewStore, SOURCE, base_of, parts_over};
 use crate::printing::write_replies;
 use crate::script::Script;
 use btree_store::BTreeStore;
@@ -34,12 +34,13 @@ use writeset_trackers::{WriteSetSession, WriteSetTracker};
 /// As many bytes of a script are read at once.
 const CHUNK: usize = 65536;
 
-/// Reads a script, and runs it over a new pair that is made of these parts. The whole of it is read and checked before the
+/// Reads a script, and runs it over a new pair that is made of these parts, with its log on this device. The whole of it is read and checked before the
 /// first event: the first bad line, then the tables, then the rows at the start. Each event's reply is a line of the output;
 /// where the work stops after a beginning of the events, so does the output, after a whole line.
-pub fn run_text<R: Read, W: Write>(
+pub fn run_text<D: Device + Drop, R: Read, W: Write>(
     alloc: Global,
     sides: Sides,
+    device: D,
     input: &mut R,
     output: &mut W,
 ) -> Result<(), Stop>
@@ -48,13 +49,20 @@ pub fn run_text<R: Read, W: Write>(
     ensures refused { IfErr result (PrintsNoReply (W.contents output.old) (W.contents output.new)) }
 {
     let mut input = BufReader::with_capacity(alloc, CHUNK, input)?;
-    run_by_mode(alloc, sides, Script::read(alloc, &mut input)?, output)
+    run_by_mode(
+        alloc,
+        sides,
+        device,
+        Script::read(alloc, &mut input)?,
+        output,
+    )
 }
 
 /// Runs a script over a new pair whose source finds parents in the way that is asked for.
-fn run_by_mode<W: Write>(
+fn run_by_mode<D: Device + Drop, W: Write>(
     alloc: Global,
     sides: Sides,
+    device: D,
     script: Script,
     output: &mut W,
 ) -> Result<(), Stop>
@@ -64,23 +72,24 @@ fn run_by_mode<W: Write>(
 {
     let limit = sides.history as u32;
     match sides.tracker {
-        Tracking::CommitOrder => run_by(alloc, CommitOrder, sides, script, output),
+        Tracking::CommitOrder => run_by(alloc, CommitOrder, sides, device, script, output),
         Tracking::Writeset => {
             let tracker = WriteSetTracker::with_limit(alloc, limit)?;
-            run_by(alloc, tracker, sides, script, output)
+            run_by(alloc, tracker, sides, device, script, output)
         }
         Tracking::WritesetSession => {
             let tracker = WriteSetSession::with_limit(alloc, limit)?;
-            run_by(alloc, tracker, sides, script, output)
+            run_by(alloc, tracker, sides, device, script, output)
         }
     }
 }
 
 /// Runs a script over a new pair with this tracker.
-fn run_by<T: Tracker + Drop, W: Write>(
+fn run_by<T: Tracker + Drop, D: Device + Drop, W: Write>(
     alloc: Global,
     tracker: T,
     sides: Sides,
+    device: D,
     script: Script,
     output: &mut W,
 ) -> Result<(), Stop>
@@ -91,15 +100,20 @@ fn run_by<T: Tracker + Drop, W: Write>(
 {
     let workers = sides.workers;
     match sides.store {
-        Store::BTree => run_script::<BTreeStore, T, W>(alloc, tracker, workers, script, output),
-        Store::Vector => run_script::<VectorStore, T, W>(alloc, tracker, workers, script, output),
+        Store::BTree => run_script::<BTreeStore, T, D, W>(
+            alloc, tracker, device, workers, script, output,
+        ),
+        Store::Vector => run_script::<VectorStore, T, D, W>(
+            alloc, tracker, device, workers, script, output,
+        ),
     }
 }
 
 /// Runs a script over a new pair.
-fn run_script<S: NewStore, T: Tracker + Drop, W: Write>(
+fn run_script<S: NewStore, T: Tracker + Drop, D: Device + Drop, W: Write>(
     alloc: Global,
     tracker: T,
+    device: D,
     workers: usize,
     script: Script,
     output: &mut W,
@@ -115,19 +129,20 @@ fn run_script<S: NewStore, T: Tracker + Drop, W: Write>(
         base,
         events,
     } = script;
-    let mut world = open::<S, T>(alloc, tracker, workers, tables, &base)?;
+    let mut world = open::<S, T, D>(alloc, tracker, device, workers, tables, &base)?;
     drop(base);
     run_pieces(alloc, &mut world, events.into_pieces(), output)
 }
 
-/// A new world in memory over a script's tables and rows at the start, with so many workers.
-fn open<S: NewStore, T: Tracker + Drop>(
+/// A new world over a script's tables and rows at the start, with so many workers.
+fn open<S: NewStore, T: Tracker + Drop, D: Device + Drop>(
     alloc: Global,
     tracker: T,
+    device: D,
     workers: usize,
     tables: Vec<Table>,
     rows: &[(RowId, Row)],
-) -> Result<InMemory<S, T>, Stop>
+) -> Result<World<S, T, D, S>, Stop>
     requires tracker { IsNewTracker T.agrees tracker }
     requires some { 1 ≤ workers }
     requires few { workers ≤ 64 }
@@ -138,7 +153,7 @@ fn open<S: NewStore, T: Tracker + Drop>(
         return Err(Stop::BadBase);
     };
     let from = Uuid::from_bytes(SOURCE);
-    let parts = parts_in_memory::<S, T>(alloc, tracker);
+    let parts = parts_over::<S, T, D>(alloc, tracker, device);
     match pair_of(alloc, schema, from, &base, MAX_RECORDS, workers, parts)? {
         Some(pair) => Ok(pair.into_world(alloc, base, S::without_rows(alloc))?),
         None => Err(Stop::BadBase),

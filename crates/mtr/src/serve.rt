@@ -14,6 +14,7 @@ use crate::run::run_text;
 use crate::threads::run_threads;
 use btree_store::BTreeStore;
 use commit_order_tracker::CommitOrder;
+use log_device::{FaultyDevice, MemoryDevice};
 use schema::Memory;
 use std::alloc::Global;
 use std::env::Args;
@@ -81,7 +82,10 @@ fn serve<H: Threads + Wait + Sync, R: Read, W: Write, E: Write>(
     requires { IsInRange options.now }
 {
     match options {
-        Options::Run(sides) => tell(run_text(alloc, *sides, input, output), errors),
+        Options::Run { sides, fail } => {
+            let device = FaultyDevice::new(MemoryDevice::new(alloc), *fail as u64);
+            tell(run_text(alloc, *sides, device, input, output), errors)
+        }
         Options::Threads(plan) => threads(rt, alloc, plan, output, errors),
         Options::Decode => tell(decode(alloc, input, output), errors),
     }

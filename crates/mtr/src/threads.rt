@@ -63,26 +63,26 @@ pub fn run_threads<
 ) -> Result<(Ending, Option<Ended<S, T>>), Stop>
     requires tracker { IsNewTracker T.agrees tracker }
     requires plan { IsInRange (Options.Threads plan.now) }
-    ensures { IfOk result (λ came. PrintsVerdict came.0 came.1 (W.contents output.old) (W.contents output.new)) }
+    ensures { IfOk result (λ came. PrintsVerdict plan.now came.0 came.1 (W.contents output.old) (W.contents output.new)) }
 {
     let ended = match open_and_run::<S, T, H>(rt, alloc, tracker, plan) {
         Ok(ended) => Some(ended),
         Err(Trouble::Different) => None,
         Err(Trouble::Memory) => return Err(Stop::Memory),
     };
-    let verdict = verdict_of(&ended);
+    let verdict = verdict_of(plan, &ended);
     write_verdict(output, verdict)?;
     output.flush()?;
     Ok((verdict.ending(), ended))
 }
 
 /// The verdict of two sides; different where a call was refused before they ended.
-fn verdict_of<S: RowStore, T: Tracker>(ended: &Option<Ended<S, T>>) -> Verdict
+fn verdict_of<S: RowStore, T: Tracker>(plan: &Plan, ended: &Option<Ended<S, T>>) -> Verdict
     requires { IfSome ended.now IsEnded }
-    ensures { IsVerdictOf result ended.now }
+    ensures { IsVerdictOf result plan.now ended.now }
 {
     match ended {
-        Some(ended) => ended.verdict(),
+        Some(ended) => ended.verdict(plan),
         None => Verdict::Different,
     }
 }

@@ -1,11 +1,12 @@
 //! Both sides as they ended, and whether they came to the same.
 
-ghost use Rattle.std.specs.Prelude.{◌≡◌};
+ghost use Rattle.std.specs.Prelude.{◌≡◌, true};
 ghost use Rattle.std.specs.List.{list_all};
-ghost use Rattle.mtr.specs.Threads.{IsLast, IsEnded, Holds, are_within};
+ghost use Rattle.mtr.specs.Threads.{IsLast, IsEnded, Holds, TookPart, are_within};
 
 use super::Verdict;
 use super::reading::Shown;
+use crate::options::Plan;
 use replica_core::ReplicaCore;
 use source_core::{Receipt, SourceCore};
 use store_trait::RowStore;
@@ -23,19 +24,23 @@ pub struct Ended<S: RowStore, T: Tracker> {
     pub receipts: Vec<Receipt>,
     /// What each reader saw, in order.
     pub readings: Vec<Vec<Shown>>,
+    /// How many workers did all that there was.
+    pub workers: usize,
     /// How many commits the replica told that it has published.
     pub published: u64,
 }
 
 impl<S: RowStore, T: Tracker> Ended<S, T> {
-    /// Whether both sides came to the same: the replica published as many commits as it told, what it accepted is a beginning
-    /// of the source's log, and no reader saw more commits. The time is that of the records, the receipts and the answers.
-    pub fn verdict(&self) -> Verdict
+    /// Whether both sides came to the same: as many workers and readers took part as planned, the replica published as many
+    /// commits as it told, what it accepted is a beginning of the source's log, and no reader saw more commits. The time is that
+    /// of the records, the receipts and the answers.
+    pub fn verdict(&self, plan: &Plan) -> Verdict
         requires { IsEnded self.now }
-        ensures { Holds result self.now }
+        ensures { Holds result plan.now self.now }
     {
         let published = self.published;
-        if self.replica.published() == published
+        if self.took_part(plan)
+            && self.replica.published() == published
             && begins(&self.source, &self.replica)
             && are_all_within(&self.readings, published)
         {
@@ -45,6 +50,14 @@ impl<S: RowStore, T: Tracker> Ended<S, T> {
         } else {
             Verdict::Different
         }
+    }
+
+    // Whether as many workers and readers took part as planned.
+    fn took_part(&self, plan: &Plan) -> bool
+        ensures yes { result ≡ true → TookPart plan.now self.now }
+        ensures no { TookPart plan.now self.now → result ≡ true }
+    {
+        self.workers == plan.sides.workers && self.readings.len() == plan.seats
     }
 }
 

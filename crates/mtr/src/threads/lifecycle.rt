@@ -17,7 +17,7 @@ use super::reading::{Reader, Shown};
 use super::serving::{read_all, work_all};
 use super::trouble::Trouble;
 use crate::options::{Options, Plan};
-use crate::pair::{MAX_RECORDS, NewStore, SOURCE, parts_in_memory};
+use crate::pair::{MAX_RECORDS, NewStore, SOURCE, parts_over};
 use log_device::MemoryDevice;
 use published::{LeftRight, OpenError, Publisher, open};
 use replica_core::ReplicaCore;
@@ -43,8 +43,11 @@ pub type Replica<S, K> = SharedReplica<S, K>;
 /// Both sides before their threads.
 type Cores<S, T> = Pair<S, T, MemoryDevice>;
 
-/// What the threads come to: the receipts of all sessions, and all readers.
-type Met<S, J, K> = (Vec<Receipt<J>>, Vec<Reader<S, K>>);
+/// What the threads come to: the receipts of all sessions, all readers, and how many workers did all that there was.
+type Met<S, J, K> = (Vec<Receipt<J>>, Vec<Reader<S, K>>, usize);
+
+/// The same, with what each reader saw.
+type Told<J> = (Vec<Receipt<J>>, Vec<Vec<Shown>>, usize);
 
 /// Opens both sides over no rows, runs all threads, compares the rows, and ends both.
 pub fn open_and_run<S: NewStore, T: Tracker + Drop + Send + Sync, H: Threads + Wait + Sync>(
@@ -96,12 +99,16 @@ fn new_cores<S: NewStore, T: Tracker + Drop>(
     requires some { 1 ≤ workers }
     requires few { workers ≤ 64 }
     ensures source { IfOk result (λ made. made.source ≡ new_source made.source.tables made.source.base made.source.limit made.source.kind) }
-    ensures log { IfOk result (λ made. IsNew made.log) }
+    ensures log { IfOk result (λ made. IsNew made.log.log) }
     ensures replica { IfOk result (λ made. made.replica ≡ new_over made.replica.tables made.replica.source made.replica.base made.replica.workers) }
     ensures tables { IfOk result (λ made. made.replica.tables ≡ made.source.tables) }
 {
     let (schema, from) = (schema(alloc)?, Uuid::from_bytes(SOURCE));
-    let (base, parts) = (Batch::new(alloc), parts_in_memory::<S, T>(alloc, tracker));
+    let device = MemoryDevice::new(alloc);
+    let (base, parts) = (
+        Batch::new(alloc),
+        parts_over::<S, T, MemoryDevice>(alloc, tracker, device),
+    );
     match pair_of(alloc, schema, from, &base, MAX_RECORDS, workers, parts)? {
         Some(cores) => Ok(cores),
         None => Err(Trouble::Different),
@@ -126,7 +133,7 @@ fn run_named<
 ) -> Result<Ended<S, T>, Trouble>
     requires plan { IsInRange (Options.Threads plan.now) }
     requires source { cores.source ≡ new_source cores.source.tables cores.source.base cores.source.limit cores.source.kind }
-    requires log { IsNew cores.log }
+    requires log { IsNew cores.log.log }
     requires replica { cores.replica ≡ new_over cores.replica.tables cores.replica.source cores.replica.base cores.replica.workers }
     requires tables { cores.replica.tables ≡ cores.source.tables }
     requires source_base { cores.source.base ≡ J.base }
@@ -153,30 +160,31 @@ fn run_named<
     let (replica, publisher) = replica.end();
     let told = tell_all(alloc, met, &publisher);
     drop(publisher.close(rt));
-    let (receipts, readings) = told?;
+    let (receipts, readings, workers) = told?;
     Ok(Ended {
         source: source.end(&receipts),
         replica,
         receipts: given_all(alloc, receipts)?,
         readings,
+        workers,
         published,
     })
 }
 
-/// What all readers saw, once they learnt all that was published; and the receipts.
+/// What the threads came to, and what all readers saw, once they learnt all that was published.
 fn tell_all<S: NewStore, J: SourceNaming, K: ReplicaNaming>(
     alloc: Global,
     met: Result<Met<S, J, K>, Trouble>,
     publisher: &Publisher<S, K>,
-) -> Result<(Vec<Receipt<J>>, Vec<Vec<Shown>>), Trouble>
+) -> Result<Told<J>, Trouble>
     ensures { IfOk result (λ told. All (λ v. AreTold publisher.now.published v.items) told.1.items) }
 {
-    let (receipts, readers) = met?;
+    let (receipts, readers, workers) = met?;
     let mut readings = Vec::with_capacity(alloc, readers.len())?;
     for reader in readers {
         readings.push(reader.into_shown(publisher.tell()))?;
     }
-    Ok((receipts, readings))
+    Ok((receipts, readings, workers))
 }
 
 /// The receipts, as the core gave them.
@@ -244,11 +252,11 @@ fn meet<
         { apply(rt, alloc, plan, source, replica) },
     );
     let receipts = receipts?;
-    worked?;
+    let workers = worked?;
     let mut readers = readers?;
     let reader = readers.last_mut().ok_or(Trouble::Different)?;
     compare(rt, plan, source, replica, reader, &receipts)?;
-    Ok((receipts, readers))
+    Ok((receipts, readers, workers))
 }
 
 /// Runs the workers beside those who feed the replica.
@@ -264,7 +272,7 @@ fn apply<
     plan: &Plan,
     source: &Source<S, T, J>,
     replica: &Replica<S, K>,
-) -> (Result<(), Trouble>, Result<Vec<Receipt<J>>, Trouble>)
+) -> (Result<usize, Trouble>, Result<Vec<Receipt<J>>, Trouble>)
     requires { IsInRange (Options.Threads plan.now) }
 {
     join(

@@ -13,18 +13,19 @@ use std::thread::{Threads, map_indices};
 /// How often each reader reads.
 const READS: u16 = 100;
 
-/// Runs so many workers, each in a thread of its own, until all records are committed and published.
+/// Runs so many workers, each in a thread of its own, until all records are committed and published. It answers how many did so.
 pub fn work_all<S: NewStore, K: ReplicaNaming + Send + Sync, H: Threads + Wait + Sync>(
     rt: &H,
     alloc: Global,
     workers: usize,
     replica: &Replica<S, K>,
-) -> Result<(), Trouble> {
+) -> Result<usize, Trouble> {
     let each = map_indices(rt, alloc, workers, &|_place| work(rt, alloc, replica))?;
+    let count = each.len();
     for worked in each {
         worked?;
     }
-    Ok(())
+    Ok(count)
 }
 
 fn work<S: NewStore, K: ReplicaNaming, H: Wait>(

@@ -28,14 +28,14 @@ unfolding clap_on_literals
 decode_taken p q r s t u v = refl
 
 is_taken_at : (p q r s t u v : Place) (name : Text) (asked : Options) → IsByDefault name asked → takes (program (at p q r s t u v)) (name ∷ []) ≡ true
-is_taken_at p q r s t u v name (Run sides) h = ap (λ n. takes (program (at p q r s t u v)) (n ∷ [])) h.0 ∙ run_taken p q r s t u v
+is_taken_at p q r s t u v name (Run sides fail) h = ap (λ n. takes (program (at p q r s t u v)) (n ∷ [])) h.0 ∙ run_taken p q r s t u v
 is_taken_at p q r s t u v name (Threads plan) h = ap (λ n. takes (program (at p q r s t u v)) (n ∷ [])) h.0 ∙ threads_taken p q r s t u v
 is_taken_at p q r s t u v name Decode h = ap (λ n. takes (program (at p q r s t u v)) (n ∷ [])) h ∙ decode_taken p q r s t u v
 
 is_taken : (names : Names) (name : Text) (asked : Options) → AreNames names → IsByDefault name asked → takes (program names) (name ∷ []) ≡ true
 is_taken names name asked are h = lies_there (λ it. takes (program it) (name ∷ []) ≡ true) names are (λ p q r s t u v. is_taken_at p q r s t u v name asked h)
 
-run_alone : (p q r s t u v : Place) → options_of (at p q r s t u v) (codes "run" ∷ []) ≡ Some (Run default_sides)
+run_alone : (p q r s t u v : Place) → options_of (at p q r s t u v) (codes "run" ∷ []) ≡ Some (Run default_sides 0)
 unfolding clap_on_literals
 run_alone p q r s t u v = refl
 
@@ -48,7 +48,7 @@ unfolding clap_on_literals
 decode_alone p q r s t u v = refl
 
 by_default_at : (p q r s t u v : Place) (name : Text) (asked : Options) → IsByDefault name asked → options_of (at p q r s t u v) (name ∷ []) ≡ Some asked
-by_default_at p q r s t u v name (Run sides) h = ap (λ n. options_of (at p q r s t u v) (n ∷ [])) h.0 ∙ run_alone p q r s t u v ∙ ap (λ sides. Some (Run sides)) (sym h.1)
+by_default_at p q r s t u v name (Run sides fail) h = ap (λ n. options_of (at p q r s t u v) (n ∷ [])) h.0 ∙ run_alone p q r s t u v ∙ ap₂ (λ sides fail. Some (Run sides fail)) (sym h.1) (sym h.2)
 by_default_at p q r s t u v name (Threads plan) h = ap (λ n. options_of (at p q r s t u v) (n ∷ [])) h.0 ∙ threads_alone p q r s t u v ∙ ap (λ plan. Some (Threads plan)) (sym h.1)
 by_default_at p q r s t u v name Decode h = ap (λ n. options_of (at p q r s t u v) (n ∷ [])) h ∙ decode_alone p q r s t u v
 
