@@ -117,7 +117,7 @@ fn run<J: SourceNaming + Send + Sync, K: ReplicaNaming + Send + Sync, R: Threads
     publication: published::Beginning,
 ) -> Result<Told, Trouble>
     requires source { pair.source ≡ new_source pair.source.tables pair.source.base pair.source.limit pair.source.kind }
-    requires log { IsNew pair.log }
+    requires log { IsNew pair.log.log }
     requires replica { pair.replica ≡ new_over pair.replica.tables pair.replica.source pair.replica.base pair.replica.workers }
     requires source_base { pair.source.base ≡ J.base }
     requires source_tables { pair.source.tables ≡ J.tables }

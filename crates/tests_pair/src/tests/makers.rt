@@ -96,7 +96,7 @@ fn parts(alloc: Global) -> PairParts<BTreeStore, CommitOrder, MemoryDevice>
 /// New sides without rows, with two workers.
 pub fn sides(alloc: Global) -> Result<InMemory, LogFault>
     ensures source { IfOk result (λ made. made.source ≡ new_source made.source.tables made.source.base made.source.limit made.source.kind) }
-    ensures log { IfOk result (λ made. IsNew made.log) }
+    ensures log { IfOk result (λ made. IsNew made.log.log) }
     ensures replica { IfOk result (λ made. made.replica ≡ new_over made.replica.tables made.replica.source made.replica.base made.replica.workers) }
 {
     let (schema, base) = (schema(alloc)?, Batch::new(alloc));

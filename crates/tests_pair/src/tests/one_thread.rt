@@ -79,7 +79,7 @@ fn over_source<J: SourceNaming + Send + Sync, R: Threads + Wait + Abort + Sync>(
     replica: ReplicaCore<BTreeStore>,
 ) -> Result<(), Fail>
     requires core { core ≡ new_source core.tables core.base core.limit core.kind }
-    requires log { IsNew log }
+    requires log { IsNew log.log }
     requires named { (core.base ≡ J.base) × (core.tables ≡ J.tables) × (receipts ≡ J.book) }
     requires replica { replica ≡ new_over replica.tables replica.source replica.base replica.workers }
 {
