@@ -2,7 +2,7 @@
 //!
 //! Who takes the lock has a `Held`, which is not `Drop`: it ends by `let_go`, or for a while by one of the waits, and by nothing else. Each of
 //! these wakes those who are due by what was done under the lock. So no way out of a function leaves a change untold.
-ghost use Rattle.std.specs.Prelude.{◌≡◌, ◌<◌, false};
+ghost use Rattle.std.specs.Prelude.{◌≡◌, ◌<◌, false, slice_index_or};
 ghost use Rattle.std.specs.Sync.Mutex.{mutex_guard_value};
 ghost use Rattle.source_shared.specs.Engine.{is_awaited, IsTold};
 
@@ -127,9 +127,10 @@ impl<'a, S: RowStore, T: Tracker, D: Device + Drop, J: SourceNaming> Held<'a, S,
         desk
     }
 
-    // Lets go of the lock until the session of this place is due.
+    // Lets go of the lock until the session of this place is due. It sleeps no more then.
     pub(crate) fn sleep(self, rt: &impl Wait, place: usize) -> Held<'a, S, T, D, J>
         requires { place < 256 }
+        ensures { slice_index_or (mutex_guard_value result.engine).watch.sleeping place false ≡ false }
     {
         let Held { mut engine, desk } = self;
         desk.tell_before(&mut engine);
@@ -143,7 +144,8 @@ impl<'a, S: RowStore, T: Tracker, D: Device + Drop, J: SourceNaming> Held<'a, S,
         Held { engine, desk }
     }
 
-    // Lets go of the lock for so many microseconds, unless the session of this place is called before, or is due already.
+    // Lets go of the lock for so many microseconds, unless the session of this place is called before, or is due already. It sleeps no more
+    // then.
     pub(crate) fn sleep_for(
         mut self,
         rt: &impl Wait,
@@ -151,6 +153,7 @@ impl<'a, S: RowStore, T: Tracker, D: Device + Drop, J: SourceNaming> Held<'a, S,
         micros: u64,
     ) -> Held<'a, S, T, D, J>
         requires { place < 256 }
+        ensures { slice_index_or (mutex_guard_value result.engine).watch.sleeping place false ≡ false }
     {
         if !self.engine.waits(place) {
             return self;
