@@ -113,7 +113,7 @@ where
     R: Threads + Wait + Clock + Sync,
 {
     let mut committed = 0usize;
-    for round in 0..3 {
+    for round in 0..6 {
         let before = orders.groups();
         let more = beside(rt, alloc, source, receipts, (16 * round, 16), 20)?;
         committed = committed.saturating_add(more);
