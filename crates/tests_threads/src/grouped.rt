@@ -98,7 +98,7 @@ pub fn committed<J: SourceNaming, R: Wait + Clock>(
     Ok(gno)
 }
 
-/// Sixteen sessions commit twenty times each. They share nearly all of their syncs: each that comes back from a group comes to the next one in
+/// Sixteen sessions commit twelve times each. They share nearly all of their syncs: each that comes back from a group comes to the next one in
 /// time. Where one leads alone and the others behind it that makes two groups for each turn. (So often it is done again at most, with other
 /// sessions, where the machine has no time for these threads; or no memory for threads, and the sessions commit one after another.)
 pub fn is_shared<J, R>(
@@ -113,11 +113,11 @@ where
     R: Threads + Wait + Clock + Sync,
 {
     let mut committed = 0usize;
-    for round in 0..6 {
+    for round in 0..5 {
         let before = orders.groups();
-        let more = beside(rt, alloc, source, receipts, (16 * round, 16), 20)?;
+        let more = beside(rt, alloc, source, receipts, (16 * round, 16), 12)?;
         committed = committed.saturating_add(more);
-        if orders.groups().saturating_sub(before) < 36 {
+        if orders.groups().saturating_sub(before) < 22 {
             return Ok(committed);
         }
     }

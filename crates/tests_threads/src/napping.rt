@@ -20,7 +20,7 @@ use std::time::Clock;
 const TURNS: u64 = 20;
 
 /// So often all is done again at most, where the machine has no time for these threads.
-const ROUNDS: u64 = 3;
+const ROUNDS: u64 = 8;
 
 /// So many microseconds one waits at least who waits beside a group of two milliseconds: more than the device, and less than after which
 /// its own group is flushed.
