@@ -68,3 +68,23 @@ fn a_failed_write_may_stand(rt: HostRuntime) -> Result<(), Fail> {
     );
     Ok(())
 }
+
+/// A cut that every crash leaves made, or none does; a failed cut of which a crash leaves nothing.
+#[test]
+fn a_failed_cut_may_stand(rt: HostRuntime) -> Result<(), Fail> {
+    let mut device = CrashDevice::failing(rt.alloc(), 3);
+    if device.write_at(0, &[5, 6]).is_err() || device.sync().is_err() {
+        return Err(AllocError)?;
+    }
+    assert_eq!(rt; device.cut(1), Err(DeviceFault::Failed));
+    assert_eq!(rt; device.len(), 2);
+    if device.moments() == 3 {
+        return Err(AllocError)?;
+    }
+    let images = device.images(3)?;
+    let wanted: [&[u8]; 4] = [&[5, 6], &[5], &[5, 6], &[5]];
+    for (image, wanted) in images.iter().zip(wanted) {
+        assert_eq!(rt; image.as_slice(), wanted);
+    }
+    Ok(())
+}
