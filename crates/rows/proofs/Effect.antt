@@ -10,15 +10,12 @@ use Rattle.schema.specs.declared.Table.{Table}
 use Rattle.schema.specs.declared.RowId.{RowId}
 use Rattle.schema.specs.RowId.{same_row, exact_row, row_total}
 use Rattle.schema.specs.Rows.{has_row}
-use Rattle.schema.specs.Flags.{IsFlat}
-use Rattle.schema.proofs.Flat.{no_link}
 use Rattle.rows.specs.declared.Change.{Change}
-use Rattle.rows.specs.declared.Change.TheVariants.{Insert, Update, Delete}
 use Rattle.rows.specs.Change.{changed}
-use Rattle.rows.specs.Database.{Database, target, writes, parent_of, parent_in, apply, effect, kin, ChildrenHaveParents, HasChild, DeletesNoParent}
+use Rattle.rows.specs.Database.{Database, target, writes, parent_in, apply, effect, kin, ChildrenHaveParents}
 use Rattle.rows.specs.Frame.{ChangesOnlyWrites}
-use Rattle.rows.specs.Effect.{row_after, WritesOfJoined, EffectOfJoined, KinOfJoined, RowAfterJoined, EachRowIsLeft, EffectIsItsRows, ChildrenKeepParents, FlatLeavesNoOrphan}
-use Rattle.rows.proofs.Apply.{named_by, apply_stays, apply_changes, apply_keeps_parents, row_is}
+use Rattle.rows.specs.Effect.{row_after, WritesOfJoined, EffectOfJoined, KinOfJoined, RowAfterJoined, EachRowIsLeft, EffectIsItsRows, ChildrenKeepParents}
+use Rattle.rows.proofs.Apply.{apply_stays, apply_changes, apply_keeps_parents, row_is}
 
 -- the effect of a list of changes is that of the first, and then that of the others
 pub effect_first : (ts : List Table) (change : Change) (changes : List Change) (before after : Database) → effect ts (change ∷ changes) before ≡ Some after → (mid : Database) × (apply ts change before ≡ Some mid) × (effect ts changes mid ≡ Some after)
@@ -108,19 +105,3 @@ children_keep_parents ts [] before after kept none h = subst (λ (m : Database).
 children_keep_parents ts (change ∷ changes) before after kept none h =
     let first = effect_first ts change changes before after h in
     children_keep_parents ts changes first.0 after (apply_keeps_parents ts change before first.0 kept none.0 first.1) (none.1 first.0 first.1) first.2
-
--- no row names a parent
-flat_has_no_child : (ts : List Table) → IsFlat ts → (db : Database) (row : RowId) → ¬ HasChild ts db row
-flat_has_no_child ts flat db row child =
-    let none : parent_of ts child.0.table child.1 ≡ None = ap (option_and_then (named_by child.1)) (no_link ts flat child.0.table) in
-    cc (sym none ∙ child.3)
-
-flat_deletes_no_parent : (ts : List Table) → IsFlat ts → (change : Change) (db : Database) → DeletesNoParent ts change db
-flat_deletes_no_parent ts flat (Insert row columns) db = tt
-flat_deletes_no_parent ts flat (Update row named) db = tt
-flat_deletes_no_parent ts flat (Delete row) db = flat_has_no_child ts flat db row
-
-pub flat_leaves_no_orphan : FlatLeavesNoOrphan
-flat_leaves_no_orphan ts [] before flat = tt
-flat_leaves_no_orphan ts (change ∷ changes) before flat =
-    (flat_deletes_no_parent ts flat change before, λ after h. flat_leaves_no_orphan ts changes after flat)

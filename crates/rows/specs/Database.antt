@@ -5,6 +5,7 @@ use Rattle.std.specs.FinMap.{FinMap, get, insert, remove, contains_key}
 use Rattle.schema.specs.declared.Table.{Table}
 use Rattle.schema.specs.declared.RowId.{RowId}
 use Rattle.schema.specs.RowId.{row_cmp}
+use Rattle.schema.specs.Rows.{Touched}
 use Rattle.schema.specs.Schema.{link_of}
 use Rattle.rows.specs.declared.Change.{Change}
 use Rattle.rows.specs.declared.Change.TheVariants.{Insert, Update, Delete}
@@ -68,6 +69,10 @@ abbrev pub kin : List Table → List Change → Database → List RowId
 kin ts [] db = []
 kin ts (change ∷ changes) db =
     option_map_or (λ after. parent_in ts db (target change) ++ parent_in ts after (target change) ++ kin ts changes after) (apply ts change db) []
+
+-- the rows that the changes write, and the parent rows that they look at
+abbrev pub touched_by : List Table → List Change → Database → Touched
+touched_by ts changes db = record { writes = writes changes; refs = kin ts changes db }
 
 -- each row of a child table has its parent
 abbrev pub ChildrenHaveParents : List Table → Database → Type 0

@@ -7,7 +7,6 @@ use Rattle.schema.specs.declared.Table.{Table}
 use Rattle.schema.specs.declared.RowId.{RowId}
 use Rattle.schema.specs.RowId.{same_row}
 use Rattle.schema.specs.Rows.{has_row}
-use Rattle.schema.specs.Flags.{IsFlat}
 use Rattle.rows.specs.declared.Change.{Change}
 use Rattle.rows.specs.declared.Change.TheVariants.{Insert, Update, Delete}
 use Rattle.rows.specs.Change.{changed}
@@ -91,7 +90,3 @@ EffectIsItsRows = (ts : List Table) (changes : List Change) (before after other 
 abbrev pub ChildrenKeepParents : Type 0
 ChildrenKeepParents = (ts : List Table) (changes : List Change) (before after : Database) →
     ChildrenHaveParents ts before → LeavesNoOrphan ts changes before → effect ts changes before ≡ Some after → ChildrenHaveParents ts after
-
--- where no table has a parent, no parent of a row is deleted
-abbrev pub FlatLeavesNoOrphan : Type 0
-FlatLeavesNoOrphan = (ts : List Table) (changes : List Change) (before : Database) → IsFlat ts → LeavesNoOrphan ts changes before

@@ -3,6 +3,7 @@ pub mod Naming
 pub mod Named
 pub mod Change
 pub mod Database
+pub mod Given
 pub mod Shape
 pub mod Frame
 pub mod Effect

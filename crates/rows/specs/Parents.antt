@@ -6,7 +6,7 @@ use Rattle.schema.specs.Schema.{link_of}
 use Rattle.schema.specs.Flags.{is_fk}
 use Rattle.schema.specs.Rows.{conflicts}
 use Rattle.rows.specs.declared.Change.{Change}
-use Rattle.rows.specs.Database.{Database, writes, effect, kin, LeavesNoOrphan}
+use Rattle.rows.specs.Database.{Database, writes, effect, kin, touched_by, LeavesNoOrphan}
 
 -- changes behind others leave no orphan where each of the two lists leaves none in its place
 abbrev pub NoOrphanOfJoined : Type 0
@@ -19,7 +19,7 @@ NoOrphanOfJoined = (ts : List Table) (xs ys : List Change) (db mid : Database) �
 abbrev pub NoOrphanBehind : Type 0
 NoOrphanBehind = (ts : List Table) (first second : List Change) (db mid leaves : Database) →
     effect ts first db ≡ Some mid → effect ts second db ≡ Some leaves →
-    conflicts (record { writes = writes first; refs = kin ts first db }) (record { writes = writes second; refs = kin ts second db }) ≡ false →
+    conflicts (touched_by ts first db) (touched_by ts second db) ≡ false →
     LeavesNoOrphan ts second db → LeavesNoOrphan ts second mid
 
 -- a change has at most two kin: the parents of its row before it and after it

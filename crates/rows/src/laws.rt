@@ -1,6 +1,6 @@
 //! What follows from the definitions alone. Each function states laws by its contract, and does nothing.
 
-ghost use Rattle.rows.specs.Effect.{AppliesByRow, FitsWhereItApplies, ParentStandsWhereItApplies, HasParentWhereItApplies, AppliesWhereItFits, WritesOfJoined, EffectOfJoined, KinOfJoined, RowAfterJoined, EachRowIsLeft, EffectIsItsRows, ChildrenKeepParents, FlatLeavesNoOrphan};
+ghost use Rattle.rows.specs.Effect.{AppliesByRow, FitsWhereItApplies, ParentStandsWhereItApplies, HasParentWhereItApplies, AppliesWhereItFits, WritesOfJoined, EffectOfJoined, KinOfJoined, RowAfterJoined, EachRowIsLeft, EffectIsItsRows, ChildrenKeepParents};
 ghost use Rattle.rows.specs.Naming.{AssignsWhatIsThere, KeepsWidth, OthersStay, NamedTakeTheirs};
 ghost use Rattle.rows.specs.Frame.{ChangesOnlyWrites, LooksOnlyAtWritesAndKin, AppliesBehind};
 ghost use Rattle.rows.specs.Parents.{NoOrphanOfJoined, NoOrphanBehind, KinAreFew, NoKinOfOthers, NoKinUnrelated};
@@ -50,11 +50,9 @@ pub fn row_by_row()
     ensures determined { EffectIsItsRows }
 {}
 
-/// Changes leave a child row without its parent only where one of them deletes the parent of a row. Where no
-/// table has a parent, none does.
+/// Changes leave a child row without its parent only where one of them deletes the parent of a row.
 pub fn parents()
-    ensures keep { ChildrenKeepParents }
-    ensures flat { FlatLeavesNoOrphan }
+    ensures { ChildrenKeepParents }
 {}
 
 /// Which changes leave no orphan behind others: of one list, where each part leaves none in its place; of two transactions

@@ -1,7 +1,7 @@
 pub mod Lists
 pub mod Telling
 pub mod Faults
-pub mod Flat
+pub mod RowFlags
 pub mod Conflicts
 pub mod Covers
 pub mod RowMaps

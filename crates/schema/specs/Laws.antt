@@ -1,20 +1,15 @@
 -- What follows from the definitions.
-use Rattle.std.specs.Prelude.{◌≡◌, ℕ, ◌≤◌, ◌↔◌, true, false, List, [], ◌∷◌, ◌++◌, slice_get, Some, None}
+use Rattle.std.specs.Prelude.{◌≡◌, ℕ, ◌≤◌, ◌↔◌, true, List, [], ◌∷◌, ◌++◌, slice_get, Some}
 use Rattle.std.specs.List.{AllByRecursion}
 use Rattle.schema.specs.declared.Table.{Table}
 use Rattle.schema.specs.declared.RowId.{RowId}
+use Rattle.schema.specs.Flags.{flags_of, flags_with}
 use Rattle.schema.specs.Rows.{Touched, conflicts, SameRows}
 use Rattle.schema.specs.Covering.{Covers}
-use Rattle.schema.specs.Schema.{link_of}
-use Rattle.schema.specs.Flags.{IsFlat, is_fk, misses_keys}
 
--- no table has a parent
-abbrev pub NoLinks : Type 0
-NoLinks = (ts : List Table) → IsFlat ts → (id : ℕ) → link_of ts id ≡ None
-
--- no transaction is foreign-key related or lacks keys
-abbrev pub NoFlags : Type 0
-NoFlags = (ts : List Table) (rows : List RowId) → IsFlat ts → (is_fk ts rows ≡ false) × (misses_keys ts rows ≡ false)
+-- a row more adds the flags of its table
+abbrev pub FlagsRowByRow : Type 0
+FlagsRowByRow = (ts : List Table) (rows : List RowId) (row : RowId) → flags_of ts (rows ++ row ∷ []) ≡ flags_with ts (flags_of ts rows) row.table
 
 -- two transactions conflict, whichever of the two is named first
 abbrev pub ConflictsBothWays : Type 0

@@ -5,6 +5,14 @@ use Rattle.schema.specs.declared.Table.{Table}
 use Rattle.schema.specs.declared.SchemaFault.{SchemaFault}
 use Rattle.schema.specs.declared.SchemaFault.TheVariants.{Count, Id, Columns, Twice, Parent}
 
+-- a table without a parent
+abbrev pub plain_table : ℕ → ℕ → Bool → Table
+plain_table id columns keyed = record { id = id; columns = columns; keyed = keyed; parent = None }
+
+-- the table as a child, whose column has the key of a row of the parent table
+abbrev pub child_of : Table → ℕ → ℕ → Table
+child_of t column parent = record t { parent = Some (column, parent) }
+
 -- the table of this id
 abbrev pub table_at : List Table → ℕ → Option Table
 table_at ts id = find (λ t. t.id == id) ts

@@ -1,11 +1,10 @@
 //! What follows from the definitions alone. Each function states laws by its contract, and does nothing.
 
-ghost use Rattle.schema.specs.Laws.{NoLinks, NoFlags, ConflictsBothWays, ConflictsBySets, CoversEach, CoversLonger, CoversFromLess, CoversAtEnd, CoversBySets};
+ghost use Rattle.schema.specs.Laws.{FlagsRowByRow, ConflictsBothWays, ConflictsBySets, CoversEach, CoversLonger, CoversFromLess, CoversAtEnd, CoversBySets};
 
-/// Where each table is keyed and has no parent, no table has a parent, and no transaction has a flag.
-pub fn flat()
-    ensures links { NoLinks }
-    ensures flags { NoFlags }
+/// The flags of a transaction are found row by row.
+pub fn flags()
+    ensures { FlagsRowByRow }
 {}
 
 /// Conflicts are of two transactions as sets of rows: neither which of the two comes first nor how their rows

@@ -9,15 +9,18 @@
 //! too (`specs/Rows.antt`), since every layer above speaks of them.
 #![tactic(auto)]
 
-ghost use Rattle.std.specs.Prelude.{◌≡◌, ◌↔◌, ◌<◌, ◌||◌, IsTrue, [], is_some, length, take, slice_get, option_and_then, IfOk, Some, None};
+ghost use Rattle.std.specs.Prelude.{◌≡◌, ◌<◌, ◌||◌, [], is_some, length, take, slice_get, option_and_then, IfOk, Some, None};
 ghost use Rattle.std.specs.Result.{result_err};
-ghost use Rattle.schema.specs.Flags.{IsFlat, is_parent};
-ghost use Rattle.schema.specs.Schema.{schema_fault, fault_from, table_at, link_of, table_fault, has_fine_parent};
+ghost use Rattle.schema.specs.Flags.{is_parent, is_keyless, no_flags, flags_with};
+ghost use Rattle.schema.specs.Schema.{schema_fault, fault_from, table_at, link_of, table_fault, has_fine_parent, plain_table, child_of};
+ghost use Rattle.schema.specs.FaultText.{fault_text};
 
 pub mod laws;
 
 use std::alloc::{AllocError, AllocFailed};
 use std::cmp::Ordering;
+use std::error::Error as StdError;
+use std::fmt;
 use std::marker::Model;
 use thiserror::Error;
 use uuid::Uuid;
@@ -104,27 +107,105 @@ pub struct Table {
     pub parent: Option<(u8, u16)>,
 }
 
+impl Table {
+    /// A table of this id, with so many columns, whose rows have no parent.
+    pub fn new(id: u16, columns: u8, keyed: bool) -> Table
+        ensures { result ≡ plain_table id columns keyed }
+    {
+        Table {
+            id,
+            columns,
+            keyed,
+            parent: None,
+        }
+    }
+
+    /// The table as a child: this column of a row has the key of its parent row, in the table of this id.
+    pub fn child_of(self, column: u8, parent: u16) -> Table
+        ensures { result ≡ child_of self column parent }
+    {
+        Table {
+            parent: Some((column, parent)),
+            ..self
+        }
+    }
+}
+
 /// Why a list of tables is no schema. The text is the fault's number and name.
-#[derive(Clone, Copy, Debug, PartialEq, Eq, Error)]
+#[derive(Clone, Copy, Debug, PartialEq, Eq)]
 pub enum SchemaFault {
     /// There are no tables, or more than 256.
-    #[error("B1 Count")]
     Count,
     /// A table's id is not 1 to 256.
-    #[error("B2 Id")]
     Id,
     /// A table's number of columns is not 1 to 16.
-    #[error("B3 Columns")]
     Columns,
     /// An earlier table of the list has this id.
-    #[error("B4 Twice")]
     Twice,
     /// The parent's column is outside the table, or the parent is no table of the list with a lower id.
-    #[error("B5 Parent")]
     Parent,
     /// Memory ran out.
-    #[error("B6 Memory")]
     Memory,
+}
+
+impl SchemaFault {
+    /// The fault's number and name.
+    pub fn text(self) -> &'static str
+        ensures { result.now ≡ fault_text self }
+    {
+        match self {
+            SchemaFault::Count => "B1 Count",
+            SchemaFault::Id => "B2 Id",
+            SchemaFault::Columns => "B3 Columns",
+            SchemaFault::Twice => "B4 Twice",
+            SchemaFault::Parent => "B5 Parent",
+            SchemaFault::Memory => "B6 Memory",
+        }
+    }
+}
+
+impl fmt::Display for SchemaFault {
+    ghost use Rattle.std.specs.Prelude.{Some};
+    ghost use Rattle.schema.specs.FaultText.{fault_text};
+
+    ghost output = { λ fault. Some (fault_text fault) };
+
+    fn fmt<W: fmt::Write>(&self, f: &mut fmt::Formatter<W>) -> fmt::Result {
+        f.write_str(self.text())
+    }
+}
+
+impl StdError for SchemaFault {}
+
+/// What kinds of tables a transaction writes.
+#[derive(Clone, Copy, Debug, PartialEq, Eq)]
+pub struct Flags {
+    /// Foreign-key related: it writes a table that has a parent or is one.
+    pub fk: bool,
+    /// It writes a keyless table.
+    pub missing_keys: bool,
+}
+
+impl Flags {
+    /// Those of a transaction that writes nothing.
+    pub fn none() -> Flags
+        ensures { result ≡ no_flags }
+    {
+        Flags {
+            fk: false,
+            missing_keys: false,
+        }
+    }
+
+    /// Those of a transaction that writes the table of this id too. The time is that of at most three walks over the tables.
+    pub fn with(self, schema: &Schema, id: u16) -> Flags
+        ensures { result ≡ flags_with schema.now self id }
+    {
+        Flags {
+            fk: self.fk || schema.is_linked(id),
+            missing_keys: self.missing_keys || schema.is_keyless(id),
+        }
+    }
 }
 
 /// The greatest number of tables, and the greatest id of one.
@@ -145,7 +226,6 @@ impl Model for Schema {
 
     ghost Value = { List Table };
 
-    ghost use Rattle.schema.specs.Flags.{IsFlat};
     ghost use Rattle.schema.specs.Schema.{schema_fault};
 
     ghost view = { λ s. s.tables.items };
@@ -204,11 +284,11 @@ impl Schema {
         self.link_of(id).is_some() || self.is_parent(id)
     }
 
-    /// Whether each table is keyed and has no parent. It takes no memory.
-    pub fn is_flat(&self) -> bool
-        ensures { IsTrue result ↔ IsFlat self.now }
+    /// Whether the table of this id is there and keyless. The time is that of a walk over the tables.
+    pub fn is_keyless(&self, id: u16) -> bool
+        ensures { result ≡ is_keyless self.now id }
     {
-        all_flat(&self.tables)
+        self.table(id).is_some_and(|table| !table.keyed)
     }
 
     /// An equal schema, in memory of its own.
@@ -233,15 +313,6 @@ fn any_refers(tables: &[Table], id: u16) -> bool
     tables
         .iter()
         .any(|t| t.parent.is_some_and(|link| link.1 == id))
-}
-
-fn all_flat(tables: &[Table]) -> bool
-    ensures { IsTrue result ↔ IsFlat tables.now }
-{
-    match tables {
-        [] => true,
-        [first, rest @ ..] => first.keyed && first.parent.is_none() && all_flat(rest),
-    }
 }
 
 fn parent_is_fine(tables: &[Table], table: Table) -> bool
