@@ -1,44 +1,99 @@
--- The parent rows that changes look at, as they are run one after another.
-use Rattle.std.proofs.Common.{◌≡◌, sym, ap, ◌∙◌, ℕ, ◌+◌, ◌<◌, List, [], ◌∷◌, ◌++◌, append_assoc, take, length, get_or, ℤ, Option, Some, option_map}
+-- A list of changes that is run one after another, with the parent rows that they look at.
+use Rattle.std.proofs.Common.{◌≡◌, ap, sym, ◌∙◌, refl, subst, ℕ, ◌+◌, ◌<◌, ◌≤◌, List, [], ◌∷◌, ◌++◌, take, drop, length, get_or, ℤ, Bool, true, false, cond, Option, Some, None, option_map, Result}
+use Rattle.std.specs.Prelude.{option_and_then}
+use Rattle.std.specs.Bool.{then_some}
+use Rattle.std.specs.Result.{result_ok}
 use Rattle.std.specs.FinMap.{get}
-use Rattle.std.proofs.lemmas.List.{append-nil, take_more}
+use Rattle.std.proofs.lemmas.List.{take_more, take_all, at_drop_more}
 use Rattle.schema.specs.declared.Table.{Table}
 use Rattle.schema.specs.declared.RowId.{RowId}
 use Rattle.schema.proofs.Lists.{made_of}
 use Rattle.rows.specs.declared.Change.{Change}
-use Rattle.rows.specs.Database.{Database, target, apply, effect, kin}
-use Rattle.rows.proofs.Effect.{kin_joined, kin_then}
-use Rattle.overlay.specs.Pending.{Pending, seen}
-use Rattle.overlay.proofs.Follow.{seen-Follows}
-use Rattle.overlay.proofs.Run.{HasRun}
-use Rattle.executor.specs.Job.{kin_at}
+use Rattle.rows.specs.declared.ChangeFault.{ChangeFault}
+use Rattle.rows.specs.Database.{Database, target, writes, apply, effect, kin}
+use Rattle.rows.specs.Effect.{parent_stands}
+use Rattle.rows.proofs.Effect.{kin_joined}
+use Rattle.store_trait.specs.Batch.{rows_in}
+use Rattle.overlay.specs.declared.step.Step.{Step}
+use Rattle.overlay.specs.Pending.{Pending, none_pending, pushed, seen, pending_of}
+use Rattle.overlay.specs.Follows.{Follows}
+use Rattle.overlay.specs.Step.{step_from, step_of, step_with_parent, kin_of}
+use Rattle.overlay.proofs.Follow.{Follows-none, Follows-pushed, seen-Follows}
+use Rattle.overlay.proofs.Steps.{steps_where_it_applies, kin_of_step}
 
--- A change that comes next behind those that have run, and applies.
-pub record Next (ts : List Table) (changes : List Change) (db : Database) : Type 0 where
-  pub n : ℕ
-  pub pending : Pending
-  pub run : HasRun ts changes db n pending
-  pub within : n < length changes
-  pub change : Change
-  pub is : change ≡ get_or changes n change
-  pub left : Option (List ℤ)
-  pub leaves : option_map (λ after. get after (target change)) (apply ts change (seen pending db)) ≡ Some left
+-- The first n of the changes are pending, and these rows are their kin; those behind them do to what is seen what all do to db.
+pub record HasRun (ts : List Table) (changes : List Change) (db : Database) (n : ℕ) (pending : Pending) (rows : List RowId) : Type 0 where
+  pub after : Database
+  pub follows : Follows ts db pending after
+  pub done : pending.changes ≡ take n changes
+  pub kin_is : rows ≡ kin ts (take n changes) db
+  pub rest : effect ts (drop n changes) after ≡ effect ts changes db
 
--- one change more, the rows behind the list being the parents of its row before and after it
-pub kin_more : (ts : List Table) (changes : List Change) (db : Database) (next : Next ts changes db) (row : RowId) (now later : List RowId) → row ≡ target next.change → now ≡ kin ts (take next.n changes) db →
-    later ≡ now ++ kin_at ts row.table (get (seen next.pending db) row) ++ kin_at ts row.table next.left → later ≡ kin ts (take (next.n + 1) changes) db
-kin_more ts changes db next row now later of so_far put =
-    let ran = take next.n changes in
-    let mid = seen next.pending db in
-    let id = target next.change in
-    let reached : effect ts ran db ≡ Some mid = ap (λ l. effect ts l db) (sym next.run.done) ∙ next.run.follows.applied ∙ ap Some (sym (seen-Follows next.run.follows)) in
-    let after = made_of (λ (m : Database). get m id) (apply ts next.change mid) next.left next.leaves in
-    let here : kin ts (next.change ∷ []) mid ≡ kin_at ts id.table (get mid id) ++ kin_at ts id.table (get after.0 id) =
-    kin_then ts next.change [] mid after.0 after.1 ∙ append-nil (kin_at ts id.table (get mid id) ++ kin_at ts id.table (get after.0 id)) in
-    put
-    ∙ (λ i. so_far i ++ kin_at ts (of i).table (get mid (of i)) ++ kin_at ts (of i).table (sym after.2 i))
-    ∙ append_assoc (kin ts ran db) (kin_at ts id.table (get mid id)) (kin_at ts id.table (get after.0 id))
-    ∙ ap (λ l. kin ts ran db ++ l) (sym here)
-    ∙ sym (kin_joined ts ran (next.change ∷ []) db mid reached)
-    ∙ ap (λ (x : Change). kin ts (ran ++ x ∷ []) db) next.is
-    ∙ ap (λ l. kin ts l db) (sym (take_more changes next.n next.change next.within))
+pub HasRun-none : (ts : List Table) (changes : List Change) (db : Database) → HasRun ts changes db 0 none_pending []
+HasRun-none ts changes db = record { after = db; follows = Follows-none ts db; done = refl; kin_is = refl; rest = refl }
+
+-- what a change does to its row in a database, where it applies there
+abbrev pub step_there : List Table → Change → Database → Option Step
+step_there ts change db = option_map (λ after. step_from ts change (get db (target change)) (get after (target change))) (apply ts change db)
+
+then_or_none : {X : Type 0} (b : Bool) (x : X) → then_some b x ≡ cond b (Some x) None
+then_or_none true x = refl
+then_or_none false x = refl
+
+-- so it is told by the step that is seen, and by whether the parent is there
+pub told_there : (ts : List Table) (change : Change) (db : Database) (told : Result Step ChangeFault) (step : Step) (left : Option (List ℤ)) (holds : Bool) → told ≡ step_of ts change (get db (target change)) → result_ok told ≡ Some step → left ≡ step.left → holds ≡ parent_stands ts change db left →
+    then_some holds step ≡ step_there ts change db
+told_there ts change db told step left holds is some same stands =
+    ap (λ b. then_some b step) (stands ∙ ap (parent_stands ts change db) same)
+    ∙ then_or_none (parent_stands ts change db step.left) step
+    ∙ ap (option_and_then (step_with_parent ts db change)) (sym some ∙ ap result_ok is)
+    ∙ sym (steps_where_it_applies ts change db)
+
+none_mapped : {A B : Type 0} (f : A → B) (o : Option A) → option_map f o ≡ None → o ≡ None
+none_mapped f None h = refl
+none_mapped f (Some x) h = cc
+
+module _ {ts : List Table} {changes : List Change} {db : Database} {n : ℕ} {pending : Pending} {rows : List RowId} (change : Change) (run : HasRun ts changes db n pending rows) (within : n < length changes) (is : change ≡ get_or changes n change) where
+  -- what the changes from the next one on do
+  from_next : effect ts changes db ≡ option_and_then (effect ts (drop (n + 1) changes)) (apply ts change run.after)
+  from_next =
+      sym run.rest ∙ at_drop_more (λ l. effect ts l run.after) changes n change within
+      ∙ ap (λ (x : Change). option_and_then (effect ts (drop (n + 1) changes)) (apply ts x run.after)) (sym is)
+
+  step_after : step_there ts change (seen pending db) ≡ step_there ts change run.after
+  step_after = ap (step_there ts change) (seen-Follows run.follows)
+
+  reached : effect ts (take n changes) db ≡ Some run.after
+  reached = ap (λ l. effect ts l db) (sym run.done) ∙ run.follows.applied
+
+  pub HasRun-more : (step : Step) → Some step ≡ step_there ts change (seen pending db) → HasRun ts changes db (n + 1) (pushed pending change step.left) (rows ++ kin_of step)
+  HasRun-more step does =
+      let next = made_of (λ (m : Database). step_from ts change (get run.after (target change)) (get m (target change))) (apply ts change run.after) step (sym (does ∙ step_after)) in
+      record {
+        after = next.0;
+        follows = subst (λ (s : Step). Follows ts db (pushed pending change s.left) next.0) next.2 (Follows-pushed change next.0 run.follows next.1);
+        done = ap (λ l. l ++ change ∷ []) run.done ∙ ap (λ (x : Change). take n changes ++ x ∷ []) is ∙ sym (take_more changes n change within);
+        kin_is = (λ i. run.kin_is i ++ kin_of (sym next.2 i))
+            ∙ ap (λ l. kin ts (take n changes) db ++ l) (sym (kin_of_step ts change run.after next.0 next.1))
+            ∙ sym (kin_joined ts (take n changes) (change ∷ []) db run.after reached)
+            ∙ ap (λ (x : Change). kin ts (take n changes ++ x ∷ []) db) is
+            ∙ ap (λ l. kin ts l db) (sym (take_more changes n change within));
+        rest = sym (from_next ∙ ap (option_and_then (effect ts (drop (n + 1) changes))) next.1);
+      }
+
+  pub effect-refused : None ≡ step_there ts change (seen pending db) → effect ts changes db ≡ None
+  effect-refused refused =
+      from_next
+      ∙ ap (option_and_then (effect ts (drop (n + 1) changes)))
+      (none_mapped (λ (m : Database). step_from ts change (get run.after (target change)) (get m (target change))) (apply ts change run.after) (sym (refused ∙ step_after)))
+
+-- once all have run
+pub pending-run : {ts : List Table} {changes : List Change} {db : Database} {n : ℕ} {pending : Pending} {rows : List RowId} → HasRun ts changes db n pending rows → length changes ≤ n → Some pending ≡ option_map (pending_of changes) (effect ts changes db)
+pending-run {ts = ts} {changes = changes} {db = db} {n = n} {pending = pending} run end =
+    let all : pending.changes ≡ changes = run.done ∙ take_all n changes end in
+    let applied : effect ts changes db ≡ Some run.after = ap (λ l. effect ts l db) (sym all) ∙ run.follows.applied in
+    let is : ◌≡◌ {A = Pending} pending (pending_of changes run.after) = λ i. record { changes = all i; left = (run.follows.left ∙ ap (λ l. rows_in (writes l) run.after) all) i } in
+    ap Some is ∙ sym (ap (option_map (pending_of changes)) applied)
+
+pub kin-run : {ts : List Table} {changes : List Change} {db : Database} {n : ℕ} {pending : Pending} {rows : List RowId} → HasRun ts changes db n pending rows → length changes ≤ n → rows ≡ kin ts changes db
+kin-run {ts = ts} {changes = changes} {db = db} {n = n} run end = run.kin_is ∙ ap (λ l. kin ts l db) (take_all n changes end)

@@ -1,11 +1,11 @@
 -- Jobs and what comes of them.
-use Rattle.std.specs.Prelude.{◌≡◌, ◌⊎◌, ◌++◌, ℕ, ℤ, Bool, ◌&&◌, if◌then◌else◌, List, Option, Some, None, option_and_then, option_to_list}
+use Rattle.std.specs.Prelude.{◌≡◌, ◌⊎◌, ◌++◌, Bool, ◌&&◌, if◌then◌else◌, List, Option, Some, None}
 use Rattle.std.specs.List.{list_all}
 use Rattle.std.specs.Option.{option_map_or}
 use Rattle.schema.specs.declared.Table.{Table}
 use Rattle.schema.specs.declared.RowId.{RowId}
 use Rattle.schema.specs.Rows.{has_row}
-use Rattle.rows.specs.Database.{Database, effect, writes, parent_of, kin}
+use Rattle.rows.specs.Database.{Database, effect, writes, kin}
 use Rattle.store_trait.specs.Batch.{Entry, rows_in}
 use Rattle.store_trait.specs.Operation.{loaded}
 use Rattle.record_codec.specs.declared.records.Record.{Record}
@@ -16,10 +16,6 @@ use Rattle.executor.specs.declared.Outcome.TheVariants.{Output, Undefined, Wrong
 -- the rows that the execution of a record looks at: those that it writes and those that it states as its refs
 abbrev pub rows_of : Record → List RowId
 rows_of rec = writes rec.changes ++ rec.refs
-
--- the parent of a row of the table, where the row is there and has one
-abbrev pub kin_at : List Table → ℕ → Option (List ℤ) → List RowId
-kin_at ts id row = option_to_list (option_and_then (parent_of ts id) row)
 
 -- whether two lists are one set of rows: each row of the one is in the other
 abbrev pub same_rows : List RowId → List RowId → Bool

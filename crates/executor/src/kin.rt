@@ -1,20 +1,20 @@
 //! Changes run over rows, and the parent rows that they look at.
 
-ghost use Rattle.std.specs.Prelude.{◌≡◌, ◌++◌, IfOk, IfSome, OnOk, is_none, option_copied};
+ghost use Rattle.std.specs.Prelude.{◌≡◌, IfOk, IfSome};
 ghost use Rattle.std.specs.List.{list_all};
 ghost use Rattle.std.specs.List.Sorted.{IsSorted};
 ghost use Rattle.std.specs.Option.{option_map};
 ghost use Rattle.std.specs.FinMap.{get};
 ghost use Rattle.schema.specs.RowId.{row_cmp};
 ghost use Rattle.schema.specs.Rows.{has_row};
-ghost use Rattle.schema.specs.Schema.{link_of};
-ghost use Rattle.rows.specs.Database.{effect, kin};
+ghost use Rattle.rows.specs.Database.{target, apply, effect, kin};
 ghost use Rattle.overlay.specs.Pending.{pending_of, seen};
-ghost use Rattle.executor.specs.Job.{same_rows, kin_at};
+ghost use Rattle.overlay.specs.Step.{step_from};
+ghost use Rattle.executor.specs.Job.{same_rows};
 
-use overlay::{Overlay, left_seen, parent_row, row_seen};
+use overlay::{Overlay, Step, parent_holds, step_seen};
 use record_codec::Refs;
-use rows::{Change, Row};
+use rows::Change;
 use schema::{Memory, RowId, Schema};
 use std::alloc::Global;
 use store_trait::RowStore;
@@ -28,7 +28,7 @@ pub(crate) struct Run {
 }
 
 /// Runs these changes over the store; `None` where one of them does not apply behind those before it. The store stays as it
-/// is. The time is that of at most three look-ups a change.
+/// is. The time is that of at most two look-ups a change.
 pub(crate) fn run_changes<S: RowStore>(
     alloc: Global,
     schema: &Schema,
@@ -41,58 +41,27 @@ pub(crate) fn run_changes<S: RowStore>(
     let mut overlay = Overlay::new(alloc);
     let mut kin = Vec::new(alloc);
     for change in changes {
-        let Ok(left) = left_seen(&overlay, schema, store, change) else {
+        let Some(step) = step_that_applies(&overlay, schema, store, change) else {
             return Ok(None);
         };
-        let row = change.target();
-        put_parents(&mut kin, schema, store, &overlay, row, left.as_ref())?;
-        overlay.push(*change, left)?;
+        step.push_kin(&mut kin)?;
+        overlay.push(*change, step.left)?;
     }
     Ok(Some(Run { overlay, kin }))
 }
 
-/// Puts the parents of a row, as it is and as a change leaves it, behind the others, where its table has a parent.
-fn put_parents<S: RowStore>(
-    kin: &mut Vec<RowId>,
+/// What the change does to its row, where it applies behind those before it. It takes no memory.
+fn step_that_applies<S: RowStore>(
+    overlay: &Overlay,
     schema: &Schema,
     store: &S,
-    overlay: &Overlay,
-    row: RowId,
-    left: Option<&Row>,
-) -> Result<(), Memory>
-    ensures { OnOk result (kin.new.items ≡ kin.old.items ++ kin_at schema.now row.table (get (seen overlay.now (S.contents store.now)) row) ++ kin_at schema.now row.table (option_copied left.entry)) }
+    change: &Change,
+) -> Option<Step>
+    ensures { let db = seen overlay.now (S.contents store.now) in let row = target change.now in
+        result ≡ option_map (λ after. step_from schema.now change.now (get db row) (get after row)) (apply schema.now change.now db) }
 {
-    if has_no_parent(schema, row.table) {
-        return Ok(());
-    }
-    let before = row_seen(overlay, store, row);
-    put_parent(kin, schema, row.table, before.as_ref())?;
-    put_parent(kin, schema, row.table, left)
-}
-
-/// Whether the table has no parent.
-fn has_no_parent(schema: &Schema, table: u16) -> bool
-    ensures { result ≡ is_none (link_of schema.now table) }
-{
-    schema.link_of(table).is_none()
-}
-
-/// Puts the parent of a row of the table behind the others, where the row is there and has one.
-fn put_parent(
-    kin: &mut Vec<RowId>,
-    schema: &Schema,
-    table: u16,
-    row: Option<&Row>,
-) -> Result<(), Memory>
-    ensures { OnOk result (kin.new.items ≡ kin.old.items ++ kin_at schema.now table (option_copied row.entry)) }
-{
-    let Some(columns) = row else {
-        return Ok(());
-    };
-    if let Some(parent) = parent_row(schema, table, columns) {
-        kin.push(parent)?;
-    }
-    Ok(())
+    let step = step_seen(overlay, schema, store, change).ok()?;
+    parent_holds(overlay, schema, store, change, step.left.as_ref()).then_some(step)
 }
 
 /// Whether the refs are exactly these rows, which may come in any order and more than once. It takes no memory. With r refs

@@ -162,7 +162,7 @@ impl JobResult {
 /// Executes a job: runs its record's changes over its input, and compares the record's refs with the parent rows that the
 /// changes look at there. `Undefined` comes exactly where the changes do not apply, `WrongRefs` exactly where they apply and the
 /// refs are not these rows, and else the output; but where memory runs out the answer tells of that. With b changes and r rows
-/// in the input the time is that of putting the rows into a store of their own, of 3b look-ups there at most, of sorting b rows
+/// in the input the time is that of putting the rows into a store of their own, of 2b look-ups there at most, of sorting b rows
 /// and up to 2b parent rows, and of as many searches.
 pub fn execute(alloc: Global, job: Job) -> JobResult
     ensures job { result.job ≡ job }

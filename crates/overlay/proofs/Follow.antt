@@ -1,7 +1,6 @@
 -- What the overlay of changes that apply one after another shows.
-use Rattle.std.proofs.Common.{◌≡◌, ap, sym, subst, ◌∙◌, refl, Bool, true, false, ◌||◌, cond, List, [], ◌∷◌, ◌++◌, ℤ, Option, Some, None, option_map, Ok}
+use Rattle.std.proofs.Common.{◌≡◌, ap, sym, subst, ◌∙◌, refl, Bool, true, false, ◌||◌, cond, List, [], ◌∷◌, ◌++◌, ℤ, Option, Some, None, Ok}
 use Rattle.std.specs.Prelude.{unwrap_or, option_and_then}
-use Rattle.std.specs.Result.{result_ok}
 use Rattle.std.specs.FinMap.{get, find, put, same_map}
 use Rattle.std.specs.FinMap.Entries.{find-put}
 use Rattle.schema.specs.declared.Table.{Table}
@@ -13,30 +12,12 @@ use Rattle.rows.specs.Change.{changed}
 use Rattle.rows.specs.Database.{Database, put_row, target, writes, apply, effect}
 use Rattle.rows.specs.Effect.{parent_stands}
 use Rattle.rows.specs.Frame.{AgreeOn, SameEffect}
-use Rattle.rows.proofs.Apply.{apply_by_row, apply_stays, applies_from, get-put_row, row_is, same_row_itself}
+use Rattle.rows.proofs.Apply.{apply_stays, applies_from, get-put_row, row_is, same_row_itself}
 use Rattle.rows.proofs.Effect.{changes_only_writes, effect_joined}
 use Rattle.store_trait.specs.Batch.{IsRising, rows_in}
 use Rattle.store_trait.proofs.Batches.{find-rows_in, get-put_batch, put_rises, rows_in_rise, same_batch}
 use Rattle.overlay.specs.Pending.{Pending, none_pending, pushed, left_at, seen}
 use Rattle.overlay.specs.Follows.{Follows}
-
--- what a change leaves of its row, where it applies
-pub left_by_row : (ts : List Table) (change : Change) (db : Database) →
-    option_map (λ after. get after (target change)) (apply ts change db)
-    ≡ option_and_then (λ left. cond (parent_stands ts change db left) (Some left) None) (result_ok (changed change (get db (target change))))
-left_by_row ts change db =
-    ap (option_map (λ after. get after (target change))) (apply_by_row ts change db)
-    ∙ by (result_ok (changed change (get db (target change))))
-  where
-    put_and_got : (left : Option (List ℤ)) (b : Bool) →
-        option_map (λ after. get after (target change)) (cond b (Some (put_row db (target change) left)) None) ≡ cond b (Some left) None
-    put_and_got left true =
-        ap Some (get-put_row db (target change) (target change) left ∙ ap (λ b. cond b left (get db (target change))) (same_row_itself (target change)))
-    put_and_got left false = refl
-
-    by : (o : Option (Option (List ℤ))) → option_map (λ after. get after (target change)) (option_and_then (λ left. cond (parent_stands ts change db left) (Some (put_row db (target change) left)) None) o) ≡ option_and_then (λ left. cond (parent_stands ts change db left) (Some left) None) o
-    by None = refl
-    by (Some left) = put_and_got left (parent_stands ts change db left)
 
 -- rows that are the same in two databases
 rows_in-alike : (rows : List RowId) (a b : Database) → AgreeOn rows a b → rows_in rows a ≡ rows_in rows b

@@ -1,8 +1,7 @@
 pub mod Order
 pub mod Follow
-pub mod Run
 pub mod Apart
 pub mod Joining
-pub mod Misfits
+pub mod Steps
 pub mod ChildRows
 pub mod Scan

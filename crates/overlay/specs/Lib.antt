@@ -1,5 +1,5 @@
 pub mod Pending
 pub mod Follows
 pub mod Joining
-pub mod Misfit
+pub mod Step
 pub mod Children

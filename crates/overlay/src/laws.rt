@@ -1,7 +1,7 @@
 //! What follows from the definitions alone. Each function states a law by its contract, and does nothing.
 
 ghost use Rattle.overlay.specs.Follows.{NoneFollows, StepFollows, PushedFollows, ShowsRows, SeesAfter, MovesOver};
-ghost use Rattle.overlay.specs.Misfit.{LeavesWhereItApplies};
+ghost use Rattle.overlay.specs.Step.{StepsWhereItApplies, KinOfStep};
 ghost use Rattle.overlay.specs.Children.{TellsChildren};
 ghost use Rattle.overlay.specs.Joining.{ApartGoesOn, ApartWithoutConflict, JoinedGoesOn, JoinedHasRows, JoinedRises, NotYetJoined, JoinedIsAfter, BatchIsAfter};
 
@@ -43,9 +43,11 @@ pub fn joined_is_after()
     ensures batch { BatchIsAfter }
 {}
 
-/// What a transaction sees of a change and of children: a change leaves its row just where it applies, and whether a row
-/// has a child tells whether some row names it as its parent.
+/// What a transaction sees of a change and of children: a change applies just where it has a step and the parent row that it
+/// gives its own is there, and then it does to its row what the step says, and its kin are the step's; and whether a row has a
+/// child tells whether some row names it as its parent.
 pub fn sees()
-    ensures leaves { LeavesWhereItApplies }
+    ensures steps { StepsWhereItApplies }
+    ensures kin { KinOfStep }
     ensures children { TellsChildren }
 {}

@@ -2,34 +2,34 @@
 //!
 //! An `Overlay` has the changes of a transaction in the order in which they were made, and what they leave of
 //! each row that they are of. Laid over the committed rows it shows what the transaction sees; its batch, put
-//! into them, commits it. `Joined` makes one batch of what several transactions leave. `row_seen`, `parent_seen`,
-//! `left_seen` and `has_child` look through an overlay into a store, and `run_changes` makes the overlay of a whole list of
-//! changes. `laws` states what the overlay of changes that apply one after another shows, and what the joined
-//! batch of transactions leaves that do not touch each other's rows.
+//! into them, commits it. `Joined` makes one batch of what several transactions leave. `row_seen`, `step_seen`,
+//! `parent_holds` and `has_child` look through an overlay into a store: a `Step` is what a change does to its row. `laws`
+//! states what the overlay of changes that apply one after another shows, what steps have to do with the effect of changes,
+//! and what the joined batch of transactions leaves that do not touch each other's rows.
 #![tactic(auto)]
 
 ghost use Rattle.std.specs.Prelude.{◌≡◌, ◌↔◌, [], length, IsTrue, IfOk, OnOk, OnErr, unwrap_or, option_copied};
-ghost use Rattle.std.specs.Option.{option_map};
 ghost use Rattle.std.specs.FinMap.{get as row_of};
-ghost use Rattle.rows.specs.Database.{target, effect, parent_of, has_parent};
+ghost use Rattle.rows.specs.Database.{parent_of, has_parent};
 ghost use Rattle.rows.specs.Effect.{parent_stands, sets_parent};
 ghost use Rattle.store_trait.specs.Batch.{IsRising};
-ghost use Rattle.overlay.specs.Pending.{none_pending, pushed, left_at, seen, pending_of};
-ghost use Rattle.overlay.specs.Misfit.{left_or};
+ghost use Rattle.overlay.specs.Pending.{none_pending, pushed, left_at, seen};
 
 mod children;
 mod joined;
 pub mod laws;
 mod roomy;
+mod step;
 
 pub use children::has_child;
 use indexmap::IndexMap;
 pub use joined::Joined;
 pub use roomy::Roomy;
-use rows::{Change, ChangeFault, Row, apply_one};
+use rows::{Change, Row};
 use schema::{Memory, RowId, Schema};
 use std::alloc::Global;
 use std::marker::Model;
+pub use step::{Step, step_seen};
 use store_trait::{Batch, RowStore};
 
 /// The changes of a transaction, and what they leave of each row that they are of.
@@ -57,15 +57,6 @@ impl Overlay {
             changes: Vec::new(alloc),
             left: IndexMap::new(alloc),
         }
-    }
-
-    /// No changes, with room for so many.
-    fn with_room(alloc: Global, count: usize) -> Result<Overlay, Memory>
-        ensures { IfOk result (λ overlay. overlay ≡ none_pending) }
-    {
-        let changes = Vec::with_capacity(alloc, count)?;
-        let left = IndexMap::with_capacity(alloc, count)?;
-        Ok(Overlay { changes, left })
     }
 
     /// What the changes leave of the row: its columns, or `None` where they remove it. No answer where no
@@ -118,14 +109,6 @@ impl Overlay {
         joined.add(self)?;
         Ok(joined.into_batch())
     }
-
-    /// The changes, in the order in which they were made. It takes no memory.
-    pub fn into_changes(self) -> Vec<Change>
-        ensures { result.items ≡ self.changes }
-    {
-        let Overlay { changes, .. } = self;
-        changes
-    }
 }
 
 /// The row as the transaction sees it: as its changes leave it, and else the store's. It takes no memory. The
@@ -142,7 +125,7 @@ pub fn row_seen<S: RowStore>(overlay: &Overlay, store: &S, id: RowId) -> Option<
 
 /// The parent row that these columns of a row of the table name, where the table has a parent and they have
 /// the column that names it. It takes no memory.
-pub fn parent_row(schema: &Schema, table: u16, columns: &Row) -> Option<RowId>
+fn parent_row(schema: &Schema, table: u16, columns: &Row) -> Option<RowId>
     ensures { result ≡ parent_of schema.now table columns.now }
 {
     let (column, parent) = schema.link_of(table)?;
@@ -152,7 +135,7 @@ pub fn parent_row(schema: &Schema, table: u16, columns: &Row) -> Option<RowId>
 
 /// Whether a row of the table may have these columns, as the transaction sees the rows: the table has no
 /// parent, or they name a parent row that is there. It takes no memory.
-pub fn parent_seen<S: RowStore>(
+fn parent_seen<S: RowStore>(
     overlay: &Overlay,
     schema: &Schema,
     store: &S,
@@ -164,40 +147,6 @@ pub fn parent_seen<S: RowStore>(
     match parent_row(schema, table, columns) {
         Some(parent) => row_seen(overlay, store, parent).is_some(),
         None => schema.link_of(table).is_none(),
-    }
-}
-
-/// Why a change does not apply to the rows as a transaction sees them.
-#[derive(Clone, Copy, Debug, PartialEq, Eq)]
-pub enum Misfit {
-    /// It does not fit its own row: an insert of one that is there, another change of one that is not, or a column that
-    /// it lacks.
-    Row(ChangeFault),
-    /// The row that it gives its own as parent is not there.
-    NoParent,
-}
-
-/// What the change leaves of its row, where it applies to the rows as the transaction sees them, or why it does not: its
-/// own row is looked at first, and then the parent that the change gives it. It takes no memory. The time is that of at
-/// most two look-ups in the store.
-pub fn left_seen<S: RowStore>(
-    overlay: &Overlay,
-    schema: &Schema,
-    store: &S,
-    change: &Change,
-) -> Result<Option<Row>, Misfit>
-    ensures { result ≡ left_or schema.now change.now (seen overlay.now (S.contents store.now)) }
-{
-    let before = row_seen(overlay, store, change.target());
-    match apply_one(change, before.as_ref()) {
-        Ok(left) => {
-            if parent_holds(overlay, schema, store, change, left.as_ref()) {
-                Ok(left)
-            } else {
-                Err(Misfit::NoParent)
-            }
-        }
-        Err(fault) => Err(Misfit::Row(fault)),
     }
 }
 
@@ -231,24 +180,4 @@ fn gives_parent(schema: &Schema, change: &Change) -> bool
             .is_some_and(|link| columns.names(link.0)),
         Change::Delete { .. } => false,
     }
-}
-
-/// The overlay of these changes over the store, or `None` where one of them does not apply behind those before
-/// it. The store stays as it is. The time is that of at most two look-ups a change.
-pub fn run_changes<S: RowStore>(
-    alloc: Global,
-    schema: &Schema,
-    store: &S,
-    changes: &[Change],
-) -> Result<Option<Overlay>, Memory>
-    ensures { IfOk result (λ ran. ran ≡ option_map (pending_of changes.now) (effect schema.now changes.now (S.contents store.now))) }
-{
-    let mut overlay = Overlay::with_room(alloc, changes.len())?;
-    for change in changes {
-        let Ok(left) = left_seen(&overlay, schema, store, change) else {
-            return Ok(None);
-        };
-        overlay.push(*change, left)?;
-    }
-    Ok(Some(overlay))
 }
