@@ -3,7 +3,7 @@ use Rattle.std.specs.Prelude.{List}
 use Rattle.schema.specs.declared.Table.{Table}
 use Rattle.schema.specs.declared.RowId.{RowId}
 use Rattle.schema.specs.Rows.{Touched}
-use Rattle.schema.specs.Flags.{is_fk, misses_keys}
+use Rattle.schema.specs.Flags.{flags_of}
 use Rattle.log_index.specs.declared.Footprint.{Footprint}
 
 -- the rows written and referred to, which decide conflicts
@@ -12,4 +12,4 @@ touched f = record { writes = f.writes; refs = f.refs }
 
 -- the footprint of a transaction that writes and refers to these rows
 abbrev pub footprint_of : List Table → List RowId → List RowId → Footprint
-footprint_of ts writes refs = record { writes = writes; refs = refs; fk = is_fk ts writes; missing_keys = misses_keys ts writes }
+footprint_of ts writes refs = record { writes = writes; refs = refs; flags = flags_of ts writes }

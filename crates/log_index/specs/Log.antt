@@ -1,5 +1,5 @@
 -- Logs of entries.
-use Rattle.std.specs.Prelude.{◌≡◌, ℕ, ◌+◌, ◌-◌, ◌<◌, ◌≤◌, ◌==◌, if◌then◌else◌, List, slice_get, Option, Some, None}
+use Rattle.std.specs.Prelude.{◌≡◌, ℕ, ◌+◌, ◌<◌, ◌≤◌, List, slice_get, Some}
 use Rattle.schema.specs.Rows.{Touched}
 use Rattle.log_index.specs.declared.Entry.{Entry}
 use Rattle.log_index.specs.Footprint.{touched}
@@ -23,10 +23,6 @@ pub record IsLog (log : List Entry) (long capacity room : ℕ) : Type 0 where
   pub numbered : IsNumbered log
   pub fits : long + room ≤ capacity
 
--- the entry of this sequence number
-abbrev pub entry_at : List Entry → ℕ → Option Entry
-entry_at log sequence = if sequence == 0 then None else slice_get log (sequence - 1)
-
--- its sequence number, and the rows that it touches
+-- an entry's sequence number, and the rows that it touches
 abbrev pub entry_place : Entry → ℕ × Touched
 entry_place entry = (entry.sequence, touched entry.footprint)

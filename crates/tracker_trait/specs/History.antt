@@ -3,11 +3,11 @@ use Rattle.std.specs.Prelude.{ℕ, ◌+◌, ◌==◌, ◌||◌, nat_lt, ◌&&◌
 use Rattle.std.specs.List.{flat_map, list_any}
 use Rattle.schema.specs.declared.Table.{Table}
 use Rattle.log_index.specs.declared.Entry.{Entry}
-use Rattle.write_set.specs.Digest.{digest_set, rising}
+use Rattle.write_set.specs.Digest.{digests_of, rising}
 
--- the digests of the rows that an entry writes in keyed tables
+-- the digests of an entry's footprint
 abbrev pub digests_in : List Table → Entry → List ℕ
-digests_in ts entry = digest_set ts entry.footprint.writes
+digests_in ts entry = digests_of ts entry.footprint
 
 -- the entries that are numbered above this
 abbrev pub above : ℕ → List Entry → List Entry
@@ -22,7 +22,7 @@ digest_count ts number entries = length (rising (flat_map (digests_in ts) (above
 abbrev pub start_of : List Table → ℕ → List Entry → ℕ
 start_of ts limit [] = 0
 start_of ts limit (last ∷ older) =
-    if last.footprint.fk || nat_lt limit (digest_count ts (start_of ts limit older) older + length (digests_in ts last)) then last.sequence
+    if last.footprint.flags.fk || nat_lt limit (digest_count ts (start_of ts limit older) older + length (digests_in ts last)) then last.sequence
     else start_of ts limit older
 
 -- the last of the entries numbered above this that has the digest; 0 where none has

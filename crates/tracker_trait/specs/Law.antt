@@ -9,7 +9,7 @@ use Rattle.log_index.specs.declared.Entry.{Entry}
 use Rattle.log_index.specs.declared.Footprint.{Footprint}
 use Rattle.log_index.specs.Footprint.{touched, footprint_of}
 use Rattle.log_index.specs.Log.{entry_place}
-use Rattle.write_set.specs.Digest.{digest_set}
+use Rattle.write_set.specs.Digest.{digests_of}
 use Rattle.tracker_trait.specs.History.{last_of}
 
 -- The order parent that a transaction may come with: it covers the transaction in the whole log, is the number of an
@@ -24,8 +24,8 @@ pub record IsOrderParent (log : List Entry) (t : Footprint) (session order : ℕ
 pub record IsOfTables (ts : List Table) (t : Footprint) (w : List ℕ) : Type 0 where
   pub flags : t ≡ footprint_of ts t.writes t.refs
   pub known : list_all (λ r. is_some (table_at ts r.table)) t.writes ≡ true
-  pub refs : t.fk ≡ false → t.refs ≡ []
-  pub set : w ≡ digest_set ts t.writes
+  pub refs : t.flags.fk ≡ false → t.refs ≡ []
+  pub set : w ≡ digests_of ts t
 
 -- the log with the transaction behind it, under this parent
 abbrev pub stamped : List Entry → Footprint → ℕ → ℕ → List Entry

@@ -4,7 +4,7 @@ use Rattle.std.proofs.Common.{reverse}
 use Rattle.schema.specs.declared.Table.{Table}
 use Rattle.log_index.specs.declared.Entry.{Entry}
 use Rattle.log_index.specs.declared.Footprint.{Footprint}
-use Rattle.write_set.specs.Digest.{digest_set}
+use Rattle.write_set.specs.Digest.{digests_of}
 use Rattle.tracker_trait.specs.declared.Tracking.TheVariants.{CommitOrder, Writeset, WritesetSession}
 use Rattle.tracker_trait.specs.Kind.{Kind}
 use Rattle.tracker_trait.specs.History.{start_of, newest_of, last_of}
@@ -23,7 +23,7 @@ last_touch ts limit newest_first digests =
 -- that wrote one of its digests.
 abbrev pub writeset_parent : List Table → ℕ → List Entry → Footprint → ℕ → ℕ
 writeset_parent ts limit newest_first t order =
-    if t.fk || t.missing_keys then order else min order (last_touch ts limit newest_first (digest_set ts t.writes))
+    if t.flags.fk || t.flags.missing_keys then order else min order (last_touch ts limit newest_first (digests_of ts t))
 
 -- The parent of a transaction of this session behind this log, where its order parent is the one given: what MySQL writes in its
 -- log as `last_committed`.

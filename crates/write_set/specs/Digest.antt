@@ -7,6 +7,7 @@ use Rattle.std.specs.FinMap.{from_entries, keys}
 use Rattle.schema.specs.declared.Table.{Table}
 use Rattle.schema.specs.declared.RowId.{RowId}
 use Rattle.schema.specs.Schema.{table_at}
+use Rattle.log_index.specs.declared.Footprint.{Footprint}
 
 -- the bits of the row's key, xor its table's id in the upper 16 of the 64 bits
 abbrev pub digest_of : RowId → ℕ
@@ -23,3 +24,7 @@ rising numbers = keys (from_entries {R = nat_cmp} (map (λ n. (n, tt {0})) numbe
 -- the digests of those of the rows that are in keyed tables, in rising order, each once
 abbrev pub digest_set : List Table → List RowId → List ℕ
 digest_set tables rows = rising (map digest_of (filter (is_keyed tables) rows))
+
+-- the digests of a transaction with this footprint: those of the rows that it writes
+abbrev pub digests_of : List Table → Footprint → List ℕ
+digests_of tables t = digest_set tables t.writes

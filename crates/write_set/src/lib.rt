@@ -11,7 +11,7 @@
 
 ghost use Rattle.std.specs.Prelude.{◌≡◌, ◌==◌, length, filter, map, IfOk};
 ghost use Rattle.std.specs.List.Sorted.{IsStrictlyIncreasing};
-ghost use Rattle.write_set.specs.Digest.{digest_of, is_keyed, digest_set};
+ghost use Rattle.write_set.specs.Digest.{digest_of, is_keyed, digests_of};
 
 pub mod laws;
 
@@ -73,7 +73,7 @@ impl WriteSet {
 /// The write set of a transaction with this footprint. For n written rows and t tables the time is that of
 /// n * t tests, to find the rows' tables, and of n log n to sort; the memory is that of n digests.
 pub fn digests(alloc: Global, schema: &Schema, footprint: &Footprint) -> Result<WriteSet, Memory>
-    ensures { IfOk result (λ set. set ≡ digest_set schema.now footprint.now.writes) }
+    ensures { IfOk result (λ set. set ≡ digests_of schema.now footprint.now) }
 {
     let mut digests = keyed_digests(alloc, schema, footprint.writes.list())?;
     digests.sort_unstable();

@@ -10,7 +10,7 @@ use Rattle.log_index.specs.declared.Entry.{Entry}
 use Rattle.log_index.specs.declared.Footprint.{Footprint}
 use Rattle.log_index.specs.Footprint.{touched}
 use Rattle.log_index.specs.Log.{entry_place}
-use Rattle.write_set.specs.Digest.{digest_of, digest_set}
+use Rattle.write_set.specs.Digest.{digest_of, digests_of}
 use Rattle.tracker_trait.specs.History.{start_of, newest_of}
 use Rattle.tracker_trait.specs.Parent.{greatest, last_touch, writeset_parent}
 use Rattle.tracker_trait.specs.Law.{IsOfTables}
@@ -33,46 +33,46 @@ one-greatest f least digest (d ∷ digests) e = elim (or_cases (eqb digest d) (l
   | inr later ↦ omega (arith, one-greatest f least digest digests later)
 ]
 
-refer_to_none : (log : List Entry) → AreLogged log → AllByRecursion (λ e. e.footprint.fk ≡ false → e.footprint.refs ≡ []) log
+refer_to_none : (log : List Entry) → AreLogged log → AllByRecursion (λ e. e.footprint.flags.fk ≡ false → e.footprint.refs ≡ []) log
 refer_to_none [] are = tt
 refer_to_none (last ∷ older) are = (are.0.refs, refer_to_none older are.1)
 
-module _ (ts : List Table) (limit : ℕ) (log : List Entry) (t : Footprint) (w : List ℕ) (is : IsOfTables ts t w) (no_fk : t.fk ≡ false) (no_missing : t.missing_keys ≡ false) where
+module _ (ts : List Table) (limit : ℕ) (log : List Entry) (t : Footprint) (w : List ℕ) (is : IsOfTables ts t w) (no_fk : t.flags.fk ≡ false) (no_missing : t.flags.missing_keys ≡ false) where
   abbrev start : ℕ
   start = start_of ts limit log
 
   abbrev last : ℕ
-  last = last_touch ts limit log (digest_set ts t.writes)
+  last = last_touch ts limit log (digests_of ts t)
 
   -- an entry above the start that conflicts is the last at most that has one of the digests
-  above_start : (e : Entry) → start < e.sequence → (e.footprint.fk ≡ false → e.footprint.refs ≡ []) → (e.footprint.fk ≡ true → e.sequence ≤ start) →
+  above_start : (e : Entry) → start < e.sequence → (e.footprint.flags.fk ≡ false → e.footprint.refs ≡ []) → (e.footprint.flags.fk ≡ true → e.sequence ≤ start) →
       ((digest : ℕ) → start < e.sequence → has_digest ts digest e ≡ true → e.sequence ≤ newest_of ts start log digest) → conflicts (touched e.footprint) (touched t) ≡ true → e.sequence ≤ last
   above_start e above none related newest conflict =
-      let unrelated : e.footprint.fk ≡ false = elim (cases_Bool e.footprint.fk) [ inl fk ↦ absurd (omega (arith, related fk, above)) | inr apart ↦ apart ] in
+      let unrelated : e.footprint.flags.fk ≡ false = elim (cases_Bool e.footprint.flags.fk) [ inl fk ↦ absurd (omega (arith, related fk, above)) | inr apart ↦ apart ] in
       let both = in_both e.footprint.writes t.writes (conflict_of_writes (touched e.footprint) (touched t) (none unrelated) (is.refs no_fk) conflict) in
-      let keyed = is_keyed_in ts t.writes both.row is.known (sym (ap (λ (f : Footprint). f.missing_keys) is.flags) ∙ no_missing) both.second in
+      let keyed = is_keyed_in ts t.writes both.row is.known (sym (ap (λ (f : Footprint). f.flags.missing_keys) is.flags) ∙ no_missing) both.second in
       let has : has_digest ts (digest_of both.row) e ≡ true =
-      has_either_way (digest_of both.row) (digest_set ts e.footprint.writes) ∙ digest_in ts e.footprint.writes both.row keyed both.first in
+      has_either_way (digest_of both.row) (digests_of ts e.footprint) ∙ digest_in ts e.footprint both.row keyed both.first in
       omega (
         arith,
         newest (digest_of both.row) above has,
-        one-greatest (newest_of ts start log) start (digest_of both.row) (digest_set ts t.writes) (digest_in ts t.writes both.row keyed both.second),
+        one-greatest (newest_of ts start log) start (digest_of both.row) (digests_of ts t) (digest_in ts t both.row keyed both.second),
       )
 
-  at_most_last : (e : Entry) → (e.footprint.fk ≡ false → e.footprint.refs ≡ []) → ((e.footprint.fk ≡ true → e.sequence ≤ start) × ((digest : ℕ) → start < e.sequence → has_digest ts digest e ≡ true → e.sequence ≤ newest_of ts start log digest)) →
+  at_most_last : (e : Entry) → (e.footprint.flags.fk ≡ false → e.footprint.refs ≡ []) → ((e.footprint.flags.fk ≡ true → e.sequence ≤ start) × ((digest : ℕ) → start < e.sequence → has_digest ts digest e ≡ true → e.sequence ≤ newest_of ts start log digest)) →
       conflicts (touched e.footprint) (touched t) ≡ true → e.sequence ≤ last
   at_most_last e none h conflict = elim (cases_Bool (nat_lt start e.sequence)) [
     | inl above ↦ above_start e (ltb-true start e.sequence above) none h.0 h.1 conflict
-    | inr below ↦ omega (arith, ltb-false start e.sequence below, least-greatest start (map (newest_of ts start log) (digest_set ts t.writes)))
+    | inr below ↦ omega (arith, ltb-false start e.sequence below, least-greatest start (map (newest_of ts start log) (digests_of ts t)))
   ]
 
   pub last-covers : AreLogged log → AllByRecursion (λ e. conflicts (touched e.footprint) (touched t) ≡ true → e.sequence ≤ last) log
   last-covers are =
-      joined (λ (e : Entry). e.footprint.fk ≡ false → e.footprint.refs ≡ [])
-      (λ e. (e.footprint.fk ≡ true → e.sequence ≤ start) × ((digest : ℕ) → start < e.sequence → has_digest ts digest e ≡ true → e.sequence ≤ newest_of ts start log digest))
+      joined (λ (e : Entry). e.footprint.flags.fk ≡ false → e.footprint.refs ≡ [])
+      (λ e. (e.footprint.flags.fk ≡ true → e.sequence ≤ start) × ((digest : ℕ) → start < e.sequence → has_digest ts digest e ≡ true → e.sequence ≤ newest_of ts start log digest))
       (λ e. conflicts (touched e.footprint) (touched t) ≡ true → e.sequence ≤ last) at_most_last log (refer_to_none log are)
-      (joined (λ (e : Entry). e.footprint.fk ≡ true → e.sequence ≤ start) (λ e. (digest : ℕ) → start < e.sequence → has_digest ts digest e ≡ true → e.sequence ≤ newest_of ts start log digest)
-      (λ e. (e.footprint.fk ≡ true → e.sequence ≤ start) × ((digest : ℕ) → start < e.sequence → has_digest ts digest e ≡ true → e.sequence ≤ newest_of ts start log digest))
+      (joined (λ (e : Entry). e.footprint.flags.fk ≡ true → e.sequence ≤ start) (λ e. (digest : ℕ) → start < e.sequence → has_digest ts digest e ≡ true → e.sequence ≤ newest_of ts start log digest)
+      (λ e. (e.footprint.flags.fk ≡ true → e.sequence ≤ start) × ((digest : ℕ) → start < e.sequence → has_digest ts digest e ≡ true → e.sequence ≤ newest_of ts start log digest))
       (λ e a b. (a, b)) log (related-before ts limit log are) (newest-at ts start log are))
 
 -- ---- over the log as it lies
@@ -89,14 +89,14 @@ later_covers past rows a b h =
 
 pub writeset_covers : (ts : List Table) (limit : ℕ) (log : List Entry) (t : Footprint) (w : List ℕ) (order : ℕ) → AreLogged (reverse log) → IsOfTables ts t w →
     Covers (map entry_place log) (touched t) order → Covers (map entry_place log) (touched t) (writeset_parent ts limit (reverse log) t order)
-writeset_covers ts limit log t w order are is covers = by t.fk t.missing_keys refl refl
+writeset_covers ts limit log t w order are is covers = by t.flags.fk t.flags.missing_keys refl refl
   where
-    by : (fk missing : Bool) → t.fk ≡ fk → t.missing_keys ≡ missing →
-        Covers (map entry_place log) (touched t) (cond (fk || missing) order (min order (last_touch ts limit (reverse log) (digest_set ts t.writes))))
+    by : (fk missing : Bool) → t.flags.fk ≡ fk → t.flags.missing_keys ≡ missing →
+        Covers (map entry_place log) (touched t) (cond (fk || missing) order (min order (last_touch ts limit (reverse log) (digests_of ts t))))
     by true missing f m = covers
     by false true f m = covers
     by false false f m =
-        both_cover (map entry_place log) (touched t) order (last_touch ts limit (reverse log) (digest_set ts t.writes)) covers
-        (AllByRecursion-map entry_place (λ p. conflicts p.1 (touched t) ≡ true → p.0 ≤ last_touch ts limit (reverse log) (digest_set ts t.writes)) log
-        (of_reverse (λ e. conflicts (touched e.footprint) (touched t) ≡ true → e.sequence ≤ last_touch ts limit (reverse log) (digest_set ts t.writes)) log
+        both_cover (map entry_place log) (touched t) order (last_touch ts limit (reverse log) (digests_of ts t)) covers
+        (AllByRecursion-map entry_place (λ p. conflicts p.1 (touched t) ≡ true → p.0 ≤ last_touch ts limit (reverse log) (digests_of ts t)) log
+        (of_reverse (λ e. conflicts (touched e.footprint) (touched t) ≡ true → e.sequence ≤ last_touch ts limit (reverse log) (digests_of ts t)) log
         (last-covers ts limit (reverse log) t w is f m are)))

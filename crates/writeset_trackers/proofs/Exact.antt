@@ -4,7 +4,7 @@ use Rattle.std.proofs.lemmas.List.{map-append, take_more}
 use Rattle.schema.specs.declared.Table.{Table}
 use Rattle.log_index.specs.declared.Entry.{Entry}
 use Rattle.log_index.specs.declared.Footprint.{Footprint}
-use Rattle.write_set.specs.Digest.{digest_set}
+use Rattle.write_set.specs.Digest.{digests_of}
 use Rattle.tracker_trait.specs.History.{start_of, newest_of}
 use Rattle.tracker_trait.specs.Parent.{greatest, last_touch, writeset_parent}
 use Rattle.writeset_history.specs.History.{History, number_of}
@@ -12,14 +12,14 @@ use Rattle.writeset_trackers.specs.Agreement.{IsHistoryOf}
 use Rattle.writeset_trackers.specs.Noted.{last_number, parent_by}
 use Rattle.writeset_trackers.proofs.Counts.{number_back}
 
-pub same_parent : (ts : List Table) (log : List Entry) (h : History) (t : Footprint) (digests : List ℕ) (order : ℕ) → IsHistoryOf ts log h → digests ≡ digest_set ts t.writes →
+pub same_parent : (ts : List Table) (log : List Entry) (h : History) (t : Footprint) (digests : List ℕ) (order : ℕ) → IsHistoryOf ts log h → digests ≡ digests_of ts t →
     parent_by h t digests order ≡ writeset_parent ts h.limit log t order
-same_parent ts log h t digests order is set = ap (λ last. cond (t.fk || t.missing_keys) order (min order last)) last
+same_parent ts log h t digests order is set = ap (λ last. cond (t.flags.fk || t.flags.missing_keys) order (min order last)) last
   where
     number : (digest : ℕ) → number_of h digest ≡ newest_of ts (start_of ts h.limit log) log digest
     number digest = ap (λ o. unwrap_or o 0) (is.numbers digest) ∙ number_back (newest_of ts h.start log digest) ∙ ap (λ start. newest_of ts start log digest) is.start
 
-    last : last_number h digests ≡ last_touch ts h.limit log (digest_set ts t.writes)
+    last : last_number h digests ≡ last_touch ts h.limit log (digests_of ts t)
     last = λ i. greatest (is.start i) (map (λ digest. number digest i) (set i))
 
 greatest-more : (least : ℕ) (ns : List ℕ) (n : ℕ) → greatest least (ns ++ n ∷ []) ≡ max (greatest least ns) n

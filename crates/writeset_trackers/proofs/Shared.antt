@@ -10,7 +10,8 @@ use Rattle.schema.specs.Rows.{Touched, has_row, meets, conflicts}
 use Rattle.schema.specs.Schema.{table_at}
 use Rattle.schema.specs.Flags.{misses_keys}
 use Rattle.schema.proofs.RowMaps.{row_is, same_row_itself}
-use Rattle.write_set.specs.Digest.{digest_of, is_keyed, digest_set}
+use Rattle.log_index.specs.declared.Footprint.{Footprint}
+use Rattle.write_set.specs.Digest.{digest_of, is_keyed, digests_of}
 use Rattle.write_set.proofs.Rising.{just_the_digests}
 
 -- a row that two lists have
@@ -60,9 +61,9 @@ is_keyed_in ts (x ∷ rows) row known none e =
       | inr later ↦ is_keyed_in ts rows row all.1 no.1 later
     ]
 
--- its digest is one of the list's
-pub digest_in : (ts : List Table) (rows : List RowId) (row : RowId) → is_keyed ts row ≡ true → has_row rows row ≡ true → list_any (eqb (digest_of row)) (digest_set ts rows) ≡ true
-digest_in ts rows row is e = just_the_digests ts rows (digest_of row) ∙ among rows e
+-- the digest of a row that a transaction writes in a keyed table is one of its digests
+pub digest_in : (ts : List Table) (t : Footprint) (row : RowId) → is_keyed ts row ≡ true → has_row t.writes row ≡ true → list_any (eqb (digest_of row)) (digests_of ts t) ≡ true
+digest_in ts t row is e = just_the_digests ts t.writes (digest_of row) ∙ among t.writes e
   where
     among : (rows : List RowId) → has_row rows row ≡ true → list_any (λ r. is_keyed ts r && eqb (digest_of row) (digest_of r)) rows ≡ true
     among [] e = absurd cc

@@ -10,7 +10,7 @@ use Rattle.writeset_trackers.proofs.Lists.{either_within, within_either}
 
 -- whether the history starts at the last entry
 abbrev pub starts_at : List Table → ℕ → Entry → List Entry → Bool
-starts_at ts limit last older = last.footprint.fk || nat_lt limit (digest_count ts (start_of ts limit older) older + length (digests_in ts last))
+starts_at ts limit last older = last.footprint.flags.fk || nat_lt limit (digest_count ts (start_of ts limit older) older + length (digests_in ts last))
 
 pub start-within : (ts : List Table) (limit : ℕ) (log : List Entry) → AreLogged log → start_of ts limit log ≤ length log
 start-within ts limit [] are = omega arith
@@ -22,11 +22,11 @@ at_its_own : (fk over : Bool) (own start : ℕ) → fk ≡ true → own ≤ cond
 at_its_own true over own start e = omega arith
 at_its_own false over own start e = absurd cc
 
-pub related-before : (ts : List Table) (limit : ℕ) (log : List Entry) → AreLogged log → AllByRecursion (λ e. e.footprint.fk ≡ true → e.sequence ≤ start_of ts limit log) log
+pub related-before : (ts : List Table) (limit : ℕ) (log : List Entry) → AreLogged log → AllByRecursion (λ e. e.footprint.flags.fk ≡ true → e.sequence ≤ start_of ts limit log) log
 related-before ts limit [] are = tt
 related-before ts limit (last ∷ older) are = (
-  λ related. at_its_own last.footprint.fk (nat_lt limit (digest_count ts (start_of ts limit older) older + length (digests_in ts last))) last.sequence (start_of ts limit older) related,
-  AllByRecursion-weaker (λ (e : Entry). e.footprint.fk ≡ true → e.sequence ≤ start_of ts limit older) (λ e. e.footprint.fk ≡ true → e.sequence ≤ start_of ts limit (last ∷ older))
+  λ related. at_its_own last.footprint.flags.fk (nat_lt limit (digest_count ts (start_of ts limit older) older + length (digests_in ts last))) last.sequence (start_of ts limit older) related,
+  AllByRecursion-weaker (λ (e : Entry). e.footprint.flags.fk ≡ true → e.sequence ≤ start_of ts limit older) (λ e. e.footprint.flags.fk ≡ true → e.sequence ≤ start_of ts limit (last ∷ older))
       (λ e before related. within_either (starts_at ts limit last older) last.sequence (start_of ts limit older) e.sequence
       (omega (arith, before related, start-within ts limit older are.1, are.0.number)) (before related))
       older (related-before ts limit older are.1),

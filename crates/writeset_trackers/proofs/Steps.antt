@@ -31,7 +31,7 @@ starts_before ts log h n is long = omega (arith, is.start, start-within ts h.lim
 module _ (ts : List Table) (older : List Entry) (h : History) (last : Entry) (digests : List ℕ) (is : IsHistoryOf ts older h) (logged : IsLogged (length older + 1) last) (set : digests ≡ digests_in ts last) where
   -- the history is emptied just where that of the log starts at the last entry
   same_test : empties h last.footprint digests ≡ starts_at ts h.limit last older
-  same_test = λ i. last.footprint.fk || nat_lt h.limit (count i + length (set i))
+  same_test = λ i. last.footprint.flags.fk || nat_lt h.limit (count i + length (set i))
     where
       count : len h.numbers ≡ digest_count ts (start_of ts h.limit older) older
       count = count-is ts h.start older h.numbers is.logged is.numbers ∙ ap (λ start. digest_count ts start older) is.start

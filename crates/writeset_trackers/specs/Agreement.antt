@@ -9,7 +9,7 @@ use Rattle.writeset_history.specs.History.{History}
 -- The entry is numbered by its place. It refers to rows only where it is foreign-key related.
 pub record IsLogged (place : ℕ) (entry : Entry) : Type 0 where
   pub number : entry.sequence ≡ place
-  pub refs : entry.footprint.fk ≡ false → entry.footprint.refs ≡ []
+  pub refs : entry.footprint.flags.fk ≡ false → entry.footprint.refs ≡ []
 
 -- of these entries the oldest has place 1
 abbrev pub AreLogged : List Entry → Type 0

@@ -12,12 +12,12 @@ last_number h digests = greatest h.start (map (number_of h) digests)
 -- The order parent for a transaction that is foreign-key related or misses a key; else no later than the last number that touched
 -- one of its digests.
 abbrev pub parent_by : History → Footprint → List ℕ → ℕ → ℕ
-parent_by h t digests order = if t.fk || t.missing_keys then order else min order (last_number h digests)
+parent_by h t digests order = if t.flags.fk || t.flags.missing_keys then order else min order (last_number h digests)
 
 -- Whether the transaction empties the history: it is foreign-key related, or its digests, beside those that are there, are over the
 -- limit.
 abbrev pub empties : History → Footprint → List ℕ → Bool
-empties h t digests = t.fk || nat_lt h.limit (len h.numbers + length digests)
+empties h t digests = t.flags.fk || nat_lt h.limit (len h.numbers + length digests)
 
 -- the history behind the transaction, which has this number
 abbrev pub noted : History → Footprint → List ℕ → ℕ → History

@@ -12,7 +12,7 @@ use writeset_history::History;
 pub(crate) fn parent_by(history: &History, t: &Footprint, w: &WriteSet, order_parent: u64) -> u64
     ensures { result ≡ parent_by history.now t.now w.now order_parent }
 {
-    if t.fk || t.missing_keys {
+    if t.flags.fk || t.flags.missing_keys {
         order_parent
     } else {
         order_parent.min(last_number(history, w.digests()))
@@ -48,5 +48,5 @@ pub(crate) fn note(history: &mut History, t: &Footprint, w: &WriteSet, sequence:
 fn empties(history: &History, t: &Footprint, w: &WriteSet) -> bool
     ensures { result ≡ empties history.now t.now w.now }
 {
-    t.fk || !history.has_room(w.len())
+    t.flags.fk || !history.has_room(w.len())
 }
