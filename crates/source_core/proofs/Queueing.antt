@@ -42,7 +42,7 @@ pub record IsPrepared (o : Option Transaction) (order : ℕ) : Type 0 where
   pub is : o ≡ Some t
   pub phase : t.phase ≡ Prepared order
 
-prepared_phase : (t : Transaction) (phase : Phase) (order : ℕ) → t.phase ≡ phase → prepared_order (record { overlay = t.overlay; refs = t.refs; phase = phase }) ≡ Some order → t.phase ≡ Prepared order
+prepared_phase : (t : Transaction) (phase : Phase) (order : ℕ) → t.phase ≡ phase → prepared_order (with_phase phase t) ≡ Some order → t.phase ≡ Prepared order
 prepared_phase t Active order e h = cc
 prepared_phase t (Prepared parent) order e h = e ∙ ap Prepared (same_Some parent order h)
 prepared_phase t (Queued parent) order e h = cc
@@ -82,7 +82,7 @@ module _ (c : PlaceCall) (order : ℕ) (told : option_and_then prepared_order c.
   free = prepared_is_free (placed p.places i) order w
 
   abbrev its : Transaction
-  its = record { overlay = w.t.overlay; refs = w.t.refs; phase = Queued order }
+  its = with_phase (Queued order) w.t
 
   abbrev now : Option Transaction
   now = Some its

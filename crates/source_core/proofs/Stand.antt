@@ -8,7 +8,7 @@ use Rattle.std.proofs.Math.ListN.{get_or-map}
 use Rattle.schema.specs.declared.Table.{Table}
 use Rattle.schema.specs.Rows.{conflicts}
 use Rattle.schema.proofs.Lists.{get_behind}
-use Rattle.rows.specs.Database.{Database, writes, kin, effect}
+use Rattle.rows.specs.Database.{Database, writes, kin, effect, touched_by}
 use Rattle.store_trait.specs.Batch.{put_batch}
 use Rattle.record_codec.specs.Log.{after}
 use Rattle.record_codec.specs.declared.records.Record.{Record}
@@ -17,7 +17,7 @@ use Rattle.row_locks.proofs.Holders.{holders_do_not_conflict}
 use Rattle.source_core.specs.declared.transaction.Transaction.{Transaction}
 use Rattle.tracker_trait.specs.Kind.{Kind}
 use Rattle.source_core.specs.Source.{Source, Open, EachApplies, IsSound, open_of, held_for, locks_over}
-use Rattle.source_core.specs.Core.{Parts, IsCore, IsFlushedAs, AreFlushed, open_view, sessions_view, source_of, placed, touched_over}
+use Rattle.source_core.specs.Core.{Parts, IsCore, IsFlushedAs, AreFlushed, open_view, sessions_view, source_of, placed}
 
 -- what the session of a place holds
 pub held_at : (ts : List Table) (rows : Database) (places : List (Option Transaction)) (i : ℕ) →
@@ -38,7 +38,7 @@ held_by_place p core i t at =
 
 -- the transactions of two sessions do not conflict
 pub apart : (p : Parts) → IsCore p → (i j : ℕ) (t u : Transaction) → i ≢ j → placed p.places i ≡ Some t → placed p.places j ≡ Some u →
-    conflicts (touched_over p.tables p.rows t.overlay.changes) (touched_over p.tables p.rows u.overlay.changes) ≡ false
+    conflicts (touched_by p.tables t.overlay.changes p.rows) (touched_by p.tables u.overlay.changes p.rows) ≡ false
 apart p core i j t u ne at there =
     holders_do_not_conflict p.locks core.no_clash (i + 1) (j + 1)
     (writes t.overlay.changes) (kin p.tables t.overlay.changes p.rows) (writes u.overlay.changes) (kin p.tables u.overlay.changes p.rows) (omega arith) (omega arith) (λ e. ne (omega (arith, e)))

@@ -10,6 +10,7 @@ use Rattle.rows.specs.Shape.{has_columns}
 use Rattle.record_codec.specs.declared.records.Record.{Record}
 use Rattle.record_codec.specs.Group as codec
 use Rattle.record_codec.specs.Group.{GroupValue}
+use Rattle.record_codec.specs.Version.{current}
 use Rattle.source_core.specs.declared.transaction.Phase.{Phase}
 use Rattle.source_core.specs.declared.transaction.Phase.TheVariants.{Active, Prepared, Queued, Flushed}
 use Rattle.source_core.specs.declared.fault.SourceFault.{SourceFault}
@@ -175,11 +176,12 @@ AreNextRecords s before (session ∷ sessions) [] = ⊥
 abbrev pub seen_log : Source → List Seen
 seen_log s = entries_of s.tables s.log s.owners
 
--- a flush: the queued transactions are the records of the group
+-- a flush: the queued transactions are the records of the group, in the form that sources write
 pub record Flushes (old : Source) (group : GroupValue) (new : Source) : Type 0 where
   pub records : List Record
   pub are : AreNextRecords old (seen_log old) old.queue records
   pub leaves : new ≡ flushed old records
+  pub version : group.version ≡ current
   pub group_of : codec.AreRecordsOf group records
 
 -- synced
@@ -188,7 +190,7 @@ pub record Flushes (old : Source) (group : GroupValue) (new : Source) : Type 0 w
 abbrev pub size_of : GroupValue → ℕ
 size_of group = group.last + 1 - group.first
 
--- The group is the oldest that is not synced, as it was flushed: its records are those of the log from behind the synced
+-- The group is the oldest unsynced one, as it was flushed: its records are those of the log from behind the synced
 -- ones to its last, and these are as many as were flushed together.
 pub record IsOldest (s : Source) (group : GroupValue) : Type 0 where
   pub are : codec.AreRecordsOf group (drop s.synced (take group.last s.log))

@@ -1,19 +1,20 @@
 -- How a source's parts stand together.
-use Rattle.std.specs.Prelude.{◌≡◌, ℕ, ℤ, ◌+◌, ◌-◌, ◌<◌, ◌≤◌, ◌^◌, IsTrue, true, if◌then◌else◌, Bool, List, [], ◌∷◌, ◌++◌, length, map, take, drop, slice_get, slice_index_or, Option, Some, None}
+use Rattle.std.specs.Prelude.{◌≡◌, ℕ, ◌+◌, ◌-◌, ◌<◌, ◌≤◌, ◌^◌, IsTrue, true, if◌then◌else◌, Bool, List, [], ◌∷◌, ◌++◌, length, map, take, drop, slice_get, slice_index_or, Option, Some, None}
 use Rattle.std.specs.FinMap.{empty}
 use Rattle.std.specs.List.{list_any, IsDistinct}
 use Rattle.std.specs.Option.{option_map}
 use Rattle.std.proofs.Common.{reverse, eqb}
 use Rattle.schema.specs.declared.Table.{Table}
-use Rattle.schema.specs.declared.RowId.{RowId}
-use Rattle.schema.specs.Rows.{Touched, SameRows}
+use Rattle.schema.specs.Rows.{SameRows}
 use Rattle.schema.specs.Covering.{Covers}
 use Rattle.rows.specs.declared.Change.{Change}
-use Rattle.rows.specs.Database.{Database, writes, kin, LeavesNoOrphan}
+use Rattle.rows.specs.Database.{Database, kin, LeavesNoOrphan, touched_by}
 use Rattle.store_trait.specs.Batch.{Entry, put_batch}
 use Rattle.store_trait.specs.Fits.{Fits}
-use Rattle.overlay.specs.Pending.{Pending, pushed}
+use Rattle.overlay.specs.Pending.{Pending, none_pending, pushed}
 use Rattle.overlay.specs.Follows.{Follows}
+use Rattle.overlay.specs.declared.step.Step.{Step}
+use Rattle.overlay.specs.Step.{kin_of}
 use Rattle.record_codec.specs.declared.records.Record.{Record}
 use Rattle.record_codec.specs.Log.{after, place_of, IsLegalLog, AreShaped}
 use Rattle.log_index.specs.declared.Entry.{Entry as Seen}
@@ -74,10 +75,6 @@ source_of p kind halted = record {
 abbrev pub placed : List (Option Transaction) → ℕ → Option Transaction
 placed places i = slice_index_or places i None
 
--- the rows that a transaction of these changes touches, over this database
-abbrev pub touched_over : List Table → Database → List Change → Touched
-touched_over ts rows changes = record { writes = writes changes; refs = kin ts changes rows }
-
 -- a transaction's changes are such as the schema allows, and apply to the committed rows, where they delete no row that
 -- has a child then, and its overlay is what they leave: rows that the schema allows
 pub record Applies (ts : List Table) (rows : Database) (pending : Pending) : Type 0 where
@@ -88,16 +85,16 @@ pub record Applies (ts : List Table) (rows : Database) (pending : Pending) : Typ
   pub few : length pending.changes ≤ 1024
   pub no_orphan : LeavesNoOrphan ts pending.changes rows
 
--- the transaction has the kin of its changes, as they are applied to the committed rows
+-- the transaction's kin are those of its changes, as they are applied to the committed rows
 abbrev pub RefersTo : List Table → Database → Transaction → Type 0
-RefersTo ts rows t = t.refs ≡ kin ts t.overlay.changes rows
+RefersTo ts rows t = t.kin ≡ kin ts t.overlay.changes rows
 
 -- A transaction of this session is prepared: its order parent was committed then and covers it in the whole log, and
 -- is not before the session's last record.
 pub record IsReady (p : Parts) (session : ℕ) (changes : List Change) (order : ℕ) : Type 0 where
   pub some : 1 ≤ length changes
   pub within : order ≤ p.committed
-  pub covers : Covers (map place_of p.log) (touched_over p.tables p.rows changes) order
+  pub covers : Covers (map place_of p.log) (touched_by p.tables changes p.rows) order
   pub own : last_of (reverse p.entries) session ≤ order
 
 -- A transaction of this session is the record of this number, which is not committed.
@@ -157,7 +154,7 @@ pub record IsStored (ts : List Table) (base : List Entry) (log : List Record) (c
 
 -- Each open transaction applies to the committed rows, refers to the kin of its changes there, and holds its rows and their
 -- kin; no two sessions clash. The records that are not committed are those of the flushed transactions, and the queue those that
--- are queued, each once. Those that are not synced are those of the groups.
+-- are queued, each once. The unsynced ones are those of the groups.
 pub record IsCore (p : Parts) : Type 0 where
   pub logged : IsTrackedLog p.tables p.base p.log p.owners p.entries
   pub stored : IsStored p.tables p.base p.log p.committed p.rows
@@ -176,8 +173,8 @@ pub record IsCore (p : Parts) : Type 0 where
   pub queued : AreQueued p.places p.stages.flush
   pub distinct : IsDistinct eqb p.stages.flush
 
--- The sessions that wait for their sync own the records that are flushed and not synced, and those that wait for their
--- commit the records that are synced and not committed, in log order.
+-- The sessions that wait for their sync own the unsynced records, and those that wait for their commit the records that are
+-- synced and not committed, in log order.
 pub record Wait (stages : Queues) (owners : List ℕ) (synced_ committed_ : ℕ) : Type 0 where
   pub syncing : stages.sync ≡ drop synced_ owners
   pub committing : stages.commit ≡ drop committed_ (take synced_ owners)
@@ -188,14 +185,18 @@ pub record Holds (p : Parts) (IsSo : Type 0) : Type 0 where
   pub waits : Wait p.stages p.owners p.synced p.committed
   pub tracked : IsSo
 
+-- a transaction without changes
+abbrev pub new_transaction : Transaction
+new_transaction = record { overlay = none_pending; kin = []; phase = Active }
+
 -- the transaction in another phase
 abbrev pub with_phase : Phase → Transaction → Transaction
-with_phase phase t = record { overlay = t.overlay; refs = t.refs; phase = phase }
+with_phase phase t = record t { phase = phase }
 
--- the transaction with one more change, what it leaves of its row, and the parents of that
-abbrev pub with_change : Option Transaction → Change → Option (List ℤ) → List RowId → Option Transaction
-with_change None change left more = None
-with_change (Some t) change left more = Some (record { overlay = pushed t.overlay change left; refs = t.refs ++ more; phase = t.phase })
+-- the transaction with one more change, which does so to its row
+abbrev pub with_change : Option Transaction → Change → Step → Option Transaction
+with_change None change step = None
+with_change (Some t) change step = Some (record t { overlay = pushed t.overlay change step.left; kin = t.kin ++ kin_of step })
 
 -- the order parent of a prepared transaction
 abbrev pub prepared_order : Transaction → Option ℕ
@@ -206,4 +207,4 @@ abbrev pub ready : Option Transaction → ℕ → Option Transaction × Answer
 ready None parent = (None, answers.Empty)
 ready (Some t) parent =
     if is_empty_list t.overlay.changes then (None, answers.Empty)
-    else (Some (record { overlay = t.overlay; refs = t.refs; phase = Prepared parent }), answers.Parent parent)
+    else (Some (with_phase (Prepared parent) t), answers.Parent parent)

@@ -18,11 +18,11 @@ LengthCovers = (ts : List Table) (base : Database) (log : List Record) → IsLeg
 abbrev pub GroupEnds : Type 0
 GroupEnds = (old new : Source) (group : GroupValue) → IsSound old → Flushes old group new → (group.first ≡ length old.log + 1) × (group.last ≡ length new.log)
 
--- the group of a flush is counted behind those that wait already
+-- the group of a flush is counted behind the unsynced groups before it
 abbrev pub GroupIsCounted : Type 0
 GroupIsCounted = (old new : Source) (group : GroupValue) → IsSound old → Flushes old group new → new.group_sizes ≡ old.group_sizes ++ size_of group ∷ []
 
--- the group of a flush is the oldest that is not synced, once all that was flushed before it is synced
+-- the group of a flush is the oldest unsynced one, once all that was flushed before it is synced
 abbrev pub GroupIsOldest : Type 0
 GroupIsOldest =
     (old new later : Source) (group : GroupValue) (more : List Record) (sizes : List ℕ) → IsSound old → Flushes old group new → later.log ≡ new.log ++ more → later.synced ≡ length old.log →

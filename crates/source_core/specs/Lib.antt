@@ -1,3 +1,4 @@
+pub mod FaultText
 pub mod Refs
 pub mod Steps
 pub mod Source

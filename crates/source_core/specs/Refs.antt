@@ -1,5 +1,5 @@
--- The parent rows that transactions refer to.
-use Rattle.std.specs.Prelude.{List, ◌++◌, map, Option, option_to_list}
+-- The refs of a record: the kin of its changes in order.
+use Rattle.std.specs.Prelude.{List, map}
 use Rattle.std.specs.FinMap.{from_entries, keys}
 use Rattle.schema.specs.declared.RowId.{RowId}
 use Rattle.schema.specs.RowId.{row_cmp}
@@ -7,7 +7,3 @@ use Rattle.schema.specs.RowId.{row_cmp}
 -- these rows in rising order, each once
 unfoldable pub rising : List RowId → List RowId
 rising rows = keys (from_entries {R = row_cmp} (map (λ row. (row, tt {0})) rows))
-
--- the rows of two that there may be
-abbrev pub both : Option RowId → Option RowId → List RowId
-both old new = option_to_list old ++ option_to_list new

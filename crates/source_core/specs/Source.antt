@@ -43,7 +43,7 @@ pub record Source : Type 0 where
   pub sessions : List (Option Open)
   -- the sessions whose transactions are queued, in order
   pub queue : List ℕ
-  -- how many records each group has that is flushed and not synced, the oldest group first
+  -- how many records each unsynced group has, the oldest group first
   pub group_sizes : List ℕ
   pub halted : Bool
 
@@ -73,8 +73,8 @@ EachApplies s = (session : ℕ) → IsSome (session_rows s session)
 abbrev pub seen_row : Source → ℕ → RowId → Option (List ℤ)
 seen_row s session id = option_and_then (λ db. get db id) (session_rows s session)
 
--- What a session holds for its open transaction: exclusively the rows that it writes, and for sharing the parent rows,
--- over the committed database, of the child rows that it changes. It holds them until the transaction ends.
+-- What a session holds for its open transaction: exclusively the rows that it writes, and for sharing the kin of its changes
+-- over the committed database. It holds them until the transaction ends.
 abbrev pub held_for : List Table → Database → Option Open → Holding
 held_for ts db open_ = option_map_or (λ t. holding (writes t.changes) (kin ts t.changes db)) open_ empty
 
@@ -124,7 +124,7 @@ abbrev pub are_shaped : List Table → List Change → Bool
 are_shaped ts changes = list_all (is_shaped ts) changes
 
 -- What is true of every source: its log is legal and not too long, its changes are such as the schema allows, its
--- counts are in order, the records that are not synced are those of its groups, and it has 256 sessions.
+-- counts are in order, the unsynced records are those of its groups, and it has 256 sessions.
 pub record IsSound (s : Source) : Type 0 where
   pub sessions : length s.sessions ≡ 256
   pub legal : IsLegalLog s.tables (loaded s.base) s.log

@@ -1,58 +1,85 @@
 //! Why a call of the source was refused.
 
+ghost use Rattle.std.specs.Prelude.{◌≡◌};
+ghost use Rattle.source_core.specs.FaultText.{fault_text};
+
 use schema::Memory;
 use std::alloc::AllocFailed;
-use thiserror::Error;
+use std::error::Error;
+use std::fmt;
 
 /// Why a call of the source was refused. The text is the fault's number and name.
-#[derive(Clone, Copy, Debug, PartialEq, Eq, Error)]
+#[derive(Clone, Copy, Debug, PartialEq, Eq)]
 pub enum SourceFault {
     /// The session number is none.
-    #[error("S1 NoSession")]
     NoSession,
     /// The session has a transaction.
-    #[error("S2 AlreadyOpen")]
     AlreadyOpen,
     /// The transaction is not in a state that allows the call, or there is none.
-    #[error("S3 NotActive")]
     NotActive,
     /// The table is not in the schema.
-    #[error("S4 NoTable")]
     NoTable,
     /// The number of columns is not the table's, or a column is named that the table lacks.
-    #[error("S5 WrongColumns")]
     WrongColumns,
-    /// Another session holds the row, or its parent row, in a way that clashes.
-    #[error("S6 RowLocked")]
+    /// Another session holds the row, or one of the change's kin, in a way that clashes.
     RowLocked,
     /// The row is there.
-    #[error("S7 RowExists")]
     RowExists,
     /// The row is not there.
-    #[error("S8 NoRow")]
     NoRow,
-    /// The row that the change gives its own as parent is not there.
-    #[error("S9 NoParent")]
+    /// The parent row that the change gives its own is not there.
     NoParent,
     /// The row has a child, and so is not deleted.
-    #[error("S10 HasChild")]
     HasChild,
     /// The transaction has 1024 changes.
-    #[error("S11 TooManyChanges")]
     TooManyChanges,
     /// The log failed, now or earlier.
-    #[error("S12 Halted")]
     Halted,
     /// Memory ran out.
-    #[error("S13 Memory")]
     Memory,
     /// The transaction is not prepared, or there is none.
-    #[error("S14 NotPrepared")]
     NotPrepared,
     /// The log and the queue have as many records as the log may have.
-    #[error("S15 Exhausted")]
     Exhausted,
 }
+
+impl SourceFault {
+    /// The fault's number and name.
+    pub fn text(self) -> &'static str
+        ensures { result.now ≡ fault_text self }
+    {
+        match self {
+            SourceFault::NoSession => "S1 NoSession",
+            SourceFault::AlreadyOpen => "S2 AlreadyOpen",
+            SourceFault::NotActive => "S3 NotActive",
+            SourceFault::NoTable => "S4 NoTable",
+            SourceFault::WrongColumns => "S5 WrongColumns",
+            SourceFault::RowLocked => "S6 RowLocked",
+            SourceFault::RowExists => "S7 RowExists",
+            SourceFault::NoRow => "S8 NoRow",
+            SourceFault::NoParent => "S9 NoParent",
+            SourceFault::HasChild => "S10 HasChild",
+            SourceFault::TooManyChanges => "S11 TooManyChanges",
+            SourceFault::Halted => "S12 Halted",
+            SourceFault::Memory => "S13 Memory",
+            SourceFault::NotPrepared => "S14 NotPrepared",
+            SourceFault::Exhausted => "S15 Exhausted",
+        }
+    }
+}
+
+impl fmt::Display for SourceFault {
+    ghost use Rattle.std.specs.Prelude.{Some};
+    ghost use Rattle.source_core.specs.FaultText.{fault_text};
+
+    ghost output = { λ fault. Some (fault_text fault) };
+
+    fn fmt<W: fmt::Write>(&self, f: &mut fmt::Formatter<W>) -> fmt::Result {
+        f.write_str(self.text())
+    }
+}
+
+impl Error for SourceFault {}
 
 impl From<Memory> for SourceFault {
     ghost use Rattle.std.specs.Prelude.{◌≡◌};

@@ -3,16 +3,16 @@
 ghost use Rattle.std.specs.Prelude.{◌≡◌, ◌≤◌, ◌++◌, ◌||◌, [], length, replicate, false, IfOk, IfErr, IsSome, OnOk, OnErr, None, option_and_then};
 ghost use Rattle.std.specs.Option.{option_map, option_map_or};
 ghost use Rattle.overlay.specs.Pending.{pushed};
+ghost use Rattle.overlay.specs.Step.{kin_of};
 ghost use Rattle.row_locks.specs.Locks.{taken, any_clashes, NoClash};
 ghost use Rattle.source_core.specs.Core.{open_view, ready, with_change, with_phase, prepared_order};
-ghost use Rattle.source_core.specs.Refs.{both};
 ghost use Rattle.source_core.specs.Steps.{locks_of as locks_for};
 ghost use Rattle.source_core.specs.Calls.{is_active as active, is_prepared};
 
-use crate::parents::Parents;
-use crate::stepping::{Step, locks_of};
+use crate::kin::Kin;
+use crate::stepping::locks_of;
 use crate::transaction::{Phase, Prepared, Transaction};
-use overlay::Overlay;
+use overlay::{Overlay, Step};
 use row_locks::{LockFault, LockTable, MAX_SESSIONS};
 use rows::Change;
 use schema::Memory;
@@ -55,7 +55,7 @@ pub(crate) fn change_count(place: &Option<Transaction>) -> usize
     }
 }
 
-/// Adds a change, with what it does to its row, to the transaction, whose session then holds the row and its parents. Where
+/// Adds a change, with what it does to its row, to the transaction, whose session then holds the row and the step's kin. Where
 /// memory runs out both stay as they are.
 pub(crate) fn write_locked(
     place: &mut Option<Transaction>,
@@ -68,52 +68,52 @@ pub(crate) fn write_locked(
     requires least { 1 ≤ session }
     requires greatest { session ≤ 256 }
     requires free { any_clashes locks.old session (locks_for change step.now) ≡ false }
-    ensures place { OnOk result (place.new ≡ with_change place.old change step.now.left (both step.now.old step.now.new)) }
+    ensures place { OnOk result (place.new ≡ with_change place.old change step.now) }
     ensures locks { OnOk result (locks.new ≡ taken locks.old session (locks_for change step.now)) }
     ensures no_clash { OnOk result (NoClash locks.new) }
     ensures same { OnErr result (place.new ≡ place.old) }
     ensures err { OnErr result (locks.new ≡ locks.old) }
 {
     let t = place.take().unwrap();
-    let (overlay, refs, done) = add_locked(t.overlay, t.refs, locks, session, change, step);
+    let (overlay, kin, done) = add_locked(t.overlay, t.kin, locks, session, change, step);
     *place = Some(Transaction {
         overlay,
-        refs,
+        kin,
         phase: t.phase,
     });
     done
 }
 
-/// The same of the transaction's parts. What it refers to is cut again where the change is not added.
+/// The same of the transaction's parts. Its kin are cut again where the change is not added.
 fn add_locked(
     overlay: Overlay,
-    mut refs: Parents,
+    mut kin: Kin,
     locks: &mut LockTable,
     session: u16,
     change: Change,
     step: &Step,
-) -> (Overlay, Parents, Result<(), Memory>)
+) -> (Overlay, Kin, Result<(), Memory>)
     requires least { 1 ≤ session }
     requires greatest { session ≤ 256 }
     requires free { any_clashes locks.old session (locks_for change step.now) ≡ false }
     ensures overlay { OnOk result.2 (result.0 ≡ pushed overlay change step.now.left) }
-    ensures refs { OnOk result.2 (result.1 ≡ refs ++ both step.now.old step.now.new) }
+    ensures kin { OnOk result.2 (result.1 ≡ kin ++ kin_of step.now) }
     ensures locks { OnOk result.2 (locks.new ≡ taken locks.old session (locks_for change step.now)) }
     ensures no_clash { OnOk result.2 (NoClash locks.new) }
     ensures same { OnErr result.2 (result.0 ≡ overlay) }
-    ensures same_refs { OnErr result.2 (result.1 ≡ refs) }
+    ensures same_kin { OnErr result.2 (result.1 ≡ kin) }
     ensures err { OnErr result.2 (locks.new ≡ locks.old) }
 {
-    let count = refs.len();
-    match refs.add(step.old, step.new) {
+    let count = kin.len();
+    match kin.add(step) {
         Ok(()) => match push_locked(overlay, locks, session, change, step) {
-            Ok(overlay) => (overlay, refs, Ok(())),
+            Ok(overlay) => (overlay, kin, Ok(())),
             Err((memory, overlay)) => {
-                refs.cut(count);
-                (overlay, refs, Err(memory))
+                kin.cut(count);
+                (overlay, kin, Err(memory))
             }
         },
-        Err(memory) => (overlay, refs, Err(memory)),
+        Err(memory) => (overlay, kin, Err(memory)),
     }
 }
 
@@ -164,7 +164,7 @@ fn ready_from(place: Option<Transaction>, parent: u64) -> (Option<Transaction>, 
         Some(t) if !t.overlay.is_empty() => (
             Some(Transaction {
                 overlay: t.overlay,
-                refs: t.refs,
+                kin: t.kin,
                 phase: Phase::Prepared { parent },
             }),
             Prepared::Parent(parent),

@@ -1,6 +1,6 @@
 //! An open transaction, and the receipt that its session gets.
 
-use crate::parents::Parents;
+use crate::kin::Kin;
 use overlay::Overlay;
 use record_codec::Changes;
 
@@ -26,11 +26,11 @@ pub enum Prepared {
     Empty,
 }
 
-/// A transaction, with what its changes leave, and the parent rows that they refer to.
+/// A transaction, with what its changes leave, and their kin.
 #[derive(Debug, Drop)]
 pub struct Transaction {
     pub overlay: Overlay,
-    pub refs: Parents,
+    pub kin: Kin,
     pub phase: Phase,
 }
 

@@ -1,35 +1,37 @@
-//! The parent rows that a transaction refers to.
+//! The kin of a transaction's changes.
 
-ghost use Rattle.std.specs.Prelude.{◌≡◌, ◌≤◌, ◌<◌, ◌+◌, ◌++◌, [], length, vec_capacity, take, option_to_list, OnOk, OnErr, IfOk};
-ghost use Rattle.source_core.specs.Refs.{rising, both};
+ghost use Rattle.std.specs.Prelude.{◌≡◌, ◌≤◌, ◌++◌, [], length, take, OnOk, OnErr, IfOk};
+ghost use Rattle.overlay.specs.Step.{kin_of};
+ghost use Rattle.source_core.specs.Refs.{rising};
 
+use overlay::Step;
 use record_codec::Refs;
 use schema::{Memory, RowId};
 use std::alloc::Global;
 use std::marker::Model;
 
-/// The parent rows, before and after each change, of the child rows that a transaction changed, in the order of its
-/// changes.
+/// The kin of a transaction's changes: the parent rows, before and after each change, of the child rows changed, in the order of
+/// the changes.
 #[derive(Debug, Drop)]
-pub struct Parents {
+pub struct Kin {
     rows: Vec<RowId>,
 }
 
-impl Model for Parents {
+impl Model for Kin {
     ghost use Rattle.std.specs.Prelude.{List};
     ghost use Rattle.schema.specs.declared.RowId.{RowId};
 
     ghost Value = { List RowId };
 
-    ghost view = { λ p. p.rows.items };
+    ghost view = { λ k. k.rows.items };
 }
 
-impl Parents {
+impl Kin {
     /// No rows. It takes no memory.
-    pub fn new(alloc: Global) -> Parents
+    pub fn new(alloc: Global) -> Kin
         ensures { result ≡ [] }
     {
-        Parents {
+        Kin {
             rows: Vec::new(alloc),
         }
     }
@@ -41,18 +43,12 @@ impl Parents {
         self.rows.len()
     }
 
-    /// Adds the parents of a row before a change and after it, where it has them. Where memory runs out nothing changes.
-    pub fn add(&mut self, old: Option<RowId>, new: Option<RowId>) -> Result<(), Memory>
-        ensures ok { OnOk result (self.new ≡ self.old ++ both old new) }
+    /// Adds the kin of one step more. Where memory runs out nothing changes.
+    pub fn add(&mut self, step: &Step) -> Result<(), Memory>
+        ensures ok { OnOk result (self.new ≡ self.old ++ kin_of step.now) }
         ensures err { OnErr result (self.new ≡ self.old) }
     {
-        if old.is_none() && new.is_none() {
-            return Ok(());
-        }
-        self.rows.reserve(2)?;
-        put_row(&mut self.rows, old);
-        put_row(&mut self.rows, new);
-        Ok(())
+        step.push_kin(&mut self.rows)
     }
 
     /// Keeps the first rows, so many of them. It takes no memory.
@@ -91,16 +87,4 @@ fn copied(rows: &Vec<RowId>) -> Result<Vec<RowId>, Memory>
     ensures { IfOk result (λ copy. copy.items ≡ rows.now.items) }
 {
     Ok(rows.clone()?)
-}
-
-/// Puts the row behind the others, where there is one, and room for it.
-fn put_row(rows: &mut Vec<RowId>, row: Option<RowId>)
-    requires { length rows.old.items < vec_capacity rows.old }
-    ensures rows { rows.new.items ≡ rows.old.items ++ option_to_list row }
-    ensures long { length rows.new.items ≤ length rows.old.items + 1 }
-    ensures room { vec_capacity rows.old ≤ vec_capacity rows.new }
-{
-    if let Some(row) = row {
-        rows.push(row).unwrap();
-    }
 }

@@ -3,7 +3,7 @@ use Rattle.std.proofs.lemmas.List.Filters.{dedup_is}
 use Rattle.schema.proofs.RowMaps.{row_eq}
 use Rattle.source_core.specs.Refs.{rising}
 use Rattle.source_core.proofs.RisingRows.{sorted_once}
-use Rattle.source_core.proofs.parents.Parents.rising.Goals as goal
+use Rattle.source_core.proofs.kin.Kin.rising.Goals as goal
 
 pub returns-clause-rows : goal.returns-clause-rows
 returns-clause-rows c =
