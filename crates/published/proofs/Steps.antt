@@ -12,7 +12,7 @@ use Rattle.published.specs.Held.{Held}
 use Rattle.published.specs.Copies.{after_step, puts_in, Settles}
 use Rattle.published.specs.Publication.{Publishing, unsaid, IsTied}
 use Rattle.published.specs.declared.version.Step.{Step}
-use Rattle.published.specs.declared.version.Step.TheVariants.{Put, Mark}
+use Rattle.published.specs.declared.version.Step.TheVariants.{Put, Note}
 use Rattle.store_trait.proofs.Batches.{left_by-append}
 use Rattle.published.proofs.Histories.{commits_with, history_length, history_with, history_past, history_front, commits_in-with}
 
@@ -20,36 +20,36 @@ module _ {J : Type 0} where
   pub puts_in-put : (steps : List (Step J)) (op : Op) → puts_in (steps ++ Put op ∷ []) ≡ puts_in steps ++ op ∷ []
   puts_in-put [] op = refl
   puts_in-put (Put first ∷ steps) op = ap (λ l. first ∷ l) (puts_in-put steps op)
-  puts_in-put (Mark ops ∷ steps) op = puts_in-put steps op
+  puts_in-put (Note ops ∷ steps) op = puts_in-put steps op
 
-  pub puts_in-mark : (steps : List (Step J)) (ops : List Op) → puts_in (steps ++ Mark ops ∷ []) ≡ puts_in steps
-  puts_in-mark [] ops = refl
-  puts_in-mark (Put first ∷ steps) ops = ap (λ l. first ∷ l) (puts_in-mark steps ops)
-  puts_in-mark (Mark others ∷ steps) ops = puts_in-mark steps ops
+  pub puts_in-note : (steps : List (Step J)) (ops : List Op) → puts_in (steps ++ Note ops ∷ []) ≡ puts_in steps
+  puts_in-note [] ops = refl
+  puts_in-note (Put first ∷ steps) ops = ap (λ l. first ∷ l) (puts_in-note steps ops)
+  puts_in-note (Note others ∷ steps) ops = puts_in-note steps ops
 
   rows_after : (steps : List (Step J)) (held : Held) → (fold after_step held steps).rows ≡ put_batches (map batch_of (puts_in steps)) held.rows
   rows_after [] held = refl
   rows_after (Put op ∷ steps) held = rows_after steps (after_step {J = J} held (Put op))
-  rows_after (Mark ops ∷ steps) held = rows_after steps (after_step {J = J} held (Mark ops))
+  rows_after (Note ops ∷ steps) held = rows_after steps (after_step {J = J} held (Note ops))
 
-  -- what waits, and then the mark
-  marked : (steps : List (Step J)) (held : Held) (ops : List Op) → fold after_step held (steps ++ Mark ops ∷ []) ≡ record { rows = put_batches (map batch_of (puts_in steps)) held.rows; by = ops }
-  marked steps held ops = fold-append after_step held steps (Mark ops ∷ []) ∙ ap (λ db. record { rows = db; by = ops }) (rows_after steps held)
+  -- what waits, and then the note
+  noted : (steps : List (Step J)) (held : Held) (ops : List Op) → fold after_step held (steps ++ Note ops ∷ []) ≡ record { rows = put_batches (map batch_of (puts_in steps)) held.rows; by = ops }
+  noted steps held ops = fold-append after_step held steps (Note ops ∷ []) ∙ ap (λ db. record { rows = db; by = ops }) (rows_after steps held)
 
   -- the steps of a publication leave what its operations leave
-  pub settles : (rows : Database) (published all : List Op) (steps after : List (Step J)) → rows ≡ left_by published → all ≡ published ++ puts_in steps → after ≡ steps ++ Mark all ∷ []
+  pub settles : (rows : Database) (published all : List Op) (steps after : List (Step J)) → rows ≡ left_by published → all ≡ published ++ puts_in steps → after ≡ steps ++ Note all ∷ []
       → Settles (record { rows = rows; by = published }) after
   settles rows published all steps after left whole is =
-      let done = ap (fold after_step (record { rows = rows; by = published })) is ∙ marked steps (record { rows = rows; by = published }) all in
+      let done = ap (fold after_step (record { rows = rows; by = published })) is ∙ noted steps (record { rows = rows; by = published }) all in
       let same : put_batches (map batch_of (puts_in steps)) rows ≡ left_by all =
       ap (put_batches (map batch_of (puts_in steps))) left ∙ sym (left_by-append published (puts_in steps)) ∙ ap left_by (sym whole) in
       ap (λ (h : Held). h.rows) done ∙ same ∙ ap (λ (h : Held). left_by h.by) (sym done)
 
   -- and then these are the operations
-  pub published_after : (rows : Database) (published all : List Op) (steps after : List (Step J)) → after ≡ steps ++ Mark all ∷ []
+  pub published_after : (rows : Database) (published all : List Op) (steps after : List (Step J)) → after ≡ steps ++ Note all ∷ []
       → (fold after_step (record { rows = rows; by = published }) after).by ≡ all
   published_after rows published all steps after is =
-      ap (λ (h : Held). h.by) (ap (fold after_step (record { rows = rows; by = published })) is ∙ marked steps (record { rows = rows; by = published }) all)
+      ap (λ (h : Held). h.by) (ap (fold after_step (record { rows = rows; by = published })) is ∙ noted steps (record { rows = rows; by = published }) all)
 
 -- the history has no more than what is published and what waits
 known_within : (rows : Database) (p : Publishing) (appended : ℕ) → IsTied rows p appended → length p.history - length p.published ≤ length p.waiting

@@ -123,7 +123,7 @@ impl<S: RowStore + Drop, J: Naming> Publisher<S, J> {
             return Err(Memory);
         };
         self.history = history;
-        add(&mut self.writer, Step::Mark(self.history.again()))?;
+        add(&mut self.writer, Step::Note(self.history.again()))?;
         show(&mut self.writer, rt)?;
         Ok(self.appended)
     }

@@ -16,8 +16,8 @@ use store_trait::{Op, RowStore};
 pub enum Step<J: Naming> {
     /// The batch of the operation is put into the store.
     Put(Op),
-    /// The store is then what these operations left.
-    Mark(Notice<J>),
+    /// It is noted that these operations left the store.
+    Note(Notice<J>),
 }
 
 /// What both copies have in common. No value of it is made.
@@ -59,7 +59,7 @@ impl<S: RowStore, J: Naming> Absorb<Step<J>> for Version<S, J> {
             Step::Put(Op::Load(batch)) | Step::Put(Op::Commit { gno: _, batch }) => {
                 self.store.put_all(batch).map_err(|_| AllocError)
             }
-            Step::Mark(by) => {
+            Step::Note(by) => {
                 self.by = by.again();
                 Ok(())
             }

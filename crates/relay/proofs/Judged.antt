@@ -1,9 +1,10 @@
 -- What the tests of a received record say.
-use Rattle.std.proofs.Common.{◌≡◌, ℕ, ◌+◌, ◌-◌, ◌<◌, ◌≤◌, ◌^◌, Bool, true, false, not, ◌&&◌, ◌||◌, nat_le, nat_lt, List, [], ◌∷◌, ◌++◌, length, Result, Ok, Err, refl, sym, ap, subst, ◌∙◌, arith}
+use Rattle.std.proofs.Common.{◌≡◌, ℕ, ◌+◌, ◌-◌, ◌<◌, ◌≤◌, ◌^◌, Bool, true, false, not, ◌&&◌, ◌||◌, nat_le, nat_lt, List, length, Result, Ok, Err, refl, sym, ap, subst, ◌∙◌, arith}
 use Rattle.std.specs.Prelude.{◌==◌, if◌then◌else◌}
 use Rattle.std.specs.List.{list_all}
 use Rattle.std.specs.Str.{bytes_eq}
 use Rattle.std.proofs.lemmas.Bool.{and_from, and_parts, ltb-true, eqb-true, le-leb, lt-leb, lt-ltb, eq-eqb, ne_eqb}
+use Rattle.std.proofs.lemmas.List.{nil_from_length}
 use Rattle.std.proofs.lemmas.Slice.Eq.{bytes_eq-Decides}
 use Rattle.schema.specs.declared.Table.{Table}
 use Rattle.rows.specs.Shape.{is_shaped}
@@ -54,24 +55,27 @@ record WellFormed (s f g b h : Bool) : Type 0 where
   formed : h ≡ true
 
 -- the parts of what the tables allow
-record Formed (s f p r : Bool) : Type 0 where
+record Formed (s f p r m : Bool) : Type 0 where
   shaped : s ≡ true
   flags : f ≡ true
   parents : p ≡ true
   refs : r ≡ true
+  marks : m ≡ true
 
-formed_by : (shaped flags parents refs : Bool) → (shaped && flags && parents && refs) ≡ true → Formed shaped flags parents refs
-formed_by shaped flags parents refs h =
-    let three = and_parts (shaped && flags && parents) refs h in
+formed_by : (shaped flags parents refs marks : Bool) → (shaped && flags && parents && refs && marks) ≡ true → Formed shaped flags parents refs marks
+formed_by shaped flags parents refs marks h =
+    let four = and_parts (shaped && flags && parents && refs) marks h in
+    let three = and_parts (shaped && flags && parents) refs four.0 in
     let two = and_parts (shaped && flags) parents three.0 in
     let one = and_parts shaped flags two.0 in
-    record { shaped = one.0; flags = one.1; parents = two.1; refs = three.1 }
+    record { shaped = one.0; flags = one.1; parents = two.1; refs = three.1; marks = four.1 }
 
 formed_of : (ts : List Table) (log : List Record) (new : Record) → IsAcceptable ts log new → is_formed ts new ≡ true
 formed_of ts log new is =
-    and_from (list_all (is_shaped ts) new.changes && has_flags ts new && are_parents ts new.refs) (list_all (has_ref ts new.refs) new.changes)
+    and_from (list_all (is_shaped ts) new.changes && has_flags ts new && are_parents ts new.refs && list_all (has_ref ts new.refs) new.changes) (length new.marks == 0)
+    (and_from (list_all (is_shaped ts) new.changes && has_flags ts new && are_parents ts new.refs) (list_all (has_ref ts new.refs) new.changes)
     (and_from (list_all (is_shaped ts) new.changes && has_flags ts new) (are_parents ts new.refs)
-    (and_from (list_all (is_shaped ts) new.changes) (has_flags ts new) is.shaped is.flags) is.parents) is.refs
+    (and_from (list_all (is_shaped ts) new.changes) (has_flags ts new) is.shaped is.flags) is.parents) is.refs) (eq-eqb (length new.marks) 0 (ap length is.marks))
 
 well_formed : (some few same below formed : Bool) → malformed_by some few same below formed ≡ false → WellFormed some few same below formed
 well_formed true true true true true e = record { some = refl; few = refl; same = refl; below = refl; formed = refl }
@@ -85,7 +89,7 @@ pub accepted_is_acceptable : (r : Relay) (from : List ℕ) (new : Record) → re
 accepted_is_acceptable r from new e =
     let p = all_passed (bytes_eq from r.source) (is_malformed r.tables new) (nat_le new.gno (length r.accepted)) (new.gno == length r.accepted + 1) (is_covered r.accepted new) e in
     let w = well_formed (nat_le 1 new.gno) (nat_lt new.gno (2 ^ 63)) (new.sequence == new.gno) (nat_lt new.parent new.sequence) (is_formed r.tables new) p.malformed in
-    let f = formed_by (list_all (is_shaped r.tables) new.changes) (has_flags r.tables new) (are_parents r.tables new.refs) (list_all (has_ref r.tables new.refs) new.changes) w.formed in
+    let f = formed_by (list_all (is_shaped r.tables) new.changes) (has_flags r.tables new) (are_parents r.tables new.refs) (list_all (has_ref r.tables new.refs) new.changes) (length new.marks == 0) w.formed in
     let gno = eqb-true new.gno (length r.accepted + 1) p.next in (
       (bytes_eq-Decides from r.source).0 p.same,
       record {
@@ -98,6 +102,7 @@ accepted_is_acceptable r from new e =
         flags = f.flags;
         parents = f.parents;
         refs = f.refs;
+        marks = nil_from_length new.marks (eqb-true (length new.marks) 0 f.marks);
       },
     )
 
@@ -135,6 +140,12 @@ accepts_the_acceptable r from new = (accepted_is_acceptable r from new, λ both.
 -- what a record that is accepted is, as it is judged
 pub next_of : (r now : Relay) (from : List ℕ) (new : Record) (answer : Result Received ReplicaFault) → r ≡ now → answer ≡ received now from new → answer ≡ Ok Accepted → (from ≡ r.source) × IsAcceptable r.tables r.accepted new
 next_of r now from new answer same e is = accepted_is_acceptable r from new (ap (λ (q : Relay). received q from new) same ∙ sym e ∙ is)
+
+-- the ids before the next record
+pub ids_before : (source from : List ℕ) (n gno : ℕ) (ids : Ids) → from ≡ source → gno ≡ n + 1 → ids ≡ first_ids source n → ids ≡ first_ids from (gno - 1)
+ids_before source from n gno ids same next is =
+    let before : n ≡ gno - 1 = omega arith in
+    is ∙ ap (λ (s : List ℕ). first_ids s n) (sym same) ∙ ap (first_ids from) before
 
 -- the id is put in behind those before it
 pub next_put : (source : List ℕ) (gno : ℕ) (old new : Ids) → 1 ≤ gno → gno < 2 ^ 63 → old ≡ first_ids source (gno - 1) → Adds old new (record { source = source; gno = gno }) → new ≡ first_ids source gno

@@ -16,7 +16,7 @@ use Rattle.record_codec.specs.declared.records.Record.{Record}
 use Rattle.record_codec.specs.Log.{touched, place_of}
 use Rattle.relay.specs.declared.touches.Touch.{Touch}
 use Rattle.relay.specs.Relay.{is_covered, IsAcceptable}
-use Rattle.relay.specs.Touches.{Marks, last_of, writes_row, touches_row, written_at, touched_at, touch_at, untouched, AreLastTouches, Notes, is_behind}
+use Rattle.relay.specs.Touches.{LastTouches, last_of, writes_row, touches_row, written_at, touched_at, touch_at, untouched, AreLastTouches, Notes, is_behind}
 use Rattle.relay.specs.Kept.{IsKept}
 use Rattle.relay.proofs.Covered.{AreBehind}
 use Rattle.schema.proofs.Covers.{passed_covers, covers_passes}
@@ -48,29 +48,29 @@ newest : (b : Bool) (gno sequence last : ℕ) → gno ≡ sequence → last ≤ 
 newest true gno sequence last same le = omega arith
 newest false gno sequence last same le = omega arith
 
-pub none_kept : (ts : List Table) (source : List ℕ) (ids : Ids) (marks : Marks) → ids ≡ no_ids → marks ≡ empty → IsKept ts source [] ids marks
-none_kept ts source ids marks no_id none = record {
+pub none_kept : (ts : List Table) (source : List ℕ) (ids : Ids) (touches : LastTouches) → ids ≡ no_ids → touches ≡ empty → IsKept ts source [] ids touches
+none_kept ts source ids touches no_id none = record {
   acceptable = empty_is_acceptable ts;
   ids_are = no_id;
   last = record { written = λ q. ap (λ (t : Touch). t.written) (nothing q); touched = λ q. ap (λ (t : Touch). t.touched) (nothing q) };
 }
   where
-    nothing : (q : RowId) → touch_at marks q ≡ untouched
+    nothing : (q : RowId) → touch_at touches q ≡ untouched
     nothing q = ap (λ m. touch_at m q) none ∙ ap (λ o. unwrap_or o untouched) (get-empty row_cmp q)
 
 -- A record put behind those that are kept: it is the next, and what is left has it.
-pub record Puts (ts : List Table) (source : List ℕ) (log : List Record) (ids : Ids) (marks : Marks) (r : Record) : Type 0 where
-  pub kept : IsKept ts source log ids marks
+pub record Puts (ts : List Table) (source : List ℕ) (log : List Record) (ids : Ids) (touches : LastTouches) (r : Record) : Type 0 where
+  pub kept : IsKept ts source log ids touches
   pub next : IsAcceptable ts log r
   pub left : List Record
   pub left_is : left ≡ log ++ r ∷ []
   pub with_next : Ids
   pub ids_are : with_next ≡ first_ids source r.gno
-  pub now : Marks
-  pub notes : Notes marks r now
+  pub now : LastTouches
+  pub notes : Notes touches r now
 
-pub one_more_kept : (ts : List Table) (source : List ℕ) (log : List Record) (ids : Ids) (marks : Marks) (r : Record) (put : Puts ts source log ids marks r) → IsKept ts source put.left put.with_next put.now
-one_more_kept ts source log ids marks r put = subst (λ (l : List Record). IsKept ts source l put.with_next put.now) (sym put.left_is) (record {
+pub one_more_kept : (ts : List Table) (source : List ℕ) (log : List Record) (ids : Ids) (touches : LastTouches) (r : Record) (put : Puts ts source log ids touches r) → IsKept ts source put.left put.with_next put.now
+one_more_kept ts source log ids touches r put = subst (λ (l : List Record). IsKept ts source l put.with_next put.now) (sym put.left_is) (record {
   acceptable = next_is_acceptable ts log r put.kept.acceptable put.next;
   ids_are = put.ids_are ∙ ap (first_ids source) (put.next.gno ∙ sym (length_push log r));
   last = record {
@@ -180,15 +180,15 @@ le_all f p (x ∷ rows) h =
     (le_all f p rows (λ q is. h q (or_right (same_row q x) (has_row rows q) is)))
 
 -- a parent that is no lower than the last touches covers the log
-pub behind_covers : (log : List Record) (marks : Marks) (new : Record) → AreLastTouches log marks → is_behind marks new ≡ is_covered log new
-behind_covers log marks new last = both_or_none (is_behind marks new) (is_covered log new) (λ h.
-    let parts = and_parts (list_all (λ row. nat_le (touched_at marks row) new.parent) (writes new.changes)) (list_all (λ row. nat_le (written_at marks row) new.parent) new.refs) h in
+pub behind_covers : (log : List Record) (touches : LastTouches) (new : Record) → AreLastTouches log touches → is_behind touches new ≡ is_covered log new
+behind_covers log touches new last = both_or_none (is_behind touches new) (is_covered log new) (λ h.
+    let parts = and_parts (list_all (λ row. nat_le (touched_at touches row) new.parent) (writes new.changes)) (list_all (λ row. nat_le (written_at touches row) new.parent) new.refs) h in
     covers_passes place_of log (touched new) new.parent (under_covers log new (record {
-      written = λ q is. subst (λ n. n ≤ new.parent) (last.touched q) (all_le (touched_at marks) new.parent (writes new.changes) parts.0 q is);
-      referred = λ q is. subst (λ n. n ≤ new.parent) (last.written q) (all_le (written_at marks) new.parent new.refs parts.1 q is);
+      written = λ q is. subst (λ n. n ≤ new.parent) (last.touched q) (all_le (touched_at touches) new.parent (writes new.changes) parts.0 q is);
+      referred = λ q is. subst (λ n. n ≤ new.parent) (last.written q) (all_le (written_at touches) new.parent new.refs parts.1 q is);
     })))
     (λ h.
     let under = covers_under log new (passed_covers place_of log (touched new) new.parent h) in
-    and_from (list_all (λ row. nat_le (touched_at marks row) new.parent) (writes new.changes)) (list_all (λ row. nat_le (written_at marks row) new.parent) new.refs)
-    (le_all (touched_at marks) new.parent (writes new.changes) (λ q is. subst (λ n. n ≤ new.parent) (sym (last.touched q)) (under.written q is)))
-    (le_all (written_at marks) new.parent new.refs (λ q is. subst (λ n. n ≤ new.parent) (sym (last.written q)) (under.referred q is))))
+    and_from (list_all (λ row. nat_le (touched_at touches row) new.parent) (writes new.changes)) (list_all (λ row. nat_le (written_at touches row) new.parent) new.refs)
+    (le_all (touched_at touches) new.parent (writes new.changes) (λ q is. subst (λ n. n ≤ new.parent) (sym (last.touched q)) (under.written q is)))
+    (le_all (written_at touches) new.parent new.refs (λ q is. subst (λ n. n ≤ new.parent) (sym (last.written q)) (under.referred q is))))

@@ -5,12 +5,12 @@ use Rattle.std.proofs.lemmas.Bool.{cases_eq, cases_lt, and_from}
 use Rattle.std.specs.Cmp.{booleans_Decides}
 use Rattle.std.proofs.Math.Bool.{beq}
 use Rattle.schema.specs.declared.Table.{Table}
-use Rattle.schema.specs.Flags.{is_fk, misses_keys}
+use Rattle.schema.specs.declared.Flags.{Flags}
+use Rattle.schema.specs.Flags.{flags_of}
 use Rattle.rows.specs.Database.{writes}
 use Rattle.rows.specs.Shape.{is_shaped}
 use Rattle.record_codec.specs.declared.records.Record.{Record}
-use Rattle.record_codec.specs.declared.records.Flags.{Flags}
-use Rattle.record_codec.specs.Log.{flags_of, AreShaped}
+use Rattle.record_codec.specs.Log.{AreShaped}
 use Rattle.relay.specs.Form.{has_flags}
 use Rattle.relay.specs.Relay.{received, IsAcceptable}
 use Rattle.relay.specs.Laws.{LegalIsAcceptable, ReceivesOfLog}
@@ -28,9 +28,10 @@ within log front rest new e = omega (arith, ap length e, length-append front (ne
 -- flags that are those of the tables that are written pass the test
 flags_fit : (ts : List Table) (new : Record) → new.flags ≡ flags_of ts (writes new.changes) → has_flags ts new ≡ true
 flags_fit ts new is =
-    let fk : beq new.flags.fk (is_fk ts (writes new.changes)) ≡ true = (booleans_Decides new.flags.fk (is_fk ts (writes new.changes))).1 (ap (λ (f : Flags). f.fk) is) in
-    let keys : beq new.flags.missing_keys (misses_keys ts (writes new.changes)) ≡ true = (booleans_Decides new.flags.missing_keys (misses_keys ts (writes new.changes))).1 (ap (λ (f : Flags). f.missing_keys) is) in
-    and_from (beq new.flags.fk (is_fk ts (writes new.changes))) (beq new.flags.missing_keys (misses_keys ts (writes new.changes))) fk keys
+    let flags = flags_of ts (writes new.changes) in
+    let fk : beq new.flags.fk flags.fk ≡ true = (booleans_Decides new.flags.fk flags.fk).1 (ap (λ (f : Flags). f.fk) is) in
+    let keys : beq new.flags.missing_keys flags.missing_keys ≡ true = (booleans_Decides new.flags.missing_keys flags.missing_keys).1 (ap (λ (f : Flags). f.missing_keys) is) in
+    and_from (beq new.flags.fk flags.fk) (beq new.flags.missing_keys flags.missing_keys) fk keys
 
 pub legal_is_acceptable : LegalIsAcceptable
 legal_is_acceptable ts base log legal shaped few = λ front new rest e.
@@ -46,6 +47,7 @@ legal_is_acceptable ts base log legal shaped few = λ front new rest e.
       flags = flags_fit ts new next.flags;
       parents = refs_are_parents ts new.changes next.before new.refs next.refs;
       refs = all_have_refs ts new.changes next.before next.leaves new.refs next.applies (λ q is. next.refs q ∙ is);
+      marks = next.marks;
     }
 
 take_front : (front rest : List Record) (new : Record) → take (length front) (front ++ new ∷ rest) ≡ front

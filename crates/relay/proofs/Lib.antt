@@ -1,5 +1,5 @@
 pub mod Referred
-pub mod Marks
+pub mod Noting
 pub mod Covered
 pub mod Acceptable
 pub mod Last

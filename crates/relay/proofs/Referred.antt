@@ -26,7 +26,8 @@ use Rattle.rows.specs.Naming.{NamedColumns, names_column, assigned, assigned_fro
 use Rattle.rows.proofs.Apply.{row_is, same_row_itself, has_row-left, has_row-right, apply_changes}
 use Rattle.rows.proofs.Assigned.{assigned_takes}
 use Rattle.rows.proofs.Effect.{effect_first, kin_then}
-use Rattle.relay.specs.Form.{are_parents, given_value, given_parent, has_ref}
+use Rattle.rows.specs.Given.{given_value, given_parent}
+use Rattle.relay.specs.Form.{are_parents, has_ref}
 
 -- ---- sets of rows
 

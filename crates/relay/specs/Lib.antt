@@ -3,3 +3,4 @@ pub mod Relay
 pub mod Touches
 pub mod Kept
 pub mod Laws
+pub mod FaultText

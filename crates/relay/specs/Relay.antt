@@ -21,15 +21,17 @@ pub record Relay : Type 0 where
   -- the records accepted, in order
   pub accepted : List Record
 
--- Whether a source of these tables may write such changes, flags and refs, whatever the rows are: each change is of a table,
--- and of columns that the table has; the flags are those of the tables that the changes write; each ref is of a table that is
--- a parent; and each parent row that a change gives its row, as an insert into a child table does and an update that names the
--- parent column, is among the refs.
+-- Whether a source of these tables may write such changes, flags, refs and marks, whatever the rows are: each change is of a
+-- table, and of columns that the table has; the flags are those of the tables that the changes write; each ref is of a table
+-- that is a parent; each parent row that a change gives its row, as an insert into a child table does and an update that names
+-- the parent column, is among the refs; and there are no marks.
 abbrev pub is_formed : List Table → Record → Bool
-is_formed ts new = list_all (is_shaped ts) new.changes && has_flags ts new && are_parents ts new.refs && list_all (has_ref ts new.refs) new.changes
+is_formed ts new =
+    list_all (is_shaped ts) new.changes && has_flags ts new && are_parents ts new.refs && list_all (has_ref ts new.refs) new.changes && (length new.marks == 0)
 
 -- A record that no source of these tables writes, whatever is before it: its number is 0 or past the last one there can be;
--- its sequence number is another, or not above its parent; or its changes, flags and refs are none that these tables allow.
+-- its sequence number is another, or not above its parent; or its changes, flags, refs and marks are none that these tables
+-- allow.
 abbrev pub is_malformed : List Table → Record → Bool
 is_malformed ts new =
     not (nat_le 1 new.gno && nat_lt new.gno (2 ^ 63)) || not (new.sequence == new.gno) || not (nat_lt new.parent new.sequence)
@@ -60,7 +62,7 @@ left_by_receive r new Skipped = r
 
 -- A record that may stand behind these: the next number, as gno and as sequence number; a parent below it that covers them;
 -- each change of a table, and of columns that the table has; the flags of the tables that they write; refs to rows of parent
--- tables alone, and among them each parent row that a change gives its row.
+-- tables alone, and among them each parent row that a change gives its row; and no marks.
 pub record IsAcceptable (ts : List Table) (log : List Record) (new : Record) : Type 0 where
   pub gno : new.gno ≡ length log + 1
   pub sequence : new.sequence ≡ length log + 1
@@ -71,6 +73,7 @@ pub record IsAcceptable (ts : List Table) (log : List Record) (new : Record) : T
   pub flags : has_flags ts new ≡ true
   pub parents : are_parents ts new.refs ≡ true
   pub refs : list_all (has_ref ts new.refs) new.changes ≡ true
+  pub marks : new.marks ≡ []
 
 -- each of the records may stand behind those before it
 abbrev pub AreAcceptable : List Table → List Record → Type 0

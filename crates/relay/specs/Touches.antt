@@ -23,56 +23,56 @@ abbrev pub touches_row : RowId → Record → Bool
 touches_row q r = has_row (writes r.changes) q || has_row r.refs q
 
 -- a row's last touches, for each row that was touched
-abbrev pub Marks : Type 0
-Marks = FinMap row_cmp Touch
+abbrev pub LastTouches : Type 0
+LastTouches = FinMap row_cmp Touch
 
 -- with how many more rows can be added without memory
 pub record Sheet : Type 0 where
-  pub rows : Marks
+  pub rows : LastTouches
   pub room : ℕ
 
 abbrev pub touch_code : Coded Touch
 touch_code = code_by (ℕ × ℕ) (coded× coded_ℕ coded_ℕ) (λ t. (t.written, t.touched)) (λ p. record { written = p.0; touched = p.1 }) (λ _. refl)
 
-abbrev pub marks_code : Coded Marks
-marks_code = code coded_row_id touch_code
+abbrev pub touches_code : Coded LastTouches
+touches_code = code coded_row_id touch_code
 
 abbrev pub sheet_code : Coded Sheet
 sheet_code =
-    code_by (Marks × ℕ) (coded× marks_code coded_ℕ) (λ s. (s.rows, s.room)) (λ p. record { rows = p.0; room = p.1 }) (λ _. refl)
+    code_by (LastTouches × ℕ) (coded× touches_code coded_ℕ) (λ s. (s.rows, s.room)) (λ p. record { rows = p.0; room = p.1 }) (λ _. refl)
 
 abbrev pub untouched : Touch
 untouched = record { written = 0; touched = 0 }
 
-abbrev pub touch_at : Marks → RowId → Touch
-touch_at marks row = unwrap_or (get marks row) untouched
+abbrev pub touch_at : LastTouches → RowId → Touch
+touch_at touches row = unwrap_or (get touches row) untouched
 
-abbrev pub written_at : Marks → RowId → ℕ
-written_at marks row = let touch = touch_at marks row in touch.written
+abbrev pub written_at : LastTouches → RowId → ℕ
+written_at touches row = let touch = touch_at touches row in touch.written
 
-abbrev pub touched_at : Marks → RowId → ℕ
-touched_at marks row = let touch = touch_at marks row in touch.touched
+abbrev pub touched_at : LastTouches → RowId → ℕ
+touched_at touches row = let touch = touch_at touches row in touch.touched
 
--- the marks are the last touches of these records
-pub record AreLastTouches (log : List Record) (marks : Marks) : Type 0 where
-  pub written : (q : RowId) → written_at marks q ≡ last_of (writes_row q) log
-  pub touched : (q : RowId) → touched_at marks q ≡ last_of (touches_row q) log
+-- each row's touches are its last in these records
+pub record AreLastTouches (log : List Record) (touches : LastTouches) : Type 0 where
+  pub written : (q : RowId) → written_at touches q ≡ last_of (writes_row q) log
+  pub touched : (q : RowId) → touched_at touches q ≡ last_of (touches_row q) log
 
 -- the record's parent is no lower than the last touch of each row that it writes, and than the last write of each that it refers to
-abbrev pub is_behind : Marks → Record → Bool
-is_behind marks new =
-    list_all (λ row. nat_le (touched_at marks row) new.parent) (writes new.changes) && list_all (λ row. nat_le (written_at marks row) new.parent) new.refs
+abbrev pub is_behind : LastTouches → Record → Bool
+is_behind touches new =
+    list_all (λ row. nat_le (touched_at touches row) new.parent) (writes new.changes) && list_all (λ row. nat_le (written_at touches row) new.parent) new.refs
 
--- the marks once these rows are written, or referred to, by a record of this number
-pub record NotesWrites (gno : ℕ) (old : Marks) (rows : List RowId) (new : Marks) : Type 0 where
+-- the last touches once these rows are written, or referred to, by a record of this number
+pub record NotesWrites (gno : ℕ) (old : LastTouches) (rows : List RowId) (new : LastTouches) : Type 0 where
   pub written : (q : RowId) → written_at new q ≡ (if has_row rows q then gno else written_at old q)
   pub touched : (q : RowId) → touched_at new q ≡ (if has_row rows q then gno else touched_at old q)
 
-pub record NotesRefs (gno : ℕ) (old : Marks) (rows : List RowId) (new : Marks) : Type 0 where
+pub record NotesRefs (gno : ℕ) (old : LastTouches) (rows : List RowId) (new : LastTouches) : Type 0 where
   pub written : (q : RowId) → written_at new q ≡ written_at old q
   pub touched : (q : RowId) → touched_at new q ≡ (if has_row rows q then gno else touched_at old q)
 
--- the marks once the record is noted
-pub record Notes (old : Marks) (r : Record) (new : Marks) : Type 0 where
+-- the last touches once the record is noted
+pub record Notes (old : LastTouches) (r : Record) (new : LastTouches) : Type 0 where
   pub written : (q : RowId) → written_at new q ≡ (if writes_row q r then r.gno else written_at old q)
   pub touched : (q : RowId) → touched_at new q ≡ (if touches_row q r then r.gno else touched_at old q)

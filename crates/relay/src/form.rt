@@ -2,42 +2,34 @@
 
 ghost use Rattle.std.specs.Prelude.{◌≡◌, ◌%◌, ◌^◌, ◌<◌, count_ones, slice_get, if◌then◌else◌, None};
 ghost use Rattle.std.specs.List.{list_all};
-ghost use Rattle.schema.specs.Flags.{is_fk, misses_keys as misses};
+ghost use Rattle.schema.specs.Flags.{flags_of};
 ghost use Rattle.schema.specs.Rows.{has_row};
 ghost use Rattle.rows.specs.Database.{writes};
 ghost use Rattle.rows.specs.Naming.{names_column};
-ghost use Rattle.relay.specs.Form.{has_flags as flags_fit, are_parents as all_are_parents, given_value as value_given, given_parent as parent_given, has_ref as refers};
+ghost use Rattle.rows.specs.Given.{given_value as value_given, given_parent as parent_given};
+ghost use Rattle.relay.specs.Form.{has_flags as flags_fit, are_parents as all_are_parents, has_ref as refers};
 
 use record_codec::{Record, Refs};
 use rows::{Change, Named};
-use schema::{RowId, Schema};
+use schema::{Flags, RowId, Schema};
 
-/// Whether the record's flags are those of the tables that its changes write. The time is that of two walks over the tables
-/// for each change.
+/// Whether the record's flags are those of the tables that its changes write. The time is that of at most three walks over the
+/// tables for each change.
 pub(crate) fn has_flags(schema: &Schema, new: &Record) -> bool
     ensures { result ≡ flags_fit schema.now new.now }
 {
-    new.flags.fk == writes_related(schema, new.changes.list())
-        && new.flags.missing_keys == misses_keys(schema, new.changes.list())
+    new.flags == flags_of(schema, new.changes.list())
 }
 
-/// Whether a change is of a table that has a parent or is one.
-fn writes_related(schema: &Schema, changes: &[Change]) -> bool
-    ensures { result ≡ is_fk schema.now (writes changes.now) }
+/// The flags of a record of these changes.
+fn flags_of(schema: &Schema, changes: &[Change]) -> Flags
+    ensures { result ≡ flags_of schema.now (writes changes.now) }
 {
-    changes
-        .iter()
-        .map(|change| change.target())
-        .any(|row| schema.is_linked(row.table))
-}
-
-/// Whether a change is of a keyless table.
-fn misses_keys(schema: &Schema, changes: &[Change]) -> bool
-    ensures { result ≡ misses schema.now (writes changes.now) }
-{
-    changes.iter().map(|change| change.target()).any(|row| schema
-        .table(row.table)
-        .is_some_and(|table| !table.keyed))
+    let mut flags = Flags::none();
+    for change in changes {
+        flags = flags.with(schema, change.target().table);
+    }
+    flags
 }
 
 /// Whether each of the refs is of a table that is a parent. The time is that of a walk over the tables for each.

@@ -23,7 +23,7 @@ pub(crate) fn is_malformed(schema: &Schema, new: &Record) -> bool
         || !is_formed(schema, new)
 }
 
-/// Whether the tables allow the record's changes, flags and refs, whatever the rows are.
+/// Whether the tables allow the record's changes, flags, refs and marks, whatever the rows are.
 fn is_formed(schema: &Schema, new: &Record) -> bool
     ensures { result ≡ formed schema.now new.now }
 {
@@ -31,6 +31,7 @@ fn is_formed(schema: &Schema, new: &Record) -> bool
         && has_flags(schema, new)
         && are_parents(schema, &new.refs)
         && have_refs(schema, new.changes.list(), &new.refs)
+        && new.marks.list().is_empty()
 }
 
 fn are_shaped(schema: &Schema, changes: &[Change]) -> bool

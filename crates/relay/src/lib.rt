@@ -23,8 +23,9 @@ use judging::is_malformed;
 use record_codec::Record;
 use schema::{Gtid, Memory, Schema};
 use std::alloc::{AllocFailed, Global};
+use std::error::Error;
+use std::fmt;
 use std::marker::Model;
-use thiserror::Error;
 use touches::Touches;
 use uuid::Uuid;
 
@@ -37,37 +38,51 @@ pub enum Received {
     Skipped,
 }
 
-/// Why a call of the replica was refused. The text is the fault's number and name.
-#[derive(Clone, Copy, Debug, PartialEq, Eq, Error)]
+/// Why a call of the replica was refused. The text is the fault's number and name, and of `Stopped` the record's number too.
+#[derive(Clone, Copy, Debug, PartialEq, Eq)]
 pub enum ReplicaFault {
     /// The record's number is past the next.
-    #[error("P1 Gap")]
     Gap,
     /// The record is of another source.
-    #[error("P2 ForeignSource")]
     ForeignSource,
     /// The record's numbers, or the form of its changes, are none that its source writes.
-    #[error("P3 Malformed")]
     Malformed,
     /// The record's parent does not cover the records before it.
-    #[error("P4 BadParent")]
     BadParent,
     /// The record of this number could not be applied. Every call answers so from then on.
-    #[error("P5 Stopped {0}")]
     Stopped(u64),
     /// The record of this number was never dispatched.
-    #[error("P6 Stranger")]
     Stranger,
     /// A result of this record was taken before.
-    #[error("P7 Double")]
     Double,
     /// The result's job is not the one that was handed out.
-    #[error("P8 WrongInput")]
     WrongInput,
     /// Memory ran out.
-    #[error("P9 Memory")]
     Memory,
 }
+
+impl fmt::Display for ReplicaFault {
+    ghost use Rattle.std.specs.Prelude.{Some};
+    ghost use Rattle.relay.specs.FaultText.{fault_text};
+
+    ghost output = { λ fault. Some (fault_text fault) };
+
+    fn fmt<W: fmt::Write>(&self, f: &mut fmt::Formatter<W>) -> fmt::Result {
+        match self {
+            ReplicaFault::Gap => f.write_str("P1 Gap"),
+            ReplicaFault::ForeignSource => f.write_str("P2 ForeignSource"),
+            ReplicaFault::Malformed => f.write_str("P3 Malformed"),
+            ReplicaFault::BadParent => f.write_str("P4 BadParent"),
+            ReplicaFault::Stopped(gno) => write!(f, "P5 Stopped {gno}"),
+            ReplicaFault::Stranger => f.write_str("P6 Stranger"),
+            ReplicaFault::Double => f.write_str("P7 Double"),
+            ReplicaFault::WrongInput => f.write_str("P8 WrongInput"),
+            ReplicaFault::Memory => f.write_str("P9 Memory"),
+        }
+    }
+}
+
+impl Error for ReplicaFault {}
 
 impl From<Memory> for ReplicaFault {
     ghost use Rattle.std.specs.Prelude.{◌≡◌};
@@ -131,7 +146,7 @@ impl Relay {
     /// with `P2` where it is not of the relay's source; with `P3` where no source of these tables writes it: a number of 0 or
     /// from 2 to the power 63 on, a sequence number that is not the gno, a parent that is not below it, a change of no
     /// table or of columns that its table lacks, other flags than those of the tables that it writes, a ref to a table that is
-    /// no parent, or a child row's new parent that is not among the refs; skipped; with `P1` where its number is past the next;
+    /// no parent, a child row's new parent that is not among the refs, or a mark; skipped; with `P1` where its number is past the next;
     /// with `P4` where a record that was accepted, and is numbered above its parent, conflicts with it; and with `P9`. The time
     /// is that of some walks over the tables for each change and each ref, of a search in the refs for each change, of the copy,
     /// and of two look-ups in a map for each change and each ref, expected constant each: it does not grow with the records that

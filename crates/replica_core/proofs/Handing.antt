@@ -3,6 +3,7 @@ use Rattle.std.proofs.Common.{◌≡◌, ◌∙◌, sym, ap, subst, refl, ℕ, �
 use Rattle.std.specs.Prelude.{IsOk}
 use Rattle.std.proofs.lemmas.List.{take_more, nil_from_length}
 use Rattle.record_codec.specs.declared.records.Record.{Record}
+use Rattle.record_codec.specs.Version.{current}
 use Rattle.record_codec.specs.declared.fault.CodecFault.{CodecFault}
 use Rattle.record_codec.specs.declared.fault.CodecFault.TheVariants as codec
 use Rattle.record_stream.specs.Stream.{Adds, Splits, Stops}
@@ -90,9 +91,9 @@ grows_none r then h e =
 -- ---- a piece
 
 -- of an empty list what was added is the whole
-all_added : (bytes rest : List ℕ) (none new : List Record) → none ≡ [] → Adds bytes none new rest → Splits bytes new rest
+all_added : (bytes rest : List ℕ) (none new : List Record) → none ≡ [] → Adds current bytes none new rest → Splits current bytes new rest
 all_added bytes rest none new e adds =
-    subst (λ (l : List Record). Splits bytes l rest) (sym (adds.new_are ∙ ap (λ (l : List Record). l ++ adds.added) e)) adds.splits
+    subst (λ (l : List Record). Splits current bytes l rest) (sym (adds.new_are ∙ ap (λ (l : List Record). l ++ adds.added) e)) adds.splits
 
 -- what a piece that was gathered, and then handed on, is told as
 abbrev pub told_of_piece : ℕ → Result ℕ ReplicaFault → Result ℕ WireFault
@@ -110,10 +111,10 @@ takes_gathered old held full new r mid then piece before answer first g last = r
     from : full.source ≡ old.source
     from = g.source ∙ first.source
 
-    splits : Splits (old.rest ++ piece) full.waiting new.rest
+    splits : Splits current (old.rest ++ piece) full.waiting new.rest
     splits =
-        subst (λ (b : List ℕ). Splits (b ++ piece) full.waiting new.rest) first.rest
-        (subst (λ (b : List ℕ). Splits (held.rest ++ piece) full.waiting b) (sym last.rest) (all_added (held.rest ++ piece) full.rest held.waiting full.waiting first.is.2 g.adds))
+        subst (λ (b : List ℕ). Splits current (b ++ piece) full.waiting new.rest) first.rest
+        (subst (λ (b : List ℕ). Splits current (held.rest ++ piece) full.waiting b) (sym last.rest) (all_added (held.rest ++ piece) full.rest held.waiting full.waiting first.is.2 g.adds))
 
     both : (records : List Record) (end : Replica) → HandsAll full.source mid records end → HandsAll old.source r (old.waiting ++ records) end
     both records end h = hands-append old.source r mid end old.waiting records first.is.0 (subst (λ (s : List ℕ). HandsAll s mid records end) from h)
@@ -156,7 +157,7 @@ takes_nothing old held new r mid piece before fault first cause same =
     (record {
       source = first.source;
       is = record {
-        cause = subst (λ (b : List ℕ). (fault ≡ codec.Memory) ⊎ Stops (b ++ piece) fault) first.rest cause;
+        cause = subst (λ (b : List ℕ). (fault ≡ codec.Memory) ⊎ Stops current (b ++ piece) fault) first.rest cause;
         hands = first.is.0;
         none = first.is.2;
         rest = first.rest;

@@ -20,7 +20,7 @@ use Rattle.executor.specs.declared.Outcome.TheVariants.{Output}
 use Rattle.executor.specs.Laws.{LeavesThere}
 use Rattle.executor.proofs.Elsewhere.{output_is_there}
 use Rattle.relay.specs.Relay.{AreAcceptable}
-use Rattle.scheduler.specs.Marks.{Marks, all_up_to}
+use Rattle.scheduler.specs.CommittedSet.{CommittedSet, all_up_to}
 use Rattle.commit_order.specs.Turns.{Line, entered, with_result, turn, passed}
 use Rattle.replica_core.specs.Replica.{Replica, dispatched, rows_at, job_of, commits_from}
 use Rattle.replica_core.specs.Sound.{IsSound, IsUnderWay}
@@ -55,8 +55,8 @@ pub record IsNext (r : Replica) (rec : Record) : Type 0 where
   pub parent : rec.parent ≤ r.committed
   pub free : length r.under_way < r.workers
 
-module _ (r : Replica) (marks : Marks) (line : Line) (inputs : List (List Entry)) (rows : Database) (ops : List Op) where
-  pub kept_sound : StandAtLowWater r marks line inputs rows ops → IsSound r
+module _ (r : Replica) (set : CommittedSet) (line : Line) (inputs : List (List Entry)) (rows : Database) (ops : List Op) where
+  pub kept_sound : StandAtLowWater r set line inputs rows ops → IsSound r
   kept_sound h = record {
     accepted = h.log.acceptable;
     published = h.log.published;
@@ -71,15 +71,15 @@ module _ (r : Replica) (marks : Marks) (line : Line) (inputs : List (List Entry)
   }
 
   -- as what it is seen as
-  pub sound_as_seen : (now : Replica) → StandAtLowWater r marks line inputs rows ops → r ≡ now → IsSound now
+  pub sound_as_seen : (now : Replica) → StandAtLowWater r set line inputs rows ops → r ≡ now → IsSound now
   sound_as_seen now h is = subst IsSound is (kept_sound h)
 
-  pub length_places : StandAtLowWater r marks line inputs rows ops → length line.places ≡ length r.under_way
+  pub length_places : StandAtLowWater r set line inputs rows ops → length line.places ≡ length r.under_way
   length_places h = sym (length-map line.places is_some) ∙ ap length (sym h.places)
 
   -- ---- one more record accepted
 
-  pub kept_accepted : (new : Record) → StandAtLowWater r marks line inputs rows ops → AreAcceptable r.tables (r.accepted ++ new ∷ []) → StandAtLowWater (with_accepted r new) marks line inputs rows ops
+  pub kept_accepted : (new : Record) → StandAtLowWater r set line inputs rows ops → AreAcceptable r.tables (r.accepted ++ new ∷ []) → StandAtLowWater (with_accepted r new) set line inputs rows ops
   kept_accepted new h acceptable =
       let all = h.dispatched in
       let within : r.committed ≤ length r.accepted = omega arith in
@@ -94,7 +94,7 @@ module _ (r : Replica) (marks : Marks) (line : Line) (inputs : List (List Entry)
           published = h.log.published;
           ops_are = h.log.ops_are ∙ ap (λ l. drop r.published (commits_from r.tables (loaded r.base) 1 l)) (sym same);
         };
-        marks_are = h.marks_are;
+        set_is = h.set_is;
         dispatched = rw (length_push r.accepted new) (omega arith);
         busy = h.busy;
         eligible = λ gno rec under got. h.eligible gno rec under (sym (get_front r.accepted (new ∷ []) (gno - 1) (omega arith)) ∙ got);
@@ -107,7 +107,7 @@ module _ (r : Replica) (marks : Marks) (line : Line) (inputs : List (List Entry)
 
   -- ---- the next record dispatched
 
-  pub kept_dispatched : (rec : Record) (job : Job) → StandAtLowWater r marks line inputs rows ops → IsNext r rec → job_of r (dispatched r + 1) ≡ Some job → StandAtLowWater (dispatched_next r) marks (entered line) (inputs ++ job.input ∷ []) rows ops
+  pub kept_dispatched : (rec : Record) (job : Job) → StandAtLowWater r set line inputs rows ops → IsNext r rec → job_of r (dispatched r + 1) ≡ Some job → StandAtLowWater (dispatched_next r) set (entered line) (inputs ++ job.input ∷ []) rows ops
   kept_dispatched rec job h next made =
       let lengths = length_places h in
       let free = next.free in
@@ -116,7 +116,7 @@ module _ (r : Replica) (marks : Marks) (line : Line) (inputs : List (List Entry)
       record {
         set_up = h.set_up;
         log = h.log;
-        marks_are = h.marks_are;
+        set_is = h.set_is;
         dispatched = rw one_more (omega arith);
         busy = rw one_more (omega arith);
         eligible = λ gno rec' under got. elim (cases_lt (dispatched r) gno) [
@@ -147,7 +147,7 @@ module _ (r : Replica) (marks : Marks) (line : Line) (inputs : List (List Entry)
 
   -- ---- a result taken
 
-  pub kept_finished : (gno : ℕ) (result : Finished) → StandAtLowWater r marks line inputs rows ops → IsUnderWay r gno → result.job.gno ≡ gno → IsTaken (job_of r gno) result → StandAtLowWater (with_finished r gno) marks (with_result line result) inputs rows ops
+  pub kept_finished : (gno : ℕ) (result : Finished) → StandAtLowWater r set line inputs rows ops → IsUnderWay r gno → result.job.gno ≡ gno → IsTaken (job_of r gno) result → StandAtLowWater (with_finished r gno) set (with_result line result) inputs rows ops
   kept_finished gno result h under number taken =
       let lengths = length_places h in
       let first = h.first in
@@ -158,7 +158,7 @@ module _ (r : Replica) (marks : Marks) (line : Line) (inputs : List (List Entry)
       record {
         set_up = h.set_up;
         log = h.log;
-        marks_are = h.marks_are;
+        set_is = h.set_is;
         dispatched = rw as_many h.dispatched;
         busy = rw as_many h.busy;
         eligible = λ g rec u got. h.eligible g rec (u.0, (let last = u.1 in omega (arith, as_many))) got;
@@ -187,11 +187,11 @@ module _ (r : Replica) (marks : Marks) (line : Line) (inputs : List (List Entry)
 
   -- ---- a stop, or more published
 
-  kept_beside : (published : ℕ) (stopped : Option ℕ) (left : List Op) → IsLogKept r.tables r.base r.accepted r.committed published rows left → StandAtLowWater r marks line inputs rows ops → StandAtLowWater (record r { published = published; stopped = stopped }) marks line inputs rows left
+  kept_beside : (published : ℕ) (stopped : Option ℕ) (left : List Op) → IsLogKept r.tables r.base r.accepted r.committed published rows left → StandAtLowWater r set line inputs rows ops → StandAtLowWater (record r { published = published; stopped = stopped }) set line inputs rows left
   kept_beside published stopped left log h = record {
     set_up = h.set_up;
     log = log;
-    marks_are = h.marks_are;
+    set_is = h.set_is;
     dispatched = h.dispatched;
     busy = h.busy;
     eligible = h.eligible;
@@ -202,17 +202,17 @@ module _ (r : Replica) (marks : Marks) (line : Line) (inputs : List (List Entry)
     results = h.results;
   }
 
-  pub kept_stopped : (gno : ℕ) → StandAtLowWater r marks line inputs rows ops → StandAtLowWater (stopped_at r gno) marks line inputs rows ops
+  pub kept_stopped : (gno : ℕ) → StandAtLowWater r set line inputs rows ops → StandAtLowWater (stopped_at r gno) set line inputs rows ops
   kept_stopped gno h = kept_beside r.published (Some gno) ops h.log h
 
-  pub length_ops : StandAtLowWater r marks line inputs rows ops → length ops ≡ r.committed - r.published
+  pub length_ops : StandAtLowWater r set line inputs rows ops → length ops ≡ r.committed - r.published
   length_ops h =
       let all = h.dispatched in
       let within : r.committed ≤ length r.accepted = omega arith in
       ap length h.log.ops_are ∙ length-drop r.published (commits_from r.tables (loaded r.base) 1 (take r.committed r.accepted))
       ∙ ap (λ n. n - r.published) (length-committed r.tables (loaded r.base) r.accepted r.committed rows within h.log.rows_are)
 
-  pub kept_published : (upto : ℕ) → StandAtLowWater r marks line inputs rows ops → r.published ≤ upto → upto ≤ r.committed → StandAtLowWater (with_published r upto) marks line inputs rows (drop (upto - r.published) ops)
+  pub kept_published : (upto : ℕ) → StandAtLowWater r set line inputs rows ops → r.published ≤ upto → upto ≤ r.committed → StandAtLowWater (with_published r upto) set line inputs rows (drop (upto - r.published) ops)
   kept_published upto h later done =
       let sum : r.published + (upto - r.published) ≡ upto = omega arith in
       let log : IsLogKept r.tables r.base r.accepted r.committed upto rows (drop (upto - r.published) ops) = record {
@@ -236,7 +236,7 @@ module _ (r : Replica) (marks : Marks) (line : Line) (inputs : List (List Entry)
     pub applies : effect r.tables rec.changes rows ≡ Some leaves
     pub left_is : left ≡ rows_in (writes rec.changes) leaves
 
-  leaves_next : (result : Finished) → StandAtLowWater r marks line inputs rows ops → (t : IsTaken (job_of r (r.committed + 1)) result) → LeavesNext t.left
+  leaves_next : (result : Finished) → StandAtLowWater r set line inputs rows ops → (t : IsTaken (job_of r (r.committed + 1)) result) → LeavesNext t.left
   leaves_next result h t =
       let parts = job_parts r (r.committed + 1) result.job t.job in
       let here : r.committed + 1 - 1 ≡ r.committed = omega arith in
@@ -254,7 +254,7 @@ module _ (r : Replica) (marks : Marks) (line : Line) (inputs : List (List Entry)
         left_is = there.rows ∙ ap (λ (x : Record). rows_in (writes x.changes) there.after_) of;
       }
 
-  pub kept_committed : (result : Finished) (left : List Entry) → StandAtLowWater r marks line inputs rows ops → turn line ≡ Some result → result.outcome ≡ Output left → StandAtLowWater (committed_next r) (all_up_to (r.committed + 1)) (passed line) (drop 1 inputs) (put_batch left rows) (ops ++ Commit (r.committed + 1) left ∷ [])
+  pub kept_committed : (result : Finished) (left : List Entry) → StandAtLowWater r set line inputs rows ops → turn line ≡ Some result → result.outcome ≡ Output left → StandAtLowWater (committed_next r) (all_up_to (r.committed + 1)) (passed line) (drop 1 inputs) (put_batch left rows) (ops ++ Commit (r.committed + 1) left ∷ [])
   kept_committed result left h is output =
       let lengths = length_places h in
       let first = h.first in
@@ -284,7 +284,7 @@ module _ (r : Replica) (marks : Marks) (line : Line) (inputs : List (List Entry)
               (λ i. h.log.ops_are i ++ Commit (r.committed + 1) (next.left_is i) ∷ [])
               ∙ waiting-next r next.rec rows next.leaves next.got h.log.rows_are next.applies h.log.published;
         };
-        marks_are = refl;
+        set_is = refl;
         dispatched = rw fewer (omega arith);
         busy = rw fewer (let busy = h.busy in omega arith);
         eligible = λ gno rec u got. (let before = h.eligible gno rec (was gno u) got in omega arith);

@@ -4,6 +4,7 @@ use Rattle.std.specs.Prelude.{IsOk}
 use Rattle.std.specs.Option.{option_map_or}
 use Rattle.std.proofs.lemmas.Bool.{false≢true}
 use Rattle.record_codec.specs.declared.records.Record.{Record}
+use Rattle.record_codec.specs.Version.{current}
 use Rattle.record_stream.specs.Stream.{IsPartial, Splits}
 use Rattle.record_stream.proofs.Whole.{partial_none}
 use Rattle.record_stream.proofs.Cuts.{cuts_do_not_matter}
@@ -58,7 +59,7 @@ alike from r s (new ∷ records) h same runs =
 pub nothing_taken : NothingTaken
 nothing_taken start source runs = record {
   gone = [];
-  splits = record { first = record { split = refl; have = tt }; partial = partial_none };
+  splits = record { first = record { split = refl; have = tt }; partial = partial_none current };
   taken = tt;
   accepted = refl;
   runs = runs;
@@ -71,7 +72,7 @@ record TakesMore (old : Wire) (now : Replica) (more : List ℕ) (new : Wire) (th
   hands : HandsAll old.source now gone then
   added : List Record
   split : old.waiting ++ added ≡ gone ++ new.waiting
-  splits : Splits (old.rest ++ more) added new.rest
+  splits : Splits current (old.rest ++ more) added new.rest
 
 goes_on : (start now then : Replica) (bytes more : List ℕ) (old new : Wire) → HasTaken start bytes old now → TakesMore old now more new then → HasTaken start (bytes ++ more) new then
 goes_on start now then bytes more old new h takes =
@@ -89,17 +90,17 @@ goes_on start now then bytes more old new h takes =
     ap relay_of hands.left ∙ goes.left ∙ ap relay_of (sym (handed-append old.source start h.gone gone)) in
     record {
       gone = h.gone ++ gone;
-      splits = subst (λ (l : List Record). Splits (bytes ++ more) l new.rest) whole (cuts_do_not_matter bytes more (h.gone ++ old.waiting) added old.rest new.rest h.splits takes.splits);
+      splits = subst (λ (l : List Record). Splits current (bytes ++ more) l new.rest) whole (cuts_do_not_matter current bytes more (h.gone ++ old.waiting) added old.rest new.rest h.splits takes.splits);
       taken = subst (λ (s : List ℕ). AreTaken s start (h.gone ++ gone)) (sym source) taken;
       accepted = accepted ∙ ap (λ (s : List ℕ). relay_of (handed s start (h.gone ++ gone))) (sym source);
       runs = h.runs;
     }
 
 -- none were taken
-none_more : (rest now : List ℕ) → IsPartial rest → now ≡ rest → Splits (rest ++ []) [] now
+none_more : (rest now : List ℕ) → IsPartial current rest → now ≡ rest → Splits current (rest ++ []) [] now
 none_more rest now partial same = record {
   first = record { split = append-nil rest ∙ sym same; have = tt };
-  partial = subst (λ (l : List ℕ). IsPartial l) (sym same) partial;
+  partial = subst (λ (l : List ℕ). IsPartial current l) (sym same) partial;
 }
 
 pub takes_on : TakesOn

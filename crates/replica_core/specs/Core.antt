@@ -17,20 +17,20 @@ use Rattle.relay.specs.declared.ReplicaFault.{ReplicaFault}
 use Rattle.relay.specs.declared.ReplicaFault.TheVariants.{WrongInput}
 use Rattle.relay.specs.Relay as relay
 use Rattle.relay.specs.Relay.{AreAcceptable}
-use Rattle.scheduler.specs.Marks.{Marks, all_up_to}
+use Rattle.scheduler.specs.CommittedSet.{CommittedSet, all_up_to}
 use Rattle.commit_order.specs.Turns.{Line, result_at, turn, passed}
 use Rattle.replica_core.specs.Replica.{Replica, dispatched, commits, job_of}
 use Rattle.replica_core.specs.Sound.{IsUnderWay, AreEligible}
 use Rattle.replica_core.specs.Calls.{finish_fault, IsHandedOut}
 
 -- a replica of these parts
-abbrev pub seen_as : relay.Relay → List Entry → Marks → ℕ → Line → ℕ → Option ℕ → Replica
-seen_as received base marks published line workers stopped = record {
+abbrev pub seen_as : relay.Relay → List Entry → CommittedSet → ℕ → Line → ℕ → Option ℕ → Replica
+seen_as received base set published line workers stopped = record {
   tables = received.tables;
   source = received.source;
   base = base;
   accepted = received.accepted;
-  committed = marks.low;
+  committed = set.low;
   published = published;
   under_way = map is_some line.places;
   workers = workers;
@@ -64,10 +64,10 @@ input_in job = option_map (λ (j : Job). j.input) job
 -- The parts of a replica stand at its low-water mark: the store contains the rows after the committed records, and the
 -- operations are the commits that are not published. The rows that are kept are those of the jobs between dispatch and commit, in order, and each
 -- result that was taken is of its record's job.
-pub record StandAtLowWater (r : Replica) (marks : Marks) (line : Line) (inputs : List (List Entry)) (rows : Database) (ops : List Op) : Type 0 where
+pub record StandAtLowWater (r : Replica) (set : CommittedSet) (line : Line) (inputs : List (List Entry)) (rows : Database) (ops : List Op) : Type 0 where
   pub set_up : IsSetUp r.workers
   pub log : IsLogKept r.tables r.base r.accepted r.committed r.published rows ops
-  pub marks_are : marks ≡ all_up_to r.committed
+  pub set_is : set ≡ all_up_to r.committed
   pub dispatched : dispatched r ≤ length r.accepted
   pub busy : length r.under_way ≤ r.workers
   pub eligible : AreEligible r

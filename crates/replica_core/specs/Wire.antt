@@ -1,8 +1,9 @@
--- Bytes of a log that come in pieces, and what becomes of their records.
+-- Bytes of a log that come in pieces, in the form that sources write, and what becomes of their records.
 use Rattle.std.specs.Prelude.{◌≡◌, ◌⊎◌, ℕ, ◌≤◌, List, [], ◌∷◌, ◌++◌, length, None, Result, Ok, Err, IsOk}
 use Rattle.record_codec.specs.declared.fault.CodecFault.{CodecFault}
 use Rattle.record_codec.specs.declared.fault.CodecFault.TheVariants as codec
 use Rattle.record_codec.specs.declared.records.Record.{Record}
+use Rattle.record_codec.specs.Version.{current}
 use Rattle.record_stream.specs.Stream.{Adds, Splits, Stops}
 use Rattle.relay.specs.declared.ReplicaFault.{ReplicaFault}
 use Rattle.relay.specs.declared.ReplicaFault.TheVariants.{Memory}
@@ -78,17 +79,17 @@ pub record Hands (old : Wire) (r : Replica) (answer : Result ℕ ReplicaFault) (
 -- The records that the rest and the piece are, as many as are whole now, wait behind those that do, up to a new rest.
 pub record Gathers (old : Wire) (piece : List ℕ) (new : Wire) : Type 0 where
   pub source : new.source ≡ old.source
-  pub adds : Adds (old.rest ++ piece) old.waiting new.waiting new.rest
+  pub adds : Adds current (old.rest ++ piece) old.waiting new.waiting new.rest
 
 -- why nothing of a piece is taken: a fault behind whole records, or want of memory
 abbrev pub IsCodecCause : Wire → List ℕ → CodecFault → Type 0
-IsCodecCause old piece fault = (fault ≡ codec.Memory) ⊎ Stops (old.rest ++ piece) fault
+IsCodecCause old piece fault = (fault ≡ codec.Memory) ⊎ Stops current (old.rest ++ piece) fault
 
 -- The records that waited are handed on; then those that the rest and the piece are, as many as are whole now, up to a new
 -- rest.
 pub record TakesAll (old : Wire) (r : Replica) (piece : List ℕ) (count : ℕ) (new : Wire) (then : Replica) : Type 0 where
   pub added : List Record
-  pub splits : Splits (old.rest ++ piece) added new.rest
+  pub splits : Splits current (old.rest ++ piece) added new.rest
   pub hands : HandsAll old.source r (old.waiting ++ added) then
   pub number : count ≡ length (old.waiting ++ added)
   pub none : new.waiting ≡ []
@@ -96,7 +97,7 @@ pub record TakesAll (old : Wire) (r : Replica) (piece : List ℕ) (count : ℕ) 
 -- The piece is taken, and one of its records is refused: that and those behind it wait.
 pub record TakesSome (old : Wire) (r : Replica) (piece : List ℕ) (fault : ReplicaFault) (new : Wire) (then : Replica) : Type 0 where
   pub added : List Record
-  pub splits : Splits (old.rest ++ piece) added new.rest
+  pub splits : Splits current (old.rest ++ piece) added new.rest
   pub hands : HandsSome old.source r (old.waiting ++ added) new.waiting fault then
   pub behind : length new.waiting ≤ length added
 
@@ -130,7 +131,7 @@ pub record Takes (old : Wire) (r : Replica) (piece : List ℕ) (answer : Result 
 -- behind what it had accepted at the start, whatever else it did meanwhile.
 pub record HasTaken (start : Replica) (bytes : List ℕ) (wire : Wire) (now : Replica) : Type 0 where
   pub gone : List Record
-  pub splits : Splits bytes (gone ++ wire.waiting) wire.rest
+  pub splits : Splits current bytes (gone ++ wire.waiting) wire.rest
   pub taken : AreTaken wire.source start gone
   pub accepted : relay_of now ≡ relay_of (handed wire.source start gone)
   pub runs : start.stopped ≡ None

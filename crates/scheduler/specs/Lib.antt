@@ -1,3 +1,3 @@
-pub mod Marks
+pub mod CommittedSet
 pub mod Places
 pub mod Laws

@@ -7,7 +7,7 @@
 
 ghost use Rattle.std.specs.Prelude.{◌≡◌, ℕ, ◌+◌, ◌-◌, ◌<◌, ◌≤◌, ◌||◌, ◌==◌, ◌++◌, nat_le, false, not, drop, replicate, length};
 ghost use Rattle.std.specs.List.{position_or_len};
-ghost use Rattle.scheduler.specs.Marks.{is_committed, all_up_to};
+ghost use Rattle.scheduler.specs.CommittedSet.{is_committed, all_up_to};
 
 pub mod laws;
 
@@ -25,9 +25,9 @@ pub struct Scheduler {
 
 impl Model for Scheduler {
     ghost use Rattle.std.specs.Prelude.{◌≡◌, false, slice_index_or};
-    ghost use Rattle.scheduler.specs.Marks.{Marks};
+    ghost use Rattle.scheduler.specs.CommittedSet.{CommittedSet};
 
-    ghost Value = { Marks };
+    ghost Value = { CommittedSet };
 
     ghost view = { λ s. record { low = s.low; ahead = s.ahead } };
 

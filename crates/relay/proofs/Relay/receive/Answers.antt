@@ -1,15 +1,23 @@
 use denote.Enum.Bare.{same_true}
-use Rattle.std.proofs.Common.{◌≡◌, ◌∙◌, sym, ap, subst, ℕ, List, Ok, rules, arith, [], ◌∷◌, ◌++◌}
+use Rattle.std.proofs.Common.{◌≡◌, ◌∙◌, sym, ap, subst, ℕ, List, length, Ok, rules, arith, [], ◌∷◌, ◌++◌}
 use Rattle.std.proofs.lemmas.Grind.{common_steps}
 use Rattle.gtid_set.specs.Ids.{first_ids}
 use Rattle.record_codec.specs.declared.records.Record.{Record}
 use Rattle.relay.specs.contracts.Received.{the_type}
 use Rattle.relay.specs.declared.Received.TheVariants.{Accepted}
 use Rattle.relay.specs.Relay.{Relay}
-use Rattle.relay.specs.Touches.{Marks, Notes}
-use Rattle.relay.proofs.Judged.{next_of}
+use Rattle.relay.specs.Touches.{LastTouches, Notes}
+use Rattle.relay.proofs.Judged.{next_of, ids_before}
 use Rattle.relay.proofs.Last.{one_more_kept}
 use Rattle.relay.proofs.Relay.receive.Goals as goal
+
+pub add_next-requires-clause-before : goal.add_next-requires-clause-before
+add_next-requires-clause-before c =
+    let was = c.self.inside in
+    let told : c.in_ok-answer.answer ≡ Accepted = same_true the_type (search rules) _ _ (sym c.if-eq.ensures) in
+    let r : Relay = record { tables = was.schema; source = was.source; accepted = was.accepted.items } in
+    let next = next_of r c.args.self.now c.args.from c.args.new.now c.judge.result c.self.view_is c.judge.ensures (c.in_ok-answer.was ∙ ap Ok told) in
+    ids_before was.source c.args.from (length was.accepted.items) c.args.new.now.gno was.ids next.0 next.1.gno c.self.invariant.ids_are
 
 pub invariant_of-self-then-eq : goal.invariant_of-self-then-eq
 invariant_of-self-then-eq c =
@@ -27,5 +35,5 @@ invariant_of-self-then-eq c =
       with_next = c.add_next.new.ids;
       ids_are = c.in_ok-add_next.ensures.ok ∙ ap (λ (s : List ℕ). first_ids s new.gno) next.0;
       now = c.note.new.self.rows;
-      notes = subst (λ (m : Marks). Notes m new c.note.new.self.rows) c.reserve.ensures.rows c.note.ensures;
+      notes = subst (λ (t : LastTouches). Notes t new c.note.new.self.rows) c.reserve.ensures.rows c.note.ensures;
     })

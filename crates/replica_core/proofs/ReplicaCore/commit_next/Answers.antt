@@ -22,7 +22,7 @@ pub invariant_of-self-2 : goal.invariant_of-self-2
 invariant_of-self-2 g c =
     let number = ap (λ n. n + 1) c.low_water-gno.ensures.value in
     committed_kept _ _ _ _ _ _ _ c.in_ok-commit_turn.field-0 c.committed.new.self c.commit_turn.new.turns c.drop_first.new.list.items _ c.commit_turn.new.waiting.items c.self.invariant
-    number c.if-not-branch.false c.in_ok-commit_turn.ensures (c.committed.ensures.in_turn c.self.invariant.marks_are number) c.drop_first.ensures
+    number c.if-not-branch.false c.in_ok-commit_turn.ensures (c.committed.ensures.in_turn c.self.invariant.set_is number) c.drop_first.ensures
 
 pub returns-in_err-refuse_stopped-clause-sound : goal.returns-in_err-refuse_stopped-clause-sound
 returns-in_err-refuse_stopped-clause-sound g c = sound_as_seen _ _ _ _ _ _ _ c.self.invariant c.self.view_is

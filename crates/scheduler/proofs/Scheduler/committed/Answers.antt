@@ -1,5 +1,5 @@
 use Rattle.std.proofs.Common.{rules}
-use Rattle.scheduler.proofs.Marks.{leading_within, fits_low, low_stays, kept_places, exact}
+use Rattle.scheduler.proofs.Places.{leading_within, fits_low, low_stays, kept_places, exact}
 use Rattle.scheduler.proofs.Scheduler.committed.Goals as goal
 
 pub pass-requires : goal.pass-requires

@@ -1,4 +1,4 @@
-use Rattle.scheduler.proofs.Marks.{new_places}
+use Rattle.scheduler.proofs.Places.{new_places}
 use Rattle.scheduler.proofs.Scheduler.new.Goals as goal
 
 pub invariant_of-result : goal.invariant_of-result

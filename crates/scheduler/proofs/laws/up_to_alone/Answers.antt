@@ -1,4 +1,4 @@
-use Rattle.scheduler.proofs.Marks.{up_to_alone}
+use Rattle.scheduler.proofs.Places.{up_to_alone}
 use Rattle.scheduler.proofs.laws.up_to_alone.Goals as goal
 
 pub returns : goal.returns

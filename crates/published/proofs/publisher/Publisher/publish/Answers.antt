@@ -4,7 +4,7 @@ use Rattle.store_trait.specs.Operation.{left_by}
 use Rattle.published.specs.Held.{Held}
 use Rattle.published.specs.Copies.{puts_in}
 use Rattle.published.specs.Publication.{Publishing, IsTied}
-use Rattle.published.proofs.Steps.{settles, published_after, puts_in-mark, tied_known, tied_shown, same_publishing, found}
+use Rattle.published.proofs.Steps.{settles, published_after, puts_in-note, tied_known, tied_shown, same_publishing, found}
 use Rattle.published.proofs.publisher.Publisher.publish.Goals as goal
 
 pub show-requires : goal.show-requires
@@ -19,14 +19,14 @@ pub invariant_of-self-in_err-show : goal.invariant_of-self-in_err-show
 invariant_of-self-in_err-show g c =
     let steps = drop c.self.inside.writer.behind c.self.inside.writer.log.items in
     let all = found _ _ _ c.extended.result c.self.view_is c.in-Some.is c.extended.ensures in
-    let waits = ap puts_in (c.in_err-show.ensures.err ∙ c.in_ok-add.ensures.ok) ∙ puts_in-mark steps c.again.result in
+    let waits = ap puts_in (c.in_err-show.ensures.err ∙ c.in_ok-add.ensures.ok) ∙ puts_in-note steps c.again.result in
     rw (c.in_err-show.ensures.same, c.add.ensures.desk, waits) (tied_known _ _ c.in-Some.history c.self.inside.appended c.self.invariant all)
 
 pub returns-in_err-show-clause-err : goal.returns-in_err-show-clause-err
 returns-in_err-show-clause-err g c =
     let p = err_from_is_err_and c.from_residual-in_err-show.result c.from_residual-in_err-show.ensures.1 in
     let steps = drop c.self.inside.writer.behind c.self.inside.writer.log.items in
-    let waits = ap puts_in (c.in_err-show.ensures.err ∙ c.in_ok-add.ensures.ok) ∙ puts_in-mark steps c.again.result in
+    let waits = ap puts_in (c.in_err-show.ensures.err ∙ c.in_ok-add.ensures.ok) ∙ puts_in-note steps c.again.result in
     let shown = ap (λ v. v.by) c.in_err-show.ensures.same ∙ ap (λ d. d.shown.value.by) c.add.ensures.desk in
     rw p.1 (same_publishing _ _ (shown ∙ ap (λ (v : Publishing). v.published) c.self.view_is) (waits ∙ ap (λ (v : Publishing). v.waiting) c.self.view_is) refl)
 

@@ -1,5 +1,5 @@
 use Rattle.std.proofs.Common.{arith}
-use Rattle.relay.proofs.Marks.{next_ref}
+use Rattle.relay.proofs.Noting.{next_ref}
 use Rattle.relay.proofs.touches.Touches.note_refs.Goals as goal
 
 pub loop-row-preserved : goal.loop-row-preserved

@@ -1,5 +1,5 @@
 use Rattle.std.proofs.Common.{arith}
-use Rattle.relay.proofs.Marks.{next_write}
+use Rattle.relay.proofs.Noting.{next_write}
 use Rattle.relay.proofs.touches.Touches.note_writes.Goals as goal
 
 pub loop-change-preserved : goal.loop-change-preserved

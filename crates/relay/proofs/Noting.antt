@@ -11,19 +11,19 @@ use Rattle.rows.specs.declared.Change.{Change}
 use Rattle.rows.specs.Database.{target, writes}
 use Rattle.rows.proofs.Apply.{row_is}
 use Rattle.relay.specs.declared.touches.Touch.{Touch}
-use Rattle.relay.specs.Touches.{Marks, untouched, touch_at, written_at, touched_at, NotesWrites, NotesRefs}
+use Rattle.relay.specs.Touches.{LastTouches, untouched, touch_at, written_at, touched_at, NotesWrites, NotesRefs}
 
 -- ---- the map
 
 -- where the insert could not fail, the row is set
-pub marks-inserted : {S T E : Type 0} (m n : IndexMap RowId Touch S) (r : Result T E) (k : RowId) (v : Touch) → IsOk r → OnOk r (Updates row_eq m n k (Some v)) → rows_of n.entries ≡ insert (rows_of m.entries) k v
-marks-inserted m n (Ok x) k v h is = rows-set m.entries n.entries k v is.0
-marks-inserted m n (Err e) k v h is = absurd (true≢false (sym h))
+pub touches-inserted : {S T E : Type 0} (m n : IndexMap RowId Touch S) (r : Result T E) (k : RowId) (v : Touch) → IsOk r → OnOk r (Updates row_eq m n k (Some v)) → rows_of n.entries ≡ insert (rows_of m.entries) k v
+touches-inserted m n (Ok x) k v h is = rows-set m.entries n.entries k v is.0
+touches-inserted m n (Err e) k v h is = absurd (true≢false (sym h))
 
 -- ---- a row is noted
 
-touch_at-insert : (marks : Marks) (row : RowId) (touch : Touch) (q : RowId) → touch_at (insert marks row touch) q ≡ cond (same_row q row) touch (touch_at marks q)
-touch_at-insert marks row touch q = ap (λ o. unwrap_or o untouched) (get-insert row_total marks row touch q) ∙ over (same_row q row) (get marks q)
+touch_at-insert : (touches : LastTouches) (row : RowId) (touch : Touch) (q : RowId) → touch_at (insert touches row touch) q ≡ cond (same_row q row) touch (touch_at touches q)
+touch_at-insert touches row touch q = ap (λ o. unwrap_or o untouched) (get-insert row_total touches row touch q) ∙ over (same_row q row) (get touches q)
   where
     over : (b : Bool) (o : Option Touch) → unwrap_or (cond b (Some touch) o) untouched ≡ cond b touch (unwrap_or o untouched)
     over true o = refl
@@ -50,7 +50,7 @@ touched_cond : (b : Bool) (s t : Touch) → (let c = cond b s t in c.touched) �
 touched_cond true s t = refl
 touched_cond false s t = refl
 
-module _ (gno : ℕ) (old now : Marks) (rows : List RowId) (row : RowId) where
+module _ (gno : ℕ) (old now : LastTouches) (rows : List RowId) (row : RowId) where
   pub notes_write : NotesWrites gno old rows now → NotesWrites gno old (rows ++ row ∷ []) (insert now row (record { written = gno; touched = gno }))
   notes_write h =
       let touch : Touch = record { written = gno; touched = gno } in
@@ -83,7 +83,7 @@ module _ (gno : ℕ) (old now : Marks) (rows : List RowId) (row : RowId) where
       same q false is = refl
 
 -- the next change of a list, and the next row
-module _ (gno : ℕ) (old now : Marks) (i : ℕ) where
+module _ (gno : ℕ) (old now : LastTouches) (i : ℕ) where
   pub next_write : (changes : List Change) (change : Change) → NotesWrites gno old (writes (take i changes)) now → i < length changes → change ≡ get_or changes i change →
       NotesWrites gno old (writes (take (i + 1) changes)) (insert now (target change) (record { written = gno; touched = gno }))
   next_write changes change h within is =
