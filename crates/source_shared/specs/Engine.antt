@@ -1,20 +1,23 @@
 -- What lies under the engine lock, and what is true of it each time that the lock is taken.
-use Rattle.std.specs.Prelude.{◌≡◌, ◌≢◌, ◌⊎◌, ℕ, ◌+◌, ◌-◌, ◌≤◌, nat_le, nat_lt, count_by, find, ◌==◌, ◌&&◌, ◌||◌, not, if◌then◌else◌, Bool, true, false, List, [], ◌∷◌, ◌++◌, length, map, take, drop, replicate, slice_get, slice_set, slice_index_or, Option, Some, None, is_some, is_none, IfSome, IfNone, IsSome, Result, Ok, Err, OnOk, OnErr, IsErrOf}
+use Rattle.std.specs.Prelude.{◌≡◌, ◌≢◌, ◌⊎◌, ℕ, ◌+◌, ◌-◌, ◌≤◌, nat_le, nat_lt, count_by, find, ◌==◌, ◌&&◌, ◌||◌, not, if◌then◌else◌, Bool, true, false, List, [], ◌∷◌, ◌++◌, length, take, drop, replicate, slice_get, slice_set, slice_index_or, Option, Some, None, is_some, is_none, IfSome, IfNone, IsSome, Result, Ok, Err, OnOk, OnErr, IsErrOf}
 use Rattle.std.specs.List.{flat_map, AllByRecursion}
 use Rattle.std.specs.Str.{bytes_eq}
 use Rattle.schema.specs.declared.Table.{Table}
 use Rattle.store_trait.specs.Batch.{Entry}
 use Rattle.record_codec.specs.declared.records.Record.{Record}
-use Rattle.record_codec.specs.Group.{GroupValue, Hold, AreNumbered}
+use Rattle.record_codec.specs.Group.{GroupValue, AreNumbered}
+use Rattle.record_codec.specs.Version.{current}
 use Rattle.record_codec.specs.Spelling.{spelling, HasSpelling}
+use Rattle.log_file.specs.Head.{records_of}
 use Rattle.log_file.specs.Log.{Log, Kept, Tail, log_of}
+use Rattle.log_file.specs.Flushed.{IsFlushedOf}
 use Rattle.log_file.specs.declared.fault.LogFault.{LogFault}
 use Rattle.log_file.specs.declared.fault.LogFault.TheVariants as logs
 use Rattle.source_core.specs.declared.fault.SourceFault.{SourceFault}
 use Rattle.source_core.specs.declared.fault.SourceFault.TheVariants.{AlreadyOpen, Halted, Memory}
 use Rattle.source_core.specs.declared.transaction.Receipt.{Receipt}
 use Rattle.source_core.specs.Source.{Source}
-use Rattle.source_core.specs.Calls.{session_fault, queue_fault, queued, cause, receipts_for, receipts, receipt_as, begun, with_synced, all_committed, halted, Flushes, size_of}
+use Rattle.source_core.specs.Calls.{session_fault, queue_fault, queued, cause, receipts_for, receipts, receipt_as, begun, with_synced, all_committed, halted, Flushes}
 use Rattle.source_shared.specs.declared.engine.Due.{Due}
 use Rattle.source_shared.specs.declared.engine.Due.TheVariants.{Ended, Lead, Wait}
 use Rattle.source_shared.specs.Seat.{Seat}
@@ -48,15 +51,11 @@ pub record State : Type 0 where
   -- who waits, and for what
   pub watch : Watch
 
--- the groups that are not synced: the prepared one, if one is, and those behind it
-abbrev pub from_prepared : Option GroupValue → List GroupValue → List GroupValue
-from_prepared None behind = behind
-from_prepared (Some group) behind = group ∷ behind
-
--- it waits for no group, and writes behind so many records
+-- it waits for no group, and writes behind so many records, in the form that sources write
 pub record IsReady (synced_ : ℕ) (t : Tail) : Type 0 where
   pub waiting : t.waiting ≡ None
   pub next : t.next ≡ synced_ + 1
+  pub form : records_of t.form ≡ current
 
 -- the receipt is one of these, at its number
 pub record IsKnown (history : List Receipt) (r : Receipt) : Type 0 where
@@ -81,23 +80,6 @@ pub record IsWatch (w : Watch) : Type 0 where
   pub sessions : length w.sleeping ≡ 256
   pub asleep : w.asleep ≡ count w.sleeping
 
--- What lies between flush and sync, of a log whose first so many records are synced, and of the sizes in which the others were
--- flushed.
-pub record IsSyncing (log : List Record) (synced_ : ℕ) (group_sizes : List ℕ) (kept : Kept) (unsynced : List GroupValue) : Type 0 where
-  -- readers see just the records that are synced, from the first one on
-  pub first : kept.head.first ≡ 1
-  pub records : kept.records ≡ take synced_ log
-  -- and that many
-  pub many : length kept.records ≡ synced_
-  -- the groups that are not synced hold the others
-  pub held : Hold unsynced (drop synced_ log)
-  -- as they were flushed
-  pub sizes : group_sizes ≡ map size_of unsynced
-  -- the oldest of them is the one that is prepared, if one is
-  pub prepared : IfSome kept.prepared (λ group. slice_get unsynced 0 ≡ Some group)
-  -- the next of these records is that behind the synced ones, and so on
-  pub numbered : AreNumbered (synced_ + 1) (drop synced_ log)
-
 -- Where the receipts of the committed records lie: all of them in the history, and each that was not taken yet in its session's
 -- place too.
 pub record AreLaidOut (committed history : List Receipt) (places_ : List (Option Receipt)) (out : List Bool) : Type 0 where
@@ -120,7 +102,7 @@ NoneSleepsWithEnd s = (place : ℕ) → slice_index_or s.watch.sleeping place fa
 pub record IsSettled (base : List Entry) (tables : List Table) (s : State) : Type 0 where
   pub base_is : s.core.base ≡ base
   pub tables_is : s.core.tables ≡ tables
-  pub syncing : IsSyncing s.core.log s.core.synced s.core.group_sizes s.kept s.unsynced
+  pub flushed : IsFlushedOf s.core.log s.core.synced s.core.group_sizes s.kept s.unsynced
   -- what writes the log file, where it is here, is behind the synced records
   pub ready : IfSome s.home (λ t. s.core.halted ≡ false → IsReady s.core.synced t)
   -- where it is out a group is prepared, which it writes
@@ -258,8 +240,8 @@ synced_record s gno = find (λ r. r.gno == gno) s.kept.records
 
 -- the bytes are followed by those of these records
 pub record AreAppended (records : List Record) (old new : List ℕ) : Type 0 where
-  pub have : AllByRecursion HasSpelling records
-  pub bytes : new ≡ old ++ flat_map spelling records
+  pub have : AllByRecursion (HasSpelling current) records
+  pub bytes : new ≡ old ++ flat_map (spelling current) records
 
 -- the bytes are followed by those of so many records, whose gnos are this one, the next, and so on
 pub record AppendsSome (gno count : ℕ) (old new : List ℕ) : Type 0 where
@@ -349,14 +331,17 @@ pub record Trip : Type 0 where
   pub tail : Tail
   pub group : GroupValue
 
--- the group is the next
+-- the group is the next, and of the form that sources write, as what the writer writes is
 pub record IsErrand (e : Trip) : Type 0 where
   pub waiting : e.tail.waiting ≡ None
   pub next : e.group.first ≡ e.tail.next
+  pub version : e.group.version ≡ current
+  pub form : records_of e.tail.form ≡ current
 
 -- It was written, and the writer is behind it; or memory lacked, and all is as it was.
 pub record IsBack (e : Trip) (done : Result (Unit {0}) LogFault) : Type 0 where
-  pub written : OnOk done ((e.tail.waiting ≡ None) × (e.tail.next ≡ e.group.last + 1))
+  pub version : e.group.version ≡ current
+  pub written : OnOk done ((e.tail.waiting ≡ None) × (e.tail.next ≡ e.group.last + 1) × (records_of e.tail.form ≡ current))
   pub lacked : IsErrOf done logs.Memory → IsErrand e
 
 -- the writer leaves with the oldest group, which is prepared

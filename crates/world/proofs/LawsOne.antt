@@ -12,6 +12,7 @@ use Rattle.rows.specs.Database.{Database}
 use Rattle.store_trait.specs.Operation.{loaded}
 use Rattle.record_codec.specs.declared.records.Record.{Record}
 use Rattle.record_codec.specs.Log.{after}
+use Rattle.record_codec.specs.Version.{current}
 use Rattle.record_codec.specs.Spelling.{spelling}
 use Rattle.source_core.specs.declared.fault.SourceFault.TheVariants as source
 use Rattle.source_core.specs.Source.{Source, seen_row}
@@ -86,7 +87,7 @@ module _ (setup : Setup) (log other : List Record) (past : Past) (agree : Agree 
   same_groups [] all = refl
   same_groups (group ∷ groups) all =
       let same = take_fewer group.1 (flushed past) log other all.0 agree.same in
-      (λ i. record { first = group.0; last = group.1; bytes = flat_map spelling (drop (group.0 - 1) (same i)) } ∷ same_groups groups all.1 i)
+      (λ i. record { version = current; first = group.0; last = group.1; bytes = flat_map (spelling current) (drop (group.0 - 1) (same i)) } ∷ same_groups groups all.1 i)
 
   same_text : log_text setup log past ≡ log_text setup other past
   same_text = ap (text (new_head setup.identifier)) (same_groups (synced_groups past) agree.groups)

@@ -10,8 +10,10 @@ use Rattle.rows.specs.Database.{writes, kin}
 use Rattle.store_trait.specs.Batch.{Entry}
 use Rattle.store_trait.specs.Operation.{loaded}
 use Rattle.record_codec.specs.declared.records.Record.{Record}
+use Rattle.record_codec.specs.Version.{current}
 use Rattle.record_codec.specs.Spelling.{HasSpelling}
-use Rattle.record_codec.specs.Log.{flags_of, IsLegalNext, IsLegalLog}
+use Rattle.schema.specs.Flags.{flags_of}
+use Rattle.record_codec.specs.Log.{IsLegalNext, IsLegalLog}
 use Rattle.log_index.specs.declared.Entry.{Entry as Seen}
 use Rattle.log_index.specs.Footprint.{footprint_of}
 use Rattle.tracker_trait.specs.Parent.{dependency_of}
@@ -22,15 +24,15 @@ use Rattle.world.proofs.LawsRefs.{rising_is_one}
 -- a log that a source over these rows may have
 pub record MayStand (ts : List Table) (base : List Entry) (log : List Record) : Type 0 where
   pub legal : IsLegalLog ts (loaded base) log
-  pub spelled : AllByRecursion HasSpelling log
+  pub spelled : AllByRecursion (HasSpelling current) log
 
-spelled_at : (front : List Record) (next : Record) (rest : List Record) → AllByRecursion HasSpelling (front ++ next ∷ rest) → HasSpelling next
+spelled_at : (front : List Record) (next : Record) (rest : List Record) → AllByRecursion (HasSpelling current) (front ++ next ∷ rest) → HasSpelling current next
 spelled_at [] next rest all = all.0
 spelled_at (r ∷ front) next rest all = spelled_at front next rest all.1
 
 -- the next record behind one log, of one session
 one_record : (s : Source) (front : List Record) (before : List Seen) (session : ℕ) (made other : Record) → IsLegalNext s.tables (loaded s.base) front made → IsLegalNext s.tables (loaded s.base) front other →
-    HasSpelling made → HasSpelling other → IsNextRecord s before session made → IsNextRecord s before session other → made ≡ other
+    HasSpelling current made → HasSpelling current other → IsNextRecord s before session made → IsNextRecord s before session other → made ≡ other
 one_record s front before session made other a b spelled other_spelled m o =
     let t : m.t ≡ o.t = same_Some m.t o.t (sym m.is ∙ o.is) in
     let changes : made.changes ≡ other.changes = m.changes ∙ ap (λ (x : Open). x.changes) t ∙ sym o.changes in
@@ -45,7 +47,8 @@ one_record s front before session made other a b spelled other_spelled m o =
     m.parent
     ∙ (λ i. dependency_of s.kind s.tables before (footprint_of s.tables (writes (changes i)) (refs i)) session (parent_of_phase (t i).phase))
     ∙ sym o.parent in
-    (λ i. record { gno = gno i; sequence = sequence i; parent = parent i; flags = flags i; refs = refs i; changes = changes i })
+    let marks : made.marks ≡ other.marks = a.marks ∙ sym b.marks in
+    (λ i. record { gno = gno i; sequence = sequence i; parent = parent i; flags = flags i; refs = refs i; marks = marks i; changes = changes i })
 
 -- the next records behind one log, of one queue
 pub one_group : (s : Source) (front : List Record) (before : List Seen) (sessions : List ℕ) (records others rest other_rest : List Record) →

@@ -1,10 +1,9 @@
 -- A world that nothing was done to.
-use Rattle.std.specs.Prelude.{◌≡◌, false, [], None}
+use Rattle.std.specs.Prelude.{◌≡◌, []}
 use Rattle.rows.specs.Database.{Database}
 use Rattle.source_core.specs.Source.{new_source}
 use Rattle.replica_core.specs.Calls.{new_over}
-use Rattle.log_file.specs.Head.{new_head}
-use Rattle.log_file.specs.Log.{Log}
+use Rattle.log_file.specs.Log.{IsNew}
 use Rattle.world.specs.Legal.{Setup}
 use Rattle.world.specs.State.{World}
 use Rattle.store_trait.specs.Operation.{loaded}
@@ -13,21 +12,13 @@ use Rattle.store_trait.specs.Operation.{loaded}
 abbrev pub setup_of : {D R : Type 0} → World D R → Setup
 setup_of w = record { identifier = w.wire.log.head.source; tables = w.source.tables; base = w.source.base; limit = w.source.limit; kind = w.source.kind; workers = w.replica.workers }
 
--- a log file without records, of which nothing waits and that did not fail
-pub record IsNew (log : Log) : Type 0 where
-  pub head : log.head ≡ new_head log.head.source
-  pub records : log.records ≡ []
-  pub groups : log.groups ≡ []
-  pub waiting : log.waiting ≡ None
-  pub running : log.failed ≡ false
-
 -- a new log file, and a new source and a new replica over one schema and equal rows, which readers see
 pub record IsFresh {D R : Type 0} (contents : R → Database) (w : World D R) : Type 0 where
   pub source : w.source ≡ new_source w.source.tables w.source.base w.source.limit w.source.kind
   pub replica : w.replica ≡ new_over w.source.tables w.wire.log.head.source w.source.base w.replica.workers
   pub jobs : w.jobs ≡ []
   pub log : IsNew w.wire.log
-  pub waits : w.wire.waiting ≡ []
+  pub unsynced : w.wire.unsynced ≡ []
   pub upto : w.shown.upto ≡ 0
   pub waiting : w.shown.waiting ≡ []
   pub rows : contents w.shown.store ≡ loaded w.source.base

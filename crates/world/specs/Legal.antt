@@ -11,6 +11,7 @@ use Rattle.record_codec.specs.declared.records.Record.{Record}
 use Rattle.record_codec.specs.declared.fault.CodecFault.TheVariants as codec
 use Rattle.record_codec.specs.Log.{after, IsLegalLog}
 use Rattle.record_codec.specs.Group.{GroupValue}
+use Rattle.record_codec.specs.Version.{current}
 use Rattle.record_codec.specs.Spelling.{spelling, HasSpelling}
 use Rattle.source_core.specs.declared.fault.SourceFault.{SourceFault}
 use Rattle.source_core.specs.declared.fault.SourceFault.TheVariants as source
@@ -112,12 +113,13 @@ SyncAnswers false (group ∷ groups) reply = (reply ≡ replies.Synced group.0 g
 abbrev pub commit_reply : Past → Reply
 commit_reply past = if source_committed past == synced past then replies.Nothing else replies.Committed (source_committed past + 1) (synced past)
 
--- the group of the records from one number to another, by their spellings
+-- the group of the records from one number to another, by their spellings in the form that sources write
 abbrev pub group_between : List Record → ℕ × ℕ → GroupValue
 group_between log ends = record {
+  version = current;
   first = ends.0;
   last = ends.1;
-  bytes = flat_map spelling (drop (ends.0 - 1) (take ends.1 log));
+  bytes = flat_map (spelling current) (drop (ends.0 - 1) (take ends.1 log));
 }
 
 -- the log file as its device is to have it: its header, the synced groups, and the last gate
@@ -252,5 +254,5 @@ AreAllowed setup log past (event ∷ events_) [] = ⊥
 -- is one.
 pub record AreLegal (setup : Setup) (log : List Record) (events_ : List Event) (replies_ : List Reply) : Type 0 where
   pub legal : IsLegalLog setup.tables (loaded setup.base) log
-  pub spelled : AllByRecursion HasSpelling log
+  pub spelled : AllByRecursion (HasSpelling current) log
   pub allowed : AreAllowed setup log [] events_ replies_

@@ -6,6 +6,7 @@ use Rattle.rows.specs.Database.{Database}
 use Rattle.store_trait.specs.Operation.{loaded, left_by}
 use Rattle.record_codec.specs.declared.records.Record.{Record}
 use Rattle.record_codec.specs.Log.{IsLegalLog}
+use Rattle.record_codec.specs.Version.{current}
 use Rattle.record_codec.specs.Spelling.{HasSpelling}
 use Rattle.replica_core.specs.Replica.{operations}
 use Rattle.world.specs.declared.events.Event.{Event}
@@ -25,7 +26,7 @@ pub record HasRun {D R : Type 0} (contents : R → Database) (setup : Setup) (ev
   -- the replies are legal by the source's own log, and by each longer log that goes on legally from it with records that
   -- have spellings
   pub legal : AreLegal setup w.source.log events_ replies_
-  pub onward : (log : List Record) → IsPrefix w.source.log log → IsLegalLog setup.tables (loaded setup.base) log → AllByRecursion HasSpelling log → AreLegal setup log events_ replies_
+  pub onward : (log : List Record) → IsPrefix w.source.log log → IsLegalLog setup.tables (loaded setup.base) log → AllByRecursion (HasSpelling current) log → AreLegal setup log events_ replies_
 
 -- What replies tell, in order, of the count of the device's failures, each of the count as the one before it left it.
 abbrev pub AreCounted : ℕ → List Reply → ℕ → Type 0

@@ -1,13 +1,14 @@
 -- How the parts of a world stand together, and to the pairs of event and reply so far.
 use mathlib.Core.List.{IsPrefix}
-use Rattle.std.specs.Prelude.{◌≡◌, ℕ, ◌+◌, ◌≤◌, Bool, true, false, if◌then◌else◌, List, ◌∷◌, length, map, take, drop, slice_get, slice_index_or, Option, Some, None}
+use Rattle.std.specs.Prelude.{◌≡◌, ℕ, ◌+◌, ◌≤◌, Bool, true, false, if◌then◌else◌, List, ◌∷◌, length, map, take, drop, slice_index_or, Option, Some, None}
+use Rattle.std.specs.List.{AllByRecursion}
 use Rattle.rows.specs.Database.{Database}
 use Rattle.store_trait.specs.Operation.{batch_of, loaded}
 use Rattle.record_codec.specs.declared.records.Record.{Record}
+use Rattle.record_codec.specs.Version.{current}
 use Rattle.record_codec.specs.Group.{GroupValue, Hold}
 use Rattle.record_codec.specs.Log.{after}
 use Rattle.source_core.specs.Source.{Source, IsSound}
-use Rattle.source_core.specs.Calls.{size_of}
 use Rattle.schema.specs.declared.Table.{Table}
 use Rattle.store_trait.specs.Batch.{Entry}
 use Rattle.executor.specs.declared.Job.{Job}
@@ -15,6 +16,7 @@ use Rattle.replica_core.specs.Replica.{Replica, dispatched as dispatched_at, job
 use Rattle.published.specs.Plain.{Shown}
 use Rattle.log_file.specs.Head.{new_head}
 use Rattle.log_file.specs.Log.{Log}
+use Rattle.log_file.specs.Flushed.{IsFlushedOf, kept_of}
 use Rattle.log_file.specs.Calls.{ends as ends_of}
 use Rattle.world.specs.Put.{FailedBy, DeviceFailed}
 use Rattle.world.specs.declared.events.Event.{Event}
@@ -30,7 +32,7 @@ pub record Wire (D : Type 0) : Type 0 where
   -- what it is on
   pub device : D
   -- the groups that are flushed and not synced, the oldest first
-  pub waiting : List GroupValue
+  pub unsynced : List GroupValue
 
 -- a world as the values of its parts
 pub record World (D R : Type 0) : Type 0 where
@@ -46,19 +48,15 @@ pub record World (D R : Type 0) : Type 0 where
 pub record IsSource (s : Source) : Type 0 where
   pub sound : IsSound s
 
--- The wire of a source with this log, of which so many records are synced: these are the log file's, from the first on, and its
--- groups hold them; the groups that wait hold the rest. The source is halted where the log file failed; where it did not, no group is
--- in it that waits for its sync, and where it did, none but the oldest of those that wait. The groups that wait are as they were
--- flushed. What came over the wire is a beginning of the synced log.
-pub record IsWire {D : Type 0} (log : List Record) (synced_ : ℕ) (sizes_ : List ℕ) (halted_ : Bool) (accepted_ : List Record) (wire : Wire D) : Type 0 where
-  pub first : wire.log.head.first ≡ 1
-  pub on_log : Hold wire.log.groups (take synced_ log)
-  pub records : wire.log.records ≡ take synced_ log
-  pub waiting : Hold wire.waiting (drop synced_ log)
-  pub sizes : sizes_ ≡ map size_of wire.waiting
-  pub failed : wire.log.failed ≡ halted_
-  pub ready : wire.log.failed ≡ false → wire.log.waiting ≡ None
-  pub staged : (group : GroupValue) → wire.log.waiting ≡ Some group → slice_get wire.waiting 0 ≡ Some group
+-- The wire of a source with this log, of which so many records are synced: the log file and the groups that are not synced are what was
+-- flushed of it, and the log file's groups hold the synced records, in the form that sources write. The source is halted where the log file failed; where it did not,
+-- no group is in it that waits for its sync. What came over the wire is a beginning of the synced log.
+pub record IsWire (log : List Record) (synced_ : ℕ) (sizes_ : List ℕ) (halted_ : Bool) (accepted_ : List Record) (file : Log) (unsynced_ : List GroupValue) : Type 0 where
+  pub flushed : IsFlushedOf log synced_ sizes_ (kept_of file) unsynced_
+  pub on_log : Hold file.groups (take synced_ log)
+  pub versions : AllByRecursion (λ g. g.version ≡ current) file.groups
+  pub failed : file.failed ≡ halted_
+  pub ready : file.failed ≡ false → file.waiting ≡ None
   pub front : accepted_ ≡ take (length accepted_) log
   pub within : length accepted_ ≤ synced_
 
@@ -92,7 +90,7 @@ pub record IsShown {R : Type 0} (contents : R → Database) (ts : List Table) (b
 -- What is true of every world, whatever came before.
 pub record IsWorld {D R : Type 0} (contents : R → Database) (w : World D R) : Type 0 where
   pub source : IsSource w.source
-  pub wire : IsWire w.source.log w.source.synced w.source.group_sizes w.source.halted w.replica.accepted w.wire
+  pub wire : IsWire w.source.log w.source.synced w.source.group_sizes w.source.halted w.replica.accepted w.wire.log w.wire.unsynced
   pub replica : IsReplica w.source.tables w.source.base w.wire.log.head.source w.replica.tables w.replica.base w.replica.source w.replica.stopped
   pub jobs : HasJobs w.replica w.jobs
   pub readers : IsShown contents w.replica.tables w.replica.base w.replica.accepted w.replica.committed w.replica.published w.shown
@@ -105,7 +103,7 @@ pub record SourceIs (said : Source) (flushed_ : ℕ) (s : Source) : Type 0 where
 -- The log file is that of this source; these groups are flushed and not synced, and these are synced.
 pub record WireIs {D : Type 0} (identifier_ : List ℕ) (unsynced_ synced_ : List (ℕ × ℕ)) (wire : Wire D) : Type 0 where
   pub head : wire.log.head ≡ new_head identifier_
-  pub unsynced : map ends_of wire.waiting ≡ unsynced_
+  pub unsynced : map ends_of wire.unsynced ≡ unsynced_
   pub synced : map ends_of wire.log.groups ≡ synced_
 
 -- The replica is as it is said to be, with so many records accepted and so many dispatched.
