@@ -8,7 +8,7 @@
 ghost use Rattle.std.specs.Prelude.{◌≡◌};
 ghost use Rattle.source_core.specs.Source.{new_source};
 ghost use Rattle.replica_core.specs.Calls.{new_over};
-ghost use Rattle.world.specs.Fresh.{IsNew};
+ghost use Rattle.log_file.specs.Log.{IsNew};
 
 mod connecting;
 mod trouble;
@@ -80,14 +80,7 @@ fn balance(row: &Option<Row>) -> i64 {
 
 /// Opens both sides over a schema and no rows, and runs them.
 fn open<R: Threads + Wait + Sync>(rt: &R, alloc: Global) -> Result<Told, Trouble> {
-    let tables = vec![in alloc;
-        Table {
-            id: ACCOUNTS,
-            columns: 2,
-            keyed: true,
-            parent: None
-        },
-    ]?;
+    let tables = vec![in alloc; Table::new(ACCOUNTS, 2, true)]?;
     let parts = PairParts {
         rows: BTreeStore::new(alloc),
         copy: BTreeStore::new(alloc),

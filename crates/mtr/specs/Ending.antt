@@ -1,12 +1,11 @@
 -- How the program ends, and what it tells then.
 use Rattle.std.specs.Prelude.{◌≡◌, ◌⊎◌, ℕ, List, Option, ◌++◌, codes}
 use Rattle.std.specs.Fmt.{decimal}
-use Rattle.schema.specs.declared.SchemaFault.{SchemaFault}
-use Rattle.schema.specs.declared.SchemaFault.TheVariants as schema
+use Rattle.schema.specs.FaultText.{fault_text as schema_text}
 use Rattle.log_file.specs.declared.fault.LogFault.{LogFault}
 use Rattle.log_file.specs.declared.fault.LogFault.TheVariants as log
 use Rattle.record_codec.specs.declared.fault.CodecFault.TheVariants as codec
-use Rattle.mtr.specs.Printing.{log_text}
+use Rattle.log_file.specs.FaultText.{fault_text as log_text}
 use Rattle.mtr.specs.declared.ending.Ending.{Ending}
 use Rattle.mtr.specs.declared.ending.Ending.TheVariants as endings
 use Rattle.mtr.specs.declared.ending.Stop.{Stop}
@@ -31,15 +30,6 @@ ending_of stops.BadHexadecimal = endings.BadScript
 ending_of (stops.Log fault) = endings.BadLog
 ending_of stops.Memory = endings.NoMemory
 ending_of stops.Stream = endings.Stream
-
--- the number and name of the schema's first fault
-abbrev pub schema_text : SchemaFault → List ℕ
-schema_text schema.Count = codes "B1 Count"
-schema_text schema.Id = codes "B2 Id"
-schema_text schema.Columns = codes "B3 Columns"
-schema_text schema.Twice = codes "B4 Twice"
-schema_text schema.Parent = codes "B5 Parent"
-schema_text schema.Memory = codes "B6 Memory"
 
 -- why the work stops at a fault of the log: want of memory is told as such, whoever met it
 abbrev pub stop_of_log : LogFault → Stop

@@ -3,6 +3,7 @@ use Rattle.std.specs.Prelude.{ℕ, ◌^◌, ℤ, Bool, true, false, ◌==◌, if
 use Rattle.std.specs.Str.{bytes_eq, is_utf8}
 use Rattle.schema.specs.declared.RowId.{RowId}
 use Rattle.schema.specs.declared.Table.{Table}
+use Rattle.schema.specs.Schema.{plain_table}
 use Rattle.mtr.specs.declared.script.Line.{Line}
 use Rattle.mtr.specs.declared.script.Line.TheVariants as lines
 use Rattle.mtr.specs.Words.{Word, ◌>>=◌, alone, first_word, words_of, number_in, row_id_in, row_in}
@@ -35,7 +36,7 @@ table_of words = do
   kind ← first_word columns.1
   keyed ← keyed_of kind.0
   parent ← reference_of kind.1
-  Some (record { id = id.0; columns = columns.0; keyed = keyed; parent = parent })
+  Some (record (plain_table id.0 columns.0 keyed) { parent = parent })
 
 -- a row of the base: its table, its key, and its columns
 unfoldable pub base_of : List Word → Option (RowId × List ℤ)

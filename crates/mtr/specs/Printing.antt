@@ -2,68 +2,15 @@
 use Rattle.std.specs.Prelude.{ℕ, ◌+◌, ◌-◌, ◌==◌, if◌then◌else◌, ℤ, List, [], ◌∷◌, ◌++◌, length, codes, Some, None}
 use Rattle.std.specs.List.{flat_map}
 use Rattle.std.specs.Fmt.{decimal, signed_decimal}
-use Rattle.source_core.specs.declared.fault.SourceFault.{SourceFault}
-use Rattle.source_core.specs.declared.fault.SourceFault.TheVariants as source
-use Rattle.relay.specs.declared.ReplicaFault.{ReplicaFault}
-use Rattle.relay.specs.declared.ReplicaFault.TheVariants as replica
-use Rattle.record_codec.specs.declared.fault.CodecFault.{CodecFault}
-use Rattle.record_codec.specs.declared.fault.CodecFault.TheVariants as codec
-use Rattle.log_file.specs.declared.fault.LogFault.{LogFault}
-use Rattle.log_file.specs.declared.fault.LogFault.TheVariants as log
+use Rattle.source_core.specs.FaultText.{fault_text as source_text}
+use Rattle.relay.specs.FaultText.{fault_text as replica_text}
+use Rattle.record_codec.specs.FaultText.{fault_text as codec_text}
+use Rattle.log_file.specs.FaultText.{fault_text as log_text}
 use Rattle.gtid_set.specs.Ids.{Ids}
 use Rattle.gtid_set.specs.Text.{text_of as text_of_set}
 use Rattle.mtr.specs.HexText.{hex_text}
 use Rattle.world.specs.declared.events.Reply.{Reply}
 use Rattle.world.specs.declared.events.Reply.TheVariants as replies
-
--- the number and name of the source's refusal
-abbrev pub source_text : SourceFault → List ℕ
-source_text source.NoSession = codes "S1 NoSession"
-source_text source.AlreadyOpen = codes "S2 AlreadyOpen"
-source_text source.NotActive = codes "S3 NotActive"
-source_text source.NoTable = codes "S4 NoTable"
-source_text source.WrongColumns = codes "S5 WrongColumns"
-source_text source.RowLocked = codes "S6 RowLocked"
-source_text source.RowExists = codes "S7 RowExists"
-source_text source.NoRow = codes "S8 NoRow"
-source_text source.NoParent = codes "S9 NoParent"
-source_text source.HasChild = codes "S10 HasChild"
-source_text source.TooManyChanges = codes "S11 TooManyChanges"
-source_text source.Halted = codes "S12 Halted"
-source_text source.Memory = codes "S13 Memory"
-source_text source.NotPrepared = codes "S14 NotPrepared"
-source_text source.Exhausted = codes "S15 Exhausted"
-
--- the number and name of the replica's refusal; where it stopped, also the record's number
-abbrev pub replica_text : ReplicaFault → List ℕ
-replica_text replica.Gap = codes "P1 Gap"
-replica_text replica.ForeignSource = codes "P2 ForeignSource"
-replica_text replica.Malformed = codes "P3 Malformed"
-replica_text replica.BadParent = codes "P4 BadParent"
-replica_text (replica.Stopped gno) = codes "P5 Stopped " ++ decimal gno
-replica_text replica.Stranger = codes "P6 Stranger"
-replica_text replica.Double = codes "P7 Double"
-replica_text replica.WrongInput = codes "P8 WrongInput"
-replica_text replica.Memory = codes "P9 Memory"
-
--- the number and name of the first fault of a record's bytes
-abbrev pub codec_text : CodecFault → List ℕ
-codec_text codec.Short = codes "C1 Short"
-codec_text codec.BadLength = codes "C2 BadLength"
-codec_text codec.BadKind = codes "C3 BadKind"
-codec_text codec.BadFlags = codes "C4 BadFlags"
-codec_text codec.BadOrder = codes "C5 BadOrder"
-codec_text codec.BadMask = codes "C6 BadMask"
-codec_text codec.BadCount = codes "C7 BadCount"
-codec_text codec.Memory = codes "C8 Memory"
-
--- the number and name of a fault of the log
-abbrev pub log_text : LogFault → List ℕ
-log_text log.Device = codes "L1 Device"
-log_text log.BadMagic = codes "L2 BadMagic"
-log_text log.OutOfTurn = codes "L3 OutOfTurn"
-log_text log.Memory = codes "L4 Memory"
-log_text (log.Codec fault) = codec_text fault
 
 -- a column behind a space, which is 32
 abbrev pub column_text : ℤ → List ℕ

@@ -27,6 +27,62 @@ Usage: mtr <COMMAND>
 For more information, try '--help'.
 ";
 
+/// What help says behind the subcommands, and behind the options of each.
+const MORE: &str = "\
+Begin with 'mtr run < SCRIPT': a script is a text file, and 'mtr run --help' has a first one to paste.
+Answers go to standard output, faults to standard error, each in a line.
+
+Exit status: 0 done (also where events were refused), 2 a wrong command line, 3 a bad script, schema, row or digit,
+4 no log file, or none could be made, 5 no memory, 6 'threads' found a difference, 7 a stream failed (no text).
+
+README.md is the way in; docs/FORMATS.md has each line of a script, each answer and each refusal.";
+
+const MORE_OF_RUN: &str = "\
+mtr run < SCRIPT
+
+A script has its tables first, then the rows that both sides begin with, then its events, one a line, its words
+separated by one space. A line that begins with '#' is a comment. Each event prints one line: its answer, or its
+refusal, as 'S8 NoRow'. A first script, whose last answer is '1: 5 6', row 10 of table 1 as of commit 1:
+
+table 1 2 keyed
+begin 1
+insert 1 1 10 5 6
+prepare 1
+queue 1
+flush
+sync
+commit
+deliver 1
+dispatch
+finish 1
+next
+publish
+read 1 10
+
+Exit status: 0 all events were run, refused ones too; 2 a wrong command line; 3 a bad script, told as
+'line 2: bad command', 'B5 Parent' or 'bad base'; 4 the log could not be made; 5 no memory; 7 a stream failed.
+
+docs/FORMATS.md has the grammar, each answer and each refusal; examples/run has scripts to read.";
+
+const MORE_OF_THREADS: &str = "\
+It reads nothing, and prints one line: 'log 40 published 40 equal', with the numbers of its transactions, or
+'different'.
+
+Exit status: 0 equal, 2 a wrong command line, 5 no memory, 6 different, 7 a stream failed (no text).
+
+docs/FORMATS.md says what its sessions write.";
+
+const MORE_OF_DECODE: &str = "\
+mtr run < SCRIPT | tail -1 | mtr decode      where the script's last event is 'log'
+xxd -p FILE | mtr decode                     where the file has the bytes
+
+It prints the source, a line for each record, as '2 (2,1) set 1 10 0=7', and 'closed'.
+
+Exit status: 0 done, 2 a wrong command line, 3 bad hexadecimal, 4 no log file (its fault is told, as 'C1 Short'),
+5 no memory, 7 a stream failed (no text).
+
+docs/FORMATS.md has the bytes of a log file, and its faults in their order.";
+
 /// The words that the options `--tracker` and `--store` take.
 #[derive(Clone, Copy)]
 pub struct Names<'a> {
@@ -157,7 +213,10 @@ fn command<'a>(alloc: Global, names: Names<'a>) -> Result<Command<'a>, AllocErro
     ensures { IfOk result (λ command. app_of command ≡ program names.entry) }
 {
     Command::new(alloc, "mtr")
-        .about("A source with group commit, and a replica that applies its log in parallel")
+        .about(
+            "A MySQL 8.0 style replication pair in one process: a source with group commit, and a replica that applies its log in parallel",
+        )
+        .after_help(MORE)
         .version(VERSION)
         .propagate_version(true)
         .no_binary_name(true)
@@ -173,7 +232,14 @@ fn run_command<'a>(alloc: Global, names: Names<'a>) -> Result<Command<'a>, Alloc
     ensures shape { IfOk result (λ command. app_of command ≡ run_app names.entry) }
     ensures local { IfOk result (λ command. (fields_of command).has_globals ≡ false) }
 {
-    sides_command(alloc, "run", "Runs the script on standard input", names)?.arg(fail_option(alloc))
+    sides_command(
+        alloc,
+        "run",
+        "Runs the script on standard input, and prints a line for each event",
+        MORE_OF_RUN,
+        names,
+    )?
+    .arg(fail_option(alloc))
 }
 
 fn threads_command<'a>(alloc: Global, names: Names<'a>) -> Result<Command<'a>, AllocError>
@@ -184,6 +250,7 @@ fn threads_command<'a>(alloc: Global, names: Names<'a>) -> Result<Command<'a>, A
         alloc,
         "threads",
         "Commits in many threads at the source, applies in many at the replica, and compares both",
+        MORE_OF_THREADS,
         names,
     )?
     .arg(number_option(
@@ -215,6 +282,7 @@ fn sides_command<'a>(
     alloc: Global,
     name: &'a str,
     about: &'a str,
+    more: &'a str,
     names: Names<'a>,
 ) -> Result<Command<'a>, AllocError>
     ensures shape { IfOk result (λ command. app_of command ≡ sides_app name.entry.now names.entry) }
@@ -222,6 +290,7 @@ fn sides_command<'a>(
 {
     Command::new(alloc, name)
         .about(about)
+        .after_help(more)
         .arg(choice_option(
             alloc,
             "tracker",
@@ -258,9 +327,11 @@ fn decode_command<'a>(alloc: Global) -> Command<'a>
     ensures shape { app_of result ≡ decode_app }
     ensures local { (fields_of result).has_globals ≡ false }
 {
-    Command::new(alloc, "decode").about(
-        "Prints the records of the log file on standard input, which is given as hexadecimal digits. Whitespace is ignored",
-    )
+    Command::new(alloc, "decode")
+        .about(
+            "Prints the records of the log file on standard input, which is given as hexadecimal digits. Whitespace is ignored",
+        )
+        .after_help(MORE_OF_DECODE)
 }
 
 /// The option `--NAME WORD`, of one of these words.

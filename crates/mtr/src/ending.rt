@@ -2,9 +2,8 @@
 
 ghost use Rattle.std.specs.Prelude.{◌≡◌, ◌≢◌, ◌∷◌, [], ◌++◌, codes, OnOk};
 ghost use Rattle.std.specs.Io.KnownBytes.{Appends};
-ghost use Rattle.mtr.specs.Ending.{status_of, ending_of, schema_text, stop_text};
+ghost use Rattle.mtr.specs.Ending.{status_of, ending_of, stop_text};
 
-use crate::printing::log_text;
 use log_file::LogFault;
 use record_codec::CodecFault;
 use schema::{Memory, SchemaFault};
@@ -148,26 +147,12 @@ impl Stop {
     {
         match self {
             Stop::BadCommand { line } => writeln!(errors, "line {line}: bad command"),
-            Stop::Schema(fault) => writeln!(errors, "{}", schema_text(fault)),
+            Stop::Schema(fault) => writeln!(errors, "{fault}"),
             Stop::BadBase => writeln!(errors, "bad base"),
             Stop::BadHexadecimal => writeln!(errors, "bad hexadecimal"),
-            Stop::Log(fault) => writeln!(errors, "{}", log_text(fault)),
+            Stop::Log(fault) => writeln!(errors, "{fault}"),
             Stop::Memory => writeln!(errors, "no memory"),
             Stop::Stream => writeln!(errors),
         }
-    }
-}
-
-/// The number and name of the schema's first fault.
-fn schema_text(fault: SchemaFault) -> &'static str
-    ensures { result.now ≡ schema_text fault }
-{
-    match fault {
-        SchemaFault::Count => "B1 Count",
-        SchemaFault::Id => "B2 Id",
-        SchemaFault::Columns => "B3 Columns",
-        SchemaFault::Twice => "B4 Twice",
-        SchemaFault::Parent => "B5 Parent",
-        SchemaFault::Memory => "B6 Memory",
     }
 }

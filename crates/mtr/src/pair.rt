@@ -71,6 +71,7 @@ pub fn parts_over<S: NewStore, T: Tracker, D: Device>(
     ensures rows { S.contents result.rows ≡ empty }
     ensures copy { S.contents result.copy ≡ empty }
     ensures tracker { result.tracker ≡ tracker }
+    ensures device { result.device ≡ device }
 {
     PairParts {
         rows: S::without_rows(alloc),

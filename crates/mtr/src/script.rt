@@ -198,14 +198,9 @@ fn table_of(words: Words) -> Option<Table>
     let (id, words) = words.u16()?;
     let (columns, words) = words.u8()?;
     let (kind, words) = words.first()?;
-    let keyed = is_keyed(kind)?;
+    let table = Table::new(id, columns, is_keyed(kind)?);
     let parent = reference_of(words)?;
-    Some(Table {
-        id,
-        columns,
-        keyed,
-        parent,
-    })
+    Some(Table { parent, ..table })
 }
 
 /// Whether a table of this kind has keys; `None` where the word is no kind.

@@ -3,7 +3,7 @@
 ghost use Rattle.std.specs.Prelude.{◌≡◌, ◌≤◌, ◌∷◌, [], All, None, IfOk};
 ghost use Rattle.source_core.specs.Source.{new_source};
 ghost use Rattle.replica_core.specs.Calls.{new_over};
-ghost use Rattle.world.specs.Fresh.{IsNew};
+ghost use Rattle.log_file.specs.Log.{IsNew};
 ghost use Rattle.mtr.specs.Options.{IsInRange};
 ghost use Rattle.mtr.specs.Pair.{IsNewTracker};
 ghost use Rattle.mtr.specs.Reading.{AreTold};
@@ -74,14 +74,7 @@ pub fn open_and_run<S: NewStore, T: Tracker + Drop + Send + Sync, H: Threads + W
 
 /// Table 1, of two columns.
 fn schema(alloc: Global) -> Result<Schema, Trouble> {
-    let tables = vec![in alloc;
-        Table {
-            id: TABLE,
-            columns: 2,
-            keyed: true,
-            parent: None
-        },
-    ]?;
+    let tables = vec![in alloc; Table::new(TABLE, 2, true)]?;
     match Schema::new(tables) {
         Ok(schema) => Ok(schema),
         Err(SchemaFault::Memory) => Err(Trouble::Memory),

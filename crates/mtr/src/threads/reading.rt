@@ -1,6 +1,7 @@
 //! What one reader of the replica saw.
 
 ghost use Rattle.std.specs.Prelude.{◌≡◌, ◌∷◌, ◌++◌, [], ℕ, IfOk, OnErr};
+ghost use mathlib.Core.List.{IsPrefix};
 ghost use Rattle.mtr.specs.Reading.{AreTold};
 
 use super::trouble::Trouble;
@@ -67,7 +68,9 @@ impl<S: RowStore + Drop, K: ReplicaNaming> Reader<S, K> {
 
     /// From now on no answer is below the notice.
     pub fn learn(&mut self, notice: Notice<K>)
-        ensures { self.new.shown ≡ self.old.shown }
+        ensures shown { self.new.shown ≡ self.old.shown }
+        ensures kept { IsPrefix self.old.known self.new.known }
+        ensures learnt { IsPrefix notice self.new.known }
     {
         self.seat.learn(notice);
     }
