@@ -1,6 +1,6 @@
 //! What crates of tests make of records: plain ones, their bytes, and the source that they come from.
 
-use record_codec::{Changes, Flags, Record, Refs, encode};
+use record_codec::{Changes, Flags, Record, Refs, Version, encode};
 use rows::Change;
 use schema::Memory;
 use std::alloc::Global;
@@ -24,24 +24,22 @@ pub fn record_of(
     parent: u64,
     changes: Vec<Change>,
 ) -> Result<Record, Memory> {
-    Ok(Record {
+    let changes = Changes::new(changes).ok_or(Memory)?;
+    Ok(Record::new(
+        alloc,
         gno,
-        sequence: gno,
         parent,
-        flags: Flags {
-            fk: false,
-            missing_keys: false,
-        },
-        refs: Refs::none(alloc),
-        changes: Changes::new(changes).ok_or(Memory)?,
-    })
+        Flags::none(),
+        Refs::none(alloc),
+        changes,
+    ))
 }
 
-/// The bytes of the records, one behind the other. Each is written once more where memory lacked.
+/// The bytes of the records in the form that sources write, one behind the other. Each is written once more where memory lacked.
 pub fn spelled(alloc: Global, records: &[Record]) -> Result<Vec<u8>, Memory> {
     let mut bytes = Vec::new(alloc);
     for record in records {
-        again!(encode(record, &mut bytes))?;
+        again!(encode(Version::current(), record, &mut bytes))?;
     }
     Ok(bytes)
 }

@@ -23,19 +23,16 @@ last_within : (n : ℕ) (log : List Entry) (session : ℕ) → AllByRecursion (I
 last_within n [] session all = omega arith
 last_within n (last ∷ older) session all = either_within (eqb last.session session) last.sequence (last_of older session) n all.0 (last_within n older session all.1)
 
-pub serial : (log seen : List Entry) (t : Footprint) (session order : ℕ) → IsNumbered seen → seen ≡ log → order ≡ length seen → IsOrderParent log t session order
-serial log seen t session order numbered same e =
-    subst (λ (l : List Entry). IsOrderParent l t session order) same
-    (record {
-      covers = length_covers seen (touched t) order numbered (omega (arith, e));
-      within = omega (arith, e);
-      own = last_within order (reverse seen) session (of_reverse (IsWithin order) (reverse seen) (subst (AllByRecursion (IsWithin order)) (sym (reverse-reverse seen))
-          (each_within order seen (λ i next is. omega (arith, (numbered i next is).number, slice_get_within seen i next is, e)))));
-    })
+pub serial : (log : List Entry) (t : Footprint) (session order : ℕ) → IsNumbered log → order ≡ length log → IsOrderParent log t session order
+serial log t session order numbered e = record {
+  covers = length_covers log (touched t) order numbered (omega (arith, e));
+  within = omega (arith, e);
+  own = last_within order (reverse log) session (of_reverse (IsWithin order) (reverse log) (subst (AllByRecursion (IsWithin order)) (sym (reverse-reverse log))
+      (each_within order log (λ i next is. omega (arith, (numbered i next is).number, slice_get_within log i next is, e)))));
+}
 
 -- the log with the transaction behind it
-pub logged : (Agrees : List Entry → Type 0) (log seen new : List Entry) (t : Footprint) (session parent committed : ℕ) → seen ≡ log → committed ≡ length seen →
+pub logged : (Agrees : List Entry → Type 0) (log new : List Entry) (t : Footprint) (session parent committed : ℕ) → committed ≡ length log →
     new ≡ log ++ record { sequence = committed + 1; parent = parent; session = session; footprint = t } ∷ [] → Agrees (stamped log t session parent) → Agrees new
-logged Agrees log seen new t session parent committed same e is agrees =
-    let at : committed ≡ length log = e ∙ ap length same in
-    subst Agrees (sym (is ∙ ap (λ n. log ++ record { sequence = n + 1; parent = parent; session = session; footprint = t } ∷ []) at)) agrees
+logged Agrees log new t session parent committed e is agrees =
+    subst Agrees (sym (is ∙ ap (λ n. log ++ record { sequence = n + 1; parent = parent; session = session; footprint = t } ∷ []) e)) agrees

@@ -45,15 +45,13 @@ pub fn update(row: RowId, column: u8, value: i64) -> Result<Change, Memory> {
 
 /// Tables 1 and 2 have no kin, 3 is the parent of 4, and 5 is keyless. Each has two columns.
 pub fn five_tables(alloc: Global) -> Result<Schema, Memory> {
-    let mut tables = Vec::with_capacity(alloc, 5)?;
-    for id in 1..=5 {
-        tables.push(Table {
-            id,
-            columns: 2,
-            keyed: id != 5,
-            parent: if id == 4 { Some((0, 3)) } else { None },
-        })?;
-    }
+    let tables = vec![in alloc;
+        Table::new(1, 2, true),
+        Table::new(2, 2, true),
+        Table::new(3, 2, true),
+        Table::new(4, 2, true).child_of(0, 3),
+        Table::new(5, 2, false),
+    ]?;
     Schema::new(tables).map_err(|_| Memory)
 }
 

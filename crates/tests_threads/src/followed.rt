@@ -2,7 +2,7 @@
 
 use crate::makers::insert;
 use crate::sources::{Shared, transact};
-use record_codec::{CodecFault, Record, decode, same_records};
+use record_codec::{CodecFault, Record, Version, decode, same_records};
 use schema::Memory;
 use source_core::SourceFault;
 use source_shared::{Receipt, SourceNaming};
@@ -144,8 +144,8 @@ fn fill_the_room<J: SourceNaming, R: Wait + Abort + Clock>(
 
 /// The first record of the bytes and its length, read once more where that lacked memory.
 fn read(alloc: Global, bytes: &[u8]) -> Result<(Record, usize), Fail> {
-    match decode(alloc, bytes) {
-        Err(CodecFault::Memory) => Ok(decode(alloc, bytes)?),
+    match decode(alloc, Version::current(), bytes) {
+        Err(CodecFault::Memory) => Ok(decode(alloc, Version::current(), bytes)?),
         answer => Ok(answer?),
     }
 }

@@ -25,14 +25,7 @@ pub const ONE: RowId = RowId { table: 1, key: 10 };
 
 /// Table 1, of 2 columns.
 pub fn schema(alloc: Global) -> Result<Schema, Memory> {
-    let tables = vec![in alloc;
-        Table {
-            id: 1,
-            columns: 2,
-            keyed: true,
-            parent: None
-        },
-    ]?;
+    let tables = vec![in alloc; Table::new(1, 2, true)]?;
     Schema::new(tables).map_err(|_| Memory)
 }
 
@@ -42,7 +35,7 @@ pub fn source(alloc: Global) -> Result<SourceCore<BTreeStore, CommitOrder>, Memo
 {
     let schema = schema(alloc)?;
     let store = BTreeStore::new(alloc);
-    if !schema.is_flat() || !fits(&schema, &store) {
+    if !fits(&schema, &store) {
         return Err(Memory);
     }
     let core = SourceCore::new(alloc, schema, store, CommitOrder, 1024)?;
@@ -54,7 +47,7 @@ pub fn replica(alloc: Global, store: Store) -> Result<ReplicaCore<Store>, Memory
     ensures { IfOk result (λ core. core ≡ new_over core.tables core.source core.base core.workers) }
 {
     let schema = schema(alloc)?;
-    if !schema.is_flat() || !fits(&schema, &store) {
+    if !fits(&schema, &store) {
         return Err(Memory);
     }
     let core = ReplicaCore::new(alloc, schema, Uuid::from_u128(SOURCE), store, 3)?;

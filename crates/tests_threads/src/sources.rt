@@ -1,6 +1,7 @@
 //! The shared source: its calls made again, a device that fails or finds no memory, and threads that commit.
-ghost use Rattle.std.specs.Prelude.{◌≡◌, [], None};
+ghost use Rattle.std.specs.Prelude.{◌≡◌};
 ghost use Rattle.source_core.specs.Source.{new_source};
+ghost use Rattle.log_file.specs.Log.{IsNew};
 
 use crate::device::{Hold, InMemory, Ordered, Orders};
 use crate::followed::{are_bytes, follow, is_followed};
@@ -179,8 +180,7 @@ fn run_over<'a, J: SourceNaming + Send + Sync, R: Threads + Wait + Abort + Clock
     orders: &Orders<'a, R>,
 ) -> Result<bool, Fail>
     requires core { core ≡ new_source core.tables core.base core.limit core.kind }
-    requires records { log.log.records ≡ [] }
-    requires waiting { log.log.waiting ≡ None }
+    requires log { IsNew log.log }
     requires base { core.base ≡ J.base }
     requires tables { core.tables ≡ J.tables }
     requires named { beginning ≡ J.book }

@@ -21,8 +21,8 @@ use uuid::Uuid;
 /// A source whose records are not taken.
 const OTHER: u128 = 7;
 
-/// The place of the second record's flags, behind the 61 bytes of the first record and 28 of its own.
-const FLAGS: usize = 89;
+/// The place of the second record's flags, behind the 63 bytes of the first record and 28 of its own.
+const FLAGS: usize = 91;
 
 /// Catches bytes that are lost or taken twice at a cut, also where memory was refused, and records that no worker gets.
 #[test]

@@ -1,7 +1,7 @@
 //! What a crash leaves of a log, at each moment of its writing and of its opening.
 
 use crate::common::source;
-use crate::tests::logs::{append_again, group, records_in};
+use crate::tests::logs::{append_again, records_in};
 use log_device::{CrashDevice, Device, FaultyDevice, MemoryDevice};
 use log_file::{LogFault, LogFile};
 use schema::Memory;
@@ -19,14 +19,13 @@ const MADE: usize = 3;
 const GROUP: usize = 4;
 
 /// Puts three groups of a record each on the log, up to the first that is refused, and answers how many were synced.
-fn put_three<D: Device>(alloc: Global, log: &mut LogFile<D>) -> Result<usize, Memory> {
+fn put_three<D: Device>(alloc: Global, log: &mut LogFile<D>) -> usize {
     for gno in 1..4 {
-        let group = group(alloc, gno)?;
-        if append_again(log, &group).is_err() || log.sync().is_err() {
-            return Ok(gno as usize - 1);
+        if append_again(alloc, log, gno).is_err() || log.sync().is_err() {
+            return gno as usize - 1;
         }
     }
-    Ok(3)
+    3
 }
 
 /// Opens what a crash may have left at each moment since the log was made. There are the groups whose sync had ended by then, so many in
@@ -93,7 +92,7 @@ fn write_and_open(rt: &(impl Abort + AllocGlobal), device: Crashing) -> Result<(
     match LogFile::create(alloc, device, source()) {
         Ok(log) => {
             let mut log = log;
-            let synced = put_three(alloc, &mut log)?;
+            let synced = put_three(alloc, &mut log);
             open_at_last(rt, log.into_device().into_inner(), synced)
         }
         // Where the making fails there is no log yet.

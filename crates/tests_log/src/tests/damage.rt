@@ -1,25 +1,30 @@
 //! Records that are cut short, and records of which a byte is another: what `decode` and a stream answer to them.
 
-use crate::tests::makers::{CHILD, INSERT, UPDATE, two};
+use crate::tests::makers::{FORMS, ends, joined, spellings};
 use crate::tests::reader::{Fault, read};
-use record_codec::{CodecFault, Record, decode};
+use record_codec::{CodecFault, Record, Version, decode};
 use record_stream::Stream;
 use rows::Change;
+use schema::RowId;
 use std::alloc::{AllocError, Global};
 use std::process::Abort;
 use std::test::Fail;
 use tests_stores::again;
 
 /// Each beginning of the record is told to be short, and a stream waits for the rest.
-fn is_short_at_each_cut(rt: &(impl Abort + AllocGlobal), bytes: &[u8]) -> Result<(), Fail> {
+fn is_short_at_each_cut(
+    rt: &(impl Abort + AllocGlobal),
+    version: Version,
+    bytes: &[u8],
+) -> Result<(), Fail> {
     for cut in 0..bytes.len() {
         let front = &bytes[..cut];
-        let fault = decode(rt.alloc(), front).err();
-        assert_eq!(rt; fault, Some(CodecFault::Short), "{cut}");
-        let mut stream = Stream::new(rt.alloc());
+        let fault = decode(rt.alloc(), version, front).err();
+        assert_eq!(rt; fault, Some(CodecFault::Short), "{version:?} {cut}");
+        let mut stream = Stream::new(rt.alloc(), version);
         let mut records = Vec::new(rt.alloc());
         again!(stream.feed(front, &mut records))?;
-        assert!(rt; records.is_empty(), "{cut}");
+        assert!(rt; records.is_empty(), "{version:?} {cut}");
     }
     Ok(())
 }
@@ -27,9 +32,12 @@ fn is_short_at_each_cut(rt: &(impl Abort + AllocGlobal), bytes: &[u8]) -> Result
 /// A record that is read before its last byte is there, or whose beginning is told as another fault.
 #[test]
 fn records_are_cut_at_each_place_again(rt: HostRuntime) -> Result<(), Fail> {
-    is_short_at_each_cut(&rt, &INSERT)?;
-    is_short_at_each_cut(&rt, &UPDATE)?;
-    is_short_at_each_cut(&rt, &CHILD)
+    for version in FORMS {
+        for bytes in spellings(version) {
+            is_short_at_each_cut(&rt, version, bytes)?;
+        }
+    }
+    Ok(())
 }
 
 /// The fault in the reader's words.
@@ -46,24 +54,32 @@ fn fault_of(fault: CodecFault) -> Fault {
     }
 }
 
-/// The record's fields as the reader has them.
-fn fields_of(alloc: Global, record: &Record) -> Result<Vec<i64>, AllocError> {
-    let (refs, changes) = (record.refs.rows(), record.changes.list());
+/// The record's fields as the reader has them. In the first form nothing stands for marks, and none may be found.
+fn fields_of(alloc: Global, version: Version, record: &Record) -> Result<Vec<i64>, AllocError> {
+    let (marks, changes) = (record.marks.list(), record.changes.list());
     let mut fields = vec![in alloc;
         record.gno.cast_signed(),
         record.sequence.cast_signed(),
         record.parent.cast_signed(),
         i64::from(record.flags.fk) + 2 * i64::from(record.flags.missing_keys),
-        refs.len() as i64,
     ]?;
-    for id in refs {
-        fields.extend_from_slice(&[i64::from(id.table), id.key])?;
+    put_rows(&mut fields, record.refs.rows())?;
+    if version == Version::Two || !marks.is_empty() {
+        put_rows(&mut fields, marks)?;
     }
     fields.push(changes.len() as i64)?;
     for change in changes {
         put_change(&mut fields, change)?;
     }
     Ok(fields)
+}
+
+fn put_rows(fields: &mut Vec<i64>, rows: &[RowId]) -> Result<(), AllocError> {
+    fields.push(rows.len() as i64)?;
+    for id in rows {
+        fields.extend_from_slice(&[i64::from(id.table), id.key])?;
+    }
+    Ok(())
 }
 
 fn put_change(fields: &mut Vec<i64>, change: &Change) -> Result<(), AllocError> {
@@ -84,9 +100,9 @@ fn put_change(fields: &mut Vec<i64>, change: &Change) -> Result<(), AllocError> 
 }
 
 /// What `decode` answers, in the reader's words.
-fn decoded(alloc: Global, bytes: &[u8]) -> Result<(Vec<i64>, usize), Fault> {
-    match decode(alloc, bytes) {
-        Ok((record, len)) => match fields_of(alloc, &record) {
+fn decoded(alloc: Global, version: Version, bytes: &[u8]) -> Result<(Vec<i64>, usize), Fault> {
+    match decode(alloc, version, bytes) {
+        Ok((record, len)) => match fields_of(alloc, version, &record) {
             Ok(fields) => Ok((fields, len)),
             Err(_) => Err(Fault::Memory),
         },
@@ -95,8 +111,13 @@ fn decoded(alloc: Global, bytes: &[u8]) -> Result<(Vec<i64>, usize), Fault> {
 }
 
 /// Feeds bytes one by one, up to the first fault.
-fn first_fault(alloc: Global, bytes: &[u8], records: &mut Vec<Record>) -> Option<CodecFault> {
-    let mut stream = Stream::new(alloc);
+fn first_fault(
+    alloc: Global,
+    version: Version,
+    bytes: &[u8],
+    records: &mut Vec<Record>,
+) -> Option<CodecFault> {
+    let mut stream = Stream::new(alloc, version);
     for byte in bytes {
         if let Err(fault) = again!(CodecFault::Memory => stream.feed(&[*byte], records)) {
             return Some(fault);
@@ -106,55 +127,63 @@ fn first_fault(alloc: Global, bytes: &[u8], records: &mut Vec<Record>) -> Option
 }
 
 /// A stream gives the records that stand at the front of the bytes, and meets the fault that is behind them.
-fn is_streamed(rt: &(impl Abort + AllocGlobal), bytes: &[u8], place: usize) -> Result<(), Fail> {
-    let mut records = Vec::new(rt.alloc());
-    let fault = first_fault(rt.alloc(), bytes, &mut records);
+fn is_streamed(
+    rt: &(impl Abort + AllocGlobal),
+    version: Version,
+    bytes: &[u8],
+    place: usize,
+) -> Result<(), Fail> {
+    let alloc = rt.alloc();
+    let mut records = Vec::new(alloc);
+    let fault = first_fault(alloc, version, bytes, &mut records);
     let mut rest = bytes;
     for record in &records {
-        let (fields, len) = again!(Fault::Memory => read(rt.alloc(), rest))?;
-        assert_eq!(rt; again!(fields_of(rt.alloc(), record))?, fields, "{place}");
+        let (fields, len) = again!(Fault::Memory => read(alloc, version, rest))?;
+        let found = again!(fields_of(alloc, version, record))?;
+        assert_eq!(rt; found, fields, "{version:?} {place}");
         rest = rest.get(len..).ok_or("bytes of a record")?;
     }
-    let wanted = again!(Fault::Memory => read(rt.alloc(), rest)).err();
+    let wanted = again!(Fault::Memory => read(alloc, version, rest)).err();
     assert_eq!(rt;
         Some(fault.map_or(Fault::Short, fault_of)),
         wanted,
-        "{place}"
+        "{version:?} {place}"
     );
     Ok(())
 }
 
 /// `decode` answers to the record in which this place is what the reader does, and so does a stream over all of the bytes.
-fn is_read_alike(rt: &(impl Abort + AllocGlobal), bytes: &[u8], place: usize) -> Result<(), Fail> {
-    let front = match place {
-        0..53 => 0,
-        53..107 => 53,
-        _ => 107,
-    };
-    let record = bytes.get(front..).ok_or("a record")?;
-    let wanted = again!(Fault::Memory => read(rt.alloc(), record));
-    let answer = again!(Fault::Memory => decoded(rt.alloc(), record));
-    assert_eq!(rt; answer, wanted, "{place}");
-    is_streamed(rt, bytes, place)
-}
-
-/// `INSERT`, `UPDATE` and `CHILD`, one behind the other.
-fn three() -> [u8; 170] {
-    let mut bytes = [0; 170];
-    bytes[..107].copy_from_slice(&two());
-    bytes[107..].copy_from_slice(&CHILD);
-    bytes
+fn is_read_alike(
+    rt: &(impl Abort + AllocGlobal),
+    version: Version,
+    bytes: &[u8],
+    place: usize,
+) -> Result<(), Fail> {
+    let alloc = rt.alloc();
+    let mut record = bytes;
+    for end in ends(version) {
+        if end <= place {
+            record = bytes.get(end..).ok_or("a record")?;
+        }
+    }
+    let wanted = again!(Fault::Memory => read(alloc, version, record));
+    let answer = again!(Fault::Memory => decoded(alloc, version, record));
+    assert_eq!(rt; answer, wanted, "{version:?} {place}");
+    is_streamed(rt, version, bytes, place)
 }
 
 /// A fault that is told in another's place, a damaged byte that goes unseen, or a record that it takes along or lets out behind it.
 #[test]
 fn a_byte_at_each_place_is_another(rt: HostRuntime) -> Result<(), Fail> {
-    for place in 0..170 {
-        let more = three()[place].wrapping_add(1);
-        for value in [0, 0xff, more] {
-            let mut bytes = three();
-            bytes[place] = value;
-            is_read_alike(&rt, &bytes, place)?;
+    for version in FORMS {
+        let mut bytes = joined(rt.alloc(), version)?;
+        for place in 0..bytes.len() {
+            let byte = bytes[place];
+            for value in [0, 0xff, byte.wrapping_add(1)] {
+                bytes[place] = value;
+                is_read_alike(&rt, version, &bytes, place)?;
+            }
+            bytes[place] = byte;
         }
     }
     Ok(())

@@ -1,7 +1,7 @@
 //! What trackers see of a log: footprints and entries.
 
 use log_index::{Entry, Footprint, Log, Rows};
-use schema::{Memory, RowId};
+use schema::{Flags, Memory, RowId};
 use std::alloc::Global;
 use std::test::Fail;
 use tests_stores::again;
@@ -16,8 +16,7 @@ fn footprint(alloc: Global, write: RowId, to: RowId) -> Result<Footprint, Memory
     Ok(Footprint {
         writes: rows(alloc, &[write])?,
         refs: rows(alloc, &[to])?,
-        fk: true,
-        missing_keys: false,
+        flags: Flags::none(),
     })
 }
 
@@ -34,7 +33,7 @@ fn kinds_of_tables(rt: HostRuntime) -> Result<(), Fail> {
         let writes = rows(rt.alloc(), &[row(2, 1), row(table, 1)])?;
         let seen = Footprint::new(&schema, writes, rows(rt.alloc(), &[])?);
         assert_eq!(rt;
-            (seen.fk, seen.missing_keys),
+            (seen.flags.fk, seen.flags.missing_keys),
             (fk, missing_keys),
             "table {table}"
         );
@@ -52,24 +51,6 @@ fn push_next(log: &mut Log, footprint: Footprint) -> Result<(), Memory> {
         session: 256,
         footprint,
     })
-}
-
-/// Rows that meet one way alone, refs that meet refs, or a parent that is one too low.
-#[test]
-fn conflicts_are_covered(rt: HostRuntime) -> Result<(), Fail> {
-    let mut log = Log::new(rt.alloc());
-    push_next(&mut log, footprint(rt.alloc(), row(4, 9), row(3, 1))?)?;
-    for (write, to, wanted) in [
-        (row(4, 8), row(3, 1), false),
-        (row(4, 9), row(3, 2), true),
-        (row(3, 1), row(3, 2), true),
-        (row(1, 9), row(4, 9), true),
-    ] {
-        let next = footprint(rt.alloc(), write, to)?;
-        assert_eq!(rt; log.covers(&next, 0), !wanted, "{write:?} {to:?}");
-        assert!(rt; log.covers(&next, 1), "{write:?} {to:?}");
-    }
-    Ok(())
 }
 
 /// A copy that finds no memory past some number of rows.
@@ -102,6 +83,6 @@ fn many_entries(rt: HostRuntime) -> Result<(), Fail> {
             footprint(rt.alloc(), row(1, number), row(2, number))?,
         )?;
     }
-    assert_eq!(rt; log.entries().len(), 3000);
+    assert_eq!(rt; log.len(), 3000);
     Ok(())
 }

@@ -5,7 +5,7 @@ ghost use Rattle.std.specs.FinMap.{empty};
 ghost use Rattle.schema.specs.declared.Table.{Table as ATable};
 ghost use Rattle.source_core.specs.Source.{new_source};
 ghost use Rattle.replica_core.specs.Calls.{new_over};
-ghost use Rattle.world.specs.Fresh.{IsNew};
+ghost use Rattle.log_file.specs.Log.{IsNew};
 ghost use Rattle.world.specs.Seen.{seen};
 ghost use Rattle.world.specs.State.{IsWorld};
 
@@ -70,12 +70,7 @@ pub const LIMIT: u64 = 66_000;
 fn schema(alloc: Global) -> Result<Schema, LogFault> {
     let mut tables = Vec::new(alloc);
     for (id, columns) in [(1, 2), (2, 16), (256, 1)] {
-        tables.push(Table {
-            id,
-            columns,
-            keyed: true,
-            parent: None,
-        })?;
+        tables.push(Table::new(id, columns, true))?;
     }
     Schema::new(tables).map_err(|_| LogFault::Memory)
 }

@@ -4,7 +4,7 @@
 ghost use Rattle.std.specs.Prelude.{◌≡◌};
 ghost use Rattle.source_core.specs.Source.{new_source};
 ghost use Rattle.replica_core.specs.Calls.{new_over};
-ghost use Rattle.world.specs.Fresh.{IsNew};
+ghost use Rattle.log_file.specs.Log.{IsNew};
 
 use crate::tests::makers::{SOURCE, columns, insert, row, set, sides};
 use btree_store::BTreeStore;

@@ -2,30 +2,30 @@
 
 use crate::tests::makers::{RELATED, family, greatest, rows_of_greatest};
 use executor::{Job, JobResult, Outcome, execute};
-use record_codec::{Record, Refs, decode};
+use record_codec::{Record, Refs, Version, decode};
 use relay::{Received, Relay};
 use schema::Memory;
 use std::alloc::Global;
 use std::process::Abort;
 use tests_log::common::source;
 
-/// The bytes of a record of 2048 refs, to the rows 0 to 2047, and one delete.
+/// The bytes of a record of 2048 refs, to the rows 0 to 2047, no marks and one delete.
 fn bytes_of_refs(alloc: Global) -> Result<Vec<u8>, Memory> {
     let mut bytes = Vec::new(alloc);
-    bytes.extend_from_slice(&20_520u32.to_be_bytes())?;
+    bytes.extend_from_slice(&20_522u32.to_be_bytes())?;
     bytes.extend_from_slice(&[0; 25])?;
     bytes.extend_from_slice(&2048u16.to_be_bytes())?;
     for key in 0i64..2048 {
         bytes.extend_from_slice(&[0, 1])?;
         bytes.extend_from_slice(&key.to_be_bytes())?;
     }
-    bytes.extend_from_slice(&[0, 1, 3, 0, 1, 0, 0, 0, 0, 0, 0, 0, 0])?;
+    bytes.extend_from_slice(&[0, 0, 0, 1, 3, 0, 1, 0, 0, 0, 0, 0, 0, 0, 0])?;
     Ok(bytes)
 }
 
 /// As many refs as a record may have.
 fn all_refs(alloc: Global) -> Result<Refs, Memory> {
-    let (read, _) = decode(alloc, &bytes_of_refs(alloc)?).map_err(|_| Memory)?;
+    let (read, _) = decode(alloc, Version::Two, &bytes_of_refs(alloc)?).map_err(|_| Memory)?;
     read.refs.copy()
 }
 

@@ -31,12 +31,7 @@ pub const RELATED: Flags = Flags {
 
 /// A keyed table by itself.
 pub fn table(id: u16, columns: u8) -> Table {
-    Table {
-        id,
-        columns,
-        keyed: true,
-        parent: None,
-    }
+    Table::new(id, columns, true)
 }
 
 /// The table 1 of two columns and the table 2 of sixteen.
@@ -47,10 +42,7 @@ pub fn schema(alloc: Global) -> Result<Schema, Memory> {
 
 /// The same tables, the one of sixteen columns being the child of the other: its column 0 names the parent row.
 pub fn family(alloc: Global) -> Result<Schema, Memory> {
-    let child = Table {
-        parent: Some((0, 1)),
-        ..table(2, 16)
-    };
+    let child = table(2, 16).child_of(0, 1);
     Schema::new(vec![in alloc; table(1, 2), child]?).map_err(|_| Memory)
 }
 

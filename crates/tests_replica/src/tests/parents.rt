@@ -55,22 +55,13 @@ enum Came {
     Memory,
 }
 
-fn table(id: u16, keyed: bool, parent: Option<(u8, u16)>) -> Table {
-    Table {
-        id,
-        columns: 2,
-        keyed,
-        parent,
-    }
-}
-
 /// Table 1 by itself, the keyless table 2, and table 3 with its child table 4, whose column 0 names the parent.
 fn tables(alloc: Global) -> Result<Schema, Memory> {
     let list = vec![in alloc;
-        table(1, true, None),
-        table(2, false, None),
-        table(3, true, None),
-        table(4, true, Some((0, 3))),
+        Table::new(1, 2, true),
+        Table::new(2, 2, false),
+        Table::new(3, 2, true),
+        Table::new(4, 2, true).child_of(0, 3),
     ]?;
     Schema::new(list).map_err(|_| Memory)
 }

@@ -22,14 +22,8 @@ use uuid::Uuid;
 
 /// Tables 1 and 2 by themselves, table 3 with its child 4, and the keyless table 5.
 fn tables(alloc: Global) -> Result<Schema, Memory> {
-    let child = Table {
-        parent: Some((0, 3)),
-        ..table(4, 1)
-    };
-    let keyless = Table {
-        keyed: false,
-        ..table(5, 1)
-    };
+    let child = table(4, 1).child_of(0, 3);
+    let keyless = Table::new(5, 1, false);
     let list = vec![in alloc; table(1, 2), table(2, 2), table(3, 1), child, keyless]?;
     Schema::new(list).map_err(|_| Memory)
 }

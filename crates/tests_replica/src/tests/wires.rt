@@ -1,7 +1,7 @@
 //! A wire and a replica of one's own: what becomes of the records that wait and of a piece, by each of the answers.
 
 use crate::tests::makers::{Replica, insert_of, replica};
-use record_codec::{CodecFault, encode};
+use record_codec::{CodecFault, Version, encode};
 use relay::ReplicaFault;
 use replica_core::{Wire, WireFault};
 use schema::Memory;
@@ -73,7 +73,8 @@ fn cases() -> [Case; 5] {
 fn bytes_of(alloc: Global, numbers: &[u64]) -> Result<Vec<u8>, Memory> {
     let mut bytes = Vec::new(alloc);
     for gno in numbers {
-        encode(&insert_of(alloc, *gno, gno.cast_signed())?, &mut bytes)?;
+        let new = insert_of(alloc, *gno, gno.cast_signed())?;
+        encode(Version::current(), &new, &mut bytes)?;
     }
     Ok(bytes)
 }

@@ -38,9 +38,9 @@ fn footprint(
 /// Whether the transaction writes rows of the schema's tables, and refers to rows only where it is foreign-key related.
 fn is_of_tables(schema: &Schema, t: &Footprint) -> bool
     ensures known { IsTrue result → list_all (λ r. is_some (table_at schema.now r.table)) t.now.writes ≡ true }
-    ensures refs { IsTrue result → t.now.fk ≡ false → t.now.refs ≡ [] }
+    ensures refs { IsTrue result → t.now.flags.fk ≡ false → t.now.refs ≡ [] }
 {
-    are_known(schema, t.writes.list()) && (t.fk || t.refs.list().is_empty())
+    are_known(schema, t.writes.list()) && (t.flags.fk || t.refs.list().is_empty())
 }
 
 fn are_known(schema: &Schema, rows: &[RowId]) -> bool
@@ -65,7 +65,7 @@ fn log_next<T: Tracker>(
     requires greatest { session ≤ MAX_SESSIONS }
     ensures { T.agrees tracker.new _schema.now log.new.entries }
 {
-    let committed = log.entries().len() as u64;
+    let committed = log.len() as u64;
     let parent = tracker.stamp(log, &t, w, session, committed);
     log.push(Entry {
         sequence: committed + 1,

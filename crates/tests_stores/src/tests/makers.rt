@@ -13,11 +13,10 @@ pub type Entry = (RowId, Option<Row>);
 
 /// A table of 16 columns. Where it has a parent, the last column names its row.
 pub fn table(id: u16, parent: Option<u16>) -> Table {
-    Table {
-        id,
-        columns: 16,
-        keyed: true,
-        parent: parent.map(|table| (15, table)),
+    let table = Table::new(id, 16, true);
+    match parent {
+        Some(parent) => table.child_of(15, parent),
+        None => table,
     }
 }
 

@@ -5,12 +5,33 @@ use crate::tests::makers::{
     Entry, delete, four_tables, insert, many_rows, removed, same_rows, set, store, update,
 };
 use btree_store::BTreeStore;
-use overlay::{Overlay, run_changes};
+use overlay::{Overlay, parent_holds, step_seen};
 use rows::Change;
 use schema::{Memory, Schema};
 use std::alloc::Global;
 use std::test::Fail;
 use store_trait::Batch;
+
+/// The overlay of the changes, step by step, or `None` where one of them does not apply behind those before it; each call is
+/// made again where memory lacked.
+fn ran(
+    alloc: Global,
+    schema: &Schema,
+    store: &BTreeStore,
+    changes: &[Change],
+) -> Result<Option<Overlay>, Memory> {
+    let mut overlay = Overlay::new(alloc);
+    for change in changes {
+        let Ok(step) = step_seen(&overlay, schema, store, change) else {
+            return Ok(None);
+        };
+        if !parent_holds(&overlay, schema, store, change, step.left.as_ref()) {
+            return Ok(None);
+        }
+        again!(overlay.push(*change, step.left))?;
+    }
+    Ok(Some(overlay))
+}
 
 /// Whether the changes leave this over the rows, or where it is `None` one of them does not apply; each call is made again
 /// where memory lacked.
@@ -21,8 +42,7 @@ fn leaves(
     changes: &[Change],
     want: Option<&[Entry]>,
 ) -> Result<bool, Memory> {
-    let ran = again!(run_changes(alloc, schema, store, changes))?;
-    let Some(overlay) = ran else {
+    let Some(overlay) = ran(alloc, schema, store, changes)? else {
         return Ok(want.is_none());
     };
     let batch = again!(overlay.batch(alloc))?;
@@ -80,7 +100,7 @@ fn most_leave(alloc: Global, rows: &Batch) -> Result<bool, Memory> {
     leaves(alloc, &schema, &store, &changes, Some(rows.entries()))
 }
 
-/// A run or a batch that gives up, at the most changes of a transaction or where memory lacked once.
+/// A step or a batch that gives up, at the most changes of a transaction or where memory lacked once.
 #[test]
 fn most_changes_are_run_again(rt: HostRuntime) -> Result<(), Fail> {
     let alloc = rt.alloc();

@@ -1,4 +1,3 @@
-use Rattle.std.proofs.Common.{length, refl}
 use Rattle.tests_source.proofs.Serial.{serial, logged}
 use Rattle.tests_source.proofs.tests.trackers.log_next.Goals as goal
 
@@ -6,9 +5,9 @@ pub stamp-parent-requires-clause-seen : goal.stamp-parent-requires-clause-seen
 stamp-parent-requires-clause-seen g c = (c.args._schema.now, c.requires.seen)
 
 pub stamp-parent-requires-clause-order : goal.stamp-parent-requires-clause-order
-stamp-parent-requires-clause-order g c = serial c.args.log.now.entries c.entries.result.now c.args.t c.args.session (length c.entries.result.now) c.entries.ensures.numbered c.entries.ensures.value refl
+stamp-parent-requires-clause-order g c = serial c.args.log.now.entries c.args.t c.args.session c.len-committed.result c.len-committed.ensures.numbered c.len-committed.ensures.value
 
 pub returns : goal.returns
 returns g c =
-    logged (g.T.Tracker.agrees c.stamp-parent.new.self c.args._schema.now) c.args.log.now.entries c.entries.result.now _ c.args.t c.args.session c.stamp-parent.result (length c.entries.result.now) c.entries.ensures.value
-    refl (rw c.unwrap.ensures at c.push.ensures.ok) (c.stamp-parent.ensures.goes_on c.args._schema.now c.requires.seen c.requires.tables)
+    logged (g.T.Tracker.agrees c.stamp-parent.new.self c.args._schema.now) c.args.log.now.entries _ c.args.t c.args.session c.stamp-parent.result c.len-committed.result c.len-committed.ensures.value
+    (rw c.unwrap.ensures at c.push.ensures.ok) (c.stamp-parent.ensures.goes_on c.args._schema.now c.requires.seen c.requires.tables)
