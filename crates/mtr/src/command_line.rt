@@ -236,9 +236,9 @@ fn run_command<'a>(alloc: Global, names: Names<'a>) -> Result<Command<'a>, Alloc
         alloc,
         "run",
         "Runs the script on standard input, and prints a line for each event",
-        MORE_OF_RUN,
         names,
     )?
+    .after_help(MORE_OF_RUN)
     .arg(fail_option(alloc))
 }
 
@@ -250,9 +250,9 @@ fn threads_command<'a>(alloc: Global, names: Names<'a>) -> Result<Command<'a>, A
         alloc,
         "threads",
         "Commits in many threads at the source, applies in many at the replica, and compares both",
-        MORE_OF_THREADS,
         names,
     )?
+    .after_help(MORE_OF_THREADS)
     .arg(number_option(
         alloc,
         "sessions",
@@ -282,7 +282,6 @@ fn sides_command<'a>(
     alloc: Global,
     name: &'a str,
     about: &'a str,
-    more: &'a str,
     names: Names<'a>,
 ) -> Result<Command<'a>, AllocError>
     ensures shape { IfOk result (λ command. app_of command ≡ sides_app name.entry.now names.entry) }
@@ -290,7 +289,6 @@ fn sides_command<'a>(
 {
     Command::new(alloc, name)
         .about(about)
-        .after_help(more)
         .arg(choice_option(
             alloc,
             "tracker",

@@ -105,6 +105,7 @@ fn takes_nothing(
     flags: usize,
     last: usize,
 ) -> Result<(), Fail> {
+    let behind = last.saturating_add(1);
     let mut bad = again!(joined(rt.alloc(), version))?;
     *bad.get_mut(flags).ok_or("flags")? = 0x80;
     let mut stream = Stream::new(rt.alloc(), version);
@@ -114,9 +115,9 @@ fn takes_nothing(
     for (from, to, whole, is_bad) in [
         (3, 20, 0, false),
         (20, 20, 0, false),
-        (20, last + 1, 0, true),
+        (20, behind, 0, true),
         (20, last, 1, false),
-        (last, last + 1, 1, true),
+        (last, behind, 1, true),
     ] {
         let piece = bad.get(from..to).ok_or("a piece")?;
         let fault = again!(CodecFault::Memory => stream.feed(piece, &mut records)).err();
