@@ -1,17 +1,17 @@
 -- What one change does, said for every kind of change. Each law here is by cases on the change, and the laws
 -- on lists of changes stand on these alone.
-use Rattle.std.proofs.Common.{◌≡◌, sym, ap, ◌∙◌, refl, inl, inr, Bool, true, false, ◌&&◌, cond, List, ◌++◌, ℕ, ℤ, Option, Some, None, is_some, is_none, Result, Ok, Err}
+use Rattle.std.proofs.Common.{◌≡◌, sym, ap, ◌∙◌, refl, inl, inr, Bool, true, false, ◌&&◌, cond, List, [], ◌++◌, ℕ, ℤ, Option, Some, None, is_some, is_none, Result, Ok, Err}
 use Rattle.std.specs.Prelude.{not, ◌||◌, slice_get, option_and_then, option_to_list}
 use Rattle.std.specs.Option.{option_map, option_map_or, ok_or}
 use Rattle.std.specs.Result.{result_ok}
 use Rattle.std.specs.FinMap.{get, insert, remove, contains_key, get-insert, get-remove}
-use Rattle.std.proofs.lemmas.Bool.{cases_Bool, or_cases, or_left, or_right}
+use Rattle.std.proofs.lemmas.Bool.{cases_Bool, and_from, and_parts, or_cases, or_left, or_right}
 use Rattle.std.proofs.lemmas.Option.{cond_some, same_Some}
 use Rattle.std.proofs.lemmas.List.Folds.{list_any-append}
 use Rattle.schema.specs.declared.Table.{Table}
 use Rattle.schema.specs.declared.RowId.{RowId}
 use Rattle.schema.specs.RowId.{same_row, row_total}
-use Rattle.schema.specs.Rows.{has_row}
+use Rattle.schema.specs.Rows.{Mark, has_row}
 use Rattle.schema.specs.Schema.{link_of}
 use Rattle.schema.proofs.Lists.{option_map_or_true}
 pub use Rattle.schema.proofs.RowMaps.{row_is, same_row_itself}
@@ -21,9 +21,11 @@ use Rattle.rows.specs.declared.ChangeFault.{ChangeFault}
 use Rattle.rows.specs.declared.ChangeFault.TheVariants.{Columns}
 use Rattle.rows.specs.Naming.{NamedColumns, names_column, assigned}
 use Rattle.rows.specs.Change.{changed}
-use Rattle.rows.specs.Database.{Database, put_row, target, parent_of, parent_in, has_parent, names_parent, apply, ChildrenHaveParents, HasChild, DeletesNoParent}
-use Rattle.rows.specs.Effect.{row_has_parent, sets_parent, parent_stands, AppliesByRow, FitsWhereItApplies, ParentStandsWhereItApplies, HasParentWhereItApplies, AppliesWhereItFits}
+use Rattle.rows.specs.Database.{Database, put_row, target, parent_of, parent_in, mark_of, mark_in, has_parent, names_parent, is_free, names_unique, apply, moves_value, marks_between, ChildrenHaveParents, HasChild, DeletesNoParent}
+use Rattle.rows.specs.Effect.{row_has_parent, sets_parent, parent_stands, row_is_free, sets_value, value_stands, AppliesByRow, FitsWhereItApplies, ParentStandsWhereItApplies, ValueStandsWhereItApplies, HasParentWhereItApplies, AppliesWhereItFits}
+use Rattle.rows.specs.Frame.{SameHolders}
 use Rattle.rows.proofs.Assigned.{assigned_keeps}
+use Rattle.rows.proofs.Marks.{free_alike, listed}
 
 pub has_row-left : (xs ys : List RowId) (q : RowId) → has_row xs q ≡ true → has_row (xs ++ ys) q ≡ true
 has_row-left xs ys q h = list_any-append (same_row q) xs ys ∙ or_left _ _ h
@@ -44,7 +46,7 @@ true_is_not_false e = cc
 ok_is_not_err : {A E : Type 0} {x : A} {e : E} → ◌≡◌ {A = Result A E} (Ok x) (Err e) → ⊥
 ok_is_not_err e = cc
 
-same_ok : {A E : Type 0} {x y : A} → ◌≡◌ {A = Result A E} (Ok x) (Ok y) → x ≡ y
+pub same_ok : {A E : Type 0} {x y : A} → ◌≡◌ {A = Result A E} (Ok x) (Ok y) → x ≡ y
 same_ok e = cc
 
 -- why a change applied, and what it left
@@ -52,30 +54,38 @@ pub record Applied (ts : List Table) (change : Change) (db after : Database) : T
   pub left : Option (List ℤ)
   pub fits : changed change (get db (target change)) ≡ Ok left
   pub stands : parent_stands ts change db left ≡ true
+  pub value : value_stands ts change db left ≡ true
   pub is : put_row db (target change) left ≡ after
 
 insert_applied : (ts : List Table) (row : RowId) (columns : List ℤ) (db after : Database) (before : Option (List ℤ)) → get db row ≡ before →
-    cond (is_none before && has_parent ts db row.table columns) (Some (insert db row columns)) None ≡ Some after → Applied ts (Insert row columns) db after
+    cond (is_none before && (has_parent ts db row.table columns && is_free ts db row columns)) (Some (insert db row columns)) None ≡ Some after → Applied ts (Insert row columns) db after
 insert_applied ts row columns db after None was h =
-    let parts = cond_some (has_parent ts db row.table columns) (insert db row columns) after h in
-    record { left = Some columns; fits = ap (changed (Insert row columns)) was; stands = parts.0; is = parts.1 }
+    let made = cond_some (has_parent ts db row.table columns && is_free ts db row columns) (insert db row columns) after h in
+    let parts = and_parts (has_parent ts db row.table columns) (is_free ts db row columns) made.0 in
+    record { left = Some columns; fits = ap (changed (Insert row columns)) was; stands = parts.0; value = parts.1; is = made.1 }
 insert_applied ts row columns db after (Some there) was h = cc
+
+-- whether an update may leave its row with these columns
+abbrev may_leave : List Table → RowId → NamedColumns → Database → List ℤ → Bool
+may_leave ts row named db columns =
+    (not (names_parent ts row.table named.mask) || has_parent ts db row.table columns) && (not (names_unique ts row.table named.mask) || is_free ts db row columns)
 
 -- what an update leaves of a database, given what it leaves of its row
 abbrev updated : List Table → RowId → NamedColumns → Database → Option (List ℤ) → Option Database
-updated ts row named db left =
-    option_and_then (λ columns. cond (not (names_parent ts row.table named.mask) || has_parent ts db row.table columns) (Some (insert db row columns)) None) left
+updated ts row named db left = option_and_then (λ columns. cond (may_leave ts row named db columns) (Some (insert db row columns)) None) left
 
 update_applied : (ts : List Table) (row : RowId) (named : NamedColumns) (db after : Database) (there : List ℤ) (left : Option (List ℤ)) → get db row ≡ Some there → assigned named there ≡ left →
     updated ts row named db left ≡ Some after → Applied ts (Update row named) db after
 update_applied ts row named db after there None was e h = cc
 update_applied ts row named db after there (Some columns) was e h =
-    let parts = cond_some (not (names_parent ts row.table named.mask) || has_parent ts db row.table columns) (insert db row columns) after h in
+    let made = cond_some (may_leave ts row named db columns) (insert db row columns) after h in
+    let parts = and_parts (not (names_parent ts row.table named.mask) || has_parent ts db row.table columns) (not (names_unique ts row.table named.mask) || is_free ts db row columns) made.0 in
     record {
       left = Some columns;
       fits = ap (changed (Update row named)) was ∙ ap (λ (o : Option (List ℤ)). ok_or (option_map (λ c. Some c) o) Columns) e;
       stands = parts.0;
-      is = parts.1;
+      value = parts.1;
+      is = made.1;
     }
 
 update_applied_at : (ts : List Table) (row : RowId) (named : NamedColumns) (db after : Database) (before : Option (List ℤ)) → get db row ≡ before →
@@ -87,45 +97,53 @@ delete_applied : (ts : List Table) (row : RowId) (db after : Database) (before :
     cond (is_some before) (Some (remove db row)) None ≡ Some after → Applied ts (Delete row) db after
 delete_applied ts row db after None was h = cc
 delete_applied ts row db after (Some there) was h =
-    record { left = None; fits = ap (changed (Delete row)) was; stands = refl; is = same_Some (remove db row) after h }
+    record { left = None; fits = ap (changed (Delete row)) was; stands = refl; value = refl; is = same_Some (remove db row) after h }
 
--- a change that applies fits its row, and the parent that it gives the row is there
+-- a change that applies fits its row, the parent that it gives the row is there, and no other row has the value that it gives it
 pub applied_from : (ts : List Table) (change : Change) (db after : Database) → apply ts change db ≡ Some after → Applied ts change db after
 applied_from ts (Insert row columns) db after h = insert_applied ts row columns db after (get db row) refl h
 applied_from ts (Update row named) db after h = update_applied_at ts row named db after (get db row) refl h
 applied_from ts (Delete row) db after h = delete_applied ts row db after (get db row) refl h
 
-insert_applies : (ts : List Table) (row : RowId) (columns : List ℤ) (db : Database) (before left : Option (List ℤ)) → changed (Insert row columns) before ≡ Ok left → parent_stands ts (Insert row columns) db left ≡ true →
-    cond (is_none before && has_parent ts db row.table columns) (Some (insert db row columns)) None ≡ Some (put_row db row left)
-insert_applies ts row columns db None left fit stands =
+insert_applies : (ts : List Table) (row : RowId) (columns : List ℤ) (db : Database) (before left : Option (List ℤ)) → changed (Insert row columns) before ≡ Ok left →
+    parent_stands ts (Insert row columns) db left ≡ true → value_stands ts (Insert row columns) db left ≡ true →
+    cond (is_none before && (has_parent ts db row.table columns && is_free ts db row columns)) (Some (insert db row columns)) None ≡ Some (put_row db row left)
+insert_applies ts row columns db None left fit stands value =
     let e : Some columns ≡ left = same_ok fit in
     let there : has_parent ts db row.table columns ≡ true = ap (row_has_parent ts db row.table) e ∙ stands in
-    ap (λ b. cond b (Some (insert db row columns)) None) there ∙ ap (λ l. Some (put_row db row l)) e
-insert_applies ts row columns db (Some there) left fit stands = cc
+    let free : is_free ts db row columns ≡ true = ap (row_is_free ts db row) e ∙ value in
+    ap (λ b. cond b (Some (insert db row columns)) None) (and_from _ _ there free) ∙ ap (λ l. Some (put_row db row l)) e
+insert_applies ts row columns db (Some there) left fit stands value = cc
 
-update_applies : (ts : List Table) (row : RowId) (named : NamedColumns) (db : Database) (o left : Option (List ℤ)) → ◌≡◌ {A = Result (Option (List ℤ)) ChangeFault} (ok_or (option_map (λ columns. Some columns) o) Columns) (Ok left) → parent_stands ts (Update row named) db left ≡ true →
-    updated ts row named db o ≡ Some (put_row db row left)
-update_applies ts row named db None left fit stands = cc
-update_applies ts row named db (Some columns) left fit stands =
+update_applies : (ts : List Table) (row : RowId) (named : NamedColumns) (db : Database) (o left : Option (List ℤ)) → ◌≡◌ {A = Result (Option (List ℤ)) ChangeFault} (ok_or (option_map (λ columns. Some columns) o) Columns) (Ok left) →
+    parent_stands ts (Update row named) db left ≡ true → value_stands ts (Update row named) db left ≡ true → updated ts row named db o ≡ Some (put_row db row left)
+update_applies ts row named db None left fit stands value = cc
+update_applies ts row named db (Some columns) left fit stands value =
     let e : Some columns ≡ left = same_ok fit in
     let there : (not (names_parent ts row.table named.mask) || has_parent ts db row.table columns) ≡ true = ap (parent_stands ts (Update row named) db) e ∙ stands in
-    ap (λ b. cond b (Some (insert db row columns)) None) there ∙ ap (λ l. Some (put_row db row l)) e
+    let free : (not (names_unique ts row.table named.mask) || is_free ts db row columns) ≡ true = ap (value_stands ts (Update row named) db) e ∙ value in
+    ap (λ b. cond b (Some (insert db row columns)) None) (and_from _ _ there free) ∙ ap (λ l. Some (put_row db row l)) e
 
-update_applies_at : (ts : List Table) (row : RowId) (named : NamedColumns) (db : Database) (before left : Option (List ℤ)) → changed (Update row named) before ≡ Ok left → parent_stands ts (Update row named) db left ≡ true →
+update_applies_at : (ts : List Table) (row : RowId) (named : NamedColumns) (db : Database) (before left : Option (List ℤ)) → changed (Update row named) before ≡ Ok left →
+    parent_stands ts (Update row named) db left ≡ true → value_stands ts (Update row named) db left ≡ true →
     updated ts row named db (option_and_then (assigned named) before) ≡ Some (put_row db row left)
-update_applies_at ts row named db None left fit stands = cc
-update_applies_at ts row named db (Some there) left fit stands = update_applies ts row named db (assigned named there) left fit stands
+update_applies_at ts row named db None left fit stands value = cc
+update_applies_at ts row named db (Some there) left fit stands value = update_applies ts row named db (assigned named there) left fit stands value
 
 delete_applies : (row : RowId) (db : Database) (before left : Option (List ℤ)) → changed (Delete row) before ≡ Ok left →
     cond (is_some before) (Some (remove db row)) None ≡ Some (put_row db row left)
 delete_applies row db None left fit = cc
 delete_applies row db (Some there) left fit = ap (λ l. Some (put_row db row l)) (same_ok fit)
 
--- a change that fits its row applies, where the parent that it gives the row is there
-pub applies_from : (ts : List Table) (change : Change) (db : Database) (left : Option (List ℤ)) → changed change (get db (target change)) ≡ Ok left → parent_stands ts change db left ≡ true → apply ts change db ≡ Some (put_row db (target change) left)
-applies_from ts (Insert row columns) db left fit stands = insert_applies ts row columns db (get db row) left fit stands
-applies_from ts (Update row named) db left fit stands = update_applies_at ts row named db (get db row) left fit stands
-applies_from ts (Delete row) db left fit stands = delete_applies row db (get db row) left fit
+-- a change that fits its row applies, where the parent that it gives the row is there and no other row has the value that it gives it
+pub applies_from : (ts : List Table) (change : Change) (db : Database) (left : Option (List ℤ)) → changed change (get db (target change)) ≡ Ok left → parent_stands ts change db left ≡ true → value_stands ts change db left ≡ true → apply ts change db ≡ Some (put_row db (target change) left)
+applies_from ts (Insert row columns) db left fit stands value = insert_applies ts row columns db (get db row) left fit stands value
+applies_from ts (Update row named) db left fit stands value = update_applies_at ts row named db (get db row) left fit stands value
+applies_from ts (Delete row) db left fit stands value = delete_applies row db (get db row) left fit
+
+-- whether a change may leave its row so
+abbrev stand_both : List Table → Change → Database → Option (List ℤ) → Bool
+stand_both ts change db left = parent_stands ts change db left && value_stands ts change db left
 
 -- what a change does, by what it does to its row
 pub apply_by_row : AppliesByRow
@@ -135,15 +153,17 @@ apply_by_row ts change db = by (changed change (get db (target change))) refl
     nothing None no_more = refl
     nothing (Some after) no_more = absurd (no_more after refl)
 
-    fitting : (left : Option (List ℤ)) (stands : Bool) → changed change (get db (target change)) ≡ Ok left → parent_stands ts change db left ≡ stands → apply ts change db ≡ cond stands (Some (put_row db (target change) left)) None
-    fitting left true fit stands = applies_from ts change db left fit stands
+    fitting : (left : Option (List ℤ)) (stands : Bool) → changed change (get db (target change)) ≡ Ok left → stand_both ts change db left ≡ stands → apply ts change db ≡ cond stands (Some (put_row db (target change) left)) None
+    fitting left true fit stands =
+        let parts = and_parts (parent_stands ts change db left) (value_stands ts change db left) stands in
+        applies_from ts change db left fit parts.0 parts.1
     fitting left false fit stands = nothing (apply ts change db) (λ after h.
         let a = applied_from ts change db after h in
         let same : a.left ≡ left = same_ok (sym a.fits ∙ fit) in
-        true_is_not_false (sym a.stands ∙ ap (parent_stands ts change db) same ∙ stands))
+        true_is_not_false (sym (and_from _ _ a.stands a.value) ∙ ap (stand_both ts change db) same ∙ stands))
 
-    by : (r : Result (Option (List ℤ)) ChangeFault) → changed change (get db (target change)) ≡ r → apply ts change db ≡ option_and_then (λ left. cond (parent_stands ts change db left) (Some (put_row db (target change) left)) None) (result_ok r)
-    by (Ok left) fit = fitting left (parent_stands ts change db left) fit refl
+    by : (r : Result (Option (List ℤ)) ChangeFault) → changed change (get db (target change)) ≡ r → apply ts change db ≡ option_and_then (λ left. cond (stand_both ts change db left) (Some (put_row db (target change) left)) None) (result_ok r)
+    by (Ok left) fit = fitting left (stand_both ts change db left) fit refl
     by (Err fault) unfit = nothing (apply ts change db) (λ after h. let a = applied_from ts change db after h in ok_is_not_err (sym a.fits ∙ unfit))
 
 -- the row that a change left
@@ -169,9 +189,15 @@ stands_where ts change db after h =
     let a = applied_from ts change db after h in
     ap (parent_stands ts change db) (left_there a) ∙ a.stands
 
--- a change that fits its row applies, where the parent that it gives the row is there
+-- and no other row has the value that it gives it
+pub value_stands_where : ValueStandsWhereItApplies
+value_stands_where ts change db after h =
+    let a = applied_from ts change db after h in
+    ap (value_stands ts change db) (left_there a) ∙ a.value
+
+-- a change that fits its row applies, where the parent that it gives the row is there and no other row has the value that it gives it
 pub applies_where : AppliesWhereItFits
-applies_where ts change db left fit stands = (put_row db (target change) left, applies_from ts change db left fit stands)
+applies_where ts change db left fit stands value = (put_row db (target change) left, applies_from ts change db left fit stands value)
 
 -- the parent that the columns name, where they name one, is there
 parent_there : (ts : List Table) (db : Database) (id : ℕ) (columns : List ℤ) (p : RowId) → parent_of ts id columns ≡ Some p → contains_key db p ≡ true → has_parent ts db id columns ≡ true
@@ -241,21 +267,73 @@ row_alike ts a b id None same h = refl
 row_alike ts a b id (Some columns) same h =
     parent_alike ts a b id columns (λ p names there. ap is_some (sym (same p (ap (λ o. has_row (option_to_list o) p) names ∙ or_left _ _ (same_row_itself p)))) ∙ there) h
 
-stands_alike : (ts : List Table) (change : Change) (a b : Database) (left : Option (List ℤ)) → ((p : RowId) → has_row (option_to_list (option_and_then (parent_of ts (target change).table) left)) p ≡ true → get a p ≡ get b p) → parent_stands ts change a left ≡ true → parent_stands ts change b left ≡ true
+-- what holds at the parent that a row has
+abbrev SameParent : List Table → Change → Database → Database → Option (List ℤ) → Type 0
+SameParent ts change a b left = (p : RowId) → has_row (option_to_list (option_and_then (parent_of ts (target change).table) left)) p ≡ true → get a p ≡ get b p
+
+stands_alike : (ts : List Table) (change : Change) (a b : Database) (left : Option (List ℤ)) → (sets_parent ts change ≡ true → SameParent ts change a b left) → parent_stands ts change a left ≡ true → parent_stands ts change b left ≡ true
 stands_alike ts change a b left same h =
-    elim (or_cases (not (sets_parent ts change)) (row_has_parent ts a (target change).table left) h) [
-      | inl none ↦ or_left _ _ none
-      | inr has ↦ or_right (not (sets_parent ts change)) _ (row_alike ts a b (target change).table left same has)
+    elim (cases_Bool (sets_parent ts change)) [
+      | inl sets ↦
+          let has : row_has_parent ts a (target change).table left ≡ true = sym (ap (λ s. not s || row_has_parent ts a (target change).table left) sets) ∙ h in
+          or_right (not (sets_parent ts change)) _ (row_alike ts a b (target change).table left (same sets) has)
+      | inr none ↦ or_left (not (sets_parent ts change)) (row_has_parent ts b (target change).table left) (ap not none)
     ]
 
--- a change that applies to a database applies to another one that has the same at its row and at the parent
--- that it leaves there
-pub apply_alike : (ts : List Table) (change : Change) (a b after : Database) → apply ts change a ≡ Some after → get a (target change) ≡ get b (target change) → ((p : RowId) → has_row (parent_in ts after (target change)) p ≡ true → get a p ≡ get b p) → (left : Database) × (apply ts change b ≡ Some left)
-apply_alike ts change a b after h same parents =
+-- a change that says which value its row has moves one
+sets_moves : (ts : List Table) (change : Change) → sets_value ts change ≡ true → moves_value ts change ≡ true
+sets_moves ts (Insert row columns) sets = refl
+sets_moves ts (Update row named) sets = sets
+sets_moves ts (Delete row) sets = refl
+
+-- the same rows have the mark of the row that a change leaves
+abbrev SameAtLeft : List Table → Change → Database → Database → Option (List ℤ) → Type 0
+SameAtLeft ts change a b left =
+    (mark : Mark) → has_row (option_to_list (option_and_then (mark_of ts (target change).table) left)) mark ≡ true → (q : RowId) → has_row (mark_in ts a q) mark ≡ has_row (mark_in ts b q) mark
+
+-- columns that are free in one database are so in another, where the same rows have their mark
+left_free_alike : (ts : List Table) (change : Change) (a b : Database) (left : Option (List ℤ)) → SameAtLeft ts change a b left → row_is_free ts a (target change) left ≡ true → row_is_free ts b (target change) left ≡ true
+left_free_alike ts change a b None same free = refl
+left_free_alike ts change a b (Some columns) same free =
+    free_alike ts a b (target change) columns (λ mark is q. same mark (listed (mark_of ts (target change).table columns) mark is) q) free
+
+value_alike : (ts : List Table) (change : Change) (a b : Database) (left : Option (List ℤ)) → (sets_value ts change ≡ true → SameAtLeft ts change a b left) → value_stands ts change a left ≡ true → value_stands ts change b left ≡ true
+value_alike ts change a b left same h =
+    elim (cases_Bool (sets_value ts change)) [
+      | inl sets ↦
+          let free : row_is_free ts a (target change) left ≡ true = sym (ap (λ s. not s || row_is_free ts a (target change) left) sets) ∙ h in
+          or_right (not (sets_value ts change)) _ (left_free_alike ts change a b left (same sets) free)
+      | inr none ↦ or_left (not (sets_value ts change)) (row_is_free ts b (target change) left) (ap not none)
+    ]
+
+-- the mark of the row that a change leaves is one of the change's
+pub left_mark : (ts : List Table) (change : Change) (before after : Database) (mark : Mark) → moves_value ts change ≡ true → has_row (mark_in ts after (target change)) mark ≡ true → has_row (marks_between ts change before after) mark ≡ true
+left_mark ts change before after mark moves has =
+    let was = mark_in ts before (target change) in
+    let now = mark_in ts after (target change) in
+    ap (λ b. has_row (cond b (was ++ now) []) mark) moves ∙ has_row-right was now mark has
+
+-- a change that applies to a database applies to another one that has the same at its row and at the parent that it gives it,
+-- and in which the same rows have the mark that it gives it
+pub apply_alike_given : (ts : List Table) (change : Change) (a b after : Database) → apply ts change a ≡ Some after → get a (target change) ≡ get b (target change) →
+    (sets_parent ts change ≡ true → (p : RowId) → has_row (parent_in ts after (target change)) p ≡ true → get a p ≡ get b p) →
+    (sets_value ts change ≡ true → (mark : Mark) → has_row (mark_in ts after (target change)) mark ≡ true → (q : RowId) → has_row (mark_in ts a q) mark ≡ has_row (mark_in ts b q) mark) →
+    (left : Database) × (apply ts change b ≡ Some left)
+apply_alike_given ts change a b after h same parents holders =
     let x = applied_from ts change a after h in
-    let alike : (p : RowId) → has_row (option_to_list (option_and_then (parent_of ts (target change).table) x.left)) p ≡ true → get a p ≡ get b p =
-    λ p is. parents p (ap (λ o. has_row (option_to_list (option_and_then (parent_of ts (target change).table) o)) p) (left_there x) ∙ is) in
-    (put_row b (target change) x.left, applies_from ts change b x.left (ap (changed change) (sym same) ∙ x.fits) (stands_alike ts change a b x.left alike x.stands))
+    let id = (target change).table in
+    let alike : sets_parent ts change ≡ true → SameParent ts change a b x.left = λ sets p is. parents sets p (ap (λ o. has_row (option_to_list (option_and_then (parent_of ts id) o)) p) (left_there x) ∙ is) in
+    let marked : sets_value ts change ≡ true → SameAtLeft ts change a b x.left = λ sets mark is. holders sets mark (ap (λ o. has_row (option_to_list (option_and_then (mark_of ts id) o)) mark) (left_there x) ∙ is) in (
+      put_row b (target change) x.left,
+      applies_from ts change b x.left (ap (changed change) (sym same) ∙ x.fits) (stands_alike ts change a b x.left alike x.stands) (value_alike ts change a b x.left marked x.value),
+    )
+
+-- a change that applies to a database applies to another one that has the same at its row and at the parent
+-- that it leaves there, and in which the same rows have its marks
+pub apply_alike : (ts : List Table) (change : Change) (a b after : Database) → apply ts change a ≡ Some after → get a (target change) ≡ get b (target change) → ((p : RowId) → has_row (parent_in ts after (target change)) p ≡ true → get a p ≡ get b p) →
+    SameHolders ts (marks_between ts change a after) a b → (left : Database) × (apply ts change b ≡ Some left)
+apply_alike ts change a b after h same parents holders =
+    apply_alike_given ts change a b after h same (λ _. parents) (λ sets mark is. holders mark (left_mark ts change a after mark (sets_moves ts change sets) is))
 
 -- a change does the same to two databases at each row where they are the same, and at its own row
 pub apply_agrees : (ts : List Table) (change : Change) (a b after left : Database) (q : RowId) → apply ts change a ≡ Some after → apply ts change b ≡ Some left → get a (target change) ≡ get b (target change) → ((same_row q (target change) ≡ false) → get a q ≡ get b q) → get after q ≡ get left q

@@ -171,6 +171,33 @@ assigned_takes (suc c) mask values (column ∷ columns) new room h names =
           ∙ ap (λ (l : List ℤ). slice_get l (count_ones (mask / 2 % 2 ^ c))) left ∙ ap (slice_get values) same
     ])
 
+-- a named column takes its value, or 0 where there are not so many
+pub assigned_gives : (c mask : ℕ) (values columns new : List ℤ) → assigned_from mask values columns ≡ Some new → names_column mask c ≡ true → slice_get new c ≡ Some (slice_index_or values (count_ones (mask % 2 ^ c)) (pos 0))
+assigned_gives c mask values [] new h names =
+    let none : mask ≡ 0 = grind (arith, nat_tests, (cond_some (mask == 0) [] new h).0) in
+    let bit : (bit_at mask c == 1) ≡ false = ap (λ n. bit_at n c == 1) none ∙ ap (λ n. n == 1) (bit_at-zero c) in
+    cc
+assigned_gives zero mask values (column ∷ columns) new h names =
+    let a = assigned_cons mask values column columns new h in
+    let odd : (mask % 2 == 1) ≡ true = ap (λ n. n == 1) (sym (bit_at_lowest mask)) ∙ names in
+    let none : count_ones (mask % 1) ≡ 0 = ap count_ones (mod-one mask) ∙ ones-ones 0 in
+    ap (λ (l : List ℤ). slice_get l 0) (sym a.is) ∙ ap Some (a.takes odd).0 ∙ ap (λ n. Some (slice_index_or values n (pos 0))) (sym none)
+assigned_gives (suc c) mask values (column ∷ columns) new h names =
+    let a = assigned_cons mask values column columns new h in
+    let k = count_ones (mask / 2 % 2 ^ c) in
+    let below = ones_below mask c in
+    let behind : names_column (mask / 2) c ≡ true = ap (λ n. n == 1) (sym (bit_at-suc mask c)) ∙ names in
+    ap (λ (l : List ℤ). slice_get l (suc c)) (sym a.is) ∙ assigned_gives c (mask / 2) a.left columns a.rest a.behind behind ∙ ap Some (elim (cases_Bool (mask % 2 == 1)) [
+      | inl odd ↦
+          let is_odd = odd_from (mask % 2) odd in
+          let more : 1 + count_ones (mask / 2 % 2 ^ c) ≡ count_ones (mask % 2 ^ suc c) = omega arith in
+          ap (λ (l : List ℤ). get_or l k (pos 0)) (a.takes odd).1 ∙ get_or-drop 1 values k (pos 0) ∙ ap (λ n. get_or values n (pos 0)) more
+      | inr even ↦
+          let is_even = even_from mask even in
+          let same : count_ones (mask / 2 % 2 ^ c) ≡ count_ones (mask % 2 ^ suc c) = omega arith in
+          ap (λ (l : List ℤ). get_or l k (pos 0)) (a.stays even).1 ∙ ap (λ n. get_or values n (pos 0)) same
+    ])
+
 half_below : (mask n : ℕ) → nat_lt (mask / 2) (2 ^ n) ≡ nat_lt mask (2 ^ suc n)
 half_below mask n =
     let double : 2 ^ suc n ≡ 2 ^ n * 2 = pow-suc 2 n in

@@ -5,17 +5,19 @@ use Rattle.std.specs.Option.{option_map_or}
 use Rattle.std.specs.Result.{result_ok}
 use Rattle.std.specs.FinMap.{get, same_map}
 use Rattle.std.proofs.lemmas.Bool.{cases_Bool, or_parts}
+use Rattle.std.proofs.lemmas.List.Folds.{list_any-append}
 use Rattle.std.proofs.lemmas.Option.{option_and_then_some, same_Some}
 use Rattle.schema.specs.declared.Table.{Table}
 use Rattle.schema.specs.declared.RowId.{RowId}
 use Rattle.schema.specs.RowId.{same_row, exact_row, row_total}
-use Rattle.schema.specs.Rows.{has_row}
+use Rattle.schema.specs.Rows.{Mark, has_row}
 use Rattle.rows.specs.declared.Change.{Change}
 use Rattle.rows.specs.Change.{changed}
-use Rattle.rows.specs.Database.{Database, target, writes, parent_in, apply, effect, kin, ChildrenHaveParents}
-use Rattle.rows.specs.Frame.{ChangesOnlyWrites}
-use Rattle.rows.specs.Effect.{row_after, WritesOfJoined, EffectOfJoined, KinOfJoined, RowAfterJoined, EachRowIsLeft, EffectIsItsRows, ChildrenKeepParents}
-use Rattle.rows.proofs.Apply.{apply_stays, apply_changes, apply_keeps_parents, row_is}
+use Rattle.rows.specs.Database.{Database, target, writes, parent_in, mark_in, apply, effect, kin, marks, marks_between, NoValueTwice, ChildrenHaveParents}
+use Rattle.rows.specs.Frame.{ChangesOnlyWrites, ChangesOnlyMarks}
+use Rattle.rows.specs.Effect.{row_after, WritesOfJoined, EffectOfJoined, KinOfJoined, MarksOfJoined, RowAfterJoined, EachRowIsLeft, EffectIsItsRows, ValuesStayApart, ChildrenKeepParents}
+use Rattle.rows.proofs.Apply.{apply_stays, apply_changes, apply_keeps_parents, row_is, has_row-left, has_row-right}
+use Rattle.rows.proofs.Values.{apply_keeps_marks, apply_keeps_apart}
 
 -- the effect of a list of changes is that of the first, and then that of the others
 pub effect_first : (ts : List Table) (change : Change) (changes : List Change) (before after : Database) → effect ts (change ∷ changes) before ≡ Some after → (mid : Database) × (apply ts change before ≡ Some mid) × (effect ts changes mid ≡ Some after)
@@ -27,12 +29,33 @@ effect_then ts change changes before mid one = ap (option_and_then (effect ts ch
 pub kin_then : (ts : List Table) (change : Change) (changes : List Change) (before mid : Database) → apply ts change before ≡ Some mid → kin ts (change ∷ changes) before ≡ parent_in ts before (target change) ++ parent_in ts mid (target change) ++ kin ts changes mid
 kin_then ts change changes before mid one = ap (λ o. option_map_or (λ after. parent_in ts before (target change) ++ parent_in ts after (target change) ++ kin ts changes after) o []) one
 
+pub marks_then : (ts : List Table) (change : Change) (changes : List Change) (before mid : Database) → apply ts change before ≡ Some mid → marks ts (change ∷ changes) before ≡ marks_between ts change before mid ++ marks ts changes mid
+marks_then ts change changes before mid one = ap (λ o. option_map_or (λ after. marks_between ts change before after ++ marks ts changes after) o []) one
+
+-- the marks of the first change are among those of all, and so are those of the others
+pub marks_first : (ts : List Table) (change : Change) (changes : List Change) (before mid : Database) (mark : Mark) → apply ts change before ≡ Some mid → has_row (marks_between ts change before mid) mark ≡ true → has_row (marks ts (change ∷ changes) before) mark ≡ true
+marks_first ts change changes before mid mark one is =
+    ap (λ l. has_row l mark) (marks_then ts change changes before mid one) ∙ has_row-left (marks_between ts change before mid) (marks ts changes mid) mark is
+
+pub marks_behind : (ts : List Table) (change : Change) (changes : List Change) (before mid : Database) (mark : Mark) → apply ts change before ≡ Some mid → has_row (marks ts changes mid) mark ≡ true → has_row (marks ts (change ∷ changes) before) mark ≡ true
+marks_behind ts change changes before mid mark one is =
+    ap (λ l. has_row l mark) (marks_then ts change changes before mid one) ∙ has_row-right (marks_between ts change before mid) (marks ts changes mid) mark is
+
 pub changes_only_writes : ChangesOnlyWrites
 changes_only_writes ts [] before after q h other = ap (λ (m : Database). get m q) (sym (same_Some before after h))
 changes_only_writes ts (change ∷ changes) before after q h other =
     let first = effect_first ts change changes before after h in
     let apart = or_parts (same_row q (target change)) (has_row (writes changes) q) other in
     changes_only_writes ts changes first.0 after q first.2 apart.1 ∙ apply_stays ts change before first.0 q first.1 apart.0
+
+pub changes_only_marks : ChangesOnlyMarks
+changes_only_marks ts [] before after mark q h other = ap (λ (m : Database). has_row (mark_in ts m q) mark) (sym (same_Some before after h))
+changes_only_marks ts (change ∷ changes) before after mark q h other =
+    let first = effect_first ts change changes before after h in
+    let one = marks_between ts change before first.0 in
+    let rest = marks ts changes first.0 in
+    let apart = or_parts (has_row one mark) (has_row rest mark) (sym (list_any-append (same_row mark) one rest) ∙ ap (λ l. has_row l mark) (sym (marks_then ts change changes before first.0 first.1)) ∙ other) in
+    changes_only_marks ts changes first.0 after mark q first.2 apart.1 ∙ apply_keeps_marks ts change before first.0 mark q first.1 apart.0
 
 pub writes_joined : WritesOfJoined
 writes_joined [] ys = refl
@@ -55,6 +78,16 @@ kin_joined ts (change ∷ xs) ys db mid h =
     ∙ ap (λ l. parents ++ l) (kin_joined ts xs ys first.0 mid first.2)
     ∙ sym (append_assoc parents (kin ts xs first.0) (kin ts ys mid))
     ∙ ap (λ l. l ++ kin ts ys mid) (sym (kin_then ts change xs db first.0 first.1))
+
+pub marks_joined : MarksOfJoined
+marks_joined ts [] ys db mid h = ap (marks ts ys) (same_Some db mid h)
+marks_joined ts (change ∷ xs) ys db mid h =
+    let first = effect_first ts change xs db mid h in
+    let moved = marks_between ts change db first.0 in
+    marks_then ts change (xs ++ ys) db first.0 first.1
+    ∙ ap (λ l. moved ++ l) (marks_joined ts xs ys first.0 mid first.2)
+    ∙ sym (append_assoc moved (marks ts xs first.0) (marks ts ys mid))
+    ∙ ap (λ l. l ++ marks ts ys mid) (sym (marks_then ts change xs db first.0 first.1))
 
 pub row_after_joined : RowAfterJoined
 row_after_joined [] ys q row = refl
@@ -99,6 +132,12 @@ effect_is_its_rows ts changes before after other h written rest =
       | inl is ↦ sym (written q is)
       | inr none ↦ rest q none ∙ sym (changes_only_writes ts changes before after q h none)
     ])
+
+pub values_stay_apart : ValuesStayApart
+values_stay_apart ts [] before after apart h = subst (λ (m : Database). NoValueTwice ts m) (same_Some before after h) apart
+values_stay_apart ts (change ∷ changes) before after apart h =
+    let first = effect_first ts change changes before after h in
+    values_stay_apart ts changes first.0 after (apply_keeps_apart ts change before first.0 apart first.1) first.2
 
 pub children_keep_parents : ChildrenKeepParents
 children_keep_parents ts [] before after kept none h = subst (λ (m : Database). ChildrenHaveParents ts m) (same_Some before after h) kept

@@ -1,5 +1,5 @@
 -- The frame law, by induction over the list of changes, from what one change does.
-use Rattle.std.proofs.Common.{◌≡◌, sym, ap, ◌∙◌, refl, inl, inr, true, false, List, [], ◌∷◌, ◌++◌, Option, Some, ℤ}
+use Rattle.std.proofs.Common.{◌≡◌, sym, ap, ◌∙◌, refl, inl, inr, true, false, cond, List, [], ◌∷◌, ◌++◌, Option, Some, ℤ}
 use Rattle.std.specs.Prelude.{◌||◌, option_and_then, option_to_list}
 use Rattle.std.specs.FinMap.{get}
 use Rattle.std.proofs.lemmas.Bool.{cases_Bool, or_cases, or_left, or_right, or_parts}
@@ -7,12 +7,13 @@ use Rattle.std.proofs.lemmas.List.Folds.{list_any-append}
 use Rattle.schema.specs.declared.Table.{Table}
 use Rattle.schema.specs.declared.RowId.{RowId}
 use Rattle.schema.specs.RowId.{same_row}
-use Rattle.schema.specs.Rows.{has_row, meets}
+use Rattle.schema.specs.Rows.{Mark, has_row, meets}
 use Rattle.rows.specs.declared.Change.{Change}
-use Rattle.rows.specs.Database.{Database, target, writes, parent_of, parent_in, apply, effect, kin}
-use Rattle.rows.specs.Frame.{AgreeOn, SameEffect, LooksOnlyAtWritesAndKin, AppliesBehind}
-use Rattle.rows.proofs.Effect.{effect_first, effect_then, kin_then, changes_only_writes}
+use Rattle.rows.specs.Database.{Database, target, writes, parent_of, parent_in, mark_of, apply, effect, kin, moves_value, marks_between, marks}
+use Rattle.rows.specs.Frame.{AgreeOn, SameHolders, SameEffect, LooksOnlyAtItsRows, AppliesBehind}
+use Rattle.rows.proofs.Effect.{effect_first, effect_then, kin_then, marks_then, marks_first, marks_behind, changes_only_writes, changes_only_marks}
 use Rattle.rows.proofs.Apply.{apply_alike, apply_agrees, row_is, has_row-left, has_row-right, same_row_itself}
+use Rattle.rows.proofs.Values.{apply_same_holders}
 
 -- the rows of the writes and the kin of a change and of those behind it
 abbrev touched : List Table → Change → List Change → Database → Database → List RowId
@@ -40,19 +41,25 @@ touched-behind ts change changes before mid q is =
 joined : {A : Type 0} {a a' b b' c c' : List A} → a ≡ a' → b ≡ b' → c ≡ c' → a ++ b ++ c ≡ a' ++ b' ++ c'
 joined p q r = λ i. p i ++ q i ++ r i
 
+-- where the one row of a change is the same in two databases, before it and after it, it has the same marks there
+between_alike : (ts : List Table) (change : Change) (a b after left : Database) → get a (target change) ≡ get b (target change) → get after (target change) ≡ get left (target change) → marks_between ts change a after ≡ marks_between ts change b left
+between_alike ts change a b after left was now =
+    let mark_at : Option (List ℤ) → List Mark = λ o. option_to_list (option_and_then (mark_of ts (target change).table) o) in
+    λ i. cond (moves_value ts change) (mark_at (was i) ++ mark_at (now i)) []
+
 abbrev parent_at : List Table → RowId → Option (List ℤ) → List RowId
 parent_at ts row columns = option_to_list (option_and_then (parent_of ts row.table) columns)
 
 -- A change that applies to two databases, which have the same row there.
-record Twin (ts : List Table) (change : Change) (before other : Database) : Type 0 where
-  was : get before (target change) ≡ get other (target change)
-  mid : Database
-  one : apply ts change before ≡ Some mid
-  left : Database
-  two : apply ts change other ≡ Some left
+pub record Twin (ts : List Table) (change : Change) (before other : Database) : Type 0 where
+  pub was : get before (target change) ≡ get other (target change)
+  pub mid : Database
+  pub one : apply ts change before ≡ Some mid
+  pub left : Database
+  pub two : apply ts change other ≡ Some left
 
 -- where the first change does the same to both databases, and those behind it do
-same_effect : (ts : List Table) (change : Change) (changes : List Change) (before other after : Database) (twin : Twin ts change before other) → effect ts changes twin.mid ≡ Some after →
+pub same_effect : (ts : List Table) (change : Change) (changes : List Change) (before other after : Database) (twin : Twin ts change before other) → effect ts changes twin.mid ≡ Some after →
     AgreeOn (writes (change ∷ changes)) twin.mid twin.left → SameEffect ts changes twin.mid after twin.left → SameEffect ts (change ∷ changes) before after other
 same_effect ts change changes before other after twin rest agree then =
     let row = target change in
@@ -69,24 +76,31 @@ same_effect ts change changes before other after twin rest agree then =
       same_kin = kin_then ts change changes other left twin.two
           ∙ joined (ap (parent_at ts row) (sym twin.was)) (ap (parent_at ts row) (sym now)) then.same_kin
           ∙ sym (kin_then ts change changes before mid twin.one);
+      same_marks = marks_then ts change changes other left twin.two
+          ∙ (λ i. between_alike ts change other before left mid (sym twin.was) (sym now) i ++ then.same_marks i)
+          ∙ sym (marks_then ts change changes before mid twin.one);
     }
 
-pub looks_only : LooksOnlyAtWritesAndKin
-looks_only ts [] before after other h agree =
-    record { leaves = other; defined = refl; same_writes = λ q none. cc; same_kin = refl }
-looks_only ts (change ∷ changes) before after other h agree =
+pub looks_only : LooksOnlyAtItsRows
+looks_only ts [] before after other h agree holders =
+    record { leaves = other; defined = refl; same_writes = λ q none. cc; same_kin = refl; same_marks = refl }
+looks_only ts (change ∷ changes) before after other h agree holders =
     let first = effect_first ts change changes before after h in
     let mid = first.0 in
     let row = target change in
     let same : (q : RowId) → has_row (touched ts change changes before mid) q ≡ true → get before q ≡ get other q =
     λ q is. agree q (ap (λ l. has_row (writes (change ∷ changes) ++ l) q) (kin_then ts change changes before mid first.1) ∙ is) in
     let was : get before row ≡ get other row = same row (touched-writes ts change changes before mid row (or_left _ _ (same_row_itself row))) in
-    let twin = apply_alike ts change before other mid first.1 was (λ p is. same p (touched-parent ts change changes before mid p is)) in
-    let still : (q : RowId) → has_row (touched ts change changes before mid) q ≡ true → get mid q ≡ get twin.0 q =
-    λ q is. apply_agrees ts change before other mid twin.0 q first.1 twin.1 was (λ _. same q is) in
-    same_effect ts change changes before other after (record { was = was; mid = mid; one = first.1; left = twin.0; two = twin.1 }) first.2
+    let moved : SameHolders ts (marks_between ts change before mid) before other = λ mark is. holders mark (marks_first ts change changes before mid mark first.1 is) in
+    let left = apply_alike ts change before other mid first.1 was (λ p is. same p (touched-parent ts change changes before mid p is)) moved in
+    let twin : Twin ts change before other = record { was = was; mid = mid; one = first.1; left = left.0; two = left.1 } in
+    let still : (q : RowId) → has_row (touched ts change changes before mid) q ≡ true → get mid q ≡ get left.0 q =
+    λ q is. apply_agrees ts change before other mid left.0 q first.1 left.1 was (λ _. same q is) in
+    let now : get mid row ≡ get left.0 row = still row (touched-writes ts change changes before mid row (or_left _ _ (same_row_itself row))) in
+    same_effect ts change changes before other after twin first.2
     (λ q is. still q (touched-writes ts change changes before mid q is))
-    (looks_only ts changes mid after twin.0 first.2 (λ q is. still q (touched-behind ts change changes before mid q is)))
+    (looks_only ts changes mid after left.0 first.2 (λ q is. still q (touched-behind ts change changes before mid q is))
+    (λ mark is. apply_same_holders ts change before other mid left.0 mark first.1 left.1 now (holders mark (marks_behind ts change changes before mid mark first.1 is))))
 
 -- ---- one list behind another
 
@@ -101,5 +115,7 @@ not_in_first (x ∷ xs) ys q apart is =
     ]
 
 pub applies_behind : AppliesBehind
-applies_behind ts first second db mid leaves one two apart =
-    looks_only ts second db leaves mid two (λ q is. sym (changes_only_writes ts first db mid q one (not_in_first (writes first) (writes second ++ kin ts second db) q apart is)))
+applies_behind ts first second db mid leaves one two apart marks_apart =
+    looks_only ts second db leaves mid two
+    (λ q is. sym (changes_only_writes ts first db mid q one (not_in_first (writes first) (writes second ++ kin ts second db) q apart is)))
+    (λ mark is q. sym (changes_only_marks ts first db mid mark q one (not_in_first (marks ts first db) (marks ts second db) mark marks_apart is)))

@@ -2,7 +2,12 @@ pub mod RowShape
 pub mod NamedShape
 pub mod Collected
 pub mod Assigned
+pub mod Entries
+pub mod Marks
 pub mod Apply
+pub mod Values
 pub mod Effect
 pub mod Frame
 pub mod Parents
+pub mod Holders
+pub mod Given

@@ -15,10 +15,11 @@ use Rattle.schema.specs.Flags.{is_parent}
 use Rattle.schema.proofs.Telling.{not_some}
 use Rattle.rows.specs.declared.Change.{Change}
 use Rattle.rows.specs.declared.Change.TheVariants.{Insert, Update, Delete}
-use Rattle.rows.specs.Database.{Database, target, writes, parent_of, parent_in, apply, effect, kin, DeletesNoParent, LeavesNoOrphan}
+use Rattle.rows.specs.Database.{Database, target, writes, parent_of, parent_in, apply, effect, kin, marks, DeletesNoParent, LeavesNoOrphan}
 use Rattle.rows.specs.Frame.{AgreeOn}
 use Rattle.rows.specs.Parents.{NoOrphanOfJoined, NoOrphanBehind, KinAreFew, NoKinOfOthers, NoKinUnrelated}
 use Rattle.rows.proofs.Apply.{apply_agrees, apply_stays, row_is, same_row_itself, has_row-left, has_row-right, named_by}
+use Rattle.rows.proofs.Marks.{at_most_one}
 use Rattle.rows.proofs.Effect.{effect_first, kin_then, changes_only_writes}
 use Rattle.rows.proofs.Frame.{not_in_first}
 
@@ -92,7 +93,8 @@ left_parent_is_kin ts (change ∷ changes) before after id columns p h is there 
 
 pub no_orphan_behind : NoOrphanBehind
 no_orphan_behind ts first second db mid leaves one two apart none =
-    let parts = or_parts (meets (writes first) (writes second) || meets (writes first) (kin ts second db)) (meets (writes second) (kin ts first db)) apart in
+    let rows_apart = (or_parts (meets (writes first) (writes second) || meets (writes first) (kin ts second db) || meets (writes second) (kin ts first db)) (meets (marks ts first db) (marks ts second db)) apart).0 in
+    let parts = or_parts (meets (writes first) (writes second) || meets (writes first) (kin ts second db)) (meets (writes second) (kin ts first db)) rows_apart in
     let own = or_parts (meets (writes first) (writes second)) (meets (writes first) (kin ts second db)) parts.0 in
     alike ts second db mid leaves two
     (λ q is. sym (changes_only_writes ts first db mid q one (not_in_first (writes first) (writes second) q own.0 is)))
@@ -105,10 +107,6 @@ no_orphan_behind ts first second db mid leaves one two apart none =
     none
 
 -- ---- kin
-
-at_most_one : (o : Option RowId) → length (option_to_list o) ≤ 1
-at_most_one None = omega arith
-at_most_one (Some p) = omega arith
 
 pub kin_are_few : KinAreFew
 kin_are_few ts [] db = omega arith

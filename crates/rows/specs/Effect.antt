@@ -1,5 +1,5 @@
 -- What one change does to its row, and what follows from that for the effect of a list of changes.
-use Rattle.std.specs.Prelude.{◌≡◌, ℕ, ℤ, Bool, true, false, not, ◌||◌, if◌then◌else◌, List, [], ◌∷◌, ◌++◌, Option, Some, None, Ok, option_and_then}
+use Rattle.std.specs.Prelude.{◌≡◌, ℕ, ℤ, Bool, true, false, not, ◌&&◌, ◌||◌, if◌then◌else◌, List, [], ◌∷◌, ◌++◌, Option, Some, None, Ok, option_and_then}
 use Rattle.std.specs.Option.{option_map_or}
 use Rattle.std.specs.Result.{result_ok}
 use Rattle.std.specs.FinMap.{get}
@@ -10,7 +10,7 @@ use Rattle.schema.specs.Rows.{has_row}
 use Rattle.rows.specs.declared.Change.{Change}
 use Rattle.rows.specs.declared.Change.TheVariants.{Insert, Update, Delete}
 use Rattle.rows.specs.Change.{changed}
-use Rattle.rows.specs.Database.{Database, put_row, target, writes, has_parent, names_parent, apply, effect, kin, ChildrenHaveParents, LeavesNoOrphan}
+use Rattle.rows.specs.Database.{Database, put_row, target, writes, has_parent, names_parent, is_free, names_unique, apply, effect, kin, marks, NoValueTwice, ChildrenHaveParents, LeavesNoOrphan}
 use Rattle.rows.specs.Frame.{AgreeOn}
 
 -- a row of the table may be so: it is not there, or has its parent there
@@ -27,6 +27,20 @@ sets_parent ts (Delete row) = false
 abbrev pub parent_stands : List Table → Change → Database → Option (List ℤ) → Bool
 parent_stands ts change db left = not (sets_parent ts change) || row_has_parent ts db (target change).table left
 
+-- the row of this id may be so: it is not there, or no other row has its value in the unique column
+abbrev pub row_is_free : List Table → Database → RowId → Option (List ℤ) → Bool
+row_is_free ts db id row = option_map_or (is_free ts db id) row true
+
+-- whether the change says which value its row has in the unique column: an insert does, and an update that names it
+abbrev pub sets_value : List Table → Change → Bool
+sets_value ts (Insert row columns) = true
+sets_value ts (Update row named) = names_unique ts row.table named.mask
+sets_value ts (Delete row) = false
+
+-- no other row has the value that the change gives its row, which it leaves so, in the unique column
+abbrev pub value_stands : List Table → Change → Database → Option (List ℤ) → Bool
+value_stands ts change db left = not (sets_value ts change) || row_is_free ts db (target change) left
+
 -- what those of the changes that are of one row leave there, one after another, given the row before them;
 -- undefined where one of them does not fit
 abbrev pub row_after : List Change → RowId → Option (List ℤ) → Option (Option (List ℤ))
@@ -34,10 +48,11 @@ row_after [] q row = Some row
 row_after (change ∷ changes) q row =
     if same_row q (target change) then option_and_then (row_after changes q) (result_ok (changed change row)) else row_after changes q row
 
--- a change applies where it fits its row and the parent that it gives the row is there, and puts the row that it leaves
+-- a change applies where it fits its row, the parent that it gives the row is there and no other row has the value that it gives
+-- it, and puts the row that it leaves
 abbrev pub AppliesByRow : Type 0
 AppliesByRow = (ts : List Table) (change : Change) (db : Database) →
-    apply ts change db ≡ option_and_then (λ left. if parent_stands ts change db left then Some (put_row db (target change) left) else None) (result_ok (changed change (get db (target change))))
+    apply ts change db ≡ option_and_then (λ left. if parent_stands ts change db left && value_stands ts change db left then Some (put_row db (target change) left) else None) (result_ok (changed change (get db (target change))))
 
 -- a change that applies fits its row, and leaves there what it says
 abbrev pub FitsWhereItApplies : Type 0
@@ -49,15 +64,20 @@ abbrev pub ParentStandsWhereItApplies : Type 0
 ParentStandsWhereItApplies = (ts : List Table) (change : Change) (db after : Database) →
     apply ts change db ≡ Some after → parent_stands ts change db (get after (target change)) ≡ true
 
+-- and no other row has the value that it gives its row
+abbrev pub ValueStandsWhereItApplies : Type 0
+ValueStandsWhereItApplies = (ts : List Table) (change : Change) (db after : Database) →
+    apply ts change db ≡ Some after → value_stands ts change db (get after (target change)) ≡ true
+
 -- and where each child has its parent, the row that it leaves has its own
 abbrev pub HasParentWhereItApplies : Type 0
 HasParentWhereItApplies = (ts : List Table) (change : Change) (db after : Database) →
     ChildrenHaveParents ts db → apply ts change db ≡ Some after → row_has_parent ts db (target change).table (get after (target change)) ≡ true
 
--- a change applies where it fits its row and the parent that it gives the row is there
+-- a change applies where it fits its row, the parent that it gives the row is there and no other row has the value that it gives it
 abbrev pub AppliesWhereItFits : Type 0
 AppliesWhereItFits = (ts : List Table) (change : Change) (db : Database) (left : Option (List ℤ)) →
-    changed change (get db (target change)) ≡ Ok left → parent_stands ts change db left ≡ true → (after : Database) × (apply ts change db ≡ Some after)
+    changed change (get db (target change)) ≡ Ok left → parent_stands ts change db left ≡ true → value_stands ts change db left ≡ true → (after : Database) × (apply ts change db ≡ Some after)
 
 -- one list of changes behind another
 abbrev pub WritesOfJoined : Type 0
@@ -70,6 +90,10 @@ EffectOfJoined = (ts : List Table) (xs ys : List Change) (db : Database) →
 abbrev pub KinOfJoined : Type 0
 KinOfJoined = (ts : List Table) (xs ys : List Change) (db mid : Database) →
     effect ts xs db ≡ Some mid → kin ts (xs ++ ys) db ≡ kin ts xs db ++ kin ts ys mid
+
+abbrev pub MarksOfJoined : Type 0
+MarksOfJoined = (ts : List Table) (xs ys : List Change) (db mid : Database) →
+    effect ts xs db ≡ Some mid → marks ts (xs ++ ys) db ≡ marks ts xs db ++ marks ts ys mid
 
 abbrev pub RowAfterJoined : Type 0
 RowAfterJoined = (xs ys : List Change) (q : RowId) (row : Option (List ℤ)) →
@@ -85,6 +109,10 @@ abbrev pub EffectIsItsRows : Type 0
 EffectIsItsRows = (ts : List Table) (changes : List Change) (before after other : Database) →
     effect ts changes before ≡ Some after → AgreeOn (writes changes) after other →
     ((q : RowId) → has_row (writes changes) q ≡ false → get other q ≡ get before q) → other ≡ after
+
+-- where no two rows have one value in a unique column, none have after the changes
+abbrev pub ValuesStayApart : Type 0
+ValuesStayApart = (ts : List Table) (changes : List Change) (before after : Database) → NoValueTwice ts before → effect ts changes before ≡ Some after → NoValueTwice ts after
 
 -- where each child has its parent and no parent of a row is deleted, each has it after the changes
 abbrev pub ChildrenKeepParents : Type 0

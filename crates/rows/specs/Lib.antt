@@ -3,8 +3,9 @@ pub mod Naming
 pub mod Named
 pub mod Change
 pub mod Database
-pub mod Given
 pub mod Shape
 pub mod Frame
 pub mod Effect
 pub mod Parents
+pub mod Holders
+pub mod Given

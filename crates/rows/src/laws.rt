@@ -1,19 +1,31 @@
 //! What follows from the definitions alone. Each function states laws by its contract, and does nothing.
 
-ghost use Rattle.rows.specs.Effect.{AppliesByRow, FitsWhereItApplies, ParentStandsWhereItApplies, HasParentWhereItApplies, AppliesWhereItFits, WritesOfJoined, EffectOfJoined, KinOfJoined, RowAfterJoined, EachRowIsLeft, EffectIsItsRows, ChildrenKeepParents};
+ghost use Rattle.rows.specs.Effect.{AppliesByRow, FitsWhereItApplies, ParentStandsWhereItApplies, ValueStandsWhereItApplies, HasParentWhereItApplies, AppliesWhereItFits, WritesOfJoined, EffectOfJoined, KinOfJoined, MarksOfJoined, RowAfterJoined, EachRowIsLeft, EffectIsItsRows, ValuesStayApart, ChildrenKeepParents};
 ghost use Rattle.rows.specs.Naming.{AssignsWhatIsThere, KeepsWidth, OthersStay, NamedTakeTheirs};
-ghost use Rattle.rows.specs.Frame.{ChangesOnlyWrites, LooksOnlyAtWritesAndKin, AppliesBehind};
+ghost use Rattle.rows.specs.Frame.{ChangesOnlyWrites, ChangesOnlyMarks, LooksOnlyAtItsRows, AppliesBehind};
+ghost use Rattle.rows.specs.Given.{LooksOnlyAtGiven, OneOutcome, GivenParentsAreKin, GivenMarksAreMarks};
+ghost use Rattle.rows.specs.Holders.{HolderHasIt, HoldersAreSame, FreeByHolder, FreeByRows, MarksAreFew, MarksAreOfUnique};
 ghost use Rattle.rows.specs.Parents.{NoOrphanOfJoined, NoOrphanBehind, KinAreFew, NoKinOfOthers, NoKinUnrelated};
 
-/// The frame law: a list of changes changes only the rows that it writes, and looks only at these and at
-/// their kin.
+/// The frame law: a list of changes changes only the rows that it writes and who has its marks, and looks only at these rows, at
+/// their kin, and at which rows have its marks.
 pub fn frame()
     ensures changes_only { ChangesOnlyWrites }
-    ensures looks_only { LooksOnlyAtWritesAndKin }
+    ensures only_marks { ChangesOnlyMarks }
+    ensures looks_only { LooksOnlyAtItsRows }
+{}
+
+/// What changes give their rows decides their outcome: they look at no more than the rows that they write, the parents that they
+/// give, and which rows have the values that they give. Where they apply, these parents are their kin, and these values their marks.
+pub fn given()
+    ensures looks_only { LooksOnlyAtGiven }
+    ensures one_outcome { OneOutcome }
+    ensures parents { GivenParentsAreKin }
+    ensures marks { GivenMarksAreMarks }
 {}
 
 /// Transactions that each apply to one database and do not clash apply to it one behind the other, by the frame
-/// law: where the first writes nothing that the second looks at, the second does there what it does alone.
+/// law: where the first writes nothing that the second looks at, and has none of its marks, the second does there what it does alone.
 pub fn behind()
     ensures { AppliesBehind }
 {}
@@ -26,11 +38,13 @@ pub fn columns()
     ensures named { NamedTakeTheirs }
 {}
 
-/// When a change applies to a database: where it fits its row, and the parent that it gives the row is there.
+/// When a change applies to a database: where it fits its row, the parent that it gives the row is there, and no other row has the
+/// value that it gives it.
 pub fn one_change()
     ensures by_row { AppliesByRow }
     ensures fits { FitsWhereItApplies }
     ensures stands { ParentStandsWhereItApplies }
+    ensures value { ValueStandsWhereItApplies }
     ensures has_parent { HasParentWhereItApplies }
     ensures applies { AppliesWhereItFits }
 {}
@@ -40,6 +54,7 @@ pub fn joined()
     ensures writes { WritesOfJoined }
     ensures effect { EffectOfJoined }
     ensures kin { KinOfJoined }
+    ensures marks { MarksOfJoined }
     ensures row { RowAfterJoined }
 {}
 
@@ -68,4 +83,20 @@ pub fn kin()
     ensures few { KinAreFew }
     ensures of_others { NoKinOfOthers }
     ensures unrelated { NoKinUnrelated }
+{}
+
+/// Where no two rows of a table have one value in its unique column, none have after changes, a value has one row at most, and
+/// columns are free for a row where no other row has their value.
+pub fn values()
+    ensures apart { ValuesStayApart }
+    ensures holder { HolderHasIt }
+    ensures same { HoldersAreSame }
+    ensures free { FreeByHolder }
+    ensures free_by_rows { FreeByRows }
+{}
+
+/// How many marks changes have: at most two each, and of which tables.
+pub fn marks()
+    ensures few { MarksAreFew }
+    ensures of_unique { MarksAreOfUnique }
 {}

@@ -1,21 +1,23 @@
 //! Rows, changes, and what a change does to a database.
 //!
 //! A `Row` has 1 to 16 columns in a fixed array, so that copying one takes no memory. A `Change` is what a
-//! session writes: an insert of a row, an update of its `Named` columns, or a delete. `apply_one` is what it does to the one row that it is of. What a list of changes does to a
-//! whole database, which rows it writes and which parent rows it refers to is defined in
-//! `specs/Database.antt`, and the layers above speak of it; `laws` states what follows from the definitions.
+//! session writes: an insert of a row, an update of its `Named` columns, or a delete. `apply_one` is what it does to the one row
+//! that it is of, and `mark_of` the value of a row in the unique column of its table. What a list of changes does to a whole
+//! database, which rows it writes, which parent rows it refers to and which values of unique columns it gives up or takes is
+//! defined in `specs/Database.antt`, and the layers above speak of it; what it gives its rows, whatever they are, in
+//! `specs/Given.antt`, and which row has a value in `specs/Holders.antt`. `laws` states what follows from the definitions.
 #![tactic(auto)]
 
 ghost use Rattle.std.specs.Prelude.{◌≡◌, ◌≤◌, length, SomeIff, option_copied};
 ghost use Rattle.rows.specs.Change.{changed};
-ghost use Rattle.rows.specs.Database.{target};
+ghost use Rattle.rows.specs.Database.{target, mark_of};
 
 pub mod laws;
 mod naming;
 mod shape;
 
 pub use naming::Named;
-use schema::RowId;
+use schema::{Mark, RowId, Schema};
 pub use shape::{has_columns, is_shaped};
 use std::marker::Model;
 use thiserror::Error;
@@ -104,6 +106,16 @@ pub enum ChangeFault {
     /// A column that the row does not have.
     #[error("F3 Columns")]
     Columns,
+}
+
+/// The mark of a row of the table that has these columns: its value in the unique column, where the table has one. It takes no memory.
+/// The time is that of a walk over the tables.
+pub fn mark_of(schema: &Schema, table: u16, columns: &[i64]) -> Option<Mark>
+    ensures { result ≡ mark_of schema.now table columns.now }
+{
+    let column = schema.unique_of(table)?;
+    let value = *columns.get(usize::from(column))?;
+    Some(Mark::new(table, value))
 }
 
 /// The row after the change, given the row before it, `None` where there is none. An update answers

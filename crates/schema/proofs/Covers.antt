@@ -7,13 +7,13 @@ use Rattle.schema.specs.Covering.{Covers}
 use Rattle.schema.proofs.Conflicts.{both_ways, by_sets}
 
 -- what conflicts with rows conflicts with any other list of the same rows
-with_same : (a rows others : Touched) → SameRows rows.writes others.writes → SameRows rows.refs others.refs → conflicts a rows ≡ conflicts a others
-with_same a rows others writes refs = both_ways a rows ∙ by_sets rows others a writes refs ∙ both_ways others a
+with_same : (a rows others : Touched) → SameRows rows.writes others.writes → SameRows rows.refs others.refs → SameRows rows.marks others.marks → conflicts a rows ≡ conflicts a others
+with_same a rows others writes refs marks = both_ways a rows ∙ by_sets rows others a writes refs marks ∙ both_ways others a
 
-pub covers_by_sets : (past : List (ℕ × Touched)) (rows others : Touched) (parent : ℕ) → SameRows rows.writes others.writes → SameRows rows.refs others.refs → Covers past rows parent → Covers past others parent
-covers_by_sets [] rows others parent writes refs all = tt
-covers_by_sets (before ∷ past) rows others parent writes refs all =
-    (λ h. all.0 (with_same before.1 rows others writes refs ∙ h), covers_by_sets past rows others parent writes refs all.1)
+pub covers_by_sets : (past : List (ℕ × Touched)) (rows others : Touched) (parent : ℕ) → SameRows rows.writes others.writes → SameRows rows.refs others.refs → SameRows rows.marks others.marks → Covers past rows parent → Covers past others parent
+covers_by_sets [] rows others parent writes refs marks all = tt
+covers_by_sets (before ∷ past) rows others parent writes refs marks all =
+    (λ h. all.0 (with_same before.1 rows others writes refs marks ∙ h), covers_by_sets past rows others parent writes refs marks all.1)
 
 -- a parent that nothing is numbered above covers all rows
 pub covers_at_end : (past : List (ℕ × Touched)) (rows : Touched) (parent : ℕ) → AllByRecursion (λ before. before.0 ≤ parent) past → Covers past rows parent

@@ -1,5 +1,5 @@
 -- The keys of a list in rising order, each once, where keys have an order.
-use Rattle.std.proofs.Common.{◌≡◌, ◌∙◌, sym, ap, subst, Bool, true, false, T, is_lt, Ordering, Less, List, [], ◌∷◌, map, Option, Some, None, is_some, refl, true≢false, IsPermutation}
+use Rattle.std.proofs.Common.{◌≡◌, ◌∙◌, sym, ap, subst, Bool, true, T, is_lt, Ordering, Less, List, [], ◌∷◌, map, Option, Some, None, is_some, refl, true≢false, IsPermutation}
 use Rattle.std.specs.List.{list_any, dedup, AllByRecursion}
 use Rattle.std.specs.List.Sorted.{IsSorted, IsStrictlySortedBy}
 use Rattle.std.specs.Ordering.{eq_by_cmp}
@@ -11,14 +11,10 @@ use Rattle.std.proofs.lemmas.List.Kept.{IsStrictlySortedBy-dedup, Contains-dedup
 use Rattle.std.proofs.lemmas.List.Sorted.{list_any-IsPermutation}
 use Rattle.std.proofs.lemmas.Map.Keys.{sorted_head, sorted_tail}
 use Rattle.std.proofs.lemmas.Map.Views.{Contains-from_any, list_any-from_Contains}
-use Rattle.schema.proofs.Telling.{both_or_none, is_equal, is_less}
+use Rattle.schema.proofs.Telling.{both_or_none, true_from_T, is_equal, is_less}
 
 T_from_true : (b : Bool) → b ≡ true → T b
 T_from_true b e = subst T (sym e) tt
-
-true_from_T : (b : Bool) → T b → b ≡ true
-true_from_T true h = refl
-true_from_T false h = absurd h
 
 found : (o p : Option (Unit {0})) → is_some o ≡ is_some p → o ≡ p
 found None None h = refl

@@ -17,7 +17,7 @@ ConflictsBothWays = (a b : Touched) → conflicts a b ≡ conflicts b a
 
 -- only the sets of rows count, and not how they are listed
 abbrev pub ConflictsBySets : Type 0
-ConflictsBySets = (a b other : Touched) → SameRows a.writes b.writes → SameRows a.refs b.refs → conflicts a other ≡ conflicts b other
+ConflictsBySets = (a b other : Touched) → SameRows a.writes b.writes → SameRows a.refs b.refs → SameRows a.marks b.marks → conflicts a other ≡ conflicts b other
 
 -- what conflicts with these rows is numbered at most the parent, one by one
 abbrev pub CoversEach : Type 0
@@ -39,4 +39,4 @@ CoversAtEnd = (past : List (ℕ × Touched)) (rows : Touched) (parent : ℕ) →
 
 -- only the sets of rows count, and not how they are listed
 abbrev pub CoversBySets : Type 0
-CoversBySets = (past : List (ℕ × Touched)) (rows others : Touched) (parent : ℕ) → SameRows rows.writes others.writes → SameRows rows.refs others.refs → Covers past rows parent → Covers past others parent
+CoversBySets = (past : List (ℕ × Touched)) (rows others : Touched) (parent : ℕ) → SameRows rows.writes others.writes → SameRows rows.refs others.refs → SameRows rows.marks others.marks → Covers past rows parent → Covers past others parent

@@ -16,11 +16,17 @@ meets xs ys = list_any (has_row ys) xs
 abbrev pub SameRows : List RowId → List RowId → Type 0
 SameRows xs ys = (q : RowId) → has_row xs q ≡ has_row ys q
 
--- the rows that a transaction writes, and the parent rows that it refers to
+-- A mark is a value of a table's unique column. It is written as a row id is, with the value in the place of the key, so that
+-- sets of marks are sets of row ids.
+abbrev pub Mark : Type 0
+Mark = RowId
+
+-- the rows that a transaction writes, the parent rows that it refers to, and the values that it gives up or takes
 pub record Touched : Type 0 where
   pub writes : List RowId
   pub refs : List RowId
+  pub marks : List Mark
 
--- two transactions conflict where the writes of one meet the writes or the refs of the other
+-- two transactions conflict where the writes of one meet the writes or the refs of the other, or where their marks meet
 abbrev pub conflicts : Touched → Touched → Bool
-conflicts a b = meets a.writes b.writes || meets a.writes b.refs || meets b.writes a.refs
+conflicts a b = meets a.writes b.writes || meets a.writes b.refs || meets b.writes a.refs || meets a.marks b.marks

@@ -1,18 +1,19 @@
 //! Row ids, tables and schemas.
 //!
 //! A `Schema` is a list of 1 to 256 tables that obeys the rules of `specs/Schema.antt`: ids from 1 to 256,
-//! each once, 1 to 16 columns, and a parent, where there is one, that is named by a column of the table and
-//! is a table of the schema with a lower id. No other list becomes one, and each other list is refused with
-//! its first fault, table by table.
+//! each once, 1 to 16 columns, a parent, where there is one, that is named by a column of the table and
+//! is a table of the schema with a lower id, and a unique column, where there is one, that a keyed table has. No other list
+//! becomes one, and each other list is refused with its first fault, table by table.
 //!
-//! The sets of rows that transactions write and refer to, and when two of them conflict, are defined here
-//! too (`specs/Rows.antt`), since every layer above speaks of them.
+//! A `Mark` is a value of a unique column. The sets of rows that transactions write and refer to, their marks, and when two
+//! transactions conflict, are defined here too (`specs/Rows.antt`), since every layer above speaks of them; and so is what kinds
+//! of tables a transaction writes (`Flags`). Each fault has its text beside it.
 #![tactic(auto)]
 
 ghost use Rattle.std.specs.Prelude.{◌≡◌, ◌<◌, ◌||◌, [], is_some, length, take, slice_get, option_and_then, IfOk, Some, None};
 ghost use Rattle.std.specs.Result.{result_err};
 ghost use Rattle.schema.specs.Flags.{is_parent, is_keyless, no_flags, flags_with};
-ghost use Rattle.schema.specs.Schema.{schema_fault, fault_from, table_at, link_of, table_fault, has_fine_parent, plain_table, child_of};
+ghost use Rattle.schema.specs.Schema.{schema_fault, fault_from, table_at, link_of, unique_of, table_fault, has_fine_parent, has_fine_unique, plain_table, child_of, with_unique};
 ghost use Rattle.schema.specs.FaultText.{fault_text};
 
 pub mod laws;
@@ -85,6 +86,81 @@ impl PartialOrd for RowId {
     }
 }
 
+/// A value of a table's unique column. Marks are ordered as row ids are, with the value in the place of the key.
+#[derive(Clone, Copy, Debug, PartialEq, Eq, Hash)]
+pub struct Mark {
+    row: RowId,
+}
+
+impl Model for Mark {
+    ghost use Rattle.schema.specs.declared.RowId.{RowId};
+    ghost use Rattle.std.specs.Prelude.{refl};
+
+    ghost Value = { RowId };
+
+    ghost view = { λ m. m.row };
+
+    ghost inverse = { λ row. record { row = row } };
+
+    ghost inverse_ok = { λ _ _. refl };
+}
+
+impl Mark {
+    /// This value in the unique column of the table of this id.
+    pub fn new(table: u16, value: i64) -> Mark
+        ensures { result ≡ record { table = table; key = value } }
+    {
+        Mark {
+            row: RowId { table, key: value },
+        }
+    }
+
+    /// The table's id.
+    pub fn table(self) -> u16
+        ensures { result ≡ self.table }
+    {
+        self.row.table
+    }
+
+    /// The value.
+    pub fn value(self) -> i64
+        ensures { result ≡ self.key }
+    {
+        self.row.key
+    }
+}
+
+impl Ord for Mark {
+    ghost use Rattle.schema.specs.RowId.{row_cmp, row_total};
+    ghost use Rattle.schema.specs.RowOrder.{alike, answered};
+
+    ghost cmp = { row_cmp };
+
+    ghost total = { row_total };
+
+    ghost matches_partial_cmp = { answered };
+
+    ghost matches_eq = { alike };
+
+    fn cmp(&self, other: &Mark) -> Ordering {
+        self.row.cmp(&other.row)
+    }
+}
+
+impl PartialOrd for Mark {
+    ghost use Rattle.std.specs.Ordering.{as_partial_cmp};
+    ghost use Rattle.schema.specs.RowId.{row_cmp};
+    ghost use Rattle.schema.specs.RowOrder.{ordered};
+
+    ghost partial_cmp = { as_partial_cmp row_cmp };
+
+    ghost laws = { ordered };
+
+    fn partial_cmp(&self, other: &Mark) -> Option<Ordering> {
+        Some(self.cmp(other))
+    }
+}
+
 /// The name of a transaction: the server that committed it first, and its number there.
 #[derive(Clone, Copy, Debug, PartialEq, Eq)]
 pub struct Gtid {
@@ -103,12 +179,15 @@ pub struct Table {
     pub columns: u8,
     /// Whether changes can be told apart by the table's keys. A keyless table's rows have keys all the same.
     pub keyed: bool,
+    /// The column in which no two rows of the table have one value, where there is such a column. As `UNIQUE KEY` of MySQL, of one
+    /// column that is `NOT NULL`.
+    pub unique: Option<u8>,
     /// For a child table the column whose value is the key of a row of the parent table, and that table's id.
     pub parent: Option<(u8, u16)>,
 }
 
 impl Table {
-    /// A table of this id, with so many columns, whose rows have no parent.
+    /// A table of this id, with so many columns, without a unique column, whose rows have no parent.
     pub fn new(id: u16, columns: u8, keyed: bool) -> Table
         ensures { result ≡ plain_table id columns keyed }
     {
@@ -116,7 +195,18 @@ impl Table {
             id,
             columns,
             keyed,
+            unique: None,
             parent: None,
+        }
+    }
+
+    /// The table with a unique column: no two of its rows have one value there.
+    pub fn with_unique(self, column: u8) -> Table
+        ensures { result ≡ with_unique self column }
+    {
+        Table {
+            unique: Some(column),
+            ..self
         }
     }
 
@@ -146,6 +236,8 @@ pub enum SchemaFault {
     Parent,
     /// Memory ran out.
     Memory,
+    /// The unique column is outside the table, or the table is keyless.
+    Unique,
 }
 
 impl SchemaFault {
@@ -160,6 +252,7 @@ impl SchemaFault {
             SchemaFault::Twice => "B4 Twice",
             SchemaFault::Parent => "B5 Parent",
             SchemaFault::Memory => "B6 Memory",
+            SchemaFault::Unique => "B7 Unique",
         }
     }
 }
@@ -235,8 +328,8 @@ impl Model for Schema {
 
 impl Schema {
     /// The schema of these tables, or the first fault of the list: first the number of tables, then, table
-    /// by table as they are listed, its id, its columns, an id that was there before, and its parent, which
-    /// may stand later in the list. It takes no memory; the time is that of n * n tests for n tables.
+    /// by table as they are listed, its id, its columns, an id that was there before, its parent, which
+    /// may stand later in the list, and its unique column. It takes no memory; the time is that of n * n tests for n tables.
     pub fn new(tables: Vec<Table>) -> Result<Schema, SchemaFault>
         ensures exact { result_err result ≡ schema_fault tables.items }
         ensures value { IfOk result (λ schema. schema ≡ tables.items) }
@@ -268,6 +361,13 @@ impl Schema {
         ensures { result ≡ link_of self.now id }
     {
         self.table(id)?.parent
+    }
+
+    /// The unique column of a table; `None` where it has none, or is none of the schema. The time is that of a walk over the tables.
+    pub fn unique_of(&self, id: u16) -> Option<u8>
+        ensures { result ≡ unique_of self.now id }
+    {
+        self.table(id)?.unique
     }
 
     /// Whether a table is the parent of another. The time is that of a walk over the tables.
@@ -326,6 +426,14 @@ fn parent_is_fine(tables: &[Table], table: Table) -> bool
     }
 }
 
+fn unique_is_fine(table: Table) -> bool
+    ensures { result ≡ has_fine_unique table }
+{
+    table
+        .unique
+        .is_none_or(|column| column < table.columns && table.keyed)
+}
+
 /// The first fault of the list.
 fn first_fault(tables: &[Table]) -> Option<SchemaFault>
     ensures { result ≡ schema_fault tables.now }
@@ -364,6 +472,8 @@ fn fault_at(tables: &[Table], i: usize) -> Option<SchemaFault>
         Some(SchemaFault::Twice)
     } else if !parent_is_fine(tables, table) {
         Some(SchemaFault::Parent)
+    } else if !unique_is_fine(table) {
+        Some(SchemaFault::Unique)
     } else {
         None
     }

@@ -1,4 +1,4 @@
-use Rattle.rows.proofs.Effect.{writes_joined, effect_joined, kin_joined, row_after_joined}
+use Rattle.rows.proofs.Effect.{writes_joined, effect_joined, kin_joined, marks_joined, row_after_joined}
 use Rattle.rows.proofs.laws.joined.Goals as goal
 
 pub returns-clause-writes : goal.returns-clause-writes
@@ -9,6 +9,9 @@ returns-clause-effect c = effect_joined
 
 pub returns-clause-kin : goal.returns-clause-kin
 returns-clause-kin c = kin_joined
+
+pub returns-clause-marks : goal.returns-clause-marks
+returns-clause-marks c = marks_joined
 
 pub returns-clause-row : goal.returns-clause-row
 returns-clause-row c = row_after_joined
