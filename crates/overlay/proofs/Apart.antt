@@ -13,11 +13,11 @@ use Rattle.schema.proofs.Conflicts.{none_of_both}
 use Rattle.schema.specs.RowId.{row_cmp, exact_row, row_total}
 use Rattle.schema.specs.Rows.{has_row, meets}
 use Rattle.schema.proofs.Lists.{AllByRecursion-push, AllByRecursion-front, AllByRecursion-behind}
-use Rattle.rows.specs.Database.{Database, writes, effect, kin}
+use Rattle.rows.specs.Database.{Database, writes, effect, kin, marks}
 use Rattle.rows.specs.Frame.{SameEffect}
 use Rattle.rows.proofs.Apply.{has_row-left}
-use Rattle.rows.proofs.Effect.{changes_only_writes, effect_joined}
-use Rattle.rows.proofs.Frame.{looks_only, not_in_first}
+use Rattle.rows.proofs.Effect.{effect_joined}
+use Rattle.rows.proofs.Frame.{applies_behind, not_in_first}
 use Rattle.store_trait.specs.Batch.{Entry, IsRising, put_batch}
 use Rattle.store_trait.proofs.Batches.{get-put_batch}
 use Rattle.overlay.specs.Pending.{Pending, left_at}
@@ -42,14 +42,15 @@ unwritten {after = after} f q none = left_at-Follows f q ∙ ap (λ b. cond b (S
 -- of two transactions that are apart, the earlier leaves no row that the later one writes
 left_by_later : {ts : List Table} {db : Database} {earlier later : Pending} {after end : Database} → Follows ts db earlier after → Follows ts db later end → IsApart ts db earlier later → (q : RowId) → IsSome (left_at later q) → left_at earlier q ≡ None
 left_by_later {ts = ts} {db = db} {earlier = earlier} {later = later} f g apart q is =
-    unwritten f q (not_in_first (writes earlier.changes) (writes later.changes ++ kin ts later.changes db) q apart (has_row-left (writes later.changes) (kin ts later.changes db) q (written g q is)))
+    unwritten f q (not_in_first (writes earlier.changes) (writes later.changes ++ kin ts later.changes db) q apart.rows (has_row-left (writes later.changes) (kin ts later.changes db) q (written g q is)))
 
 pub apart_without_conflict : ApartWithoutConflict
 apart_without_conflict ts db earlier later none =
     let wrote = writes earlier.changes in
-    let parts = or_parts (meets wrote (writes later.changes) || meets wrote (kin ts later.changes db)) (meets (writes later.changes) (kin ts earlier.changes db)) none in
+    let sets = or_parts (meets wrote (writes later.changes) || meets wrote (kin ts later.changes db) || meets (writes later.changes) (kin ts earlier.changes db)) (meets (marks ts earlier.changes db) (marks ts later.changes db)) none in
+    let parts = or_parts (meets wrote (writes later.changes) || meets wrote (kin ts later.changes db)) (meets (writes later.changes) (kin ts earlier.changes db)) sets.0 in
     let own = or_parts (meets wrote (writes later.changes)) (meets wrote (kin ts later.changes db)) parts.0 in
-    none_of_both wrote (writes later.changes) (kin ts later.changes db) own.0 own.1
+    record { rows = none_of_both wrote (writes later.changes) (kin ts later.changes db) own.0 own.1; marks = sets.1 }
 
 pub apart-more : ApartGoesOn
 apart-more ts db [] pending = (λ all. (tt, tt), λ parts. (tt, tt))
@@ -68,8 +69,7 @@ apart-more ts db (first ∷ pendings) pending =
 module _ {ts : List Table} {db : Database} {first : Pending} {mid : Database} (f : Follows ts db first mid) where
   moved : (pending : Pending) (after : Database) → Follows ts db pending after → IsApart ts db first pending → SameEffect ts pending.changes db after mid
   moved pending after g apart =
-      looks_only ts pending.changes db after mid g.applied (λ q is.
-      sym (changes_only_writes ts first.changes db mid q f.applied (not_in_first (writes first.changes) (writes pending.changes ++ kin ts pending.changes db) q apart is)))
+      applies_behind ts first.changes pending.changes db mid after f.applied g.applied apart.rows apart.marks
 
   each_moved : (pendings : List Pending) → EachFollows ts db pendings → AllByRecursion (IsApart ts db first) pendings → EachFollows ts mid pendings
   each_moved [] each apart = tt
@@ -77,16 +77,21 @@ module _ {ts : List Table} {db : Database} {first : Pending} {mid : Database} (f
       let same = moved pending each.0.0 each.0.1 apart.0 in
       ((same.leaves, Follows-moved each.0.1 same), each_moved pendings each.1 apart.1)
 
-  apart_moved : (earlier : Pending) (pendings : List Pending) → EachFollows ts db pendings → AllByRecursion (IsApart ts db first) pendings → AllByRecursion (IsApart ts db earlier) pendings → AllByRecursion (IsApart ts mid earlier) pendings
-  apart_moved earlier [] each apart were = tt
-  apart_moved earlier (pending ∷ pendings) each apart were =
+  apart_moved : (earlier : Pending) → marks ts earlier.changes mid ≡ marks ts earlier.changes db → (pendings : List Pending) → EachFollows ts db pendings → AllByRecursion (IsApart ts db first) pendings → AllByRecursion (IsApart ts db earlier) pendings → AllByRecursion (IsApart ts mid earlier) pendings
+  apart_moved earlier stay [] each apart were = tt
+  apart_moved earlier stay (pending ∷ pendings) each apart were =
       let same = moved pending each.0.0 each.0.1 apart.0 in
-      (ap (λ l. meets (writes earlier.changes) (writes pending.changes ++ l)) same.same_kin ∙ were.0, apart_moved earlier pendings each.1 apart.1 were.1)
+      let here : IsApart ts mid earlier pending = record {
+        rows = ap (λ l. meets (writes earlier.changes) (writes pending.changes ++ l)) same.same_kin ∙ were.0.rows;
+        marks = (λ i. meets (stay i) (same.same_marks i)) ∙ were.0.marks;
+      } in
+      (here, apart_moved earlier stay pendings each.1 apart.1 were.1)
 
   all_apart_moved : (pendings : List Pending) → EachFollows ts db pendings → AllByRecursion (IsApart ts db first) pendings → AllApart ts db pendings → AllApart ts mid pendings
   all_apart_moved [] each apart were = tt
   all_apart_moved (pending ∷ pendings) each apart were =
-      (apart_moved pending pendings each.1 apart.1 were.0, all_apart_moved pendings each.1 apart.1 were.1)
+      let stay = (moved pending each.0.0 each.0.1 apart.0).same_marks in
+      (apart_moved pending stay pendings each.1 apart.1 were.0, all_apart_moved pendings each.1 apart.1 were.1)
 
   -- what the first leaves of a row, none of the others changes
   none_later : (pendings : List Pending) → EachFollows ts db pendings → AllByRecursion (IsApart ts db first) pendings → (q : RowId) (left : Option (List ℤ)) → left_at first q ≡ Some left → first_left pendings q ≡ None

@@ -10,7 +10,7 @@ use Rattle.schema.specs.Rows.{has_row}
 use Rattle.rows.specs.declared.Change.{Change}
 use Rattle.rows.specs.Change.{changed}
 use Rattle.rows.specs.Database.{Database, put_row, target, writes, apply, effect}
-use Rattle.rows.specs.Effect.{parent_stands}
+use Rattle.rows.specs.Effect.{parent_stands, value_stands}
 use Rattle.rows.specs.Frame.{AgreeOn, SameEffect}
 use Rattle.rows.proofs.Apply.{apply_stays, applies_from, get-put_row, row_is, same_row_itself}
 use Rattle.rows.proofs.Effect.{changes_only_writes, effect_joined}
@@ -88,11 +88,11 @@ pub Follows-moved : {ts : List Table} {db : Database} {pending : Pending} {after
 Follows-moved {pending = pending} {after = after} f same =
     record { applied = same.defined; left = f.left ∙ rows_in-alike (writes pending.changes) after same.leaves same.same_writes }
 
--- the same, for a change that fits its row and whose parent is there
-pub Follows-step : {ts : List Table} {db : Database} {pending : Pending} {after : Database} (change : Change) (left : Option (List ℤ)) → Follows ts db pending after → changed change (get after (target change)) ≡ Ok left → parent_stands ts change after left ≡ true → Follows ts db (pushed pending change left) (put_row after (target change) left)
-Follows-step {ts = ts} {db = db} {pending = pending} {after = after} change left f fits parent =
+-- the same, for a change that fits its row, whose parent is there, and whose value no other row has
+pub Follows-step : {ts : List Table} {db : Database} {pending : Pending} {after : Database} (change : Change) (left : Option (List ℤ)) → Follows ts db pending after → changed change (get after (target change)) ≡ Ok left → parent_stands ts change after left ≡ true → value_stands ts change after left ≡ true → Follows ts db (pushed pending change left) (put_row after (target change) left)
+Follows-step {ts = ts} {db = db} {pending = pending} {after = after} change left f fits parent value =
     let row = target change in
     let there : get (put_row after row left) row ≡ left =
     get-put_row after row row left ∙ ap (λ b. cond b left (get after row)) (same_row_itself row) in
-    let applies : apply ts change after ≡ Some (put_row after row left) = applies_from ts change after left fits parent in
+    let applies : apply ts change after ≡ Some (put_row after row left) = applies_from ts change after left fits parent value in
     subst (λ (l : Option (List ℤ)). Follows ts db (pushed pending change l) (put_row after row left)) there (Follows-pushed change (put_row after row left) f applies)

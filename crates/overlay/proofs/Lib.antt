@@ -3,5 +3,7 @@ pub mod Follow
 pub mod Apart
 pub mod Joining
 pub mod Steps
+pub mod Entries
 pub mod ChildRows
-pub mod Scan
+pub mod ChildCounts
+pub mod ValueRows

@@ -6,7 +6,7 @@ use Rattle.schema.specs.declared.RowId.{RowId}
 use Rattle.rows.specs.declared.Change.{Change}
 use Rattle.rows.specs.Change.{changed}
 use Rattle.rows.specs.Database.{Database, put_row, target, writes, apply, effect}
-use Rattle.rows.specs.Effect.{parent_stands}
+use Rattle.rows.specs.Effect.{parent_stands, value_stands}
 use Rattle.rows.specs.Frame.{SameEffect}
 use Rattle.store_trait.specs.Batch.{rows_in}
 use Rattle.overlay.specs.Pending.{Pending, none_pending, pushed, left_at, seen}
@@ -19,10 +19,12 @@ pub record Follows (ts : List Table) (db : Database) (pending : Pending) (after 
 abbrev pub NoneFollows : Type 0
 NoneFollows = (ts : List Table) (db : Database) → Follows ts db none_pending db
 
--- a change that fits the row that it is of, as the transaction sees it, and gives it a parent that is there, if any
+-- a change that fits the row that it is of, as the transaction sees it, and gives it a parent that is there and a value that no other
+-- row has, if any
 abbrev pub StepFollows : Type 0
 StepFollows = (ts : List Table) (db : Database) (pending : Pending) (after : Database) (change : Change) (left : Option (List ℤ)) →
-    Follows ts db pending after → changed change (get after (target change)) ≡ Ok left → parent_stands ts change after left ≡ true →
+    Follows ts db pending after → changed change (get after (target change)) ≡ Ok left →
+    parent_stands ts change after left ≡ true → value_stands ts change after left ≡ true →
     Follows ts db (pushed pending change left) (put_row after (target change) left)
 
 -- a change that applies, with what it leaves of its row

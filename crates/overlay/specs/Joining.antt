@@ -8,7 +8,7 @@ use Rattle.schema.specs.declared.RowId.{RowId}
 use Rattle.schema.specs.RowId.{row_cmp}
 use Rattle.schema.specs.Rows.{meets, conflicts}
 use Rattle.rows.specs.declared.Change.{Change}
-use Rattle.rows.specs.Database.{Database, writes, effect, kin}
+use Rattle.rows.specs.Database.{Database, writes, effect, kin, marks, touched_by}
 use Rattle.store_trait.specs.Batch.{Entry, IsRising, put_batch, in_order}
 use Rattle.overlay.specs.Pending.{Pending, left_at}
 use Rattle.overlay.specs.Follows.{Follows}
@@ -35,9 +35,10 @@ all_changes pendings = flat_map (λ pending. pending.changes) pendings
 abbrev pub EachFollows : List Table → Database → List Pending → Type 0
 EachFollows ts db pendings = AllByRecursion (λ pending. (after : Database) × Follows ts db pending after) pendings
 
--- over db, the later transaction neither writes a row that the earlier one writes nor has one as its kin
-abbrev pub IsApart : List Table → Database → Pending → Pending → Type 0
-IsApart ts db earlier later = meets (writes earlier.changes) (writes later.changes ++ kin ts later.changes db) ≡ false
+-- over db, the later transaction neither writes a row that the earlier one writes nor has one as its kin, and their marks do not meet
+pub record IsApart (ts : List Table) (db : Database) (earlier later : Pending) : Type 0 where
+  pub rows : meets (writes earlier.changes) (writes later.changes ++ kin ts later.changes db) ≡ false
+  pub marks : meets (marks ts earlier.changes db) (marks ts later.changes db) ≡ false
 
 -- each later one of the transactions is apart from each earlier one
 abbrev pub AllApart : List Table → Database → List Pending → Type 0
@@ -52,8 +53,7 @@ ApartGoesOn = (ts : List Table) (db : Database) (pendings : List Pending) (pendi
 -- two transactions are apart where they do not conflict, the kin of each being the rows that it refers to
 abbrev pub ApartWithoutConflict : Type 0
 ApartWithoutConflict = (ts : List Table) (db : Database) (earlier later : Pending) →
-    conflicts (record { writes = writes earlier.changes; refs = kin ts earlier.changes db }) (record { writes = writes later.changes; refs = kin ts later.changes db }) ≡ false →
-    IsApart ts db earlier later
+    conflicts (touched_by ts earlier.changes db) (touched_by ts later.changes db) ≡ false → IsApart ts db earlier later
 
 -- one more transaction
 abbrev pub JoinedGoesOn : Type 0

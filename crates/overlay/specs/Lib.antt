@@ -3,3 +3,4 @@ pub mod Follows
 pub mod Joining
 pub mod Step
 pub mod Children
+pub mod Values

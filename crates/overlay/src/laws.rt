@@ -1,8 +1,9 @@
 //! What follows from the definitions alone. Each function states a law by its contract, and does nothing.
 
 ghost use Rattle.overlay.specs.Follows.{NoneFollows, StepFollows, PushedFollows, ShowsRows, SeesAfter, MovesOver};
-ghost use Rattle.overlay.specs.Step.{StepsWhereItApplies, KinOfStep};
-ghost use Rattle.overlay.specs.Children.{TellsChildren};
+ghost use Rattle.overlay.specs.Step.{StepsWhereItApplies, KinOfStep, MarksOfStep};
+ghost use Rattle.overlay.specs.Children.{TellsChildren, TellsByCount};
+ghost use Rattle.overlay.specs.Values.{ValueOver};
 ghost use Rattle.overlay.specs.Joining.{ApartGoesOn, ApartWithoutConflict, JoinedGoesOn, JoinedHasRows, JoinedRises, NotYetJoined, JoinedIsAfter, BatchIsAfter};
 
 /// How the overlay of changes that apply one after another goes on: from no changes, by a change that applies,
@@ -43,11 +44,20 @@ pub fn joined_is_after()
     ensures batch { BatchIsAfter }
 {}
 
-/// What a transaction sees of a change and of children: a change applies just where it has a step and the parent row that it
-/// gives its own is there, and then it does to its row what the step says, and its kin are the step's; and whether a row has a
-/// child tells whether some row names it as its parent.
+/// What a transaction sees of a change and of children: a change applies just where it has a step, the parent row that it gives
+/// its own is there, and no other row has the value that it gives it, and then it does to its row what the step says, and its kin and
+/// its marks are the step's; whether a row has a child tells whether some row names it as its parent; and `has_child` tells it from the
+/// number of the rows below that do.
 pub fn sees()
     ensures steps { StepsWhereItApplies }
     ensures kin { KinOfStep }
+    ensures marks { MarksOfStep }
     ensures children { TellsChildren }
+    ensures by_count { TellsByCount }
+{}
+
+/// Where no two rows below have one value of a unique column, `value_holds` tells, from the row that has the change's value there,
+/// whether no other row has it as the transaction sees them.
+pub fn values()
+    ensures { ValueOver }
 {}

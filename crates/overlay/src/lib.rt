@@ -3,9 +3,11 @@
 //! An `Overlay` has the changes of a transaction in the order in which they were made, and what they leave of
 //! each row that they are of. Laid over the committed rows it shows what the transaction sees; its batch, put
 //! into them, commits it. `Joined` makes one batch of what several transactions leave. `row_seen`, `step_seen`,
-//! `parent_holds` and `has_child` look through an overlay into a store: a `Step` is what a change does to its row. `laws`
-//! states what the overlay of changes that apply one after another shows, what steps have to do with the effect of changes,
-//! and what the joined batch of transactions leaves that do not touch each other's rows.
+//! `parent_holds` and `has_child` look through an overlay into a store: a `Step` is what a change does to its row, with the value
+//! in a unique column that it takes from it and the one that it gives it. `value_holds` tells whether no other row has that value:
+//! by the overlay, and by the row that has it in the store, which its caller knows. `laws` states what the overlay of changes that
+//! apply one after another shows, what steps have to do with the effect of changes, and what the joined batch of transactions
+//! leaves that do not touch each other's rows and values.
 #![tactic(auto)]
 
 ghost use Rattle.std.specs.Prelude.{◌≡◌, ◌↔◌, [], length, IsTrue, IfOk, OnOk, OnErr, unwrap_or, option_copied};
@@ -20,6 +22,7 @@ mod joined;
 pub mod laws;
 mod roomy;
 mod step;
+mod values;
 
 pub use children::has_child;
 use indexmap::IndexMap;
@@ -31,6 +34,7 @@ use std::alloc::Global;
 use std::marker::Model;
 pub use step::{Step, step_seen};
 use store_trait::{Batch, RowStore};
+pub use values::value_holds;
 
 /// The changes of a transaction, and what they leave of each row that they are of.
 #[derive(Debug, Drop)]

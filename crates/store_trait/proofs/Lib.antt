@@ -6,3 +6,6 @@ pub mod Tables
 pub mod Walks
 pub mod Visits
 pub mod Copies
+pub mod Ahead
+pub mod Own
+pub mod Values

@@ -11,7 +11,7 @@ use Rattle.schema.specs.RowId.{row_cmp, row_total, exact_row, same_row}
 use Rattle.schema.specs.Schema.{table_at}
 use Rattle.schema.proofs.Telling.{is_less}
 use Rattle.rows.specs.Database.{Database}
-use Rattle.store_trait.specs.Fits.{RowFits, Fits}
+use Rattle.store_trait.specs.Fits.{RowStands, RowsStand}
 use Rattle.store_trait.specs.Walk.{IsListed, IsFirst, IsFirstOf, IsBehind, IsAhead, IsOfTables}
 use Rattle.rows.proofs.Apply.{row_is}
 
@@ -153,9 +153,9 @@ module _ (ts : List Table) (db : Database) (last : Option RowId) (count : ℕ) (
             absurd (omega arith)
       ] refl
 
-  -- where fewer are visited than there are, and none is ahead, a row does not fit
-  pub none_ahead : count < len db → IsFirstOf db (IsAhead ts last) None → Fits ts db → ⊥
-  none_ahead fewer none fits =
+  -- where fewer are visited than there are, and none is ahead, a row does not stand
+  pub none_ahead : count < len db → IsFirstOf db (IsAhead ts last) None → RowsStand ts db → ⊥
+  none_ahead fewer none stand =
       let nothing : visits.rest ≡ empty = same_map row_total exact_row visits.rest empty (λ q. visits.rows q ∙ gone q (get db q) refl ∙ sym (get-empty row_cmp q)) in
       let zero_left : len visits.rest ≡ 0 = ap len nothing ∙ len-empty row_cmp (List ℤ) in
       let size : len visits.rest + count ≡ len db = visits.size in
@@ -164,36 +164,36 @@ module _ (ts : List Table) (db : Database) (last : Option RowId) (count : ℕ) (
       gone : (q : RowId) (o : Option (List ℤ)) → get db q ≡ o → cond (is_visited ts last q) None o ≡ None
       gone q None is = elim (is_visited ts last q) as (λ b. cond {A = Option (List ℤ)} b None None ≡ None) [ true ↦ refl | false ↦ refl ]
       gone q (Some columns) is =
-          let listed : IsListed ts q.table = ap is_some (fits q columns is).in_schema in
+          let listed : IsListed ts q.table = ap is_some (stand q columns is).in_schema in
           elim (is_visited ts last q) as (λ b. is_visited ts last q ≡ b → cond b None (Some columns) ≡ None) [
             | true ↦ λ _. refl
             | false ↦ λ un. sym is ∙ none q (unvisited_ahead ts last q listed un)
           ] refl
 
--- ---- the rows so far fit
+-- ---- the rows so far stand
 
-pub record Fitting (ts : List Table) (db : Database) (last : Option RowId) (count : ℕ) : Type 0 where
+pub record Standing (ts : List Table) (db : Database) (last : Option RowId) (count : ℕ) : Type 0 where
   pub visits : Visits ts db last count
-  pub fit : (q : RowId) (columns : List ℤ) → is_visited ts last q ≡ true → get db q ≡ Some columns → RowFits ts db q columns
+  pub stand : (q : RowId) (columns : List ℤ) → is_visited ts last q ≡ true → get db q ≡ Some columns → RowStands ts db q columns
 
-pub none_fitting : (ts : List Table) (db : Database) → Fitting ts db None 0
-none_fitting ts db = record { visits = none_visited ts db; fit = λ q columns visited. absurd (false≢true visited) }
+pub none_standing : (ts : List Table) (db : Database) → Standing ts db None 0
+none_standing ts db = record { visits = none_visited ts db; stand = λ q columns visited. absurd (false≢true visited) }
 
-module _ (ts : List Table) (db : Database) (last : Option RowId) (count : ℕ) (h : Fitting ts db last count) where
-  -- the next row fits too
-  pub fits_on : (id : RowId) (columns : List ℤ) → IsFirst db (IsAhead ts last) id columns → RowFits ts db id columns → Fitting ts db (Some id) (count + 1)
-  fits_on id columns first here = record {
+module _ (ts : List Table) (db : Database) (last : Option RowId) (count : ℕ) (h : Standing ts db last count) where
+  -- the next row stands too
+  pub stands_on : (id : RowId) (columns : List ℤ) → IsFirst db (IsAhead ts last) id columns → RowStands ts db id columns → Standing ts db (Some id) (count + 1)
+  stands_on id columns first here = record {
     visits = visit ts db last count h.visits id columns first;
-    fit = λ q others visited there. by_cases q others there (visited_cases ts db last id columns q first visited);
+    stand = λ q others visited there. by_cases q others there (visited_cases ts db last id columns q first visited);
   }
     where
-      by_cases : (q : RowId) (others : List ℤ) → get db q ≡ Some others → (q ≡ id) ⊎ ((is_visited ts last q ≡ true) ⊎ (get db q ≡ None)) → RowFits ts db q others
+      by_cases : (q : RowId) (others : List ℤ) → get db q ≡ Some others → (q ≡ id) ⊎ ((is_visited ts last q ≡ true) ⊎ (get db q ≡ None)) → RowStands ts db q others
       by_cases q others there (inl same) =
           let alike : columns ≡ others = same_Some columns others (sym first.there ∙ ap (get db) (sym same) ∙ there) in
-          subst (λ (p : RowId × List ℤ). RowFits ts db p.0 p.1) (λ i. (sym same i, alike i)) here
-      by_cases q others there (inr (inl visited)) = h.fit q others visited there
+          subst (λ (p : RowId × List ℤ). RowStands ts db p.0 p.1) (λ i. (sym same i, alike i)) here
+      by_cases q others there (inr (inl visited)) = h.stand q others visited there
       by_cases q others there (inr (inr none)) = absurd (none-some others (sym none ∙ there))
 
-  -- where as many fit as there are, each row does
-  pub all_fit : count ≡ len db → Fits ts db
-  all_fit all id columns there = h.fit id columns (all_visited ts db last count h.visits all id columns there) there
+  -- where as many stand as there are, each row does
+  pub all_stand : count ≡ len db → RowsStand ts db
+  all_stand all id columns there = h.stand id columns (all_visited ts db last count h.visits all id columns there) there

@@ -1,5 +1,5 @@
 -- What batches leave of a database.
-use Rattle.std.specs.Prelude.{◌≡◌, List, ◌++◌, map, Some, None, unwrap_or, if◌then◌else◌}
+use Rattle.std.specs.Prelude.{◌≡◌, ℕ, ℤ, List, ◌++◌, map, Option, Some, None, unwrap_or, if◌then◌else◌}
 use Rattle.std.specs.List.{IsDistinct}
 use Rattle.std.specs.List.Sorted.{IsPermutation, IsSortedByKey}
 use Rattle.std.specs.Map.{keys_of}
@@ -7,10 +7,14 @@ use Rattle.std.specs.FinMap.{get, find, empty}
 use Rattle.schema.specs.declared.Table.{Table}
 use Rattle.schema.specs.declared.RowId.{RowId}
 use Rattle.schema.specs.RowId.{row_cmp, same_row}
-use Rattle.schema.specs.Rows.{has_row}
+use Rattle.schema.specs.Rows.{Mark, has_row}
+use Rattle.schema.specs.Schema.{unique_of}
 use Rattle.rows.specs.declared.Change.{Change}
-use Rattle.rows.specs.Database.{Database, effect, writes}
+use Rattle.rows.specs.Database.{Database, effect, writes, NoValueTwice}
+use Rattle.rows.specs.Holders.{holder_of}
 use Rattle.store_trait.specs.Batch.{Entry, IsRising, put_batch, put_batches, rows_in, all_rows}
+use Rattle.store_trait.specs.Contents.{IsHolder}
+use Rattle.store_trait.specs.Fits.{Fits, RowsStand}
 use Rattle.store_trait.specs.declared.Op.{Op}
 use Rattle.store_trait.specs.Operation.{batch_of, left_by}
 
@@ -55,3 +59,20 @@ GoesOnByOps = (ops more : List Op) → left_by (ops ++ more) ≡ put_batches (ma
 -- the batch of all rows of a database loads it
 abbrev pub LoadsAll : Type 0
 LoadsAll = (db : Database) → IsRising (all_rows db) × (put_batch (all_rows db) empty ≡ db)
+
+-- in rows that fit, no two have one value in a unique column
+abbrev pub FitsApart : Type 0
+FitsApart = (ts : List Table) (db : Database) → Fits ts db → NoValueTwice ts db
+
+-- rows that stand fit, where no two have one value in a unique column
+abbrev pub StandingFits : Type 0
+StandingFits = (ts : List Table) (db : Database) → RowsStand ts db → NoValueTwice ts db → Fits ts db
+
+-- rows that fit stand
+abbrev pub FitsStands : Type 0
+FitsStands = (ts : List Table) (db : Database) → Fits ts db → RowsStand ts db
+
+-- the first row of a table that has a value in its unique column is the one that has the mark
+abbrev pub HolderIsFirst : Type 0
+HolderIsFirst = (ts : List Table) (db : Database) (mark : Mark) (column : ℕ) (found : Option ℤ) →
+    unique_of ts mark.table ≡ Some column → IsHolder db mark.table column mark.key found → found ≡ holder_of ts db mark

@@ -1,6 +1,6 @@
 //! What batches leave of a database, stated as contracts of functions that do nothing.
 
-ghost use Rattle.store_trait.specs.Laws.{SetsItsRows, IsItsRows, HasTheRows, SortedRowsRise, RisingRowsDiffer, CarriesChanges, GoesOn, GoesOnByOps, LoadsAll};
+ghost use Rattle.store_trait.specs.Laws.{SetsItsRows, IsItsRows, HasTheRows, SortedRowsRise, RisingRowsDiffer, CarriesChanges, GoesOn, GoesOnByOps, LoadsAll, FitsApart, StandingFits, FitsStands, HolderIsFirst};
 
 /// Behind a batch each row is as the batch has it, or else as it was.
 pub fn batch_sets_its_rows()
@@ -41,4 +41,16 @@ pub fn operations_go_on()
 /// There is a batch that loads any database.
 pub fn batch_loads_all()
     ensures { LoadsAll }
+{}
+
+/// In rows that fit, a value of a unique column has one row at most, which is the first that has it.
+pub fn values()
+    ensures apart { FitsApart }
+    ensures first { HolderIsFirst }
+{}
+
+/// Rows fit exactly where each of them stands, and no two have one value in a unique column.
+pub fn standing()
+    ensures fit { StandingFits }
+    ensures stand { FitsStands }
 {}

@@ -3,24 +3,28 @@
 //! A `RowStore` contains a database (`contents`, a finite map from row ids to rows), however it keeps it:
 //! callers stand on the trait's contract alone. A `Batch` names each row that changes once, in the order of
 //! row ids, and is put whole or not at all. An `Op` is what a replica publishes: the rows that are loaded at
-//! first, and then the batch of each commit. `laws` states what batches leave of a database.
+//! first, and then the batch of each commit. `holder` looks for the first row that has a value in a column, and `fits` tells
+//! whether a schema allows the rows of a store; `rows_stand` tells it but for the values of unique columns, in less time. `laws` states
+//! what batches leave of a database, and that rows fit exactly where they stand and no two have one value in a unique column.
 #![tactic(auto)]
 
-ghost use Rattle.std.specs.Prelude.{◌≡◌, ℕ, ◌≤◌, ◌↔◌, IsTrue, Some, List, [], ◌∷◌, ◌++◌, length, take, map, slice_get, SomeIff, IfSome, IfOk, OnOk, OnErr};
+ghost use Rattle.std.specs.Prelude.{◌≡◌, ℕ, ℤ, Option, ◌≤◌, ◌↔◌, IsTrue, Some, List, [], ◌∷◌, ◌++◌, length, take, map, slice_get, SomeIff, IfSome, IfOk, OnOk, OnErr};
 ghost use Rattle.std.specs.FinMap.{get as row_of, len as size_of, empty};
 ghost use Rattle.schema.specs.declared.Table.{Table};
+ghost use Rattle.schema.specs.declared.RowId.{RowId};
 ghost use Rattle.schema.specs.Schema.{table_at};
-ghost use Rattle.rows.specs.Database.{Database, has_parent};
+ghost use Rattle.rows.specs.Database.{Database, has_parent, NoValueTwice};
+ghost use Rattle.rows.specs.Holders.{holder_of};
 ghost use Rattle.store_trait.specs.Batch.{Entry, IsRising, put_batch, put_batches, all_rows};
-ghost use Rattle.store_trait.specs.Contents.{IsNextInTable};
+ghost use Rattle.store_trait.specs.Contents.{IsNextInTable, IsHolder, IsLeastWithValue};
 ghost use Rattle.store_trait.specs.Operation.{batch_of};
-ghost use Rattle.store_trait.specs.Fits.{Fits, RowFits};
+ghost use Rattle.store_trait.specs.Fits.{Fits, RowStands, RowsStand, OwnInColumn, OwnInTable};
 
 pub mod laws;
 mod walk;
 
 use rows::Row;
-use schema::{Memory, RowId, Schema, Table};
+use schema::{Mark, Memory, RowId, Schema, Table};
 use std::alloc::Global;
 use std::marker::Model;
 use walk::next_row;
@@ -180,10 +184,53 @@ pub fn run<S: RowStore>(store: &mut S, batches: &[Batch]) -> usize
     batches.len()
 }
 
-/// Whether each row has its table's columns, and each row of a child table its parent. It takes no memory. The
-/// time is that of one look-up a row, of two in a child table, and of a walk over the tables for each row.
+/// The least key of a row of the table that has the value in the column; `None` where no row has it. It takes no memory. The time is
+/// that of a walk over the table's rows up to that one.
+pub fn holder<S: RowStore>(store: &S, table: u16, column: u8, value: i64) -> Option<i64>
+    ensures { IsHolder (S.contents store.now) table column value result }
+{
+    let mut last = None;
+    while let Some(next) = store.next_in_table(table, last) {
+        if has_value(&next.1, column, value) {
+            return Some(next.0);
+        }
+        last = Some(next.0);
+    }
+    None
+}
+
+/// Whether the row has the value in the column.
+fn has_value(row: &Row, column: u8, value: i64) -> bool
+    ensures { IsTrue result ↔ (slice_get row.now column ≡ Some value) }
+{
+    row.columns()
+        .get(usize::from(column))
+        .is_some_and(|own| *own == value)
+}
+
+/// The least key of a row that has the mark; `None` where none has it. It takes no memory. The time is that of a walk over the
+/// table's rows up to that one.
+pub fn holder_of<S: RowStore>(schema: &Schema, store: &S, mark: Mark) -> Option<i64>
+    ensures { result ≡ holder_of schema.now (S.contents store.now) mark }
+{
+    let column = schema.unique_of(mark.table())?;
+    holder(store, mark.table(), column, mark.value())
+}
+
+/// Whether each row has its table's columns, each row of a child table its parent, and no two rows of a table one value in its
+/// unique column. It takes no memory. The time is that of `rows_stand`, and in a table with a unique column each row costs a walk over
+/// the rows up to it too, so that it is quadratic in the rows of such a table.
 pub fn fits<S: RowStore>(schema: &Schema, store: &S) -> bool
     ensures { IsTrue result ↔ Fits schema.now (S.contents store.now) }
+{
+    rows_stand(schema, store) && values_are_own(schema, store)
+}
+
+/// Whether each row has its table's columns, and each row of a child table its parent: what `fits` asks but for the values of unique
+/// columns. It takes no memory. The time is that of one look-up a row, of two in a child table, and of a walk over the tables for each
+/// row.
+pub fn rows_stand<S: RowStore>(schema: &Schema, store: &S) -> bool
+    ensures { IsTrue result ↔ RowsStand schema.now (S.contents store.now) }
 {
     let mut last = None;
     for _ in 0..store.len() {
@@ -191,7 +238,7 @@ pub fn fits<S: RowStore>(schema: &Schema, store: &S) -> bool
             // The schema's tables have fewer rows than the store: a row is of none of them.
             return false;
         };
-        if !row_fits(schema, store, id, &row) {
+        if !row_stands(schema, store, id, &row) {
             return false;
         }
         last = Some(id);
@@ -200,8 +247,8 @@ pub fn fits<S: RowStore>(schema: &Schema, store: &S) -> bool
 }
 
 /// Whether the row is of a table of the schema, has its columns, and has its parent, where there is to be one.
-fn row_fits<S: RowStore>(schema: &Schema, store: &S, id: RowId, row: &Row) -> bool
-    ensures { IsTrue result ↔ RowFits schema.now (S.contents store.now) id row.now }
+fn row_stands<S: RowStore>(schema: &Schema, store: &S, id: RowId, row: &Row) -> bool
+    ensures { IsTrue result ↔ RowStands schema.now (S.contents store.now) id row.now }
 {
     let Some(table) = schema.table(id.table) else {
         return false;
@@ -226,6 +273,53 @@ fn parent_is_there<S: RowStore>(store: &S, table: Table, columns: &[i64]) -> boo
         key: *key,
     };
     store.get(id).is_some()
+}
+
+/// Whether each row is the first of its table that has its value in the unique column, so that no two rows have one value.
+fn values_are_own<S: RowStore>(schema: &Schema, store: &S) -> bool
+    ensures { IsTrue result ↔ NoValueTwice schema.now (S.contents store.now) }
+{
+    for table in schema.tables() {
+        if !are_own_in_table(schema, store, table.id) {
+            return false;
+        }
+    }
+    true
+}
+
+/// Whether each row of the table is the first that has its value in the unique column. Without such a column no row is looked at.
+fn are_own_in_table<S: RowStore>(schema: &Schema, store: &S, table: u16) -> bool
+    ensures { IsTrue result ↔ OwnInTable schema.now (S.contents store.now) table }
+{
+    match schema.unique_of(table) {
+        Some(column) => are_own_in_column(store, table, column),
+        None => true,
+    }
+}
+
+/// Whether each row of the table is the first that has its value in the column, row by row.
+fn are_own_in_column<S: RowStore>(store: &S, table: u16, column: u8) -> bool
+    ensures { IsTrue result ↔ OwnInColumn (S.contents store.now) table column }
+{
+    let mut last = None;
+    while let Some(next) = store.next_in_table(table, last) {
+        if !is_own(store, table, column, &next) {
+            return false;
+        }
+        last = Some(next.0);
+    }
+    true
+}
+
+/// Whether the table's row of this key, with its columns, is the first that has its value in the column, if it has that column.
+fn is_own<S: RowStore>(store: &S, table: u16, column: u8, found: &(i64, Row)) -> bool
+    ensures { IsTrue result ↔ ((value : ℤ) → slice_get found.now.1 column ≡ Some value
+        → IsLeastWithValue (S.contents store.now) table column value found.now.0) }
+{
+    match found.1.columns().get(usize::from(column)) {
+        Some(value) => holder(store, table, column, *value) == Some(found.0),
+        None => true,
+    }
 }
 
 /// The batch that loads an empty store with all rows of this one, which fits the schema. The time is that of a

@@ -1,25 +1,17 @@
-use Rattle.std.proofs.Common.{◌≡◌, refl, arith, rules}
-use Rattle.std.specs.FinMap.{len}
-use Rattle.std.proofs.lemmas.Bool.{false≢true}
-use Rattle.store_trait.proofs.Visits.{none_fitting, fits_on, all_fit, none_ahead}
+use Rattle.std.proofs.Common.{◌∙◌, sym, true≢false}
+use Rattle.store_trait.proofs.Values.{fits_apart, standing_fits, fits_stand}
 use Rattle.store_trait.proofs.fits.Goals as goal
 
-pub loop-init : goal.loop-init
-loop-init g c = none_fitting c.args.schema.now (g.S.RowStore.contents c.args.store.now)
+pub returns-then-rows_stand : goal.returns-then-rows_stand
+returns-then-rows_stand g c =
+    let ts = c.args.schema.now in
+    let db = g.S.RowStore.contents c.args.store.now in (
+      λ yes. standing_fits ts db (c.rows_stand.ensures.0 c.if-rows_stand.true) (c.values_are_own.ensures.0 yes),
+      λ fits. c.values_are_own.ensures.1 (fits_apart ts db fits),
+    )
 
-pub returns-in_default : goal.returns-in_default
-returns-in_default g c = (
-  λ no. absurd (false≢true no),
-  λ fits. absurd (none_ahead c.args.schema.now (g.S.RowStore.contents c.args.store.now) c.loop.last c.loop.counter c.loop.invariant.visits
-      (rw c.len-end.ensures at c.loop-test.true) (rw c.tables.ensures.value at c.in_default.ensures) fits),
+pub returns-else-rows_stand : goal.returns-else-rows_stand
+returns-else-rows_stand g c = (
+  λ yes. absurd (true≢false (sym yes ∙ c.if-rows_stand.false)),
+  λ fits. c.rows_stand.ensures.1 (fits_stand c.args.schema.now (g.S.RowStore.contents c.args.store.now) fits),
 )
-
-pub loop-preserved : goal.loop-preserved
-loop-preserved g c =
-    fits_on c.args.schema.now (g.S.RowStore.contents c.args.store.now) c.loop.last c.loop.counter c.loop.invariant c.in-Some.id c.in-Some.row
-    (rw c.tables.ensures.value at c.in-Some.ensures) (search rules)
-
-pub returns : goal.returns
-returns g c =
-    let all : c.loop.counter ≡ len (g.S.RowStore.contents c.args.store.now) = omega arith in
-    (λ _. all_fit c.args.schema.now (g.S.RowStore.contents c.args.store.now) c.loop.last c.loop.counter c.loop.invariant all, λ _. refl)

@@ -5,7 +5,7 @@ pub returns-clause-none : goal.returns-clause-none
 returns-clause-none c = Follows-none
 
 pub returns-clause-step : goal.returns-clause-step
-returns-clause-step c = λ ts db pending after change left f fits parent. Follows-step change left f fits parent
+returns-clause-step c = λ ts db pending after change left f fits parent value. Follows-step change left f fits parent value
 
 pub returns-clause-pushed : goal.returns-clause-pushed
 returns-clause-pushed c = λ ts db pending after change next f h. Follows-pushed change next f h

@@ -1,0 +1,6 @@
+pub mod Maps
+pub mod Walked
+pub mod Recounts
+pub mod Keys
+pub mod OnceEach
+pub mod Counts

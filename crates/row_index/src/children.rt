@@ -1,0 +1,198 @@
+//! How many children each row has.
+
+ghost use Rattle.std.specs.Prelude.{◌≡◌, ◌+◌, ◌<◌, ◌≤◌, [], ◌∷◌, length, option_to_list, IfOk, OnOk, IsOk};
+ghost use Rattle.std.specs.Map.{keys_of};
+ghost use Rattle.std.specs.FinMap.{empty};
+ghost use Rattle.schema.specs.declared.RowId.{RowId};
+ghost use Rattle.rows.specs.Database.{parent_of, parent_in};
+ghost use Rattle.store_trait.specs.Batch.{put_batch};
+ghost use Rattle.overlay.specs.Step.{parent_at};
+ghost use Rattle.row_index.specs.Counts.{count_at, times_in, parents_at, parents_left, CountsChildren, Recounts};
+
+use indexmap::IndexMap;
+use rows::Row;
+use schema::{Memory, RowId, Schema};
+use std::alloc::Global;
+use std::marker::Model;
+use store_trait::{Batch, RowStore};
+
+/// For each row that is a parent how many rows name it so. A row without children has no entry.
+#[derive(Debug, Drop)]
+pub struct Children {
+    counts: IndexMap<RowId, usize>,
+}
+
+impl Model for Children {
+    ghost use Rattle.std.specs.FinMap.{from_entries};
+    ghost use Rattle.indexmap.specs.IndexMap.{spare};
+    ghost use Rattle.schema.specs.RowId.{row_cmp};
+    ghost use Rattle.row_index.specs.Counts.{Tallied, tallied_code, NoneIsZero};
+
+    ghost Value = { Tallied };
+
+    ghost coded = { tallied_code };
+
+    ghost view = { λ c. record { counts = from_entries {R = row_cmp} c.counts.entries; room = spare c.counts } };
+
+    ghost invariant = { λ c. NoneIsZero (from_entries {R = row_cmp} c.counts.entries) };
+}
+
+impl Children {
+    /// The counts of no rows. It takes no memory.
+    pub fn new(alloc: Global) -> Children
+        ensures { result.counts ≡ empty }
+    {
+        Children {
+            counts: IndexMap::new(alloc),
+        }
+    }
+
+    /// The counts of the rows that this batch loads into an empty store. The time is that of a walk over the batch, and the memory that of
+    /// its rows that have a parent.
+    pub fn of(alloc: Global, schema: &Schema, batch: &Batch) -> Result<Children, Memory>
+        ensures { IfOk result (λ children. CountsChildren schema.now (put_batch batch.now empty) children.counts) }
+    {
+        let mut children = Children::new(alloc);
+        children.reserve(schema, batch)?;
+        let entries = batch.entries();
+        children.take_up(schema, entries, entries.len());
+        Ok(children)
+    }
+
+    /// How many children the row has. It takes no memory, and expected constant time.
+    pub fn count(&self, row: RowId) -> usize
+        ensures { result ≡ count_at self.now.counts row }
+    {
+        if self.counts.is_empty() {
+            // Where no row has a parent, this one is not even hashed.
+            return 0;
+        }
+        self.counts.get(&row).copied().unwrap_or(0)
+    }
+
+    /// Makes room for the parents that the batch gives its rows; where there is room for as many, as there is for none, it takes no
+    /// memory. The time is that of a walk over the batch, and over the schema's tables for each of its rows.
+    pub fn reserve(&mut self, schema: &Schema, batch: &Batch) -> Result<(), Memory>
+        ensures counts { self.new.counts ≡ self.old.counts }
+        ensures room { OnOk result (length (parents_left schema.now batch.now) ≤ self.new.room) }
+        ensures succeeds { length (parents_left schema.now batch.now) ≤ self.old.room → IsOk result }
+    {
+        self.counts.reserve(parents_in(schema, batch.entries()))?;
+        Ok(())
+    }
+
+    /// Follows a batch whose rows had these parents before it. `rows` is how many rows there are behind it, of which no row has more
+    /// children. It takes no memory. The time is that of a look-up for each parent before it and behind it, and of a walk over the
+    /// schema's tables for each row.
+    pub fn put(&mut self, schema: &Schema, old: &[RowId], batch: &Batch, rows: usize)
+        requires room { length (parents_left schema.now batch.now) ≤ self.old.room }
+        requires counted { (row : RowId) → times_in old.now row ≤ count_at self.old.counts row }
+        requires fits { (row : RowId) → count_at self.old.counts row + times_in (parents_left schema.now batch.now) row ≤ rows + times_in old.now row }
+        ensures { Recounts old.now (parents_left schema.now batch.now) self.old.counts self.new.counts }
+    {
+        self.give_up(old);
+        self.take_up(schema, batch.entries(), rows);
+    }
+
+    fn give_up(&mut self, old: &[RowId])
+        requires { (row : RowId) → times_in old.now row ≤ count_at self.old.counts row }
+        ensures counts { Recounts old.now [] self.old.counts self.new.counts }
+        ensures room { self.old.room ≤ self.new.room }
+    {
+        for row in old {
+            self.give_up_one(*row);
+        }
+    }
+
+    fn take_up(&mut self, schema: &Schema, entries: &[(RowId, Option<Row>)], rows: usize)
+        requires room { length (parents_left schema.now entries.now) ≤ self.old.room }
+        requires fits { (row : RowId) → count_at self.old.counts row + times_in (parents_left schema.now entries.now) row ≤ rows }
+        ensures { Recounts [] (parents_left schema.now entries.now) self.old.counts self.new.counts }
+    {
+        for entry in entries {
+            if let Some(parent) = parent_left(schema, entry) {
+                self.take_up_one(parent, rows);
+            }
+        }
+    }
+
+    /// A child fewer. The last one takes the row's entry with it.
+    fn give_up_one(&mut self, row: RowId)
+        requires { 0 < count_at self.old.counts row }
+        ensures counts { Recounts (row ∷ []) [] self.old.counts self.new.counts }
+        ensures room { self.old.room ≤ self.new.room }
+    {
+        if self.count(row) == 1 {
+            self.counts.swap_remove(&row);
+        } else if let Some(count) = self.counts.get_mut(&row) {
+            *count -= 1;
+        }
+    }
+
+    /// A child more, of at most so many.
+    fn take_up_one(&mut self, row: RowId, most: usize)
+        requires room { 0 < self.old.room }
+        requires fits { count_at self.old.counts row < most }
+        ensures counts { Recounts [] (row ∷ []) self.old.counts self.new.counts }
+        ensures room { self.old.room ≤ self.new.room + 1 }
+    {
+        let count = self.count(row) + 1;
+        let _ = self.counts.insert(row, count);
+    }
+}
+
+/// How many of the entries give their row a parent.
+fn parents_in(schema: &Schema, entries: &[(RowId, Option<Row>)]) -> usize
+    ensures { result ≡ length (parents_left schema.now entries.now) }
+{
+    entries
+        .iter()
+        .filter(|entry| parent_left(schema, entry).is_some())
+        .count()
+}
+
+/// The parent that an entry gives its row, where the row is there then and has one.
+fn parent_left(schema: &Schema, entry: &(RowId, Option<Row>)) -> Option<RowId>
+    ensures { result ≡ parent_at schema.now entry.now.0.table entry.now.1 }
+{
+    match &entry.1 {
+        Some(row) => parent_of(schema, entry.0.table, row.columns()),
+        None => None,
+    }
+}
+
+/// The parent row that these columns of a row of the table name, where the table has a parent.
+fn parent_of(schema: &Schema, table: u16, columns: &[i64]) -> Option<RowId>
+    ensures { result ≡ parent_of schema.now table columns.now }
+{
+    let (column, parent) = schema.link_of(table)?;
+    let key = *columns.get(usize::from(column))?;
+    Some(RowId { table: parent, key })
+}
+
+/// The parents of the batch's rows in the store. The time is that of a look-up for each row of the batch whose table has a parent, and the
+/// memory that of the parents: where there are none it takes none.
+pub fn parents_before<S: RowStore>(
+    alloc: Global,
+    schema: &Schema,
+    store: &S,
+    batch: &Batch,
+) -> Result<Vec<RowId>, Memory>
+    ensures { IfOk result (λ parents. parents.items ≡ parents_at schema.now (keys_of batch.now) (S.contents store.now)) }
+{
+    let mut parents = Vec::new(alloc);
+    for entry in batch.entries() {
+        if let Some(parent) = parent_in(schema, store, entry.0) {
+            parents.push(parent)?;
+        }
+    }
+    Ok(parents)
+}
+
+/// The parent of the row of this id, where it is there and has one. The store is asked only where the table has a parent.
+fn parent_in<S: RowStore>(schema: &Schema, store: &S, id: RowId) -> Option<RowId>
+    ensures { option_to_list result ≡ parent_in schema.now (S.contents store.now) id }
+{
+    schema.link_of(id.table)?;
+    parent_of(schema, id.table, store.get(id)?.columns())
+}
