@@ -1,8 +1,8 @@
 //! The tracker of the commit order, MySQL's default.
 //!
-//! A transaction's parent is its order parent: what was committed when it was prepared. Since rows stay locked until
-//! their transaction commits, all that conflicts with it was committed by then; so the parent covers it in the whole
-//! log, and the tracker need not remember anything. It stands on `tracker_trait`.
+//! A transaction's parent is its order parent: what was committed when it was prepared. Since rows and marks stay locked
+//! until their transaction commits, all that conflicts with it was committed by then; so the parent covers it in the
+//! whole log, and the tracker need not remember anything. It stands on `tracker_trait`.
 #![tactic(auto)]
 
 ghost use Rattle.std.specs.Prelude.{◌≡◌};

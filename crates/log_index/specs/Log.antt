@@ -23,6 +23,6 @@ pub record IsLog (log : List Entry) (long capacity room : ℕ) : Type 0 where
   pub numbered : IsNumbered log
   pub fits : long + room ≤ capacity
 
--- an entry's sequence number, and the rows that it touches
+-- an entry's sequence number, and what it touches
 abbrev pub entry_place : Entry → ℕ × Touched
 entry_place entry = (entry.sequence, touched entry.footprint)

@@ -1,4 +1,4 @@
--- What sessions hold that took rows to write, and rows that they refer to for sharing.
+-- What sessions hold that took rows to write, rows that they refer to for sharing, and marks.
 use Rattle.std.proofs.Common.{◌≡◌, ◌≢◌, ◌∙◌, sym, ap, refl, ℕ, ◌≤◌, Bool, true, false, true≢false, ◌&&◌, ◌||◌, cond, Option, Some, None, List, [], ◌∷◌, ◌++◌}
 use Rattle.std.specs.List.{list_any}
 use Rattle.std.specs.FinMap.{get, empty, get-empty, same_map}
@@ -12,9 +12,9 @@ use Rattle.row_locks.specs.declared.Mode.{Mode}
 use Rattle.row_locks.specs.declared.Mode.TheVariants.{Share, Exclusive}
 use Rattle.row_locks.specs.Mode.{is_exclusive, opposes}
 use Rattle.row_locks.specs.Locks.{Holding, Locks, held_by, also_held, locks_on, holding, NoClash}
-use Rattle.row_locks.specs.Laws.{HeldByRows, HoldsMoreRows, HoldersDoNotConflict}
+use Rattle.row_locks.specs.Laws.{HeldByRows, HoldsMoreRows, HoldsMoreMarks, HoldersDoNotConflict}
 use Rattle.schema.proofs.RowMaps.{same_row_itself}
-use Rattle.row_locks.proofs.Sessions.{held_as_listed, holders_share}
+use Rattle.row_locks.proofs.OneSession.{held_as_listed, holders_share}
 
 -- ---- how a row is held
 
@@ -92,6 +92,21 @@ holds_more_rows writes refs row more =
     sorted false false true m e = refl
     sorted false false false m e = refl
 
+pub holds_more_marks : HoldsMoreMarks
+holds_more_marks marks more =
+    same_map row_total exact_row (also_held (holding marks []) (locks_on Exclusive more)) (holding (marks ++ more) []) (λ q.
+    held_alike (get (also_held (holding marks []) (locks_on Exclusive more)) q) (get (holding (marks ++ more) []) q) (λ mode.
+    held_as_listed (holding marks []) (locks_on Exclusive more) q mode
+    ∙ (λ i. opposed_by_rows marks [] q mode i || opposed_on q mode Exclusive more i)
+    ∙ sorted (has_row marks q) (has_row more q)
+    ∙ (λ i. sym (list_any-append (same_row q) marks more) i || false)
+    ∙ sym (opposed_by_rows (marks ++ more) [] q mode)))
+  where
+    sorted : (m n : Bool) → ((m || false) || (n && true)) ≡ ((m || n) || false)
+    sorted true n = refl
+    sorted false true = refl
+    sorted false false = refl
+
 -- ---- two sessions
 
 -- sets of rows without a row in common
@@ -123,8 +138,16 @@ unheld writes refs writes' refs' mine theirs here there none q is =
     let held : get mine q ≡ Some Exclusive = ap (λ (h : Holding). get h q) here ∙ held_by_rows writes refs q ∙ ap (λ b. way b (has_row refs q)) is in
     not_held (has_row writes' q) (has_row refs' q) (sym (held_by_rows writes' refs' q) ∙ ap (λ (h : Holding). get h q) (sym there) ∙ none q held)
 
-pub holders_do_not_conflict : HoldersDoNotConflict
-holders_do_not_conflict locks none session other writes refs writes' refs' least least' apart here there =
+-- what two sessions write and refer to has no row in common that either writes
+rows_apart : (locks : Locks) → NoClash locks → (session other : ℕ) (writes refs writes' refs' : List RowId) → 1 ≤ session → 1 ≤ other → session ≢ other →
+    held_by locks session ≡ holding writes refs → held_by locks other ≡ holding writes' refs' → (meets writes writes' ≡ false) × (meets writes refs' ≡ false)
+rows_apart locks none session other writes refs writes' refs' least least' apart here there =
     let mine = unheld writes refs writes' refs' _ _ here there (λ q. alone locks none session other q least least' apart) in
-    let theirs = unheld writes' refs' writes refs _ _ there here (λ q. alone locks none other session q least' least (λ e. apart (sym e))) in
-    λ i. meets_none writes writes' (λ q is. (mine q is).0) i || meets_none writes refs' (λ q is. (mine q is).1) i || meets_none writes' refs (λ q is. (theirs q is).1) i
+    (meets_none writes writes' (λ q is. (mine q is).0), meets_none writes refs' (λ q is. (mine q is).1))
+
+pub holders_do_not_conflict : HoldersDoNotConflict
+holders_do_not_conflict locks none none_of_marks session other writes refs marks writes' refs' marks' least least' apart here mine there theirs =
+    let rows = rows_apart locks.rows none session other writes refs writes' refs' least least' apart here there in
+    let back = rows_apart locks.rows none other session writes' refs' writes refs least' least (λ e. apart (sym e)) there here in
+    let values = rows_apart locks.marks none_of_marks session other marks [] marks' [] least least' apart mine theirs in
+    λ i. rows.0 i || rows.1 i || back.1 i || values.0 i

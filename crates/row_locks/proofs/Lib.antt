@@ -2,5 +2,6 @@ pub mod Rows
 pub mod Counts
 pub mod Moves
 pub mod Tied
-pub mod Sessions
+pub mod OneSession
 pub mod Holders
+pub mod Unplaced

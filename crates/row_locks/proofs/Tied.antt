@@ -4,17 +4,18 @@ use Rattle.std.specs.List.{list_any, count_by}
 use Rattle.std.specs.FinMap.{get, insert, empty, get-empty, get-insert}
 use Rattle.std.proofs.lemmas.Bool.{cases_Bool, or_parts}
 use Rattle.std.proofs.lemmas.Bool.Decides.{leb_tells, eqb_tells}
-use Rattle.std.proofs.lemmas.List.{get_or-set_same, get_or-set_other, get_or-replicate, length-replicate, get_or_past, get_or-map, length-map}
+use Rattle.std.proofs.lemmas.List.{get_or-set_same, get_or-set_other, get_or-replicate, length-replicate, get_or_past, get_or-map, length-map, map-set, set-get_or}
 use Rattle.std.proofs.Math.ListN.{length-set}
 use Rattle.std.proofs.lemmas.List.Elements.{All-from_get_or}
 use Rattle.std.proofs.lemmas.List.Folds.{list_any_none, list_any_at, sum_by-replicate}
 use Rattle.std.proofs.lemmas.List.Sums.{sum_by-set, sum_by-append, count_by-le-length}
 use Rattle.schema.specs.declared.RowId.{RowId}
 use Rattle.schema.specs.RowId.{row_cmp, same_row, row_total}
+use Rattle.schema.specs.Rows.{Mark}
 use Rattle.row_locks.specs.declared.Mode.{Mode}
 use Rattle.row_locks.specs.declared.Mode.TheVariants.{Share, Exclusive}
 use Rattle.row_locks.specs.Mode.{opposes, weight, stronger}
-use Rattle.row_locks.specs.Locks.{Holding, Locks, no_locks, held_by, released, clashes_with, any_clashes, also_held, taken, NoClash}
+use Rattle.row_locks.specs.Locks.{Holding, Locks, AllLocks, no_locks, held_by, released, clashes_with, any_clashes, mark_clashes, any_clashes_all, also_held, locks_on, taken, NoClash}
 use Rattle.std.specs.Option.{option_map_or}
 use Rattle.row_locks.specs.Held.{Place}
 use Rattle.row_locks.specs.Tally.{Counts, count_at, opposing}
@@ -48,7 +49,7 @@ module _ (row : RowId) (mode : Mode) where
   abbrev clashing : Holding → Bool
   clashing held = opposes (get held row) mode
 
-  nothing_clashes : clashing empty ≡ false
+  pub nothing_clashes : clashing empty ≡ false
   nothing_clashes = ap (λ o. opposes o mode) (get-empty row_cmp row)
 
   -- the sessions that clash are the others that do, and perhaps this one
@@ -189,13 +190,13 @@ tied-taken locks counts counts' session rows least greatest tied clear moves =
     tied-set locks counts session least greatest tied (also_held (held_by locks session) rows) counts' moves
     (all_clear (clashes_with locks session) (held_by locks session) rows (tied.no_clash session) clear)
 
--- where no session's rows moved, the counts did not
-pub tied-kept : (locks : Locks) (counts counts' : Counts) (held : Holding) → IsTied locks counts → MovesAlike held counts held counts' → IsTied locks counts'
-tied-kept locks counts counts' held tied moves =
-    record { places = tied.places; no_clash = tied.no_clash; counted = λ row mode. same _ _ _ (moves row mode) ∙ tied.counted row mode }
-  where
-    same : (n n' w : ℕ) → n' + w ≡ n + w → n' ≡ n
-    same n n' w e = omega arith
+-- marks that no other session holds are free as locks
+any_on_marks : (locks : Locks) (session : ℕ) (marks : List Mark) → any_clashes locks session (locks_on Exclusive marks) ≡ list_any (λ mark. clashes_with locks session mark Exclusive) marks
+any_on_marks locks session [] = refl
+any_on_marks locks session (mark ∷ marks) = ap (λ b. clashes_with locks session mark Exclusive || b) (any_on_marks locks session marks)
+
+pub marks_free : (locks : AllLocks) (session : ℕ) (rows : List (RowId × Mode)) (marks : List Mark) → any_clashes_all locks session rows marks ≡ false → any_clashes locks.marks session (locks_on Exclusive marks) ≡ false
+marks_free locks session rows marks clear = any_on_marks locks.marks session marks ∙ (or_parts (any_clashes locks.rows session rows) (list_any (mark_clashes locks session) marks) clear).1
 
 -- a table in which no session holds a row
 nothing_at : (n i : ℕ) → get_or (replicate n (empty {X = Mode} {R = row_cmp})) i empty ≡ empty
@@ -209,6 +210,10 @@ times_none n = omega arith
 
 none_counted : (row : RowId) (mode : Mode) → count_at empty row mode ≡ 0
 none_counted row mode = ap (λ o. option_map_or (λ count. opposing count mode) o 0) (get-empty row_cmp row)
+
+pub none_at : (i : ℕ) → get_or no_locks i empty ≡ empty
+unfolding no_locks
+none_at i = nothing_at 256 i
 
 pub nothing_held : NothingHeld
 unfolding no_locks
@@ -245,3 +250,34 @@ place_rows places counts session place least greatest tied is =
 pub counted_place : (places : List Place) (counts : Counts) (session : ℕ) (place : Place) → 1 ≤ session → session ≤ 256 → IsTied (rows_in places) counts → place ≡ get_or places (session - 1) place → IsCounted place.rows counts
 counted_place places counts session place least greatest tied is =
     rw (place_rows places counts session place least greatest tied is) (counted_own (rows_in places) counts session least greatest tied)
+
+-- room made in the session's place moves no rows
+pub with_room : (places : List Place) (counts : Counts) (session : ℕ) (place roomy : Place) → 1 ≤ session → session ≤ 256 → IsTied (rows_in places) counts → place ≡ get_or places (session - 1) place → roomy.rows ≡ place.rows →
+    rows_in (set places (session - 1) roomy) ≡ rows_in places
+with_room places counts session place roomy least greatest tied is same =
+    map-set (λ (p : Place). p.rows) places (session - 1) roomy
+    ∙ ap (λ h. set (rows_in places) (session - 1) h) (same ∙ place_rows places counts session place least greatest tied is)
+    ∙ set-get_or (rows_in places) (session - 1) empty
+
+module _ (places : List Place) (counts counts' : Counts) (session : ℕ) (place place' : Place) (least : 1 ≤ session) (greatest : session ≤ 256) (tied : IsTied (rows_in places) counts) (is : place ≡ get_or places (session - 1) place)
+    (moves : MovesAlike place.rows counts place'.rows counts') where
+  own : place.rows ≡ held_by (rows_in places) session
+  own = place_rows places counts session place least greatest tied is
+
+  -- the session's place took a list of locks
+  pub place_taken : (rows : List (RowId × Mode)) → place'.rows ≡ also_held place.rows rows → rows_in (set places (session - 1) place') ≡ taken (rows_in places) session rows
+  place_taken rows took = map-set (λ (p : Place). p.rows) places (session - 1) place' ∙ ap (λ h. set (rows_in places) (session - 1) h) (took ∙ ap (λ h. also_held h rows) own)
+
+  pub place_taken_tied : (rows : List (RowId × Mode)) → place'.rows ≡ also_held place.rows rows → any_clashes (rows_in places) session rows ≡ false → IsTied (rows_in (set places (session - 1) place')) counts'
+  place_taken_tied rows took clear =
+      let moved : MovesAlike (held_by (rows_in places) session) counts (also_held (held_by (rows_in places) session) rows) counts' = rw (took, own) at moves in
+      rw (place_taken rows took) (tied-taken (rows_in places) counts counts' session rows least greatest tied clear moved)
+
+  -- the session's place let all go
+  pub place_freed : place'.rows ≡ empty → rows_in (set places (session - 1) place') ≡ released (rows_in places) session
+  place_freed none = map-set (λ (p : Place). p.rows) places (session - 1) place' ∙ ap (λ h. set (rows_in places) (session - 1) h) none
+
+  pub place_freed_tied : place'.rows ≡ empty → IsTied (rows_in (set places (session - 1) place')) counts'
+  place_freed_tied none =
+      let moved : MovesAlike (held_by (rows_in places) session) counts empty counts' = rw (none, own) at moves in
+      rw (place_freed none) (tied-released (rows_in places) counts session least greatest tied counts' moved)

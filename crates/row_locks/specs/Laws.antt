@@ -4,11 +4,11 @@ use Rattle.std.specs.List.{list_any}
 use Rattle.std.specs.FinMap.{empty, get}
 use Rattle.schema.specs.declared.RowId.{RowId}
 use Rattle.schema.specs.RowId.{same_row}
-use Rattle.schema.specs.Rows.{has_row, conflicts}
+use Rattle.schema.specs.Rows.{Mark, has_row, conflicts}
 use Rattle.row_locks.specs.declared.Mode.{Mode}
 use Rattle.row_locks.specs.declared.Mode.TheVariants.{Share, Exclusive}
 use Rattle.row_locks.specs.Mode.{opposes}
-use Rattle.row_locks.specs.Locks.{Holding, Locks, no_locks, held_by, also_held, locks_on, holding, taken, released, NoClash}
+use Rattle.row_locks.specs.Locks.{Holding, Locks, AllLocks, no_locks, held_by, also_held, locks_on, holding, taken, released, NoClash}
 
 -- no session of a new table holds a row
 abbrev pub NothingHeld : Type 0
@@ -49,9 +49,15 @@ HoldsMoreRows =
     (writes refs : List RowId) (row : RowId) (more : List RowId) →
     also_held (holding writes refs) ((row, Exclusive) ∷ locks_on Share more) ≡ holding (writes ++ row ∷ []) (refs ++ more)
 
--- where no two sessions clash, the rows of two do not conflict
+-- marks more go behind those that a session holds
+abbrev pub HoldsMoreMarks : Type 0
+HoldsMoreMarks = (marks more : List Mark) → also_held (holding marks []) (locks_on Exclusive more) ≡ holding (marks ++ more) []
+
+-- where no two sessions clash, neither by rows nor by marks, what two of them touch does not conflict
 abbrev pub HoldersDoNotConflict : Type 0
 HoldersDoNotConflict =
-    (locks : Locks) → NoClash locks → (session other : ℕ) (writes refs writes' refs' : List RowId) → 1 ≤ session → 1 ≤ other → session ≢ other →
-    held_by locks session ≡ holding writes refs → held_by locks other ≡ holding writes' refs' →
-    conflicts (record { writes = writes; refs = refs }) (record { writes = writes'; refs = refs' }) ≡ false
+    (locks : AllLocks) → NoClash locks.rows → NoClash locks.marks →
+    (session other : ℕ) (writes refs : List RowId) (marks : List Mark) (writes' refs' : List RowId) (marks' : List Mark) → 1 ≤ session → 1 ≤ other → session ≢ other →
+    held_by locks.rows session ≡ holding writes refs → held_by locks.marks session ≡ holding marks [] →
+    held_by locks.rows other ≡ holding writes' refs' → held_by locks.marks other ≡ holding marks' [] →
+    conflicts (record { writes = writes; refs = refs; marks = marks }) (record { writes = writes'; refs = refs'; marks = marks' }) ≡ false

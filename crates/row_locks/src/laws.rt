@@ -1,8 +1,8 @@
 //! What follows from the definitions alone. Each function states laws by its contract, and does nothing.
 
-ghost use Rattle.row_locks.specs.Laws.{NothingHeld, TakenByOne, ReleasedByOne, HeldAsListed, HoldersShare, HeldByRows, HoldsMoreRows, HoldersDoNotConflict};
+ghost use Rattle.row_locks.specs.Laws.{NothingHeld, TakenByOne, ReleasedByOne, HeldAsListed, HoldersShare, HeldByRows, HoldsMoreRows, HoldsMoreMarks, HoldersDoNotConflict};
 
-/// In a new table there are 256 sessions, and none of them holds a row.
+/// In a new table there are 256 sessions, and none of them holds a row, or a mark.
 pub fn new_table()
     ensures { NothingHeld }
 {}
@@ -25,13 +25,16 @@ pub fn no_clash()
 {}
 
 /// A session that took rows to write, and rows that it refers to for sharing, holds the first exclusively and the
-/// others so; and one row more to write, with what it refers to, goes behind these.
+/// others so; and one row more to write, with what it refers to, goes behind these. Marks more go behind the marks that it
+/// holds.
 pub fn held_by_rows()
     ensures rows { HeldByRows }
     ensures more { HoldsMoreRows }
+    ensures marks { HoldsMoreMarks }
 {}
 
-/// Two sessions of a table write no row in common, and neither writes one that the other refers to.
+/// Two sessions of a table write no row in common, and neither writes one that the other refers to; and they have no mark in
+/// common.
 pub fn no_conflict()
     ensures { HoldersDoNotConflict }
 {}

@@ -1,31 +1,35 @@
-//! The locks of up to 256 sessions on rows.
+//! The locks of up to 256 sessions on rows and on marks.
 //!
-//! A `LockTable` says which session holds which rows, and how (`specs/Locks.antt`); callers see it as a list with
-//! a finite map from row ids to modes for each session. Two locks of different sessions on one row clash unless
-//! both are for sharing, and no two locks of a table clash: the type keeps that. A session's own locks never
-//! clash with each other. `take` takes its whole list or nothing, and `release_all` frees what a session holds.
+//! A `LockTable` says which session holds which rows, and how, and which marks (`specs/Locks.antt`); callers see it
+//! as two lists, one for rows and one for marks, each with a finite map for each session. Two locks of different
+//! sessions on one row clash unless both are for sharing, a mark is held by one session alone, and no two locks of a
+//! table clash: the type keeps that. A session's own locks never clash with each other. `take_all` takes its whole
+//! lists or nothing, and `release_all` frees what a session holds.
 //!
-//! Each session has a map of its own (`held`), and beside them stands one map from rows to how many sessions
-//! hold them, and how many of these exclusively (`tally`): so `clashes` compares two numbers. The crate stands
-//! on `schema`, which names rows and orders them, and on `indexmap`.
+//! What is held of rows and what of marks stand apart, each kept in one way (`sessions`): each session has a map of
+//! its own (`held`), and beside them stands one map to how many sessions hold a row or a mark, and how many of these
+//! exclusively (`tally`). So `clashes` compares two numbers. A mark stands there under the row id of its table and
+//! value, and nothing is made for marks before one is taken (`marks`). The crate stands on `schema`, which names rows
+//! and marks and orders them, and on `indexmap`.
 #![tactic(auto)]
 
-ghost use Rattle.std.specs.Prelude.{◌≡◌, ◌+◌, ◌<◌, ◌≤◌, ◌↔◌, IsTrue, IfOk, OnOk, OnErr, Err, length, map};
-ghost use Rattle.std.specs.FinMap.{empty, get, insert};
+ghost use Rattle.std.specs.Prelude.{◌≡◌, ◌≤◌, ◌↔◌, IsTrue, IfOk, OnOk, OnErr, Err, length};
+ghost use Rattle.std.specs.List.{list_any};
 ghost use Rattle.row_locks.specs.declared.LockFault.TheVariants.{Clash};
 ghost use Rattle.row_locks.specs.Mode.{stronger, weight};
-ghost use Rattle.row_locks.specs.Locks.{no_locks, clashes_with, any_clashes, also_held, taken, released, NoClash};
-ghost use Rattle.row_locks.specs.Tied.{IsCounted, MovesAlike};
+ghost use Rattle.row_locks.specs.Locks.{all_free, clashes_with, mark_clashes, any_clashes, any_clashes_all, taken, taken_all, released_all, NoClash};
 
 mod held;
 pub mod laws;
+mod marks;
+mod sessions;
 mod tally;
 
-use held::Held;
-use schema::{Memory, RowId};
+use marks::MarkLocks;
+use schema::{Mark, Memory, RowId};
+use sessions::Sessions;
 use std::alloc::Global;
 use std::marker::Model;
-use tally::Tally;
 use thiserror::Error;
 
 /// How a session holds a row.
@@ -37,10 +41,10 @@ pub enum Mode {
     Exclusive,
 }
 
-/// Why a list of locks is not taken.
+/// Why locks are not taken.
 #[derive(Clone, Copy, Debug, PartialEq, Eq, Error)]
 pub enum LockFault {
-    /// Another session holds one of the rows in a way that clashes.
+    /// Another session holds one of the rows in a way that clashes, or one of the marks.
     #[error("a row is locked")]
     Clash,
     /// Memory ran out.
@@ -65,35 +69,36 @@ pub const MAX_SESSIONS: u16 = 256;
 /// The locks of sessions 1 to 256.
 #[derive(Debug, Drop)]
 pub struct LockTable {
-    places: Vec<Held>,
-    tally: Tally,
+    rows: Sessions,
+    marks: MarkLocks,
 }
 
 impl Model for LockTable {
-    ghost use Rattle.std.specs.Prelude.{map};
-    ghost use Rattle.row_locks.specs.Locks.{Locks, locks_code};
+    ghost use Rattle.row_locks.specs.Held.{locks_in};
+    ghost use Rattle.row_locks.specs.Locks.{AllLocks, all_locks_code, IsClear};
 
-    ghost Value = { Locks };
+    ghost Value = { AllLocks };
 
-    ghost coded = { locks_code };
+    ghost coded = { all_locks_code };
 
-    ghost use Rattle.row_locks.specs.Tied.{IsTied};
+    ghost view = { λ t. record { rows = locks_in t.rows; marks = locks_in t.marks } };
 
-    ghost view = { λ t. map (λ place. place.rows) t.places.items };
-
-    ghost invariant = { λ t. IsTied (map (λ place. place.rows) t.places.items) t.tally.rows };
+    ghost invariant = { λ t. IsClear (record { rows = locks_in t.rows; marks = locks_in t.marks }) };
 }
 
 impl LockTable {
-    /// A table in which no session holds a row. The places of the sessions are made here.
+    /// A table in which no session holds a row or a mark. The places of the sessions for rows are made here, and those
+    /// for marks once a mark is taken.
     pub fn new(alloc: Global) -> Result<LockTable, Memory>
-        ensures none { IfOk result (λ table. table ≡ no_locks) }
-        ensures no_clash { IfOk result (λ table. NoClash table) }
-        ensures places { IfOk result (λ table. length table ≡ 256) }
+        ensures none { IfOk result (λ table. table ≡ all_free) }
+        ensures no_clash { IfOk result (λ table. NoClash table.rows) }
+        ensures no_mark_clash { IfOk result (λ table. NoClash table.marks) }
+        ensures places { IfOk result (λ table. length table.rows ≡ 256) }
+        ensures mark_places { IfOk result (λ table. length table.marks ≡ 256) }
     {
         Ok(LockTable {
-            places: empty_places(alloc)?,
-            tally: Tally::new(alloc),
+            rows: Sessions::new(alloc)?,
+            marks: MarkLocks::new(alloc),
         })
     }
 
@@ -102,105 +107,123 @@ impl LockTable {
     pub fn clashes(&self, session: u16, row: RowId, mode: Mode) -> bool
         requires least { 1 ≤ session }
         requires greatest { session ≤ 256 }
-        ensures value { result ≡ clashes_with self.now session row mode }
-        ensures no_clash { NoClash self.now }
-        ensures places { length self.now ≡ 256 }
+        ensures value { result ≡ clashes_with self.now.rows session row mode }
+        ensures no_clash { NoClash self.now.rows }
+        ensures no_mark_clash { NoClash self.now.marks }
+        ensures places { length self.now.rows ≡ 256 }
+        ensures mark_places { length self.now.marks ≡ 256 }
     {
-        let own = self.places[session as usize - 1].mode_of(row);
-        weight(own, mode) < self.tally.opposing(row, mode)
+        self.rows.clashes(session, row, mode)
     }
 
-    /// Takes each lock of the list for the session. It is refused with `Clash` where a row of the list clashes with
-    /// another session's lock, and else with `Memory` where there is no room for the whole list; then nothing is
-    /// taken. With n locks the time is that of n look-ups, and the memory that of n rows; it stays for later locks.
+    /// Whether another session holds the mark. It takes no memory, and expected constant time.
+    pub fn clashes_mark(&self, session: u16, mark: Mark) -> bool
+        requires least { 1 ≤ session }
+        requires greatest { session ≤ 256 }
+        ensures value { result ≡ mark_clashes self.now session mark }
+        ensures no_clash { NoClash self.now.rows }
+        ensures no_mark_clash { NoClash self.now.marks }
+        ensures places { length self.now.rows ≡ 256 }
+        ensures mark_places { length self.now.marks ≡ 256 }
+    {
+        self.marks.clashes(session, mark)
+    }
+
+    /// Takes each lock of the list for the session, as `take_all` with no marks.
     pub fn take(&mut self, session: u16, rows: &[(RowId, Mode)]) -> Result<(), LockFault>
         requires least { 1 ≤ session }
         requires greatest { session ≤ 256 }
-        ensures clash { (result ≡ Err Clash) ↔ IsTrue (any_clashes self.old session rows.now) }
-        ensures ok { OnOk result (self.new ≡ taken self.old session rows.now) }
+        ensures clash { (result ≡ Err Clash) ↔ IsTrue (any_clashes self.old.rows session rows.now) }
+        ensures rows { OnOk result (self.new.rows ≡ taken self.old.rows session rows.now) }
+        ensures marks { self.new.marks ≡ self.old.marks }
         ensures err { OnErr result (self.new ≡ self.old) }
-        ensures no_clash { NoClash self.new }
-        ensures places { length self.new ≡ 256 }
+        ensures no_clash { NoClash self.new.rows }
+        ensures no_mark_clash { NoClash self.new.marks }
+        ensures places { length self.new.rows ≡ 256 }
+        ensures mark_places { length self.new.marks ≡ 256 }
     {
-        if self.clashes_any(session, rows) {
+        self.take_all(session, rows, &[])
+    }
+
+    /// Takes each lock on rows of the one list, and each mark of the other for the session alone. It is refused with
+    /// `Clash` where a row or a mark of the lists clashes with another session's, and else with `Memory` where there
+    /// is no room for both whole lists; then nothing is taken. With n rows and marks the time is that of n look-ups,
+    /// and the memory that of n rows; it stays for later locks. The first mark taken also makes a place for marks of
+    /// each session; with no marks no memory is asked for them.
+    pub fn take_all(
+        &mut self,
+        session: u16,
+        rows: &[(RowId, Mode)],
+        marks: &[Mark],
+    ) -> Result<(), LockFault>
+        requires least { 1 ≤ session }
+        requires greatest { session ≤ 256 }
+        ensures clash { (result ≡ Err Clash) ↔ IsTrue (any_clashes_all self.old session rows.now marks.now) }
+        ensures ok { OnOk result (self.new ≡ taken_all self.old session rows.now marks.now) }
+        ensures err { OnErr result (self.new ≡ self.old) }
+        ensures no_clash { NoClash self.new.rows }
+        ensures no_mark_clash { NoClash self.new.marks }
+        ensures places { length self.new.rows ≡ 256 }
+        ensures mark_places { length self.new.marks ≡ 256 }
+    {
+        if self.clashes_any(session, rows, marks) {
             return Err(LockFault::Clash);
         }
-        let place = &mut self.places[session as usize - 1];
-        lock_all(place, &mut self.tally, rows)?;
+        self.rows.reserve(session, rows.len())?;
+        self.marks.reserve(session, marks.len())?;
+        self.rows.lock_rows(session, rows);
+        self.marks.lock_marks(session, marks);
         Ok(())
     }
 
-    fn clashes_any(&self, session: u16, rows: &[(RowId, Mode)]) -> bool
+    fn clashes_any(&self, session: u16, rows: &[(RowId, Mode)], marks: &[Mark]) -> bool
         requires least { 1 ≤ session }
         requires greatest { session ≤ 256 }
-        ensures { result ≡ any_clashes self.now session rows.now }
+        ensures { result ≡ any_clashes_all self.now session rows.now marks.now }
+    {
+        self.clashes_any_row(session, rows) || self.clashes_any_mark(session, marks)
+    }
+
+    fn clashes_any_row(&self, session: u16, rows: &[(RowId, Mode)]) -> bool
+        requires least { 1 ≤ session }
+        requires greatest { session ≤ 256 }
+        ensures { result ≡ any_clashes self.now.rows session rows.now }
     {
         rows.iter()
             .any(|lock| self.clashes(session, lock.0, lock.1))
     }
 
-    /// Frees each lock of the session. It takes no memory; the time is that of a look-up for each row that the
-    /// session holds.
+    fn clashes_any_mark(&self, session: u16, marks: &[Mark]) -> bool
+        requires least { 1 ≤ session }
+        requires greatest { session ≤ 256 }
+        ensures { result ≡ list_any (mark_clashes self.now session) marks.now }
+    {
+        marks.iter().any(|mark| self.clashes_mark(session, *mark))
+    }
+
+    /// Frees each lock of the session, on rows and on marks. It takes no memory; the time is that of a look-up for
+    /// each row and each mark that the session holds.
     pub fn release_all(&mut self, session: u16)
         requires least { 1 ≤ session }
         requires greatest { session ≤ 256 }
-        ensures released { self.new ≡ released self.old session }
-        ensures no_clash { NoClash self.new }
-        ensures places { length self.new ≡ 256 }
+        ensures released { self.new ≡ released_all self.old session }
+        ensures no_clash { NoClash self.new.rows }
+        ensures no_mark_clash { NoClash self.new.marks }
+        ensures places { length self.new.rows ≡ 256 }
+        ensures mark_places { length self.new.marks ≡ 256 }
     {
-        let freed = &mut self.places[session as usize - 1];
-        unlock_all(freed, &mut self.tally);
+        self.rows.release_all(session);
+        self.marks.release_all(session);
     }
 }
 
-fn empty_places(alloc: Global) -> Result<Vec<Held>, Memory>
-    ensures { IfOk result (λ places. map (λ place. place.rows) places.items ≡ no_locks) }
+/// The row id under which a mark is kept.
+fn row_for(mark: Mark) -> RowId
+    ensures { result ≡ mark }
 {
-    let mut places = Vec::with_capacity(alloc, MAX_SESSIONS as usize)?;
-    for _place in 0..MAX_SESSIONS {
-        places.push(Held::new(alloc))?;
-    }
-    Ok(places)
-}
-
-/// Takes each lock of the list for the session that holds these rows, or none where there is no room for all.
-fn lock_all(held: &mut Held, tally: &mut Tally, rows: &[(RowId, Mode)]) -> Result<(), Memory>
-    requires { IsCounted held.old.rows tally.old.rows }
-    ensures ok { OnOk result (held.new.rows ≡ also_held held.old.rows rows.now) }
-    ensures err { OnErr result (held.new.rows ≡ held.old.rows) }
-    ensures counts { MovesAlike held.old.rows tally.old.rows held.new.rows tally.new.rows }
-{
-    held.reserve(rows.len())?;
-    tally.reserve(rows.len())?;
-    for lock in rows {
-        lock_one(held, tally, lock.0, lock.1);
-    }
-    Ok(())
-}
-
-fn lock_one(held: &mut Held, tally: &mut Tally, row: RowId, mode: Mode)
-    requires counted { IsCounted held.old.rows tally.old.rows }
-    requires held_room { 0 < held.old.room }
-    requires tally_room { 0 < tally.old.room }
-    ensures held { held.new.rows ≡ insert held.old.rows row (stronger (get held.old.rows row) mode) }
-    ensures counts { MovesAlike held.old.rows tally.old.rows held.new.rows tally.new.rows }
-    ensures held_room { held.old.room ≤ held.new.room + 1 }
-    ensures tally_room { tally.old.room ≤ tally.new.room + 1 }
-{
-    let was = held.mode_of(row);
-    let now = stronger(was, mode);
-    tally.recount(row, was, Some(now));
-    held.set(row, now);
-}
-
-/// Frees each row of the session that holds these.
-fn unlock_all(held: &mut Held, tally: &mut Tally)
-    requires { IsCounted held.old.rows tally.old.rows }
-    ensures held { held.new.rows ≡ empty }
-    ensures counts { MovesAlike held.old.rows tally.old.rows held.new.rows tally.new.rows }
-{
-    while let Some((row, mode)) = held.pop() {
-        tally.recount(row, Some(mode), None);
+    RowId {
+        table: mark.table(),
+        key: mark.value(),
     }
 }
 

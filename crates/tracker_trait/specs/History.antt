@@ -1,4 +1,4 @@
--- What the written rows of a log say of the next transaction. Entries are listed here with the newest first.
+-- What the written rows and the marks of a log say of the next transaction. Entries are listed here with the newest first.
 use Rattle.std.specs.Prelude.{ℕ, ◌+◌, ◌==◌, ◌||◌, nat_lt, ◌&&◌, if◌then◌else◌, List, [], ◌∷◌, length, filter}
 use Rattle.std.specs.List.{flat_map, list_any}
 use Rattle.schema.specs.declared.Table.{Table}

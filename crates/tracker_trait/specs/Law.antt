@@ -22,7 +22,7 @@ pub record IsOrderParent (log : List Entry) (t : Footprint) (session order : ℕ
 -- The footprint's flags and the write set are those that the tables give. It writes rows of these tables, and refers to rows only
 -- where it is foreign-key related.
 pub record IsOfTables (ts : List Table) (t : Footprint) (w : List ℕ) : Type 0 where
-  pub flags : t ≡ footprint_of ts t.writes t.refs
+  pub flags : t ≡ footprint_of ts t.writes t.refs t.marks
   pub known : list_all (λ r. is_some (table_at ts r.table)) t.writes ≡ true
   pub refs : t.flags.fk ≡ false → t.refs ≡ []
   pub set : w ≡ digests_of ts t

@@ -14,13 +14,13 @@ abbrev pub greatest : ℕ → List ℕ → ℕ
 greatest least [] = least
 greatest least (n ∷ ns) = max n (greatest least ns)
 
--- the last entry that wrote one of these digests, and at least where the history starts
+-- the last entry that has one of these digests, and at least where the history starts
 abbrev pub last_touch : List Table → ℕ → List Entry → List ℕ → ℕ
 last_touch ts limit newest_first digests =
     let start = start_of ts limit newest_first in greatest start (map (newest_of ts start newest_first) digests)
 
 -- The order parent for a transaction that is foreign-key related or misses a key; else no later than the last entry
--- that wrote one of its digests.
+-- that has one of its digests.
 abbrev pub writeset_parent : List Table → ℕ → List Entry → Footprint → ℕ → ℕ
 writeset_parent ts limit newest_first t order =
     if t.flags.fk || t.flags.missing_keys then order else min order (last_touch ts limit newest_first (digests_of ts t))

@@ -7,7 +7,7 @@
 //! `specs/Parent.antt` says which parent each mode gives, read off the log alone, and `specs/Law.antt` what every
 //! tracker promises: the parent covers each conflicting transaction of the whole log, and is at most the order parent.
 //! The crate stands on `log_index`, which has what trackers see of a log, and on `write_set`, which has the digests of
-//! written rows.
+//! written rows and of marks.
 #![tactic(auto)]
 
 ghost use Rattle.std.specs.Prelude.{◌≡◌, ◌≤◌, List, map};
@@ -28,8 +28,8 @@ use write_set::WriteSet;
 pub enum Tracking {
     /// The parent is the order parent: the number of transactions committed when this one was prepared.
     CommitOrder,
-    /// The parent is that of the last transaction that wrote one of the same rows, where the history of written rows
-    /// goes back to it; and never after the order parent.
+    /// The parent is that of the last transaction that wrote one of the same rows or has one of the same marks, where
+    /// the history of write sets goes back to it; and never after the order parent.
     Writeset,
     /// The same, and not before the session's own last transaction.
     WritesetSession,

@@ -1,15 +1,17 @@
 -- Rising lists of numbers, and the one that has the numbers of a list.
-use Rattle.std.proofs.Common.{◌≡◌, ◌∙◌, sym, ap, refl, ℕ, Bool, true, false, ◌&&◌, ◌||◌, cond, eqb, List, [], ◌∷◌, map, is_some, nat_cmp, IsPermutation}
+use Rattle.std.proofs.Common.{◌≡◌, ◌∙◌, sym, ap, refl, ℕ, Bool, true, false, ◌&&◌, ◌||◌, cond, eqb, List, [], ◌∷◌, ◌++◌, map, is_some, nat_cmp, IsPermutation}
 use Rattle.std.specs.List.{list_any, filter, dedup}
 use Rattle.std.specs.List.Sorted.{IsSorted, IsStrictlyIncreasing}
 use Rattle.std.specs.Ordering.{eq_by_cmp}
 use Rattle.std.specs.Cmp.{unsigned_tied, nat_cmp_total}
 use Rattle.std.specs.FinMap.{FinMap, get, keys, contains_key-keys, nat_cmp-IsAntisymmetric}
 use Rattle.std.proofs.lemmas.Map.Keys.{IsStrictlyIncreasing-from_sorted}
+use Rattle.std.proofs.lemmas.List.Folds.{list_any-append}
 use Rattle.schema.specs.declared.Table.{Table}
 use Rattle.schema.specs.declared.RowId.{RowId}
+use Rattle.schema.specs.Rows.{Mark}
 use Rattle.schema.proofs.Rising.{set_of, keys_rise, rising_same, rising_is, sorted_once as keys_once}
-use Rattle.write_set.specs.Digest.{digest_of, is_keyed, rising}
+use Rattle.write_set.specs.Digest.{digest_of, mark_digest, is_keyed, rising}
 use Rattle.write_set.specs.Laws.{HasJustTheDigests, DigestsRise}
 
 -- ---- numbers, by `==`
@@ -35,7 +37,7 @@ rising-rises ns = IsStrictlyIncreasing-from_sorted (rising ns) (keys_rise nat_cm
 pub sorted_once : (ns sorted : List ℕ) → IsPermutation ns sorted → IsSorted nat_cmp sorted → dedup eqb sorted ≡ rising ns
 sorted_once ns sorted moves order = keys_once nat_cmp_total nat_cmp-IsAntisymmetric (λ x y. sym (unsigned_tied x y)) ns sorted moves order
 
--- ---- sets of digests
+-- ---- the digests of a footprint
 
 digests_of_keyed : (tables : List Table) (rows : List RowId) (d : ℕ) → list_any (eqb d) (map digest_of (filter (is_keyed tables) rows)) ≡ list_any (λ row. is_keyed tables row && eqb d (digest_of row)) rows
 digests_of_keyed tables [] d = refl
@@ -47,8 +49,15 @@ digests_of_keyed tables (row ∷ rows) d =
     with_row true h = ap (λ b. eqb d (digest_of row) || b) h
     with_row false h = h
 
+digests_of_marks : (marks : List Mark) (d : ℕ) → list_any (eqb d) (map mark_digest marks) ≡ list_any (λ mark. eqb d (mark_digest mark)) marks
+digests_of_marks [] d = refl
+digests_of_marks (mark ∷ marks) d = ap (λ b. eqb d (mark_digest mark) || b) (digests_of_marks marks d)
+
 pub just_the_digests : HasJustTheDigests
-just_the_digests tables rows d = member-rising (map digest_of (filter (is_keyed tables) rows)) d ∙ digests_of_keyed tables rows d
+just_the_digests tables t d =
+    let rows = map digest_of (filter (is_keyed tables) t.writes) in
+    let marks = map mark_digest t.marks in
+    member-rising (rows ++ marks) d ∙ list_any-append (eqb d) rows marks ∙ (λ i. digests_of_keyed tables t.writes d i || digests_of_marks t.marks d i)
 
 pub digests_rise : DigestsRise
-digests_rise tables rows = rising-rises (map digest_of (filter (is_keyed tables) rows))
+digests_rise tables t = rising-rises (map digest_of (filter (is_keyed tables) t.writes) ++ map mark_digest t.marks)

@@ -2,7 +2,7 @@
 
 ghost use Rattle.write_set.specs.Laws.{HasJustTheDigests, DigestsRise};
 
-/// A set of digests has just the digests of the rows in keyed tables, each once and in rising order.
+/// A write set has just the digests of the written rows in keyed tables and of the marks, each once and in rising order.
 pub fn digest_sets()
     ensures members { HasJustTheDigests }
     ensures rising { DigestsRise }

@@ -1,26 +1,28 @@
 //! The write sets of transactions.
 //!
-//! The digest of a row is a number of 64 bits: its key's bits, xor its table's id in the upper 16. A `WriteSet`
-//! is the digests of the rows that a transaction writes in keyed tables, each once, in rising order: its type
-//! keeps that they rise. Rows of keyless tables have none. Rows of different tables may share a digest: whoever
-//! compares write sets takes them for one row, so it finds no conflict too few.
+//! The digest of a row is a number of 64 bits: its key's bits, xor its table's id in the upper 16. That of a mark is
+//! the complement of the same number of its table and value, so that it is seldom a row's. A `WriteSet` is the
+//! digests of the rows that a transaction writes in keyed tables, and of its marks, each once, in rising order: its
+//! type keeps that they rise. Rows of keyless tables have none. Rows of different tables may share a digest, and a
+//! row with a mark: whoever compares write sets takes them for one, which only raises a parent; it finds no conflict
+//! too few.
 //!
 //! `specs/Digest.antt` defines digests and sets of them. The crate stands on `schema`, which says which tables
-//! are keyed, and on `log_index`, whose footprints have the written rows.
+//! are keyed, and on `log_index`, whose footprints have the written rows and the marks.
 #![tactic(auto)]
 
-ghost use Rattle.std.specs.Prelude.{◌≡◌, ◌==◌, length, filter, map, IfOk};
+ghost use Rattle.std.specs.Prelude.{◌≡◌, ◌==◌, ◌++◌, length, filter, map, IfOk};
 ghost use Rattle.std.specs.List.Sorted.{IsStrictlyIncreasing};
-ghost use Rattle.write_set.specs.Digest.{digest_of, is_keyed, digests_of};
+ghost use Rattle.write_set.specs.Digest.{digest_of, mark_digest, is_keyed, digests_of};
 
 pub mod laws;
 
 use log_index::Footprint;
-use schema::{Memory, RowId, Schema};
+use schema::{Mark, Memory, RowId, Schema};
 use std::alloc::Global;
 use std::marker::Model;
 
-/// The digests of a transaction's written rows in keyed tables.
+/// The digests of a transaction's written rows in keyed tables, and of its marks.
 #[derive(Debug, Drop)]
 pub struct WriteSet {
     digests: Vec<u64>,
@@ -53,7 +55,7 @@ impl WriteSet {
         self.digests.len()
     }
 
-    /// Whether no row has a digest.
+    /// Whether no row and no mark has a digest.
     pub fn is_empty(&self) -> bool
         ensures { result ≡ (length self.now == 0) }
     {
@@ -70,25 +72,37 @@ impl WriteSet {
     }
 }
 
-/// The write set of a transaction with this footprint. For n written rows and t tables the time is that of
+/// The write set of a transaction with this footprint. For n written rows and marks and t tables the time is that of
 /// n * t tests, to find the rows' tables, and of n log n to sort; the memory is that of n digests.
 pub fn digests(alloc: Global, schema: &Schema, footprint: &Footprint) -> Result<WriteSet, Memory>
     ensures { IfOk result (λ set. set ≡ digests_of schema.now footprint.now) }
 {
-    let mut digests = keyed_digests(alloc, schema, footprint.writes.list())?;
+    let mut digests = each_digest(
+        alloc,
+        schema,
+        footprint.writes.list(),
+        footprint.marks.list(),
+    )?;
     digests.sort_unstable();
     digests.dedup();
     Ok(WriteSet { digests })
 }
 
-/// The digest of each row in a keyed table, in the order of the rows.
-fn keyed_digests(alloc: Global, schema: &Schema, rows: &[RowId]) -> Result<Vec<u64>, Memory>
-    ensures { IfOk result (λ list. list.items ≡ map digest_of (filter (is_keyed schema.now) rows.now)) }
+/// The digest of each row in a keyed table, in the order of the rows, and of each mark behind these.
+fn each_digest(
+    alloc: Global,
+    schema: &Schema,
+    rows: &[RowId],
+    marks: &[Mark],
+) -> Result<Vec<u64>, Memory>
+    ensures { IfOk result (λ list. list.items ≡ map digest_of (filter (is_keyed schema.now) rows.now) ++ map mark_digest marks.now) }
 {
-    let list = rows
+    let of_rows = rows
         .iter()
         .filter(|row| is_keyed(schema, **row))
-        .map(|row| digest(*row))
+        .map(|row| digest(*row));
+    let list = of_rows
+        .chain(marks.iter().map(|mark| mark_digest(*mark)))
         .collect(alloc)?;
     Ok(list)
 }
@@ -103,4 +117,10 @@ fn digest(row: RowId) -> u64
     ensures { result ≡ digest_of row }
 {
     row.key.cast_unsigned() ^ ((row.table as u64) << 48)
+}
+
+fn mark_digest(mark: Mark) -> u64
+    ensures { result ≡ mark_digest mark }
+{
+    !(mark.value().cast_unsigned() ^ ((mark.table() as u64) << 48))
 }

@@ -1,4 +1,4 @@
--- The parent that the written rows give covers the whole log.
+-- The parent that the write sets give covers the whole log.
 use Rattle.std.proofs.Common.{◌≡◌, ◌∙◌, sym, ap, ℕ, ◌<◌, ◌≤◌, Bool, true, false, ◌||◌, eqb, nat_lt, cond, List, [], ◌∷◌, map, min, reverse, inl, inr, refl, arith}
 use Rattle.std.specs.List.{AllByRecursion, list_any}
 use Rattle.std.proofs.lemmas.Bool.{or_cases, cases_Bool, ltb-true, ltb-false, eqb-true}
@@ -10,7 +10,7 @@ use Rattle.log_index.specs.declared.Entry.{Entry}
 use Rattle.log_index.specs.declared.Footprint.{Footprint}
 use Rattle.log_index.specs.Footprint.{touched}
 use Rattle.log_index.specs.Log.{entry_place}
-use Rattle.write_set.specs.Digest.{digest_of, digests_of}
+use Rattle.write_set.specs.Digest.{digests_of}
 use Rattle.tracker_trait.specs.History.{start_of, newest_of}
 use Rattle.tracker_trait.specs.Parent.{greatest, last_touch, writeset_parent}
 use Rattle.tracker_trait.specs.Law.{IsOfTables}
@@ -19,7 +19,7 @@ use Rattle.writeset_trackers.proofs.Lists.{joined, of_reverse}
 use Rattle.writeset_trackers.proofs.Starts.{related-before}
 use Rattle.writeset_trackers.proofs.Newest.{has_digest, newest-at}
 use Rattle.writeset_trackers.proofs.Counts.{has_either_way}
-use Rattle.writeset_trackers.proofs.Shared.{in_both, conflict_of_writes, is_keyed_in, digest_in}
+use Rattle.writeset_trackers.proofs.Shared.{shared_digest}
 
 -- the greatest of some numbers and of one more is none of them less
 pub least-greatest : (least : ℕ) (ns : List ℕ) → least ≤ greatest least ns
@@ -49,14 +49,13 @@ module _ (ts : List Table) (limit : ℕ) (log : List Entry) (t : Footprint) (w :
       ((digest : ℕ) → start < e.sequence → has_digest ts digest e ≡ true → e.sequence ≤ newest_of ts start log digest) → conflicts (touched e.footprint) (touched t) ≡ true → e.sequence ≤ last
   above_start e above none related newest conflict =
       let unrelated : e.footprint.flags.fk ≡ false = elim (cases_Bool e.footprint.flags.fk) [ inl fk ↦ absurd (omega (arith, related fk, above)) | inr apart ↦ apart ] in
-      let both = in_both e.footprint.writes t.writes (conflict_of_writes (touched e.footprint) (touched t) (none unrelated) (is.refs no_fk) conflict) in
-      let keyed = is_keyed_in ts t.writes both.row is.known (sym (ap (λ (f : Footprint). f.flags.missing_keys) is.flags) ∙ no_missing) both.second in
-      let has : has_digest ts (digest_of both.row) e ≡ true =
-      has_either_way (digest_of both.row) (digests_of ts e.footprint) ∙ digest_in ts e.footprint both.row keyed both.first in
+      let no_keyless = sym (ap (λ (f : Footprint). f.flags.missing_keys) is.flags) ∙ no_missing in
+      let shared = shared_digest ts e.footprint t (none unrelated) (is.refs no_fk) is.known no_keyless conflict in
+      let has : has_digest ts shared.digest e ≡ true = has_either_way shared.digest (digests_of ts e.footprint) ∙ shared.first in
       omega (
         arith,
-        newest (digest_of both.row) above has,
-        one-greatest (newest_of ts start log) start (digest_of both.row) (digests_of ts t) (digest_in ts t both.row keyed both.second),
+        newest shared.digest above has,
+        one-greatest (newest_of ts start log) start shared.digest (digests_of ts t) shared.second,
       )
 
   at_most_last : (e : Entry) → (e.footprint.flags.fk ≡ false → e.footprint.refs ≡ []) → ((e.footprint.flags.fk ≡ true → e.sequence ≤ start) × ((digest : ℕ) → start < e.sequence → has_digest ts digest e ≡ true → e.sequence ≤ newest_of ts start log digest)) →

@@ -1,4 +1,4 @@
--- What the history of written rows says of a log. Entries are listed here with the newest first.
+-- What the history of write sets says of a log. Entries are listed here with the newest first.
 use Rattle.std.specs.Prelude.{◌≡◌, ℕ, ◌+◌, false, ◌==◌, if◌then◌else◌, List, [], ◌∷◌, length, Option, Some, None}
 use Rattle.std.specs.FinMap.{get}
 use Rattle.schema.specs.declared.Table.{Table}

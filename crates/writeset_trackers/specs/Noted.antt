@@ -5,11 +5,11 @@ use Rattle.log_index.specs.declared.Footprint.{Footprint}
 use Rattle.tracker_trait.specs.Parent.{greatest}
 use Rattle.writeset_history.specs.History.{History, number_of, entered, emptied}
 
--- the last number that touched one of the digests, and at least the start
+-- the last number that had one of the digests, and at least the start
 abbrev pub last_number : History → List ℕ → ℕ
 last_number h digests = greatest h.start (map (number_of h) digests)
 
--- The order parent for a transaction that is foreign-key related or misses a key; else no later than the last number that touched
+-- The order parent for a transaction that is foreign-key related or misses a key; else no later than the last number that had
 -- one of its digests.
 abbrev pub parent_by : History → Footprint → List ℕ → ℕ → ℕ
 parent_by h t digests order = if t.flags.fk || t.flags.missing_keys then order else min order (last_number h digests)

@@ -1,7 +1,7 @@
-//! The trackers of written rows: MySQL's WRITESET and WRITESET_SESSION.
+//! The trackers of write sets: MySQL's WRITESET and WRITESET_SESSION.
 //!
-//! Both keep a history: which transaction touched the digest of each row last (`writeset_history`). A transaction's parent is
-//! the last that touched one of its digests, at least where the history starts, and no later than the order parent. With
+//! Both keep a history: which transaction had the digest of each row or mark last (`writeset_history`). A transaction's parent is
+//! the last that had one of its digests, at least where the history starts, and no later than the order parent. With
 //! `WriteSetSession` it is also at least the session's own last transaction, for which it keeps a number for each session. A
 //! transaction that is foreign-key related, or whose digests are too many beside those that are there, empties the history.
 //!
@@ -27,7 +27,7 @@ use tracker_trait::Tracker;
 use write_set::WriteSet;
 use writeset_history::History;
 
-/// Parents by written rows.
+/// Parents by write sets.
 #[derive(Debug, Drop)]
 pub struct WriteSetTracker {
     history: History,
@@ -81,7 +81,7 @@ impl Tracker for WriteSetTracker {
     }
 }
 
-/// Parents by written rows, and never before the session's own last transaction: a replica then applies each session's
+/// Parents by write sets, and never before the session's own last transaction: a replica then applies each session's
 /// transactions in their order.
 #[derive(Debug, Drop)]
 pub struct WriteSetSession {

@@ -8,7 +8,7 @@ use log_index::Footprint;
 use write_set::WriteSet;
 use writeset_history::History;
 
-/// The transaction's parent, as far as written rows and the order parent say.
+/// The transaction's parent, as far as write sets and the order parent say.
 pub(crate) fn parent_by(history: &History, t: &Footprint, w: &WriteSet, order_parent: u64) -> u64
     ensures { result ≡ parent_by history.now t.now w.now order_parent }
 {
@@ -19,7 +19,7 @@ pub(crate) fn parent_by(history: &History, t: &Footprint, w: &WriteSet, order_pa
     }
 }
 
-/// The last number that touched one of the digests, and at least the start.
+/// The last number that had one of the digests, and at least the start.
 fn last_number(history: &History, digests: &[u64]) -> u64
     ensures { result ≡ last_number history.now digests.now }
 {

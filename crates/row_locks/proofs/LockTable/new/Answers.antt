@@ -1,11 +1,7 @@
-use Rattle.row_locks.proofs.Tied.{tied-none}
+use Rattle.std.proofs.Common.{◌∙◌, ap}
+use Rattle.row_locks.specs.Held.{locks_in}
+use Rattle.row_locks.proofs.Unplaced.{holds_these}
 use Rattle.row_locks.proofs.LockTable.new.Goals as goal
 
-pub invariant_of-result : goal.invariant_of-result
-invariant_of-result c = rw (c.in_ok-empty_places.ensures, c.new.ensures) tied-none
-
-pub returns-clause-no_clash : goal.returns-clause-no_clash
-returns-clause-no_clash c = rw c.in_ok-empty_places.ensures tied-none.no_clash
-
-pub returns-clause-places : goal.returns-clause-places
-returns-clause-places c = rw c.in_ok-empty_places.ensures tied-none.places
+pub returns-clause-none : goal.returns-clause-none
+returns-clause-none c = λ i. record { rows = c.in_ok-new.ensures.none i; marks = (ap locks_in c.new-2.ensures ∙ holds_these) i }

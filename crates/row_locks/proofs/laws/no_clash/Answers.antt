@@ -1,4 +1,4 @@
-use Rattle.row_locks.proofs.Sessions.{holders_share}
+use Rattle.row_locks.proofs.OneSession.{holders_share}
 use Rattle.row_locks.proofs.laws.no_clash.Goals as goal
 
 pub returns : goal.returns

@@ -1,4 +1,4 @@
-use Rattle.row_locks.proofs.Sessions.{taken_by_one, released_by_one}
+use Rattle.row_locks.proofs.OneSession.{taken_by_one, released_by_one}
 use Rattle.row_locks.proofs.laws.one_session.Goals as goal
 
 pub returns-clause-taken : goal.returns-clause-taken

@@ -1,6 +1,6 @@
 use Rattle.std.specs.FinMap.{len}
 use Rattle.row_locks.specs.Tied.{MovesAlike}
-use Rattle.row_locks.proofs.unlock_all.Given as goal
+use Rattle.row_locks.proofs.sessions.unlock_all.Given as goal
 
 abbrev pub invariant-loop-row : goal.invariant-loop-row
 invariant-loop-row l = MovesAlike l.fn.held.rows l.fn.tally.rows l.held.rows l.tally.rows

@@ -1,5 +1,5 @@
 use Rattle.row_locks.proofs.Moves.{moves-set}
-use Rattle.row_locks.proofs.lock_one.Goals as goal
+use Rattle.row_locks.proofs.sessions.lock_one.Goals as goal
 
 pub returns-clause-counts : goal.returns-clause-counts
 returns-clause-counts c =

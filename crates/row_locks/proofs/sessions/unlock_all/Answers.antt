@@ -1,7 +1,7 @@
 use Rattle.std.proofs.Common.{◌≤◌, ◌+◌, arith}
 use Rattle.std.specs.FinMap.{len}
 use Rattle.row_locks.proofs.Moves.{fewer, moves-removed, moves_on}
-use Rattle.row_locks.proofs.unlock_all.Goals as goal
+use Rattle.row_locks.proofs.sessions.unlock_all.Goals as goal
 
 pub loop-row-smaller : goal.loop-row-smaller
 loop-row-smaller c =

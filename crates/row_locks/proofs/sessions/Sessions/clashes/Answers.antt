@@ -1,16 +1,17 @@
 use Rattle.std.proofs.Common.{◌≡◌, ◌∙◌, ap}
 use Rattle.std.specs.FinMap.{get}
 use Rattle.row_locks.specs.Mode.{weight}
-use Rattle.row_locks.specs.Locks.{Locks, Holding, held_by, clashes_with}
+use Rattle.row_locks.specs.Held.{Side, locks_in}
+use Rattle.row_locks.specs.Locks.{Holding, held_by, clashes_with}
 use Rattle.row_locks.proofs.Tied.{place_rows, clashes_exactly, rows_in}
-use Rattle.row_locks.proofs.LockTable.clashes.Goals as goal
+use Rattle.row_locks.proofs.sessions.Sessions.clashes.Goals as goal
 
-pub returns-clause-value : goal.returns-clause-value
-returns-clause-value c =
+pub returns : goal.returns
+returns c =
     let locks = rows_in c.self.inside.places.items in
     let counts = c.self.inside.tally.rows in
     let own = place_rows c.self.inside.places.items counts c.args.session c.index.result.now c.requires.least c.requires.greatest c.self.invariant c.index.ensures in
     let weighs : c.weight.result ≡ weight (get (held_by locks c.args.session) c.args.row) c.args.mode =
     c.weight.ensures ∙ ap (λ o. weight o c.args.mode) (c.mode_of-own.ensures ∙ ap (λ (h : Holding). get h c.args.row) own) in
     rw (weighs, c.opposing.ensures) (clashes_exactly locks counts c.args.session c.requires.least c.requires.greatest c.self.invariant c.args.row c.args.mode)
-    ∙ ap (λ (l : Locks). clashes_with l c.args.session c.args.row c.args.mode) c.self.view_is
+    ∙ ap (λ (s : Side). clashes_with (locks_in s) c.args.session c.args.row c.args.mode) c.self.view_is

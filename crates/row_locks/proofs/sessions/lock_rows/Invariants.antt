@@ -1,7 +1,7 @@
 use Rattle.std.proofs.Common.{◌≡◌, ◌+◌, ◌≤◌, length, take}
 use Rattle.row_locks.specs.Locks.{also_held}
 use Rattle.row_locks.specs.Tied.{MovesAlike}
-use Rattle.row_locks.proofs.lock_all.Given as goal
+use Rattle.row_locks.proofs.sessions.lock_rows.Given as goal
 
 abbrev pub invariant-loop-lock : goal.invariant-loop-lock
 invariant-loop-lock l =

@@ -1,6 +1,6 @@
 use Rattle.std.proofs.Common.{arith}
 use Rattle.row_locks.proofs.Moves.{moves_on, also_held-next}
-use Rattle.row_locks.proofs.lock_all.Goals as goal
+use Rattle.row_locks.proofs.sessions.lock_rows.Goals as goal
 
 pub loop-lock-preserved : goal.loop-lock-preserved
 loop-lock-preserved c = (

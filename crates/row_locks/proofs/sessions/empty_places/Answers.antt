@@ -1,7 +1,7 @@
 use Rattle.std.proofs.Common.{arith, ◌≡◌, ◌∙◌, ap, replicate}
 use Rattle.std.specs.FinMap.{empty}
 use Rattle.row_locks.specs.Locks.{no_locks}
-use Rattle.row_locks.proofs.empty_places.Goals as goal
+use Rattle.row_locks.proofs.sessions.empty_places.Goals as goal
 
 pub returns : goal.returns
 unfolding no_locks
