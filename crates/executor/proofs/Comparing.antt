@@ -22,14 +22,15 @@ option_Decides same None (Some y) = (λ h. cc, λ e. cc)
 option_Decides same (Some x) None = (λ h. cc, λ e. cc)
 option_Decides same (Some x) (Some y) = Decides-like _ (ap Some) (λ e. cc) (same x y)
 
-pub table_Decides : (a b : Table) → Decides (a.id == b.id && (a.columns == b.columns && (beq a.keyed b.keyed && option_eq (λ p q. p.0 == q.0 && p.1 == q.1) a.parent b.parent))) (a ≡ b)
+pub table_Decides : (a b : Table) → Decides (a.id == b.id && (a.columns == b.columns && (beq a.keyed b.keyed && (option_eq (λ p q. p == q) a.unique b.unique && option_eq (λ p q. p.0 == q.0 && p.1 == q.1) a.parent b.parent)))) (a ≡ b)
 table_Decides a b =
-    Decides-like _ (λ p. λ i. record { id = p.0 i; columns = p.1.0 i; keyed = p.1.1.0 i; parent = p.1.1.1 i })
-    (λ e. (ap (λ (t : Table). t.id) e, (ap (λ (t : Table). t.columns) e, (ap (λ (t : Table). t.keyed) e, ap (λ (t : Table). t.parent) e))))
+    Decides-like _ (λ p. λ i. record { id = p.0 i; columns = p.1.0 i; keyed = p.1.1.0 i; unique = p.1.1.1.0 i; parent = p.1.1.1.1 i })
+    (λ e. (ap (λ (t : Table). t.id) e, (ap (λ (t : Table). t.columns) e, (ap (λ (t : Table). t.keyed) e, (ap (λ (t : Table). t.unique) e, ap (λ (t : Table). t.parent) e)))))
     (Decides-and _ _ (Decides-eqb a.id b.id)
     (Decides-and _ _ (Decides-eqb a.columns b.columns)
     (Decides-and _ _ (booleans_Decides a.keyed b.keyed)
-    (option_Decides (pair_Decides Decides-eqb Decides-eqb) a.parent b.parent))))
+    (Decides-and _ _ (option_Decides Decides-eqb a.unique b.unique)
+    (option_Decides (pair_Decides Decides-eqb Decides-eqb) a.parent b.parent)))))
 
 same_padded : (xs ys : List ℤ) → length xs ≡ length ys → padded xs ≡ padded ys → xs ≡ ys
 same_padded xs ys long same =

@@ -1,4 +1,8 @@
+pub mod KeySets
 pub mod Sets
-pub mod Running
+pub mod Handed
+pub mod Searched
+pub mod Shown
 pub mod Elsewhere
+pub mod Running
 pub mod Comparing

@@ -1,2 +1,5 @@
+pub mod Keys
+pub mod Held
+pub mod Shown
 pub mod Job
 pub mod Laws

@@ -1,90 +1,107 @@
-//! Changes run over rows, and the parent rows that they look at.
+//! Changes run over rows, with the parent rows that they look at and the marks that they take and give up.
 
-ghost use Rattle.std.specs.Prelude.{◌≡◌, IfOk, IfSome};
-ghost use Rattle.std.specs.List.{list_all};
-ghost use Rattle.std.specs.List.Sorted.{IsSorted};
+ghost use Rattle.std.specs.Prelude.{◌≡◌, ◌∷◌, [], ◌&&◌, option_and_then, IfOk, IfSome};
 ghost use Rattle.std.specs.Option.{option_map};
-ghost use Rattle.std.specs.FinMap.{get};
-ghost use Rattle.schema.specs.RowId.{row_cmp};
-ghost use Rattle.schema.specs.Rows.{has_row};
-ghost use Rattle.rows.specs.Database.{target, apply, effect, kin};
+ghost use Rattle.rows.specs.Database.{Database, effect, kin, marks};
+ghost use Rattle.rows.specs.Effect.{parent_stands};
+ghost use Rattle.store_trait.specs.Batch.{IsRising};
 ghost use Rattle.overlay.specs.Pending.{pending_of, seen};
-ghost use Rattle.overlay.specs.Step.{step_from};
-ghost use Rattle.executor.specs.Job.{same_rows};
+ghost use Rattle.overlay.specs.Values.{value_over};
+ghost use Rattle.executor.specs.Held.{held};
+ghost use Rattle.executor.specs.Shown.{IsShown, step_there};
 
-use overlay::{Overlay, Step, parent_holds, step_seen};
-use record_codec::Refs;
+use crate::Holders;
+use overlay::{Overlay, Step, parent_holds, step_seen, value_holds};
 use rows::Change;
-use schema::{Memory, RowId, Schema};
+use schema::{Mark, Memory, RowId, Schema};
 use std::alloc::Global;
 use store_trait::RowStore;
 
-/// Changes that were run one after another: what they leave, and the parent rows, before and after each change, of the
-/// changed child rows.
+/// Changes that were run one after another: what they leave, the parent rows, before and after each change, of the changed child
+/// rows, and the marks that each change takes from its row and gives it.
 #[derive(Debug, Drop)]
 pub(crate) struct Run {
     pub(crate) overlay: Overlay,
     pub(crate) kin: Vec<RowId>,
+    pub(crate) marks: Vec<Mark>,
 }
 
-/// Runs these changes over the store; `None` where one of them does not apply behind those before it. The store stays as it
-/// is. The time is that of at most two look-ups a change.
+/// Runs these changes over the store and these holders; `None` where one of them does not apply behind those before it. The store
+/// stays as it is. The time is that of at most two look-ups a change, and for each change that gives its row a value of a unique
+/// column that of a search for its holder and of a walk over the rows that were changed before it.
 pub(crate) fn run_changes<S: RowStore>(
     alloc: Global,
     schema: &Schema,
+    holders: &Holders,
     store: &S,
     changes: &[Change],
 ) -> Result<Option<Run>, Memory>
-    ensures left { IfOk result (λ ran. option_map (λ run. run.overlay) ran ≡ option_map (pending_of changes.now) (effect schema.now changes.now (S.contents store.now))) }
-    ensures kin { IfOk result (λ ran. IfSome ran (λ run. run.kin.items ≡ kin schema.now changes.now (S.contents store.now))) }
+    ensures left { IfOk result (λ ran. (db : Database) → IsShown schema.now changes.now (S.contents store.now) holders.now db
+        → option_map (λ run. run.overlay) ran ≡ option_map (pending_of changes.now) (effect schema.now changes.now db)) }
+    ensures kin { IfOk result (λ ran. IfSome ran (λ run. (db : Database) → IsShown schema.now changes.now (S.contents store.now) holders.now db
+        → run.kin.items ≡ kin schema.now changes.now db)) }
+    ensures marks { IfOk result (λ ran. IfSome ran (λ run. (db : Database) → IsShown schema.now changes.now (S.contents store.now) holders.now db
+        → run.marks.items ≡ marks schema.now changes.now db)) }
 {
     let mut overlay = Overlay::new(alloc);
     let mut kin = Vec::new(alloc);
+    let mut marks = Vec::new(alloc);
     for change in changes {
-        let Some(step) = step_that_applies(&overlay, schema, store, change) else {
+        let Some(step) = step_that_applies(&overlay, schema, holders, store, change) else {
             return Ok(None);
         };
         step.push_kin(&mut kin)?;
+        step.push_marks(&mut marks)?;
         overlay.push(*change, step.left)?;
     }
-    Ok(Some(Run { overlay, kin }))
+    Ok(Some(Run {
+        overlay,
+        kin,
+        marks,
+    }))
 }
 
 /// What the change does to its row, where it applies behind those before it. It takes no memory.
 fn step_that_applies<S: RowStore>(
     overlay: &Overlay,
     schema: &Schema,
+    holders: &Holders,
     store: &S,
     change: &Change,
 ) -> Option<Step>
-    ensures { let db = seen overlay.now (S.contents store.now) in let row = target change.now in
-        result ≡ option_map (λ after. step_from schema.now change.now (get db row) (get after row)) (apply schema.now change.now db) }
+    ensures { (db : Database) → IsRising overlay.now.left → IsShown schema.now (change.now ∷ []) (S.contents store.now) holders.now db
+        → result ≡ step_there schema.now change.now (seen overlay.now db) }
 {
     let step = step_seen(overlay, schema, store, change).ok()?;
-    parent_holds(overlay, schema, store, change, step.left.as_ref()).then_some(step)
+    stands(overlay, schema, holders, store, change, &step).then_some(step)
 }
 
-/// Whether the refs are exactly these rows, which may come in any order and more than once. It takes no memory. With r refs
-/// and k rows the time is that of sorting the rows, and of a search for each ref and each row.
-pub(crate) fn are_exactly(refs: &Refs, mut rows: Vec<RowId>) -> bool
-    ensures { result ≡ same_rows refs.now rows.items }
+/// Whether the parent that the change gives its row, if it gives one, is there, and no other row has the value that it gives it, if
+/// it gives one.
+fn stands<S: RowStore>(
+    overlay: &Overlay,
+    schema: &Schema,
+    holders: &Holders,
+    store: &S,
+    change: &Change,
+    step: &Step,
+) -> bool
+    ensures { result ≡ (parent_stands schema.now change.now (seen overlay.now (S.contents store.now)) step.now.left
+        && value_over schema.now overlay.now change.now step.now.takes (option_and_then (held holders.now) step.now.takes)) }
 {
-    rows.sort_unstable();
-    are_among(refs.rows(), &rows) && are_among(&rows, refs.rows())
+    parent_holds(overlay, schema, store, change, step.left.as_ref())
+        && value_holds(
+            overlay,
+            schema,
+            change,
+            step.takes,
+            holder_of(holders, step.takes),
+        )
 }
 
-/// Whether each of the rows is among the others, which do not fall.
-fn are_among(rows: &[RowId], sorted: &[RowId]) -> bool
-    requires { IsSorted row_cmp sorted.now }
-    ensures { result ≡ list_all (has_row sorted.now) rows.now }
+/// The key of the row that has the mark, where there is a mark, and a row that has it.
+fn holder_of(holders: &Holders, mark: Option<Mark>) -> Option<i64>
+    ensures { result ≡ option_and_then (held holders.now) mark }
 {
-    rows.iter().all(|row| is_among(*row, sorted))
-}
-
-/// Whether the row is among these, which do not fall.
-fn is_among(row: RowId, sorted: &[RowId]) -> bool
-    requires { IsSorted row_cmp sorted.now }
-    ensures { result ≡ has_row sorted.now row }
-{
-    sorted.binary_search(&row).is_ok()
+    holders.holder(mark?)
 }

@@ -1,23 +1,29 @@
 //! Jobs: a record with the rows that it looks at, and its execution.
 //!
 //! A `Job` has all that the execution of one record needs: the record, copies of the rows that it writes and refers
-//! to, and the schema. `execute` looks at nothing else, so it needs no lock, and any thread may run it. A `JobResult`
-//! keeps its job, and its type keeps that its outcome is what comes of that job: the rows that the record writes, as its
-//! changes leave them; or that they do not apply; or that they apply and look at other parent rows than the record states.
-//! `laws` states what that says of the database that the rows are copies of. It stands on `overlay` for running the changes,
-//! and on `vector_store` for the rows that they run over.
+//! to, the holders of its marks, and the schema. `execute` looks at nothing else, so it needs no lock, and any thread may run
+//! it. A `JobResult` keeps its job, and its type keeps that its outcome is what comes of that job over each database that the job
+//! may be of: the rows that the record writes, as its changes leave them; or that they do not apply; or that they apply and look
+//! at other parent rows, or have other marks, than the record states. A job may be of the database that its rows and holders are
+//! of, where its record states what its changes give (`laws`); of a job that is of none nothing is promised. It stands on `overlay`
+//! for running the changes, and on `vector_store` for the rows that they run over.
 #![tactic(auto)]
 
 ghost use Rattle.std.specs.Prelude.{◌≡◌, ◌⊎◌, ◌↔◌, IsTrue, IfOk};
-ghost use Rattle.executor.specs.Job.{executed, output_of, IsResult};
+ghost use Rattle.rows.specs.Database.{Database};
+ghost use Rattle.executor.specs.Job.{outcome_of, outcome_over, output_of, Agrees, IsResult};
 
+mod holders;
+mod keys;
 mod kin;
 pub mod laws;
 mod same;
 
-use kin::{Run, are_exactly, run_changes};
+pub use holders::Holders;
+use keys::are_exactly;
+use kin::{Run, run_changes};
 use record_codec::{Record, same_records};
-use same::{same_batches, same_schemas};
+use same::{same_batches, same_holders, same_schemas};
 use schema::{Memory, Schema};
 use std::alloc::Global;
 use std::marker::Model;
@@ -32,6 +38,8 @@ pub struct Job {
     pub rec: Record,
     /// The rows that the record writes and refers to, absent ones as removed.
     pub input: Batch,
+    /// The record's marks, each with the row that has it.
+    pub holders: Holders,
     pub schema: Schema,
 }
 
@@ -40,10 +48,11 @@ pub struct Job {
 pub enum Outcome {
     /// Each row that the record writes, as its changes leave it.
     Output(Batch),
-    /// One of the changes does not apply to the rows.
+    /// One of the changes does not apply to the rows, or gives its row a value of a unique column that another row has.
     Undefined,
     /// The changes apply, and the record's refs are not exactly the parent rows, before and after each change, of the changed
-    /// child rows: one is missing, or one is no such row.
+    /// child rows, or its marks are not exactly the old and the new values, in unique columns, of the changed rows: one is
+    /// missing, or one is no such row or value.
     WrongRefs,
     /// Memory ran out. The job may be executed again.
     Memory,
@@ -79,13 +88,14 @@ impl Model for JobResult {
 
 impl Job {
     /// A job of these parts. It takes no memory.
-    pub fn new(gno: u64, rec: Record, input: Batch, schema: Schema) -> Job
-        ensures { result ≡ record { gno = gno; rec = rec; input = input; schema = schema } }
+    pub fn new(gno: u64, rec: Record, input: Batch, holders: Holders, schema: Schema) -> Job
+        ensures { result ≡ record { gno = gno; rec = rec; input = input; holders = holders; schema = schema } }
     {
         Job {
             gno,
             rec,
             input,
+            holders,
             schema,
         }
     }
@@ -98,16 +108,19 @@ impl Job {
             gno: self.gno,
             rec: self.rec.copy()?,
             input: self.input.copy()?,
+            holders: self.holders.copy()?,
             schema: self.schema.copy()?,
         })
     }
 
-    /// Whether the job has this record, these rows and this schema. It takes no memory. The time is that of a walk over them.
-    pub fn is_of(&self, rec: &Record, input: &Batch, schema: &Schema) -> bool
-        ensures { IsTrue result ↔ ((self.now.rec ≡ rec.now) × (self.now.input ≡ input.now) × (self.now.schema ≡ schema.now)) }
+    /// Whether the job has this record, these rows, these holders and this schema. It takes no memory. The time is that of a walk
+    /// over them.
+    pub fn is_of(&self, rec: &Record, input: &Batch, holders: &Holders, schema: &Schema) -> bool
+        ensures { IsTrue result ↔ ((self.now.rec ≡ rec.now) × (self.now.input ≡ input.now) × (self.now.holders ≡ holders.now) × (self.now.schema ≡ schema.now)) }
     {
         same_records(&self.rec, rec)
             && same_batches(&self.input, input)
+            && same_holders(&self.holders, holders)
             && same_schemas(&self.schema, schema)
     }
 }
@@ -135,8 +148,8 @@ impl JobResult {
         self.job.gno
     }
 
-    /// The rows that came of it, without the job: `None` where its record does not apply or states other refs, or memory ran
-    /// out. It takes no memory.
+    /// The rows that came of it, without the job: `None` where its record does not apply or states other refs or marks, or memory
+    /// ran out. It takes no memory.
     pub fn into_output(self) -> Option<Batch>
         ensures { result ≡ output_of self.outcome }
     {
@@ -159,14 +172,16 @@ impl JobResult {
     }
 }
 
-/// Executes a job: runs its record's changes over its input, and compares the record's refs with the parent rows that the
-/// changes look at there. `Undefined` comes exactly where the changes do not apply, `WrongRefs` exactly where they apply and the
-/// refs are not these rows, and else the output; but where memory runs out the answer tells of that. With b changes and r rows
-/// in the input the time is that of putting the rows into a store of their own, of 2b look-ups there at most, of sorting b rows
-/// and up to 2b parent rows, and of as many searches.
+/// Executes a job: runs its record's changes over its input and its holders, and compares the record's refs with the parent rows
+/// that the changes look at there, and its marks with the values that they give up and take. `Undefined` comes exactly where the
+/// changes do not apply, `WrongRefs` exactly where they apply and the refs or the marks are not these, and else the output; but
+/// where memory runs out the answer tells of that. With b changes, r rows in the input and h holders the time is that of putting
+/// the rows into a store of their own, of 2b look-ups there at most, of sorting b rows and up to 2b parent rows and 2b marks, and of
+/// as many searches; each change that gives its row a value of a unique column costs a search in the h holders and a walk over up to
+/// b rows more.
 pub fn execute(alloc: Global, job: Job) -> JobResult
     ensures job { result.job ≡ job }
-    ensures outcome { (result.outcome ≡ Outcome.Memory) ⊎ (result.outcome ≡ executed job) }
+    ensures outcome { (result.outcome ≡ Outcome.Memory) ⊎ ((db : Database) → Agrees job db → result.outcome ≡ outcome_over job.schema job.rec db) }
 {
     let outcome = match run(alloc, &job) {
         Ok(outcome) => outcome,
@@ -177,15 +192,27 @@ pub fn execute(alloc: Global, job: Job) -> JobResult
 
 /// What comes of the job.
 fn run(alloc: Global, job: &Job) -> Result<Outcome, Memory>
-    ensures { IfOk result (λ outcome. outcome ≡ executed job.now) }
+    ensures { IfOk result (λ outcome. (db : Database) → Agrees job.now db → outcome ≡ outcome_over job.now.schema job.now.rec db) }
 {
     let mut rows = VectorStore::new(alloc);
     rows.put_all(&job.input)?;
-    let Some(run) = run_changes(alloc, &job.schema, &rows, job.rec.changes.list())? else {
-        return Ok(Outcome::Undefined);
-    };
-    let Run { overlay, kin } = run;
-    if !are_exactly(&job.rec.refs, kin) {
+    let changes = job.rec.changes.list();
+    match run_changes(alloc, &job.schema, &job.holders, &rows, changes)? {
+        Some(run) => outcome_of(alloc, &job.rec, run),
+        None => Ok(Outcome::Undefined),
+    }
+}
+
+/// What comes of a record whose changes were run: the rows that they leave, where it states their kin and their marks.
+fn outcome_of(alloc: Global, rec: &Record, run: Run) -> Result<Outcome, Memory>
+    ensures { IfOk result (λ outcome. outcome ≡ outcome_of rec.now run.kin.items run.marks.items run.overlay.left) }
+{
+    let Run {
+        overlay,
+        kin,
+        marks,
+    } = run;
+    if !are_exactly(rec.refs.rows(), kin) || !are_exactly(rec.marks.list(), marks) {
         return Ok(Outcome::WrongRefs);
     }
     Ok(Outcome::Output(overlay.batch(alloc)?))

@@ -3,8 +3,7 @@ use Rattle.std.proofs.Common.{◌≡◌, ℕ, ◌+◌, ◌-◌, ◌<◌, ◌≤�
 use Rattle.std.specs.Prelude.{◌==◌, if◌then◌else◌}
 use Rattle.std.specs.List.{list_all}
 use Rattle.std.specs.Str.{bytes_eq}
-use Rattle.std.proofs.lemmas.Bool.{and_from, and_parts, ltb-true, eqb-true, le-leb, lt-leb, lt-ltb, eq-eqb, ne_eqb}
-use Rattle.std.proofs.lemmas.List.{nil_from_length}
+use Rattle.std.proofs.lemmas.Bool.{and_parts, ltb-true, eqb-true, le-leb, lt-leb, lt-ltb, eq-eqb, ne_eqb}
 use Rattle.std.proofs.lemmas.Slice.Eq.{bytes_eq-Decides}
 use Rattle.schema.specs.declared.Table.{Table}
 use Rattle.rows.specs.Shape.{is_shaped}
@@ -14,7 +13,7 @@ use Rattle.relay.specs.declared.ReplicaFault.{ReplicaFault}
 use Rattle.relay.specs.declared.ReplicaFault.TheVariants.{Gap, ForeignSource, Malformed, BadParent}
 use Rattle.relay.specs.declared.Received.{Received}
 use Rattle.relay.specs.declared.Received.TheVariants.{Accepted, Skipped}
-use Rattle.relay.specs.Form.{has_flags, are_parents, has_ref}
+use Rattle.relay.specs.Form.{has_flags, are_parents, has_ref, are_unique, states_given}
 use Rattle.relay.specs.Relay.{Relay, is_formed, is_malformed, is_covered, received, IsAcceptable}
 use Rattle.relay.specs.Laws.{AcceptsTheAcceptable}
 use Rattle.gtid_set.specs.Ids.{Ids, first_ids, Adds}
@@ -55,27 +54,31 @@ record WellFormed (s f g b h : Bool) : Type 0 where
   formed : h ≡ true
 
 -- the parts of what the tables allow
-record Formed (s f p r m : Bool) : Type 0 where
+record Formed (s f p r u m : Bool) : Type 0 where
   shaped : s ≡ true
   flags : f ≡ true
   parents : p ≡ true
   refs : r ≡ true
+  unique : u ≡ true
   marks : m ≡ true
 
-formed_by : (shaped flags parents refs marks : Bool) → (shaped && flags && parents && refs && marks) ≡ true → Formed shaped flags parents refs marks
-formed_by shaped flags parents refs marks h =
-    let four = and_parts (shaped && flags && parents && refs) marks h in
+formed_by : (shaped flags parents refs unique marks : Bool) → (shaped && flags && parents && refs && unique && marks) ≡ true → Formed shaped flags parents refs unique marks
+formed_by shaped flags parents refs unique marks h =
+    let five = and_parts (shaped && flags && parents && refs && unique) marks h in
+    let four = and_parts (shaped && flags && parents && refs) unique five.0 in
     let three = and_parts (shaped && flags && parents) refs four.0 in
     let two = and_parts (shaped && flags) parents three.0 in
     let one = and_parts shaped flags two.0 in
-    record { shaped = one.0; flags = one.1; parents = two.1; refs = three.1; marks = four.1 }
+    record { shaped = one.0; flags = one.1; parents = two.1; refs = three.1; unique = four.1; marks = five.1 }
+
+by_formed : (shaped flags parents refs unique marks : Bool) → Formed shaped flags parents refs unique marks → (shaped && flags && parents && refs && unique && marks) ≡ true
+by_formed shaped flags parents refs unique marks f = rw (f.shaped, f.flags, f.parents, f.refs, f.unique, f.marks)
 
 formed_of : (ts : List Table) (log : List Record) (new : Record) → IsAcceptable ts log new → is_formed ts new ≡ true
 formed_of ts log new is =
-    and_from (list_all (is_shaped ts) new.changes && has_flags ts new && are_parents ts new.refs && list_all (has_ref ts new.refs) new.changes) (length new.marks == 0)
-    (and_from (list_all (is_shaped ts) new.changes && has_flags ts new && are_parents ts new.refs) (list_all (has_ref ts new.refs) new.changes)
-    (and_from (list_all (is_shaped ts) new.changes && has_flags ts new) (are_parents ts new.refs)
-    (and_from (list_all (is_shaped ts) new.changes) (has_flags ts new) is.shaped is.flags) is.parents) is.refs) (eq-eqb (length new.marks) 0 (ap length is.marks))
+    by_formed (list_all (is_shaped ts) new.changes) (has_flags ts new) (are_parents ts new.refs) (list_all (has_ref ts new.refs) new.changes)
+    (are_unique ts new.marks) (list_all (states_given ts new.marks) new.changes)
+    (record { shaped = is.shaped; flags = is.flags; parents = is.parents; refs = is.refs; unique = is.unique; marks = is.marks })
 
 well_formed : (some few same below formed : Bool) → malformed_by some few same below formed ≡ false → WellFormed some few same below formed
 well_formed true true true true true e = record { some = refl; few = refl; same = refl; below = refl; formed = refl }
@@ -89,7 +92,9 @@ pub accepted_is_acceptable : (r : Relay) (from : List ℕ) (new : Record) → re
 accepted_is_acceptable r from new e =
     let p = all_passed (bytes_eq from r.source) (is_malformed r.tables new) (nat_le new.gno (length r.accepted)) (new.gno == length r.accepted + 1) (is_covered r.accepted new) e in
     let w = well_formed (nat_le 1 new.gno) (nat_lt new.gno (2 ^ 63)) (new.sequence == new.gno) (nat_lt new.parent new.sequence) (is_formed r.tables new) p.malformed in
-    let f = formed_by (list_all (is_shaped r.tables) new.changes) (has_flags r.tables new) (are_parents r.tables new.refs) (list_all (has_ref r.tables new.refs) new.changes) (length new.marks == 0) w.formed in
+    let f =
+    formed_by (list_all (is_shaped r.tables) new.changes) (has_flags r.tables new) (are_parents r.tables new.refs) (list_all (has_ref r.tables new.refs) new.changes)
+    (are_unique r.tables new.marks) (list_all (states_given r.tables new.marks) new.changes) w.formed in
     let gno = eqb-true new.gno (length r.accepted + 1) p.next in (
       (bytes_eq-Decides from r.source).0 p.same,
       record {
@@ -102,7 +107,8 @@ accepted_is_acceptable r from new e =
         flags = f.flags;
         parents = f.parents;
         refs = f.refs;
-        marks = nil_from_length new.marks (eqb-true (length new.marks) 0 f.marks);
+        unique = f.unique;
+        marks = f.marks;
       },
     )
 

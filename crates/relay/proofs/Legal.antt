@@ -15,7 +15,9 @@ use Rattle.relay.specs.Form.{has_flags}
 use Rattle.relay.specs.Relay.{received, IsAcceptable}
 use Rattle.relay.specs.Laws.{LegalIsAcceptable, ReceivesOfLog}
 use Rattle.record_codec.proofs.Logs.{split_at}
-use Rattle.relay.proofs.Referred.{refs_are_parents, all_have_refs}
+use Rattle.rows.proofs.Given.{given_parents_are_kin, given_marks_are_marks}
+use Rattle.relay.proofs.Referred.{refs_are_parents, marks_are_unique}
+use Rattle.relay.proofs.Stated.{all_have_refs, all_have_marks}
 use Rattle.relay.proofs.Judged.{well_formed_record, acceptable_is_accepted, is_skipped, is_gap, by_number, at_most, at_next, past_next}
 
 shaped_in : (ts : List Table) (front rest : List Record) (new : Record) → AreShaped ts (front ++ new ∷ rest) → list_all (is_shaped ts) new.changes ≡ true
@@ -46,8 +48,9 @@ legal_is_acceptable ts base log legal shaped few = λ front new rest e.
       shaped = shaped_in ts front rest new (subst (λ (l : List Record). AreShaped ts l) e shaped);
       flags = flags_fit ts new next.flags;
       parents = refs_are_parents ts new.changes next.before new.refs next.refs;
-      refs = all_have_refs ts new.changes next.before next.leaves new.refs next.applies (λ q is. next.refs q ∙ is);
-      marks = next.marks;
+      refs = all_have_refs ts new.changes new.refs (λ q is. next.refs q ∙ given_parents_are_kin ts new.changes next.before next.leaves q next.applies is);
+      unique = marks_are_unique ts new.changes next.before new.marks next.marks;
+      marks = all_have_marks ts new.changes new.marks (λ mark is. next.marks mark ∙ given_marks_are_marks ts new.changes next.before next.leaves mark next.applies is);
     }
 
 take_front : (front rest : List Record) (new : Record) → take (length front) (front ++ new ∷ rest) ≡ front

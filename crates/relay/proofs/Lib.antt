@@ -1,4 +1,5 @@
 pub mod Referred
+pub mod Stated
 pub mod Noting
 pub mod Covered
 pub mod Acceptable

@@ -1,4 +1,4 @@
--- The map of last touches as a finite map, and as rows are noted in it.
+-- The maps of last touches and of last marks as finite maps, and as rows and marks are noted in them.
 use Rattle.std.proofs.Common.{◌≡◌, ◌∙◌, sym, ap, refl, ℕ, ◌+◌, ◌<◌, Bool, true, false, true≢false, ◌||◌, cond, List, [], ◌∷◌, ◌++◌, length, take, get_or, Option, Some, Result, Ok, Err, IsOk, OnOk, unwrap_or}
 use Rattle.std.specs.FinMap.{get, insert, get-insert}
 use Rattle.std.proofs.lemmas.List.{take_more, map_push}
@@ -6,19 +6,19 @@ use Rattle.indexmap.specs.IndexMap.{IndexMap, Updates}
 use Rattle.schema.specs.declared.RowId.{RowId}
 use Rattle.schema.proofs.RowMaps.{row_eq, rows_of, rows-set}
 use Rattle.schema.specs.RowId.{same_row, row_total}
-use Rattle.schema.specs.Rows.{has_row}
+use Rattle.schema.specs.Rows.{Mark, has_row}
 use Rattle.rows.specs.declared.Change.{Change}
 use Rattle.rows.specs.Database.{target, writes}
 use Rattle.rows.proofs.Apply.{row_is}
 use Rattle.relay.specs.declared.touches.Touch.{Touch}
-use Rattle.relay.specs.Touches.{LastTouches, untouched, touch_at, written_at, touched_at, NotesWrites, NotesRefs}
+use Rattle.relay.specs.Touches.{LastTouches, LastMarks, untouched, touch_at, written_at, touched_at, stated_at, NotesWrites, NotesRefs, NotesMarks}
 
 -- ---- the map
 
--- where the insert could not fail, the row is set
-pub touches-inserted : {S T E : Type 0} (m n : IndexMap RowId Touch S) (r : Result T E) (k : RowId) (v : Touch) → IsOk r → OnOk r (Updates row_eq m n k (Some v)) → rows_of n.entries ≡ insert (rows_of m.entries) k v
-touches-inserted m n (Ok x) k v h is = rows-set m.entries n.entries k v is.0
-touches-inserted m n (Err e) k v h is = absurd (true≢false (sym h))
+-- where the insert could not fail, the row or the mark is set
+pub is_inserted : {X S T E : Type 0} (m n : IndexMap RowId X S) (r : Result T E) (k : RowId) (v : X) → IsOk r → OnOk r (Updates row_eq m n k (Some v)) → rows_of n.entries ≡ insert (rows_of m.entries) k v
+is_inserted m n (Ok x) k v h is = rows-set m.entries n.entries k v is.0
+is_inserted m n (Err e) k v h is = absurd (true≢false (sym h))
 
 -- ---- a row is noted
 
@@ -92,3 +92,22 @@ module _ (gno : ℕ) (old now : LastTouches) (i : ℕ) where
   pub next_ref : (rows : List RowId) (d : RowId) → NotesRefs gno old (take i rows) now → i < length rows →
       NotesRefs gno old (take (i + 1) rows) (insert now (get_or rows i d) (record { written = written_at now (get_or rows i d); touched = gno }))
   next_ref rows d h within = rw (take_more rows i d within) (notes_ref gno old now (take i rows) (get_or rows i d) h)
+
+-- ---- a mark is noted
+
+stated_at-insert : (stated : LastMarks) (mark : Mark) (gno : ℕ) (q : Mark) → stated_at (insert stated mark gno) q ≡ cond (same_row q mark) gno (stated_at stated q)
+stated_at-insert stated mark gno q = ap (λ o. unwrap_or o 0) (get-insert row_total stated mark gno q) ∙ over (same_row q mark) (get stated q)
+  where
+    over : (b : Bool) (o : Option ℕ) → unwrap_or (cond b (Some gno) o) 0 ≡ cond b gno (unwrap_or o 0)
+    over true o = refl
+    over false o = refl
+
+notes_mark : (gno : ℕ) (old now : LastMarks) (marks : List Mark) (mark : Mark) → NotesMarks gno old marks now → NotesMarks gno old (marks ++ mark ∷ []) (insert now mark gno)
+notes_mark gno old now marks mark h = λ q.
+    stated_at-insert now mark gno q ∙ ap (cond (same_row q mark) gno) (h q) ∙ joined (same_row q mark) (has_row marks q) gno (stated_at old q)
+    ∙ ap (λ b. cond b gno (stated_at old q)) (sym (has_row-push marks mark q))
+
+-- the next mark of a list
+pub next_mark : (gno : ℕ) (old now : LastMarks) (i : ℕ) (marks : List Mark) (mark : Mark) → NotesMarks gno old (take i marks) now → i < length marks → mark ≡ get_or marks i mark →
+    NotesMarks gno old (take (i + 1) marks) (insert now mark gno)
+next_mark gno old now i marks mark h within is = rw (take_more marks i mark within, ← is) (notes_mark gno old now (take i marks) mark h)

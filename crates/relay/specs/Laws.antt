@@ -3,6 +3,7 @@ use Rattle.std.specs.Prelude.{◌≡◌, ◌↔◌, ℕ, ◌+◌, ◌<◌, ◌�
 use Rattle.schema.specs.declared.Table.{Table}
 use Rattle.schema.specs.Covering.{Covers}
 use Rattle.rows.specs.Database.{Database}
+use Rattle.rows.specs.Given.{StatesGiven}
 use Rattle.record_codec.specs.declared.records.Record.{Record}
 use Rattle.record_codec.specs.Log.{touched, place_of, IsLegalLog, AreShaped}
 use Rattle.record_codec.specs.LogLaws.{IsNumber}
@@ -31,6 +32,10 @@ BeginningIsAcceptable = (ts : List Table) (front rest : List Record) → AreAcce
 -- acceptable records are numbered from 1 on
 abbrev pub PlaceIsNumber : Type 0
 PlaceIsNumber = (ts : List Table) (log : List Record) (n : ℕ) (r : Record) → AreAcceptable ts log → slice_get log n ≡ Some r → IsNumber r (n + 1)
+
+-- an acceptable record states what its changes give their rows: each parent among its refs, and each mark among its marks
+abbrev pub AcceptableStatesGiven : Type 0
+AcceptableStatesGiven = (ts : List Table) (log : List Record) (new : Record) → IsAcceptable ts log new → StatesGiven ts new.changes new.refs new.marks
 
 -- a legal log that is shaped is acceptable, where its numbers are below 2 ^ 63
 abbrev pub LegalIsAcceptable : Type 0

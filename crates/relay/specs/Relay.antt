@@ -8,7 +8,7 @@ use Rattle.schema.specs.Covering.{Covers}
 use Rattle.rows.specs.Shape.{is_shaped}
 use Rattle.record_codec.specs.declared.records.Record.{Record}
 use Rattle.record_codec.specs.Log.{touched, place_of}
-use Rattle.relay.specs.Form.{has_flags, are_parents, has_ref}
+use Rattle.relay.specs.Form.{has_flags, are_parents, has_ref, are_unique, states_given}
 use Rattle.relay.specs.declared.ReplicaFault.{ReplicaFault}
 use Rattle.relay.specs.declared.ReplicaFault.TheVariants.{Gap, ForeignSource, Malformed, BadParent}
 use Rattle.relay.specs.declared.Received.{Received}
@@ -24,10 +24,12 @@ pub record Relay : Type 0 where
 -- Whether a source of these tables may write such changes, flags, refs and marks, whatever the rows are: each change is of a
 -- table, and of columns that the table has; the flags are those of the tables that the changes write; each ref is of a table
 -- that is a parent; each parent row that a change gives its row, as an insert into a child table does and an update that names
--- the parent column, is among the refs; and there are no marks.
+-- the parent column, is among the refs; each mark is of a table with a unique column; and each mark that a change gives its row, as
+-- an insert into such a table does and an update that names the unique column, is among the marks.
 abbrev pub is_formed : List Table → Record → Bool
 is_formed ts new =
-    list_all (is_shaped ts) new.changes && has_flags ts new && are_parents ts new.refs && list_all (has_ref ts new.refs) new.changes && (length new.marks == 0)
+    list_all (is_shaped ts) new.changes && has_flags ts new && are_parents ts new.refs && list_all (has_ref ts new.refs) new.changes
+    && are_unique ts new.marks && list_all (states_given ts new.marks) new.changes
 
 -- A record that no source of these tables writes, whatever is before it: its number is 0 or past the last one there can be;
 -- its sequence number is another, or not above its parent; or its changes, flags, refs and marks are none that these tables
@@ -62,7 +64,8 @@ left_by_receive r new Skipped = r
 
 -- A record that may stand behind these: the next number, as gno and as sequence number; a parent below it that covers them;
 -- each change of a table, and of columns that the table has; the flags of the tables that they write; refs to rows of parent
--- tables alone, and among them each parent row that a change gives its row; and no marks.
+-- tables alone, and among them each parent row that a change gives its row; marks of tables with a unique column alone, and
+-- among them each mark that a change gives its row.
 pub record IsAcceptable (ts : List Table) (log : List Record) (new : Record) : Type 0 where
   pub gno : new.gno ≡ length log + 1
   pub sequence : new.sequence ≡ length log + 1
@@ -73,7 +76,8 @@ pub record IsAcceptable (ts : List Table) (log : List Record) (new : Record) : T
   pub flags : has_flags ts new ≡ true
   pub parents : are_parents ts new.refs ≡ true
   pub refs : list_all (has_ref ts new.refs) new.changes ≡ true
-  pub marks : new.marks ≡ []
+  pub unique : are_unique ts new.marks ≡ true
+  pub marks : list_all (states_given ts new.marks) new.changes ≡ true
 
 -- each of the records may stand behind those before it
 abbrev pub AreAcceptable : List Table → List Record → Type 0

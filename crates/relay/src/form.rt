@@ -1,17 +1,17 @@
-//! Whether a record's flags and refs are such as its source's tables give for its changes. None of it takes memory.
+//! Whether a record's flags, refs and marks are such as its source's tables give for its changes. None of it takes memory.
 
-ghost use Rattle.std.specs.Prelude.{◌≡◌, ◌%◌, ◌^◌, ◌<◌, count_ones, slice_get, if◌then◌else◌, None};
+ghost use Rattle.std.specs.Prelude.{◌≡◌, ◌%◌, ◌^◌, ◌<◌, pos, count_ones, slice_index_or, if◌then◌else◌, Some, None};
 ghost use Rattle.std.specs.List.{list_all};
 ghost use Rattle.schema.specs.Flags.{flags_of};
 ghost use Rattle.schema.specs.Rows.{has_row};
 ghost use Rattle.rows.specs.Database.{writes};
 ghost use Rattle.rows.specs.Naming.{names_column};
-ghost use Rattle.rows.specs.Given.{given_value as value_given, given_parent as parent_given};
-ghost use Rattle.relay.specs.Form.{has_flags as flags_fit, are_parents as all_are_parents, has_ref as refers};
+ghost use Rattle.rows.specs.Given.{given_value as value_given, given_parent as parent_given, given_mark as mark_given};
+ghost use Rattle.relay.specs.Form.{has_flags as flags_fit, are_parents as all_are_parents, has_ref as refers, are_unique as all_are_unique, states_given as states};
 
-use record_codec::{Record, Refs};
+use record_codec::{Marks, Record, Refs};
 use rows::{Change, Named};
-use schema::{Flags, RowId, Schema};
+use schema::{Flags, Mark, RowId, Schema};
 
 /// Whether the record's flags are those of the tables that its changes write. The time is that of at most three walks over the
 /// tables for each change.
@@ -51,7 +51,36 @@ fn has_ref(schema: &Schema, change: &Change, refs: &Refs) -> bool
     ensures { result ≡ refers schema.now refs.now change.now }
 {
     match given_parent(schema, change) {
-        Some(parent) => is_among(refs, parent),
+        Some(parent) => is_ref(refs, parent),
+        None => true,
+    }
+}
+
+/// Whether each of the marks is of a table with a unique column. The time is that of a walk over the tables for each.
+pub(crate) fn are_unique(schema: &Schema, marks: &Marks) -> bool
+    ensures { result ≡ all_are_unique schema.now marks.now }
+{
+    marks
+        .list()
+        .iter()
+        .all(|mark| schema.unique_of(mark.table()).is_some())
+}
+
+/// Whether each mark that the changes give their rows is among these. The time is that of a walk over the tables for each
+/// change, and of a search in the marks.
+pub(crate) fn have_marks(schema: &Schema, changes: &[Change], marks: &Marks) -> bool
+    ensures { result ≡ list_all (states schema.now marks.now) changes.now }
+{
+    changes
+        .iter()
+        .all(|change| states_given(schema, change, marks))
+}
+
+fn states_given(schema: &Schema, change: &Change, marks: &Marks) -> bool
+    ensures { result ≡ states schema.now marks.now change.now }
+{
+    match given_mark(schema, change) {
+        Some(mark) => is_mark(marks, mark),
         None => true,
     }
 }
@@ -63,6 +92,16 @@ fn given_parent(schema: &Schema, change: &Change) -> Option<RowId>
     let (column, table) = schema.link_of(change.target().table)?;
     let key = given_value(change, column)?;
     Some(RowId { table, key })
+}
+
+/// The mark that the change gives its row, if any.
+fn given_mark(schema: &Schema, change: &Change) -> Option<Mark>
+    ensures { result ≡ mark_given schema.now change.now }
+{
+    let table = change.target().table;
+    let column = schema.unique_of(table)?;
+    let value = given_value(change, column)?;
+    Some(Mark::new(table, value))
 }
 
 /// The value that the change gives this column of its row, if any.
@@ -78,26 +117,29 @@ fn given_value(change: &Change, column: u8) -> Option<i64>
 
 /// The value of this column, if it is named.
 fn named_value(columns: &Named, column: u8) -> Option<i64>
-    ensures { result ≡ (if names_column columns.now.mask column then slice_get columns.now.values (count_ones (columns.now.mask % 2 ^ column)) else None) }
+    ensures { result ≡ (if names_column columns.now.mask column then Some (slice_index_or columns.now.values (count_ones (columns.now.mask % 2 ^ column)) (pos 0)) else None) }
 {
     let bits = columns.mask();
     if column >= 16 {
         return None;
     }
     if columns.names(column) {
-        value_behind(bits, columns.values(), column)
+        Some(value_behind(bits, columns.values(), column))
     } else {
         None
     }
 }
 
 /// The value that stands behind those of the columns of the mask below this one.
-fn value_behind(mask: u16, values: &[i64], column: u8) -> Option<i64>
+fn value_behind(mask: u16, values: &[i64], column: u8) -> i64
     requires { column < 16 }
-    ensures { result ≡ slice_get values.now (count_ones (mask % 2 ^ column)) }
+    ensures { result ≡ slice_index_or values.now (count_ones (mask % 2 ^ column)) (pos 0) }
 {
     let lower = mask % power_of(column);
-    values.get(lower.count_ones() as usize).copied()
+    values
+        .get(lower.count_ones() as usize)
+        .copied()
+        .unwrap_or(0)
 }
 
 /// The bit of the column in a mask.
@@ -109,8 +151,15 @@ fn power_of(column: u8) -> u16
 }
 
 /// Whether the row is among the refs.
-fn is_among(refs: &Refs, row: RowId) -> bool
+fn is_ref(refs: &Refs, row: RowId) -> bool
     ensures { result ≡ has_row refs.now row }
 {
     refs.rows().binary_search(&row).is_ok()
+}
+
+/// Whether the mark is among these.
+fn is_mark(marks: &Marks, mark: Mark) -> bool
+    ensures { result ≡ has_row marks.now mark }
+{
+    marks.list().binary_search(&mark).is_ok()
 }

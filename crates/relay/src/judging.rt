@@ -5,7 +5,7 @@ ghost use Rattle.std.specs.List.{list_all};
 ghost use Rattle.rows.specs.Shape.{is_shaped as fits};
 ghost use Rattle.relay.specs.Relay.{is_malformed as malformed, is_formed as formed};
 
-use crate::form::{are_parents, has_flags, have_refs};
+use crate::form::{are_parents, are_unique, has_flags, have_marks, have_refs};
 use record_codec::Record;
 use rows::{Change, is_shaped};
 use schema::Schema;
@@ -31,7 +31,8 @@ fn is_formed(schema: &Schema, new: &Record) -> bool
         && has_flags(schema, new)
         && are_parents(schema, &new.refs)
         && have_refs(schema, new.changes.list(), &new.refs)
-        && new.marks.list().is_empty()
+        && are_unique(schema, &new.marks)
+        && have_marks(schema, new.changes.list(), &new.marks)
 }
 
 fn are_shaped(schema: &Schema, changes: &[Change]) -> bool

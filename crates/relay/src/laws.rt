@@ -1,6 +1,6 @@
 //! What follows from the definitions alone. Each function states a law by its contract, and does nothing.
 
-ghost use Rattle.relay.specs.Laws.{CoveredByParent, AcceptsTheAcceptable, EmptyIsAcceptable, NextIsAcceptable, BeginningIsAcceptable, PlaceIsNumber, LegalIsAcceptable, ReceivesOfLog};
+ghost use Rattle.relay.specs.Laws.{CoveredByParent, AcceptsTheAcceptable, EmptyIsAcceptable, NextIsAcceptable, BeginningIsAcceptable, PlaceIsNumber, AcceptableStatesGiven, LegalIsAcceptable, ReceivesOfLog};
 
 /// The test of a parent tells whether it covers the records before.
 pub fn covered()
@@ -19,6 +19,11 @@ pub fn accepted()
     ensures next { NextIsAcceptable }
     ensures beginning { BeginningIsAcceptable }
     ensures place { PlaceIsNumber }
+{}
+
+/// What the changes of an acceptable record give their rows is among its refs and marks.
+pub fn given()
+    ensures { AcceptableStatesGiven }
 {}
 
 /// A legal log of well-formed records may be accepted whole, and what a relay answers to each of its records.

@@ -4,8 +4,8 @@
 //! its source, in the form that this source's tables allow, as the next, and with a parent that covers what was
 //! accepted before. So whatever is received, the records that it keeps may be applied by many workers. What a record's changes
 //! do to the rows is not looked at. Beside the records it keeps their ids as a set, of which it asks whether a record came
-//! before, and which of them touched each row last (`touches`), so that no parent is judged by a walk over them. It stands on
-//! `record_codec` for records, on `gtid_set` for ids, and on `indexmap`.
+//! before, and which of them touched each row, and stated each mark, last (`touches`), so that no parent is judged by a walk over
+//! them. It stands on `record_codec` for records, on `gtid_set` for ids, and on `indexmap`.
 #![tactic(auto)]
 
 ghost use Rattle.std.specs.Prelude.{◌≡◌, ◌⊎◌, ◌<◌, IfOk, OnOk, OnErr, IsErrOf, [], Ok, false, nat_le, length, vec_len, vec_capacity};
@@ -125,7 +125,7 @@ impl Model for Relay {
 
     ghost view = { λ r. record { tables = r.schema; source = r.source; accepted = r.accepted.items } };
 
-    ghost invariant = { λ r. IsKept r.schema r.source r.accepted.items r.ids r.touches.rows };
+    ghost invariant = { λ r. IsKept r.schema r.source r.accepted.items r.ids r.touches.rows r.touches.marks };
 }
 
 impl Relay {
@@ -146,11 +146,13 @@ impl Relay {
     /// with `P2` where it is not of the relay's source; with `P3` where no source of these tables writes it: a number of 0 or
     /// from 2 to the power 63 on, a sequence number that is not the gno, a parent that is not below it, a change of no
     /// table or of columns that its table lacks, other flags than those of the tables that it writes, a ref to a table that is
-    /// no parent, a child row's new parent that is not among the refs, or a mark; skipped; with `P1` where its number is past the next;
-    /// with `P4` where a record that was accepted, and is numbered above its parent, conflicts with it; and with `P9`. The time
-    /// is that of some walks over the tables for each change and each ref, of a search in the refs for each change, of the copy,
-    /// and of two look-ups in a map for each change and each ref, expected constant each: it does not grow with the records that
-    /// were accepted. The copy takes memory, and so do the first id and each row that no record touched before.
+    /// no parent, a child row's new parent that is not among the refs, a mark of a table without a unique column, or a value that
+    /// an insert or an update gives a unique column and that is not among the marks; skipped; with `P1` where its number is past
+    /// the next; with `P4` where a record that was accepted, and is numbered above its parent, conflicts with it; and with `P9`.
+    /// The time is that of some walks over the tables for each change, each ref and each mark, of a search in the refs and one in
+    /// the marks for each change, of the copy, and of at most three look-ups in a map for each change, each ref and each mark,
+    /// expected constant each: it does not grow with the records that were accepted. The copy takes memory, and so do the first id,
+    /// each row that no record touched before, and each mark that none stated.
     pub fn receive(&mut self, from: Uuid, new: &Record) -> Result<Received, ReplicaFault>
         ensures answer { IsErrOf result ReplicaFault.Memory ⊎ (result ≡ received self.old from new.now) }
 

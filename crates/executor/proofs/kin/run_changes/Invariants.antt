@@ -1,6 +1,8 @@
+use Rattle.rows.specs.Database.{Database}
+use Rattle.executor.specs.Shown.{IsShown}
 use Rattle.executor.proofs.Running.{HasRun}
 use Rattle.executor.proofs.kin.run_changes.Given as goal
 
 abbrev pub invariant-loop-change : goal.invariant-loop-change
 invariant-loop-change g l =
-    HasRun l.schema l.changes (g.S.RowStore.contents l.store) l.change-index l.overlay l.kin.items
+    (db : Database) → IsShown l.schema l.changes (g.S.RowStore.contents l.store) l.holders db → HasRun l.schema l.changes db l.change-index l.overlay l.kin.items l.marks.items

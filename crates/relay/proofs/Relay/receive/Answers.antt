@@ -6,7 +6,7 @@ use Rattle.record_codec.specs.declared.records.Record.{Record}
 use Rattle.relay.specs.contracts.Received.{the_type}
 use Rattle.relay.specs.declared.Received.TheVariants.{Accepted}
 use Rattle.relay.specs.Relay.{Relay}
-use Rattle.relay.specs.Touches.{LastTouches, Notes}
+use Rattle.relay.specs.Touches.{LastTouches, LastMarks, Notes, NotesMarks}
 use Rattle.relay.proofs.Judged.{next_of, ids_before}
 use Rattle.relay.proofs.Last.{one_more_kept}
 use Rattle.relay.proofs.Relay.receive.Goals as goal
@@ -27,7 +27,7 @@ invariant_of-self-then-eq c =
     let pushed : c.push.new.self.items ≡ was.accepted.items ++ c.in_ok-copy.copy ∷ [] = grind (arith, common_steps) in
     let new = c.args.new.now in
     let next = next_of r c.args.self.now c.args.from new c.judge.result c.self.view_is c.judge.ensures (c.in_ok-answer.was ∙ ap Ok told) in
-    one_more_kept was.schema was.source was.accepted.items was.ids was.touches.rows new (record {
+    one_more_kept was.schema was.source was.accepted.items was.ids was.touches.rows was.touches.marks new (record {
       kept = c.self.invariant;
       next = next.1;
       left = c.push.new.self.items;
@@ -35,5 +35,7 @@ invariant_of-self-then-eq c =
       with_next = c.add_next.new.ids;
       ids_are = c.in_ok-add_next.ensures.ok ∙ ap (λ (s : List ℕ). first_ids s new.gno) next.0;
       now = c.note.new.self.rows;
-      notes = subst (λ (t : LastTouches). Notes t new c.note.new.self.rows) c.reserve.ensures.rows c.note.ensures;
+      notes = subst (λ (t : LastTouches). Notes t new c.note.new.self.rows) c.reserve.ensures.rows c.note.ensures.rows;
+      marks_now = c.note.new.self.marks;
+      notes_marks = subst (λ (t : LastMarks). NotesMarks new.gno t new.marks c.note.new.self.marks) c.reserve.ensures.marks c.note.ensures.marks;
     })

@@ -1,4 +1,4 @@
-use Rattle.std.proofs.Common.{arith}
+use Rattle.std.proofs.Common.{arith, ◌∙◌}
 use Rattle.relay.proofs.Noting.{next_write}
 use Rattle.relay.proofs.touches.Touches.note_writes.Goals as goal
 
@@ -9,4 +9,6 @@ loop-change-preserved c =
       noted = rw (c.set.ensures.rows, c.target.ensures)
           (next_write c.args.gno c.args.self.now.rows c.loop-change.self.rows i c.args.changes.now c.change-item.result c.loop-change.invariant.noted c.loop-change-test.true c.change-item.is);
       room = omega (arith, c.set.ensures.room);
+      marks = c.set.ensures.marks ∙ c.loop-change.invariant.marks;
+      places = c.set.ensures.places ∙ c.loop-change.invariant.places;
     }

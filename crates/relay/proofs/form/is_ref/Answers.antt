@@ -3,7 +3,7 @@ use Rattle.std.specs.List.Sorted.{IsSorted}
 use Rattle.schema.specs.RowId.{row_cmp}
 use Rattle.schema.specs.Rows.{has_row}
 use Rattle.record_codec.proofs.Searching.{rising_is_sorted, is_found}
-use Rattle.relay.proofs.form.is_among.Goals as goal
+use Rattle.relay.proofs.form.is_ref.Goals as goal
 
 pub returns : goal.returns
 returns c =
