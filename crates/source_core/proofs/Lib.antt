@@ -3,6 +3,7 @@ pub mod Orphans
 pub mod Legal
 pub mod Shapes
 pub mod Stand
+pub mod Followed
 pub mod Place
 pub mod Begun
 pub mod CommitLists

@@ -1,5 +1,5 @@
 -- A new source: no session has a transaction, and nothing is logged.
-use Rattle.std.proofs.Common.{◌≡◌, ◌∙◌, sym, ap, refl, ℕ, zero, suc, ◌<◌, ◌^◌, List, [], ◌∷◌, length, map, replicate, Option, Some, None, arith}
+use Rattle.std.proofs.Common.{◌≡◌, ◌∙◌, sym, ap, subst, refl, ℕ, zero, suc, ◌<◌, ◌^◌, List, [], ◌∷◌, length, map, replicate, Option, Some, None, arith}
 use Rattle.std.specs.FinMap.{empty}
 use Rattle.std.specs.Option.{option_map}
 use Rattle.std.proofs.Common.{eqb, false}
@@ -8,14 +8,17 @@ use Rattle.log_index.specs.declared.Entry.{Entry as Seen}
 use Rattle.record_codec.specs.declared.records.Record.{Record}
 use Rattle.tracker_trait.specs.Kind.{Kind}
 use Rattle.schema.specs.declared.Table.{Table}
-use Rattle.rows.specs.Database.{Database}
+use Rattle.rows.specs.Database.{Database, NoValueTwice}
 use Rattle.store_trait.specs.Batch.{Entry, put_batch}
 use Rattle.store_trait.specs.Fits.{Fits}
+use Rattle.store_trait.proofs.Values.{fits_apart}
+use Rattle.row_index.specs.Keys.{Keys, Indexes}
+use Rattle.row_index.specs.Counts.{Counts, CountsChildren}
 use Rattle.record_codec.proofs.Logs.{empty_is_legal}
-use Rattle.row_locks.specs.Locks.{Locks, NoClash, no_locks}
+use Rattle.row_locks.specs.Locks.{Holding, AllLocks, NoClash, no_locks, all_free}
 use Rattle.commit_stages.specs.Queues.{Queues, no_queues}
 use Rattle.source_core.specs.declared.transaction.Transaction.{Transaction}
-use Rattle.source_core.specs.Source.{Source, new_source, held_for}
+use Rattle.source_core.specs.Source.{Source, Open, new_source, held_for, marks_held_for}
 use Rattle.source_core.specs.Core.{Parts, IsCore, Holds, source_of, open_view, sessions_view, placed}
 
 -- no places, so many
@@ -38,10 +41,12 @@ absent i t at = cc (sym (none_of 256 i) ∙ at)
 pub views_none : sessions_view (replicate 256 None) ≡ replicate 256 None
 views_none = mapped (option_map open_view) 256 None
 
-abbrev pub parts_over : List Table → Database → List Entry → ℕ → List Record → List Seen → List (Option Transaction) → Queues → Locks → Parts
-parts_over ts rows base limit log entries places stages locks = record {
+abbrev pub parts_over : List Table → Database → Keys → Counts → List Entry → ℕ → List Record → List Seen → List (Option Transaction) → Queues → AllLocks → Parts
+parts_over ts rows index children base limit log entries places stages locks = record {
   tables = ts;
   rows = rows;
+  index = index;
+  children = children;
   base = base;
   limit = limit;
   log = log;
@@ -58,20 +63,24 @@ none_twice : IsDistinct eqb []
 unfolding IsDistinct
 none_twice = tt
 
-new_core : (ts : List Table) (rows : Database) (base : List Entry) (limit : ℕ) (locks : Locks) → limit < 2 ^ 63 → put_batch base empty ≡ rows → Fits ts rows → locks ≡ no_locks → NoClash locks →
-    IsCore (parts_over ts rows base limit [] [] (replicate 256 None) no_queues locks)
+no_held : (held : Option Open → Holding) → replicate 256 (held None) ≡ map held (sessions_view (replicate 256 None))
+no_held held = sym (ap (map held) views_none ∙ mapped held 256 None)
+
+new_core : (ts : List Table) (rows : Database) (index : Keys) (children : Counts) (base : List Entry) (limit : ℕ) (locks : AllLocks) → limit < 2 ^ 63 → put_batch base empty ≡ rows → Fits ts rows → Indexes ts rows index → CountsChildren ts rows children → locks ≡ all_free → NoClash locks.rows → NoClash locks.marks →
+    IsCore (parts_over ts rows index children base limit [] [] (replicate 256 None) no_queues locks)
 unfolding no_locks
-new_core ts rows base limit locks bound loaded_is fits none clear = record {
+new_core ts rows index children base limit locks bound loaded_is fits indexed counted none clear clear_marks = record {
   logged = record { legal = empty_is_legal ts (put_batch base empty); shaped = tt; owned = refl; seen = refl };
   few = omega arith;
   bound = bound;
   synced_within = omega arith;
   committed_within = omega arith;
-  stored = record { rows_are = ap Some loaded_is; fits = fits };
+  stored = record { rows_are = ap Some loaded_is; fits = fits; indexed = indexed; counted = counted };
   sessions = long {X = Option Transaction} 256 None;
   grouped = record { some = tt; whole = refl };
-  locks = none ∙ sym (ap (map (held_for ts rows)) views_none ∙ mapped (held_for ts rows) 256 None);
+  locks = none ∙ (λ i. record { rows = no_held (held_for ts rows) i; marks = no_held (marks_held_for ts rows) i });
   no_clash = clear;
+  no_mark_clash = clear_marks;
   applies = λ i t at. absurd (absent i t at);
   refers = λ i t at. absurd (absent i t at);
   stands = λ i t at. absurd (absent i t at);
@@ -80,18 +89,23 @@ new_core ts rows base limit locks bound loaded_is fits none clear = record {
   distinct = none_twice;
 }
 
--- what a new source is made of: rows that the schema allows, no locks, and nothing in its log, its index, its places and its queues
+-- what a new source is made of: rows that the schema allows, with the index and the counts of what loads them, no locks, and nothing in its log, its index, its places and its queues
 pub record NewParts : Type 0 where
   pub tables : List Table
   pub rows : Database
   pub base : List Entry
   pub loads : put_batch base empty ≡ rows
   pub fits : Fits tables rows
+  pub index : Keys
+  pub indexed : NoValueTwice tables (put_batch base empty) → Indexes tables (put_batch base empty) index
+  pub children : Counts
+  pub counted : CountsChildren tables (put_batch base empty) children
   pub limit : ℕ
   pub bound : limit < 2 ^ 63
-  pub locks : Locks
-  pub none : locks ≡ no_locks
-  pub no_clash : NoClash locks
+  pub locks : AllLocks
+  pub none : locks ≡ all_free
+  pub no_clash : NoClash locks.rows
+  pub no_mark_clash : NoClash locks.marks
   pub log : List Record
   pub no_log : log ≡ []
   pub entries : List Seen
@@ -101,12 +115,20 @@ pub record NewParts : Type 0 where
   pub stages : Queues
   pub no_stages : stages ≡ no_queues
 
-pub new_holds : (n : NewParts) (IsSo : List Seen → Type 0) → IsSo [] → Holds (parts_over n.tables n.rows n.base n.limit n.log n.entries n.places n.stages n.locks) (IsSo n.entries)
+-- of rows that the schema allows
+new_indexed : (n : NewParts) → Indexes n.tables n.rows n.index
+new_indexed n =
+    subst (λ db. Indexes n.tables db n.index) n.loads (n.indexed (subst (NoValueTwice n.tables) (sym n.loads) (fits_apart n.tables n.rows n.fits)))
+
+new_counted : (n : NewParts) → CountsChildren n.tables n.rows n.children
+new_counted n = subst (λ db. CountsChildren n.tables db n.children) n.loads n.counted
+
+pub new_holds : (n : NewParts) (IsSo : List Seen → Type 0) → IsSo [] → Holds (parts_over n.tables n.rows n.index n.children n.base n.limit n.log n.entries n.places n.stages n.locks) (IsSo n.entries)
 new_holds n IsSo so =
     rw (n.no_log, n.no_entries, n.no_places, n.no_stages)
-    (record { core = new_core n.tables n.rows n.base n.limit n.locks n.bound n.loads n.fits n.none n.no_clash; waits = record { syncing = refl; committing = refl }; tracked = so })
+    (record { core = new_core n.tables n.rows n.index n.children n.base n.limit n.locks n.bound n.loads n.fits (new_indexed n) (new_counted n) n.none n.no_clash n.no_mark_clash; waits = record { syncing = refl; committing = refl }; tracked = so })
 
-pub new_view : (n : NewParts) (kind : Kind) → source_of (parts_over n.tables n.rows n.base n.limit n.log n.entries n.places n.stages n.locks) kind false ≡ new_source n.tables n.base n.limit kind
+pub new_view : (n : NewParts) (kind : Kind) → source_of (parts_over n.tables n.rows n.index n.children n.base n.limit n.log n.entries n.places n.stages n.locks) kind false ≡ new_source n.tables n.base n.limit kind
 new_view n kind =
     rw (n.no_log, n.no_entries, n.no_places, n.no_stages) (ap (λ sessions. record (new_source n.tables n.base n.limit kind) { sessions = sessions }) views_none)
 

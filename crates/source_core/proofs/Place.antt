@@ -10,11 +10,11 @@ use Rattle.schema.specs.declared.Table.{Table}
 use Rattle.rows.specs.declared.Change.{Change}
 use Rattle.rows.specs.Database.{Database}
 use Rattle.record_codec.specs.declared.records.Record.{Record}
-use Rattle.row_locks.specs.Locks.{Locks, NoClash}
+use Rattle.row_locks.specs.Locks.{Holding, Locks, AllLocks, NoClash}
 use Rattle.source_core.specs.declared.transaction.Phase.{Phase}
 use Rattle.source_core.specs.declared.transaction.Phase.TheVariants.{Active, Prepared, Queued, Flushed}
 use Rattle.source_core.specs.declared.transaction.Transaction.{Transaction}
-use Rattle.source_core.specs.Source.{held_for, locks_over}
+use Rattle.source_core.specs.Source.{Open, held_for, marks_held_for, locks_over}
 use Rattle.source_core.specs.Calls.{with_open}
 use Rattle.source_core.proofs.Stand.{held_at}
 use Rattle.commit_stages.specs.Queues.{Queues, AreSizes}
@@ -36,7 +36,7 @@ abbrev pub IsPlaceOf : ℕ → ℕ → Type 0
 IsPlaceOf session i = (i + 1 ≡ session) × (i < 256)
 
 -- with another transaction in a place, and these stages and locks
-abbrev pub placing : Parts → ℕ → Option Transaction → Queues → Locks → Parts
+abbrev pub placing : Parts → ℕ → Option Transaction → Queues → AllLocks → Parts
 placing p i now stages locks = record p { places = set p.places i now; stages = stages; locks = locks }
 
 pub not_flushed : (o : Option Transaction) (t : Transaction) (n : ℕ) → IsFree o → o ≡ Some t → t.phase ≡ Flushed n → ⊥
@@ -66,6 +66,7 @@ flushed_stay p i now free number (made ∷ log) (owner ∷ owners) are =
         phase = one.phase;
         changes = one.changes;
         refs = one.refs;
+        marks_are = one.marks_are;
       },
       flushed_stay p i now free (number + 1) log owners are.1,
     )
@@ -83,10 +84,10 @@ queued_stay places i now free (session ∷ queue) are =
 abbrev pub Grows : List ℕ → List ℕ → Type 0
 Grows old new = (session : ℕ) → IsTrue (list_any (eqb session) old) → IsTrue (list_any (eqb session) new)
 
-pub ready_stays : (p : Parts) (i : ℕ) (now : Option Transaction) (stages : Queues) (locks : Locks) (session : ℕ) (changes : List Change) (order : ℕ) → IsReady p session changes order → IsReady (placing p i now stages locks) session changes order
+pub ready_stays : (p : Parts) (i : ℕ) (now : Option Transaction) (stages : Queues) (locks : AllLocks) (session : ℕ) (changes : List Change) (order : ℕ) → IsReady p session changes order → IsReady (placing p i now stages locks) session changes order
 ready_stays p i now stages locks session changes order r = record { some = r.some; within = r.within; covers = r.covers; own = r.own }
 
-stands_stays : (p : Parts) (i : ℕ) (now : Option Transaction) (stages : Queues) (locks : Locks) (session : ℕ) (changes : List Change) (phase : Phase) → Grows p.stages.flush stages.flush → StandsAs p session changes phase → StandsAs (placing p i now stages locks) session changes phase
+stands_stays : (p : Parts) (i : ℕ) (now : Option Transaction) (stages : Queues) (locks : AllLocks) (session : ℕ) (changes : List Change) (phase : Phase) → Grows p.stages.flush stages.flush → StandsAs p session changes phase → StandsAs (placing p i now stages locks) session changes phase
 stands_stays p i now stages locks session changes Active grows s = tt
 stands_stays p i now stages locks session changes (Prepared order) grows s = ready_stays p i now stages locks session changes order s
 stands_stays p i now stages locks session changes (Queued order) grows s = (ready_stays p i now stages locks session changes order s.0, grows session s.1)
@@ -103,12 +104,23 @@ each_placed P places i now within here others j t at =
       | inr apart ↦ others j t (sym (other_place places i j now apart.1) ∙ at)
     ]
 
+-- these locks, where a place holds what a transaction of its session holds
+abbrev pub locks_with : List Table → Database → AllLocks → ℕ → Option Open → AllLocks
+locks_with ts rows locks i open_ = record { rows = set locks.rows i (held_for ts rows open_); marks = set locks.marks i (marks_held_for ts rows open_) }
+
+-- no two sessions clash, neither by rows nor by marks
+abbrev pub NoClashes : AllLocks → Type 0
+NoClashes locks = NoClash locks.rows × NoClash locks.marks
+
 -- the locks of all, where those of one place are set
+set_held : (held : Option Open → Holding) (places : List (Option Transaction)) (i : ℕ) (now : Option Transaction) → map held (sessions_view (set places i now)) ≡ set (map held (sessions_view places)) i (held (option_map open_view now))
+set_held held places i now =
+    ap (map held) (map-set (option_map open_view) places i now)
+    ∙ map-set held (sessions_view places) i (option_map open_view now)
+
 pub locks_set : (ts : List Table) (rows : Database) (places : List (Option Transaction)) (i : ℕ) (now : Option Transaction) →
-    locks_over ts rows (sessions_view (set places i now)) ≡ set (locks_over ts rows (sessions_view places)) i (held_for ts rows (option_map open_view now))
-locks_set ts rows places i now =
-    ap (map (held_for ts rows)) (map-set (option_map open_view) places i now)
-    ∙ map-set (held_for ts rows) (sessions_view places) i (option_map open_view now)
+    locks_over ts rows (sessions_view (set places i now)) ≡ locks_with ts rows (locks_over ts rows (sessions_view places)) i (option_map open_view now)
+locks_set ts rows places i now = λ j. record { rows = set_held (held_for ts rows) places i now j; marks = set_held (marks_held_for ts rows) places i now j }
 
 -- The queue of these stages has all sessions of the one before, each once, and their transactions are queued in these places. The
 -- log has room for them, and the groups are as they were.
@@ -119,8 +131,8 @@ pub record QueueGrows (p : Parts) (places : List (Option Transaction)) (stages :
   pub distinct : IsDistinct eqb stages.flush
   pub grows : Grows p.stages.flush stages.flush
 
-pub place_set : (p : Parts) → IsCore p → (i : ℕ) → i < 256 → (now : Option Transaction) → IsFree (placed p.places i) → (stages : Queues) → QueueGrows p (set p.places i now) stages → (locks : Locks) →
-    locks ≡ set p.locks i (held_for p.tables p.rows (option_map open_view now)) → NoClash locks →
+pub place_set : (p : Parts) → IsCore p → (i : ℕ) → i < 256 → (now : Option Transaction) → IsFree (placed p.places i) → (stages : Queues) → QueueGrows p (set p.places i now) stages → (locks : AllLocks) →
+    locks ≡ locks_with p.tables p.rows p.locks i (option_map open_view now) → NoClashes locks →
     ((t : Transaction) → now ≡ Some t → Applies p.tables p.rows t.overlay × StandsAs (placing p i now stages locks) (i + 1) t.overlay.changes t.phase × RefersTo p.tables p.rows t) →
     IsCore (placing p i now stages locks)
 place_set p core i within now free stages q locks are clear here =
@@ -134,8 +146,9 @@ place_set p core i within now free stages q locks are clear here =
       stored = core.stored;
       sessions = length-set p.places i now ∙ core.sessions;
       grouped = subst (λ l. AreSizes l (length p.log - p.synced)) (sym q.sizes) core.grouped;
-      locks = are ∙ ap (λ l. set l i (held_for p.tables p.rows (option_map open_view now))) core.locks ∙ sym (locks_set p.tables p.rows p.places i now);
-      no_clash = clear;
+      locks = are ∙ ap (λ l. locks_with p.tables p.rows l i (option_map open_view now)) core.locks ∙ sym (locks_set p.tables p.rows p.places i now);
+      no_clash = clear.0;
+      no_mark_clash = clear.1;
       applies = each_placed (λ j t. Applies p.tables p.rows t.overlay) p.places i now there (λ t is. (here t is).0) core.applies;
       refers = each_placed (λ j t. RefersTo p.tables p.rows t) p.places i now there (λ t is. (here t is).2) core.refers;
       stands = each_placed (λ j t. StandsAs (placing p i now stages locks) (j + 1) t.overlay.changes t.phase) p.places i now there
@@ -147,8 +160,8 @@ place_set p core i within now free stages q locks are clear here =
     }
 
 -- the same, with the stages as they are
-pub place_changed : (p : Parts) → IsCore p → (i : ℕ) → i < 256 → (now : Option Transaction) → IsFree (placed p.places i) → (locks : Locks) →
-    locks ≡ set p.locks i (held_for p.tables p.rows (option_map open_view now)) → NoClash locks →
+pub place_changed : (p : Parts) → IsCore p → (i : ℕ) → i < 256 → (now : Option Transaction) → IsFree (placed p.places i) → (locks : AllLocks) →
+    locks ≡ locks_with p.tables p.rows p.locks i (option_map open_view now) → NoClashes locks →
     ((t : Transaction) → now ≡ Some t → Applies p.tables p.rows t.overlay × StandsAs (placing p i now p.stages locks) (i + 1) t.overlay.changes t.phase × RefersTo p.tables p.rows t) →
     IsCore (placing p i now p.stages locks)
 place_changed p core i within now free locks are clear here =
@@ -156,15 +169,23 @@ place_changed p core i within now free locks are clear here =
     (record { sizes = refl; few = core.few; queued = queued_stay p.places i now free p.stages.flush core.queued; distinct = core.distinct; grows = λ session is. is }) locks are clear here
 
 -- where the transaction holds what the one before it held, the locks stay
+held_stay : (held : Option Open → Holding) → held None ≡ empty → (locks : Locks) (places : List (Option Transaction)) → locks ≡ map held (sessions_view places) → (i : ℕ) (now : Option Transaction) →
+    held (option_map open_view now) ≡ held (option_map open_view (placed places i)) → locks ≡ set locks i (held (option_map open_view now))
+held_stay held none locks places are i now same =
+    let had : get_or locks i empty ≡ held (option_map open_view (placed places i)) =
+    ap (λ (l : Locks). get_or l i empty) are ∙ ap (get_or (map held (sessions_view places)) i) (sym none) ∙ held_at held places i in
+    sym (set-get_or locks i empty) ∙ ap (set locks i) (had ∙ sym same)
+
 pub locks_stay : (p : Parts) → IsCore p → (i : ℕ) (now : Option Transaction) →
-    held_for p.tables p.rows (option_map open_view now) ≡ held_for p.tables p.rows (option_map open_view (placed p.places i)) → p.locks ≡ set p.locks i (held_for p.tables p.rows (option_map open_view now))
-locks_stay p core i now same =
-    let had : get_or p.locks i empty ≡ held_for p.tables p.rows (option_map open_view (placed p.places i)) =
-    ap (λ (l : Locks). get_or l i empty) core.locks ∙ held_at p.tables p.rows p.places i in
-    sym (set-get_or p.locks i empty) ∙ ap (set p.locks i) (had ∙ sym same)
+    held_for p.tables p.rows (option_map open_view now) ≡ held_for p.tables p.rows (option_map open_view (placed p.places i)) →
+    marks_held_for p.tables p.rows (option_map open_view now) ≡ marks_held_for p.tables p.rows (option_map open_view (placed p.places i)) → p.locks ≡ locks_with p.tables p.rows p.locks i (option_map open_view now)
+locks_stay p core i now same same_marks =
+    let rows = held_stay (held_for p.tables p.rows) refl p.locks.rows p.places (ap (λ (l : AllLocks). l.rows) core.locks) i now same in
+    let marks = held_stay (marks_held_for p.tables p.rows) refl p.locks.marks p.places (ap (λ (l : AllLocks). l.marks) core.locks) i now same_marks in
+    λ j. record { rows = rows j; marks = marks j }
 
 -- what callers see
-pub view_set : (p : Parts) → IsCore p → (kind : Kind) (halted : Bool) (i session : ℕ) (now : Option Transaction) (locks : Locks) → i + 1 ≡ session →
+pub view_set : (p : Parts) → IsCore p → (kind : Kind) (halted : Bool) (i session : ℕ) (now : Option Transaction) (locks : AllLocks) → i + 1 ≡ session →
     source_of (placing p i now p.stages locks) kind halted ≡ with_open (source_of p kind halted) session (option_map open_view now)
 view_set p core kind halted i session now locks is =
     let place : i ≡ session - 1 = omega (arith, is) in

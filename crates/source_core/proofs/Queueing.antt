@@ -122,8 +122,8 @@ module _ (c : PlaceCall) (order : ℕ) (told : option_and_then prepared_order c.
         distinct = queue_distinct p.places session p.stages.flush core.queued (omega (arith, is)) free_before core.distinct;
         grows = grows p.stages.flush session;
       })
-      p.locks (locks_stay p core i now (rw w.is refl))
-      core.no_clash
+      p.locks (locks_stay p core i now (rw w.is refl) (rw w.is refl))
+      (core.no_clash, core.no_mark_clash)
       (λ t e. stands t (same_of its t e))
     where
       same_of : (a b : Transaction) → Some a ≡ Some b → a ≡ b

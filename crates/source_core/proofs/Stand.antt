@@ -1,48 +1,55 @@
 -- What is known of the transactions of a source whose parts stand together.
-use Rattle.std.proofs.Common.{◌≡◌, ◌≢◌, ◌∙◌, sym, ap, subst, refl, ℕ, zero, suc, ◌+◌, ◌-◌, ◌<◌, ◌≤◌, List, [], ◌∷◌, length, take, drop, get_or, Bool, false, Option, Some, None, arith}
+use Rattle.std.proofs.Common.{◌≡◌, ◌≢◌, ◌∙◌, sym, ap, subst, refl, ℕ, zero, suc, ◌+◌, ◌-◌, ◌<◌, ◌≤◌, List, [], ◌∷◌, length, map, take, drop, get_or, Bool, false, Option, Some, None, arith}
 use Rattle.std.specs.Prelude.{slice_get}
 use Rattle.std.specs.Option.{option_map, option_map_or, option_and_then, IsSome}
 use Rattle.std.proofs.lemmas.List.{length-drop, length-map}
 use Rattle.std.specs.FinMap.{empty}
 use Rattle.std.proofs.Math.ListN.{get_or-map}
-use Rattle.schema.specs.declared.Table.{Table}
 use Rattle.schema.specs.Rows.{conflicts}
 use Rattle.schema.proofs.Lists.{get_behind}
-use Rattle.rows.specs.Database.{Database, writes, kin, effect, touched_by}
+use Rattle.rows.specs.Database.{writes, kin, marks, effect, touched_by}
 use Rattle.store_trait.specs.Batch.{put_batch}
 use Rattle.record_codec.specs.Log.{after}
 use Rattle.record_codec.specs.declared.records.Record.{Record}
-use Rattle.row_locks.specs.Locks.{Locks, held_by, holding}
+use Rattle.row_locks.specs.Locks.{Holding, Locks, AllLocks, held_by, holding}
 use Rattle.row_locks.proofs.Holders.{holders_do_not_conflict}
 use Rattle.source_core.specs.declared.transaction.Transaction.{Transaction}
 use Rattle.tracker_trait.specs.Kind.{Kind}
-use Rattle.source_core.specs.Source.{Source, Open, EachApplies, IsSound, open_of, held_for, locks_over}
+use Rattle.source_core.specs.Source.{Source, Open, EachApplies, IsSound, open_of, held_for, marks_held_for}
 use Rattle.source_core.specs.Core.{Parts, IsCore, IsFlushedAs, AreFlushed, open_view, sessions_view, source_of, placed}
 
--- what the session of a place holds
-pub held_at : (ts : List Table) (rows : Database) (places : List (Option Transaction)) (i : ℕ) →
-    get_or (locks_over ts rows (sessions_view places)) i empty ≡ held_for ts rows (option_map open_view (placed places i))
-held_at ts rows places i =
-    get_or-map (held_for ts rows) (sessions_view places) i None
-    ∙ ap (held_for ts rows) (get_or-map (option_map open_view) places i None)
+-- what the session of a place holds, of rows or of marks
+pub held_at : (held : Option Open → Holding) (places : List (Option Transaction)) (i : ℕ) → get_or (map held (sessions_view places)) i (held None) ≡ held (option_map open_view (placed places i))
+held_at held places i =
+    get_or-map held (sessions_view places) i None
+    ∙ ap held (get_or-map (option_map open_view) places i None)
 
-pub held_by_place : (p : Parts) → IsCore p → (i : ℕ) (t : Transaction) → placed p.places i ≡ Some t → held_by p.locks (i + 1) ≡ holding (writes t.overlay.changes) (kin p.tables t.overlay.changes p.rows)
-held_by_place p core i t at =
-    ap (λ (l : Locks). held_by l (i + 1)) core.locks
-    ∙ ap (λ n. get_or (locks_over p.tables p.rows (sessions_view p.places)) n empty) (back i)
-    ∙ held_at p.tables p.rows p.places i
-    ∙ ap (λ o. held_for p.tables p.rows (option_map open_view o)) at
+by_place : (held : Option Open → Holding) → held None ≡ empty → (locks : Locks) (places : List (Option Transaction)) → locks ≡ map held (sessions_view places) → (i : ℕ) (t : Transaction) → placed places i ≡ Some t →
+    held_by locks (i + 1) ≡ held (Some (open_view t))
+by_place held none locks places are i t at =
+    ap (λ (l : Locks). held_by l (i + 1)) are
+    ∙ ap (λ n. get_or (map held (sessions_view places)) n empty) (back i)
+    ∙ ap (get_or (map held (sessions_view places)) i) (sym none)
+    ∙ held_at held places i
+    ∙ ap (λ o. held (option_map open_view o)) at
   where
     back : (i : ℕ) → i + 1 - 1 ≡ i
     back i = omega arith
+
+pub held_by_place : (p : Parts) → IsCore p → (i : ℕ) (t : Transaction) → placed p.places i ≡ Some t → held_by p.locks.rows (i + 1) ≡ holding (writes t.overlay.changes) (kin p.tables t.overlay.changes p.rows)
+held_by_place p core i t at = by_place (held_for p.tables p.rows) refl p.locks.rows p.places (ap (λ (l : AllLocks). l.rows) core.locks) i t at
+
+pub marks_held_by_place : (p : Parts) → IsCore p → (i : ℕ) (t : Transaction) → placed p.places i ≡ Some t → held_by p.locks.marks (i + 1) ≡ holding (marks p.tables t.overlay.changes p.rows) []
+marks_held_by_place p core i t at = by_place (marks_held_for p.tables p.rows) refl p.locks.marks p.places (ap (λ (l : AllLocks). l.marks) core.locks) i t at
 
 -- the transactions of two sessions do not conflict
 pub apart : (p : Parts) → IsCore p → (i j : ℕ) (t u : Transaction) → i ≢ j → placed p.places i ≡ Some t → placed p.places j ≡ Some u →
     conflicts (touched_by p.tables t.overlay.changes p.rows) (touched_by p.tables u.overlay.changes p.rows) ≡ false
 apart p core i j t u ne at there =
-    holders_do_not_conflict p.locks core.no_clash (i + 1) (j + 1)
-    (writes t.overlay.changes) (kin p.tables t.overlay.changes p.rows) (writes u.overlay.changes) (kin p.tables u.overlay.changes p.rows) (omega arith) (omega arith) (λ e. ne (omega (arith, e)))
-    (held_by_place p core i t at) (held_by_place p core j u there)
+    holders_do_not_conflict p.locks core.no_clash core.no_mark_clash (i + 1) (j + 1)
+    (writes t.overlay.changes) (kin p.tables t.overlay.changes p.rows) (marks p.tables t.overlay.changes p.rows)
+    (writes u.overlay.changes) (kin p.tables u.overlay.changes p.rows) (marks p.tables u.overlay.changes p.rows) (omega arith) (omega arith) (λ e. ne (omega (arith, e)))
+    (held_by_place p core i t at) (marks_held_by_place p core i t at) (held_by_place p core j u there) (marks_held_by_place p core j u there)
 
 -- a record of these, and the session that it came from
 record At (p : Parts) (first : ℕ) (log : List Record) (owners : List ℕ) (i : ℕ) : Type 0 where

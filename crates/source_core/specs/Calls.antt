@@ -23,7 +23,7 @@ use Rattle.log_index.specs.Footprint.{footprint_of}
 use Rattle.row_locks.specs.declared.Mode.TheVariants.{Share, Exclusive}
 use Rattle.commit_stages.specs.Queues.{sizes_of}
 use Rattle.tracker_trait.specs.Parent.{dependency_of}
-use Rattle.source_core.specs.Source.{Source, Open, is_session, open_of, changes_of, session_rows, is_locked, entry_of, entries_of}
+use Rattle.source_core.specs.Source.{Source, Open, is_session, open_of, changes_of, session_rows, is_locked, is_mark_locked, entry_of, entries_of}
 pub use Rattle.source_core.specs.Steps.{cause}
 use Rattle.source_core.specs.Steps.{rows_fault}
 
@@ -65,11 +65,11 @@ change_fault s session change later =
     (shape_fault s.tables change (cause (nat_le 1024 (length (changes_of s session))) TooManyChanges later)))
 
 -- A row that another session holds is refused before the rows are looked at; then the rows are those that the session
--- sees: the committed ones with its own changes.
+-- sees: the committed ones with its own changes. The marks of the change come last.
 abbrev pub write_fault : Source → ℕ → Change → Option SourceFault
 write_fault s session change =
     change_fault s session change (cause (is_locked s session (target change) Exclusive) RowLocked
-    (option_map_or (λ db. rows_fault s.tables db (λ row. is_locked s session row Share) change) (session_rows s session) None))
+    (option_map_or (λ db. rows_fault s.tables db (λ row. is_locked s session row Share) (is_mark_locked s session) change) (session_rows s session) None))
 
 abbrev pub written : Source → ℕ → Change → Source
 written s session change = with_open s session (Some (record { changes = changes_of s session ++ change ∷ []; phase = Active }))
@@ -161,7 +161,7 @@ pub record IsNextRecord (s : Source) (before : List Seen) (session : ℕ) (made 
   pub gno : made.gno ≡ length before + 1
   pub sequence : made.sequence ≡ length before + 1
   pub changes : made.changes ≡ t.changes
-  pub parent : made.parent ≡ dependency_of s.kind s.tables before (footprint_of s.tables (writes made.changes) made.refs) session (parent_of_phase t.phase)
+  pub parent : made.parent ≡ dependency_of s.kind s.tables before (footprint_of s.tables (writes made.changes) made.refs made.marks) session (parent_of_phase t.phase)
 
 -- one record for each of these sessions, in their order, the first behind this log and each of the others behind the one
 -- before it
@@ -185,10 +185,6 @@ pub record Flushes (old : Source) (group : GroupValue) (new : Source) : Type 0 w
   pub group_of : codec.AreRecordsOf group records
 
 -- synced
-
--- how many records a group has
-abbrev pub size_of : GroupValue → ℕ
-size_of group = group.last + 1 - group.first
 
 -- The group is the oldest unsynced one, as it was flushed: its records are those of the log from behind the synced
 -- ones to its last, and these are as many as were flushed together.

@@ -5,7 +5,7 @@ use Rattle.schema.specs.declared.Table.{Table}
 use Rattle.rows.specs.Database.{Database}
 use Rattle.overlay.specs.Pending.{Pending, none_pending}
 use Rattle.overlay.specs.Joining.{EachFollows, AllApart}
-use Rattle.row_locks.specs.Locks.{Locks, released}
+use Rattle.row_locks.specs.Locks.{AllLocks, released_all}
 use Rattle.source_core.specs.declared.transaction.Transaction.{Transaction}
 use Rattle.source_core.specs.Calls.{is_flushed_by}
 use Rattle.source_core.specs.Core.{open_view, placed}
@@ -24,9 +24,9 @@ cleared [] places = places
 cleared (session ∷ sessions) places = cleared sessions (slice_set places (session - 1) None)
 
 -- the locks once these sessions gave theirs up, one after another
-abbrev pub all_released : List ℕ → Locks → Locks
+abbrev pub all_released : List ℕ → AllLocks → AllLocks
 all_released [] locks = locks
-all_released (session ∷ sessions) locks = all_released sessions (released locks session)
+all_released (session ∷ sessions) locks = all_released sessions (released_all locks session)
 
 -- what the transaction of a place has pending
 abbrev pub pending_in : Option Transaction → Pending

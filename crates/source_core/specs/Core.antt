@@ -8,18 +8,20 @@ use Rattle.schema.specs.declared.Table.{Table}
 use Rattle.schema.specs.Rows.{SameRows}
 use Rattle.schema.specs.Covering.{Covers}
 use Rattle.rows.specs.declared.Change.{Change}
-use Rattle.rows.specs.Database.{Database, kin, LeavesNoOrphan, touched_by}
+use Rattle.rows.specs.Database.{Database, kin, marks, LeavesNoOrphan, touched_by}
 use Rattle.store_trait.specs.Batch.{Entry, put_batch}
 use Rattle.store_trait.specs.Fits.{Fits}
 use Rattle.overlay.specs.Pending.{Pending, none_pending, pushed}
 use Rattle.overlay.specs.Follows.{Follows}
 use Rattle.overlay.specs.declared.step.Step.{Step}
-use Rattle.overlay.specs.Step.{kin_of}
+use Rattle.overlay.specs.Step.{kin_of, marks_of}
 use Rattle.record_codec.specs.declared.records.Record.{Record}
 use Rattle.record_codec.specs.Log.{after, place_of, IsLegalLog, AreShaped}
 use Rattle.log_index.specs.declared.Entry.{Entry as Seen}
 use Rattle.commit_stages.specs.Queues.{Queues, AreSizes}
-use Rattle.row_locks.specs.Locks.{Locks, NoClash}
+use Rattle.row_index.specs.Keys.{Keys, Indexes}
+use Rattle.row_index.specs.Counts.{Counts, CountsChildren}
+use Rattle.row_locks.specs.Locks.{AllLocks, NoClash}
 use Rattle.tracker_trait.specs.History.{last_of}
 use Rattle.tracker_trait.specs.Kind.{Kind}
 use Rattle.source_core.specs.declared.transaction.Phase.{Phase}
@@ -37,11 +39,13 @@ open_view t = record { changes = t.overlay.changes; phase = t.phase }
 abbrev pub sessions_view : List (Option Transaction) → List (Option Open)
 sessions_view places = map (option_map open_view) places
 
--- what a source keeps, but for what its tracker keeps: the rows are those of its store, and the entries are what trackers
--- see of the log
+-- what a source keeps, but for what its tracker keeps: the rows are those of its store, with the key of the row that has each mark and
+-- how many children each row has, and the entries are what trackers see of the log
 pub record Parts : Type 0 where
   pub tables : List Table
   pub rows : Database
+  pub index : Keys
+  pub children : Counts
   pub base : List Entry
   pub limit : ℕ
   pub log : List Record
@@ -53,7 +57,7 @@ pub record Parts : Type 0 where
   pub places : List (Option Transaction)
   -- the sessions that wait, by what they wait for
   pub stages : Queues
-  pub locks : Locks
+  pub locks : AllLocks
 
 abbrev pub source_of : Parts → Kind → Bool → Source
 source_of p kind halted = record {
@@ -85,9 +89,9 @@ pub record Applies (ts : List Table) (rows : Database) (pending : Pending) : Typ
   pub few : length pending.changes ≤ 1024
   pub no_orphan : LeavesNoOrphan ts pending.changes rows
 
--- the transaction's kin are those of its changes, as they are applied to the committed rows
+-- the transaction's kin and marks are those of its changes, as they are applied to the committed rows
 abbrev pub RefersTo : List Table → Database → Transaction → Type 0
-RefersTo ts rows t = t.kin ≡ kin ts t.overlay.changes rows
+RefersTo ts rows t = (t.kin ≡ kin ts t.overlay.changes rows) × (t.marks ≡ marks ts t.overlay.changes rows)
 
 -- A transaction of this session is prepared: its order parent was committed then and covers it in the whole log, and
 -- is not before the session's last record.
@@ -118,6 +122,7 @@ pub record IsFlushedAs (ts : List Table) (rows : Database) (places : List (Optio
   pub phase : t.phase ≡ Flushed number
   pub changes : made.changes ≡ t.overlay.changes
   pub refs : SameRows made.refs (kin ts t.overlay.changes rows)
+  pub marks_are : SameRows made.marks (marks ts t.overlay.changes rows)
 
 -- these records, the first of this number, are those of the transactions in their sessions' places
 abbrev pub AreFlushed : List Table → Database → List (Option Transaction) → ℕ → List Record → List ℕ → Type 0
@@ -147,17 +152,19 @@ pub record IsTrackedLog (ts : List Table) (base : List Entry) (log : List Record
   pub owned : length owners ≡ length log
   pub seen : entries ≡ entries_of ts log owners
 
--- The store has the rows after the committed records, which the schema allows.
-pub record IsStored (ts : List Table) (base : List Entry) (log : List Record) (committed : ℕ) (rows : Database) : Type 0 where
+-- The store has the rows after the committed records, which the schema allows; index and counts are those of these rows.
+pub record IsStored (ts : List Table) (base : List Entry) (log : List Record) (committed : ℕ) (rows : Database) (index : Keys) (children : Counts) : Type 0 where
   pub rows_are : after ts (put_batch base empty) (take committed log) ≡ Some rows
   pub fits : Fits ts rows
+  pub indexed : Indexes ts rows index
+  pub counted : CountsChildren ts rows children
 
--- Each open transaction applies to the committed rows, refers to the kin of its changes there, and holds its rows and their
--- kin; no two sessions clash. The records that are not committed are those of the flushed transactions, and the queue those that
+-- Each open transaction applies to the committed rows, refers to the kin and the marks of its changes there, and holds its rows,
+-- their kin and its marks; no two sessions clash, neither by rows nor by marks. The records that are not committed are those of the flushed transactions, and the queue those that
 -- are queued, each once. The unsynced ones are those of the groups.
 pub record IsCore (p : Parts) : Type 0 where
   pub logged : IsTrackedLog p.tables p.base p.log p.owners p.entries
-  pub stored : IsStored p.tables p.base p.log p.committed p.rows
+  pub stored : IsStored p.tables p.base p.log p.committed p.rows p.index p.children
   pub few : length p.log + length p.stages.flush ≤ p.limit
   pub bound : p.limit < 2 ^ 63
   pub synced_within : p.synced ≤ length p.log
@@ -165,7 +172,8 @@ pub record IsCore (p : Parts) : Type 0 where
   pub grouped : AreSizes p.stages.sizes (length p.log - p.synced)
   pub sessions : length p.places ≡ 256
   pub locks : p.locks ≡ locks_over p.tables p.rows (sessions_view p.places)
-  pub no_clash : NoClash p.locks
+  pub no_clash : NoClash p.locks.rows
+  pub no_mark_clash : NoClash p.locks.marks
   pub applies : (i : ℕ) (t : Transaction) → placed p.places i ≡ Some t → Applies p.tables p.rows t.overlay
   pub refers : (i : ℕ) (t : Transaction) → placed p.places i ≡ Some t → RefersTo p.tables p.rows t
   pub stands : (i : ℕ) (t : Transaction) → placed p.places i ≡ Some t → StandsAs p (i + 1) t.overlay.changes t.phase
@@ -187,7 +195,7 @@ pub record Holds (p : Parts) (IsSo : Type 0) : Type 0 where
 
 -- a transaction without changes
 abbrev pub new_transaction : Transaction
-new_transaction = record { overlay = none_pending; kin = []; phase = Active }
+new_transaction = record { overlay = none_pending; kin = []; marks = []; phase = Active }
 
 -- the transaction in another phase
 abbrev pub with_phase : Phase → Transaction → Transaction
@@ -196,7 +204,7 @@ with_phase phase t = record t { phase = phase }
 -- the transaction with one more change, which does so to its row
 abbrev pub with_change : Option Transaction → Change → Step → Option Transaction
 with_change None change step = None
-with_change (Some t) change step = Some (record t { overlay = pushed t.overlay change step.left; kin = t.kin ++ kin_of step })
+with_change (Some t) change step = Some (record t { overlay = pushed t.overlay change step.left; kin = t.kin ++ kin_of step; marks = t.marks ++ marks_of step })
 
 -- the order parent of a prepared transaction
 abbrev pub prepared_order : Transaction → Option ℕ

@@ -1,7 +1,7 @@
 -- What a refusal of the source is told as.
 use Rattle.std.specs.Prelude.{ℕ, List, codes}
 use Rattle.source_core.specs.declared.fault.SourceFault.{SourceFault}
-use Rattle.source_core.specs.declared.fault.SourceFault.TheVariants.{NoSession, AlreadyOpen, NotActive, NoTable, WrongColumns, RowLocked, RowExists, NoRow, NoParent, HasChild, TooManyChanges, Halted, Memory, NotPrepared, Exhausted}
+use Rattle.source_core.specs.declared.fault.SourceFault.TheVariants.{NoSession, AlreadyOpen, NotActive, NoTable, WrongColumns, RowLocked, RowExists, NoRow, NoParent, HasChild, TooManyChanges, Halted, Memory, NotPrepared, Exhausted, Duplicate}
 
 -- its number and name
 abbrev pub fault_text : SourceFault → List ℕ
@@ -20,3 +20,4 @@ fault_text Halted = codes "S12 Halted"
 fault_text Memory = codes "S13 Memory"
 fault_text NotPrepared = codes "S14 NotPrepared"
 fault_text Exhausted = codes "S15 Exhausted"
+fault_text Duplicate = codes "S16 Duplicate"

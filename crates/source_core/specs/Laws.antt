@@ -5,10 +5,10 @@ use Rattle.schema.specs.Rows.{Touched}
 use Rattle.schema.specs.Covering.{Covers}
 use Rattle.rows.specs.Database.{Database}
 use Rattle.record_codec.specs.declared.records.Record.{Record}
-use Rattle.record_codec.specs.Group.{GroupValue}
+use Rattle.record_codec.specs.Group.{GroupValue, size_of}
 use Rattle.record_codec.specs.Log.{place_of, IsLegalLog}
 use Rattle.source_core.specs.Source.{Source, IsSound}
-use Rattle.source_core.specs.Calls.{Flushes, IsOldest, size_of}
+use Rattle.source_core.specs.Calls.{Flushes, IsOldest}
 
 -- the number of records of a legal log is a parent that covers all of them
 abbrev pub LengthCovers : Type 0

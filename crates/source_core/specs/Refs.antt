@@ -1,4 +1,4 @@
--- The refs of a record: the kin of its changes in order.
+-- The refs and the marks of a record: the kin and the marks of its changes, in order.
 use Rattle.std.specs.Prelude.{List, map}
 use Rattle.std.specs.FinMap.{from_entries, keys}
 use Rattle.schema.specs.declared.RowId.{RowId}

@@ -5,8 +5,9 @@ use Rattle.std.specs.List.{list_all}
 use Rattle.std.specs.FinMap.{empty, get}
 use Rattle.schema.specs.declared.Table.{Table}
 use Rattle.schema.specs.declared.RowId.{RowId}
+use Rattle.schema.specs.Rows.{Mark}
 use Rattle.rows.specs.declared.Change.{Change}
-use Rattle.rows.specs.Database.{Database, writes, kin, effect}
+use Rattle.rows.specs.Database.{Database, writes, kin, marks, effect}
 use Rattle.rows.specs.Shape.{is_shaped}
 use Rattle.store_trait.specs.Batch.{Entry}
 use Rattle.record_codec.specs.declared.records.Record.{Record}
@@ -15,7 +16,7 @@ use Rattle.log_index.specs.declared.Entry.{Entry as Seen}
 use Rattle.log_index.specs.Footprint.{footprint_of}
 use Rattle.row_locks.specs.declared.Mode.{Mode}
 use Rattle.commit_stages.specs.Queues.{AreSizes}
-use Rattle.row_locks.specs.Locks.{Holding, Locks, holding, clashes_with}
+use Rattle.row_locks.specs.Locks.{Holding, AllLocks, holding, clashes_with, mark_clashes}
 use Rattle.tracker_trait.specs.Kind.{Kind}
 use Rattle.source_core.specs.declared.transaction.Phase.{Phase}
 use Rattle.store_trait.specs.Operation.{loaded}
@@ -73,19 +74,28 @@ EachApplies s = (session : ℕ) → IsSome (session_rows s session)
 abbrev pub seen_row : Source → ℕ → RowId → Option (List ℤ)
 seen_row s session id = option_and_then (λ db. get db id) (session_rows s session)
 
--- What a session holds for its open transaction: exclusively the rows that it writes, and for sharing the kin of its changes
--- over the committed database. It holds them until the transaction ends.
+-- What a session holds of rows for its open transaction: exclusively the rows that it writes, and for sharing the kin of its
+-- changes over the committed database. It holds them until the transaction ends.
 abbrev pub held_for : List Table → Database → Option Open → Holding
 held_for ts db open_ = option_map_or (λ t. holding (writes t.changes) (kin ts t.changes db)) open_ empty
 
+-- and of marks: exclusively those of its changes over the committed database, as long
+abbrev pub marks_held_for : List Table → Database → Option Open → Holding
+marks_held_for ts db open_ = option_map_or (λ t. holding (marks ts t.changes db) []) open_ empty
+
 -- what each session holds, session 1 first
-abbrev pub locks_over : List Table → Database → List (Option Open) → Locks
-locks_over ts db sessions = map (held_for ts db) sessions
+abbrev pub locks_over : List Table → Database → List (Option Open) → AllLocks
+locks_over ts db sessions = record { rows = map (held_for ts db) sessions; marks = map (marks_held_for ts db) sessions }
 
 -- another session holds the row in a way that clashes with a lock of this mode
 abbrev pub is_locked : Source → ℕ → RowId → Mode → Bool
 is_locked s session row mode =
-    option_map_or (λ db. clashes_with (locks_over s.tables db s.sessions) session row mode) (committed_rows s) false
+    option_map_or (λ db. clashes_with (locks_over s.tables db s.sessions).rows session row mode) (committed_rows s) false
+
+-- another session holds the mark
+abbrev pub is_mark_locked : Source → ℕ → Mark → Bool
+is_mark_locked s session mark =
+    option_map_or (λ db. mark_clashes (locks_over s.tables db s.sessions) session mark) (committed_rows s) false
 
 -- a record as a tracker sees it, with the session that it came from
 abbrev pub entry_of : List Table → Record → ℕ → Seen
@@ -93,7 +103,7 @@ entry_of ts made owner = record {
   sequence = made.sequence;
   parent = made.parent;
   session = owner;
-  footprint = footprint_of ts (writes made.changes) made.refs;
+  footprint = footprint_of ts (writes made.changes) made.refs made.marks;
 }
 
 -- records as a tracker sees them, each with its session

@@ -5,12 +5,13 @@ use Rattle.std.specs.Result.{result_ok}
 use Rattle.std.specs.FinMap.{get}
 use Rattle.schema.specs.declared.Table.{Table}
 use Rattle.schema.specs.declared.RowId.{RowId}
+use Rattle.schema.specs.Rows.{Mark}
 use Rattle.rows.specs.declared.Change.{Change}
 use Rattle.rows.specs.declared.Change.TheVariants.{Insert, Update, Delete}
 use Rattle.rows.specs.declared.ChangeFault.{ChangeFault}
 use Rattle.rows.specs.Change.{changed}
 use Rattle.rows.specs.Database.{Database, target}
-use Rattle.rows.specs.Effect.{parent_stands}
+use Rattle.rows.specs.Effect.{parent_stands, value_stands}
 use Rattle.overlay.specs.declared.step.Step.{Step}
 use Rattle.overlay.specs.Step.{step_from, step_of, kin_of}
 use Rattle.overlay.specs.Children.{has_child}
@@ -18,7 +19,7 @@ use Rattle.row_locks.specs.declared.Mode.{Mode}
 use Rattle.row_locks.specs.declared.Mode.TheVariants.{Share, Exclusive}
 use Rattle.row_locks.specs.Locks.{locks_on}
 use Rattle.source_core.specs.declared.fault.SourceFault.{SourceFault}
-use Rattle.source_core.specs.declared.fault.SourceFault.TheVariants.{RowLocked, RowExists, NoRow, NoParent, HasChild}
+use Rattle.source_core.specs.declared.fault.SourceFault.TheVariants.{RowLocked, RowExists, NoRow, NoParent, HasChild, Duplicate}
 
 -- the first cause that stands
 abbrev pub cause : Bool → SourceFault → Option SourceFault → Option SourceFault
@@ -44,7 +45,7 @@ row_fault (Insert row columns) there later = cause (is_some there) RowExists lat
 row_fault (Update row named) there later = cause (is_none there) NoRow later
 row_fault (Delete row) there later = cause (is_none there) NoRow later
 
--- whether one of two rows that there may be passes a test
+-- whether one of two rows, or marks, that there may be passes a test
 abbrev pub one_of : (RowId → Bool) → Option RowId → Option RowId → Bool
 one_of test old new = option_map_or test old false || option_map_or test new false
 
@@ -54,15 +55,23 @@ deletes_parent ts (Insert row columns) db = false
 deletes_parent ts (Update row named) db = false
 deletes_parent ts (Delete row) db = has_child ts db row
 
--- the causes that come behind those of the change's own row: another session holds one of its kin in a clashing way; the
--- parent row that it gives its own is not there; it deletes a row that has a child
-abbrev pub kin_fault : List Table → Database → (RowId → Bool) → Change → Step → Option SourceFault
-kin_fault ts db locked change step =
-    cause (one_of locked step.old step.new) RowLocked (cause (not (parent_stands ts change db step.left)) NoParent (cause (deletes_parent ts change db) HasChild None))
+-- the causes that come behind those of the change's kin: another session holds one of its marks; another row has the value that
+-- it gives its own in the unique column
+abbrev pub mark_fault : List Table → Database → (Mark → Bool) → Change → Step → Option SourceFault
+mark_fault ts db locked_mark change step =
+    cause (one_of locked_mark step.gives_up step.takes) RowLocked (cause (not (value_stands ts change db step.left)) Duplicate None)
 
--- the causes that the rows of a database and the locks of others on the change's kin have, in order
-abbrev pub rows_fault : List Table → Database → (RowId → Bool) → Change → Option SourceFault
-rows_fault ts db locked change = row_fault change (get db (target change)) (kin_fault ts db locked change (step_over ts db change))
+-- the causes that come behind those of the change's own row: another session holds one of its kin in a clashing way; the
+-- parent row that it gives its own is not there; it deletes a row that has a child; and those of its marks
+abbrev pub kin_fault : List Table → Database → (RowId → Bool) → (Mark → Bool) → Change → Step → Option SourceFault
+kin_fault ts db locked locked_mark change step =
+    cause (one_of locked step.old step.new) RowLocked (cause (not (parent_stands ts change db step.left)) NoParent (cause (deletes_parent ts change db) HasChild
+    (mark_fault ts db locked_mark change step)))
+
+-- the causes that the rows of a database and the locks of others on the change's kin and marks have, in order
+abbrev pub rows_fault : List Table → Database → (RowId → Bool) → (Mark → Bool) → Change → Option SourceFault
+rows_fault ts db locked locked_mark change =
+    row_fault change (get db (target change)) (kin_fault ts db locked locked_mark change (step_over ts db change))
 
 -- the step, where there is no cause
 abbrev pub step_unless : Step → Option SourceFault → Result Step SourceFault
@@ -70,13 +79,13 @@ step_unless step None = Ok step
 step_unless step (Some fault) = Err fault
 
 -- what a change does over a database, or the first cause that refuses it, given what it does to its row
-abbrev pub stepped_by : List Table → Database → (RowId → Bool) → Change → Result Step ChangeFault → Result Step SourceFault
-stepped_by ts db locked change (Err fault) = Err (refusal change)
-stepped_by ts db locked change (Ok step) = step_unless step (kin_fault ts db locked change step)
+abbrev pub stepped_by : List Table → Database → (RowId → Bool) → (Mark → Bool) → Change → Result Step ChangeFault → Result Step SourceFault
+stepped_by ts db locked locked_mark change (Err fault) = Err (refusal change)
+stepped_by ts db locked locked_mark change (Ok step) = step_unless step (kin_fault ts db locked locked_mark change step)
 
-abbrev pub stepped : List Table → Database → (RowId → Bool) → Change → Result Step SourceFault
-stepped ts db locked change = stepped_by ts db locked change (step_of ts change (get db (target change)))
+abbrev pub stepped : List Table → Database → (RowId → Bool) → (Mark → Bool) → Change → Result Step SourceFault
+stepped ts db locked locked_mark change = stepped_by ts db locked locked_mark change (step_of ts change (get db (target change)))
 
--- the locks of a change: its row exclusively, and its kin for sharing
+-- the locks of a change on rows: its own exclusively, and its kin for sharing
 abbrev pub locks_of : Change → Step → List (RowId × Mode)
 locks_of change step = (target change, Exclusive) ∷ locks_on Share (kin_of step)

@@ -86,10 +86,12 @@ fn join_one(rows: &mut Joined, place: &Option<Transaction>) -> Result<(), Memory
 pub(crate) fn end_all(sessions: &[u16], places: &mut [Option<Transaction>], locks: &mut LockTable)
     requires each { AllByRecursion IsSession sessions.now }
     requires places { length places.old ≡ 256 }
-    requires no_clash { NoClash locks.old }
+    requires no_clash { NoClash locks.old.rows }
+    requires no_mark_clash { NoClash locks.old.marks }
     ensures places { places.new ≡ cleared sessions.now places.old }
     ensures locks { locks.new ≡ all_released sessions.now locks.old }
-    ensures no_clash { NoClash locks.new }
+    ensures no_clash { NoClash locks.new.rows }
+    ensures no_mark_clash { NoClash locks.new.marks }
 {
     for session in sessions {
         places[*session as usize - 1] = None;

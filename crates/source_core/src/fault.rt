@@ -21,7 +21,7 @@ pub enum SourceFault {
     NoTable,
     /// The number of columns is not the table's, or a column is named that the table lacks.
     WrongColumns,
-    /// Another session holds the row, or one of the change's kin, in a way that clashes.
+    /// Another session holds the row, or one of the change's kin, in a way that clashes, or one of its marks.
     RowLocked,
     /// The row is there.
     RowExists,
@@ -41,6 +41,8 @@ pub enum SourceFault {
     NotPrepared,
     /// The log and the queue have as many records as the log may have.
     Exhausted,
+    /// Another row has the value that the change gives its own in the table's unique column.
+    Duplicate,
 }
 
 impl SourceFault {
@@ -64,6 +66,7 @@ impl SourceFault {
             SourceFault::Memory => "S13 Memory",
             SourceFault::NotPrepared => "S14 NotPrepared",
             SourceFault::Exhausted => "S15 Exhausted",
+            SourceFault::Duplicate => "S16 Duplicate",
         }
     }
 }

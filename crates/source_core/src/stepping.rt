@@ -1,19 +1,27 @@
 //! What a change does to its row, and what of the schema, of the rows and of others' locks refuses it.
 
-ghost use Rattle.std.specs.Prelude.{◌≡◌, ◌≤◌, false, None, take};
+ghost use Rattle.std.specs.Prelude.{◌≡◌, ◌≤◌, false, None, Ok, take, option_and_then};
 ghost use Rattle.std.specs.Result.{result_err};
 ghost use Rattle.std.specs.Option.{option_map_or};
+ghost use Rattle.std.specs.FinMap.{get};
 ghost use Rattle.row_locks.specs.declared.Mode.TheVariants.{Share};
-ghost use Rattle.row_locks.specs.Locks.{clashes_with};
+ghost use Rattle.row_locks.specs.Locks.{clashes_with, mark_clashes};
+ghost use Rattle.rows.specs.Database.{target, NoValueTwice};
+ghost use Rattle.rows.specs.Effect.{value_stands};
+ghost use Rattle.row_index.specs.Keys.{Indexes};
+ghost use Rattle.row_index.specs.Counts.{CountsChildren};
 ghost use Rattle.overlay.specs.Pending.{seen};
+ghost use Rattle.overlay.specs.Step.{step_of};
 ghost use Rattle.source_core.specs.Calls.{shape_fault};
 ghost use Rattle.source_core.specs.Steps.{refusal as why, one_of, deletes_parent as deletes, stepped, locks_of as locks_for};
 
 use crate::fault::SourceFault;
-use overlay::{Overlay, Step, has_child, parent_holds, step_seen};
+use crate::stored::Stored;
+use overlay::{Overlay, Step, has_child, parent_holds, step_seen, value_holds};
+use row_index::Index;
 use row_locks::{LockTable, Mode};
 use rows::{Change, has_columns};
-use schema::{RowId, Schema};
+use schema::{Mark, RowId, Schema};
 use store_trait::RowStore;
 
 /// Whether the schema allows the change, whatever the rows.
@@ -30,29 +38,37 @@ pub(crate) fn check_shape(schema: &Schema, change: &Change) -> Result<(), Source
 }
 
 /// What the change does over the rows that the transaction sees, or the first cause that refuses it of those that the rows
-/// and the locks of others on its kin have. It takes no memory. The time is that of at most two look-ups in the store; of a
-/// delete also that of `has_child`.
+/// and the locks of others on its kin and its marks have. It takes no memory. The time is that of at most two look-ups in the
+/// store; of a delete also that of `has_child`; of a change that gives its row a value in a unique column also that of finding who
+/// has the value, in the index and of the transaction's own rows.
 pub(crate) fn allowed_step<S: RowStore>(
     overlay: &Overlay,
     schema: &Schema,
-    store: &S,
+    stored: &Stored<S>,
     locks: &LockTable,
     session: u16,
     change: &Change,
 ) -> Result<Step, SourceFault>
     requires least { 1 ≤ session }
     requires greatest { session ≤ 256 }
-    ensures { result ≡ stepped schema.now (seen overlay.now (S.contents store.now)) (λ row. clashes_with locks.now session row Share) change.now }
+    requires apart { NoValueTwice schema.now (S.contents stored.now.store) }
+    requires indexed { Indexes schema.now (S.contents stored.now.store) stored.now.index.keys }
+    requires counted { CountsChildren schema.now (S.contents stored.now.store) stored.now.children.counts }
+    ensures { result ≡ stepped schema.now (seen overlay.now (S.contents stored.now.store)) (λ row. clashes_with locks.now.rows session row Share) (mark_clashes locks.now session) change.now }
 {
-    let Ok(step) = step_seen(overlay, schema, store, change) else {
+    let Ok(step) = step_seen(overlay, schema, &stored.store, change) else {
         return Err(refusal(change));
     };
     if is_held(locks, session, &step) {
         Err(SourceFault::RowLocked)
-    } else if !parent_holds(overlay, schema, store, change, step.left.as_ref()) {
+    } else if !parent_holds(overlay, schema, &stored.store, change, step.left.as_ref()) {
         Err(SourceFault::NoParent)
-    } else if deletes_parent(overlay, schema, store, change) {
+    } else if deletes_parent(overlay, schema, stored, change) {
         Err(SourceFault::HasChild)
+    } else if is_taken(locks, session, &step) {
+        Err(SourceFault::RowLocked)
+    } else if !value_is_free(overlay, schema, stored, change, &step) {
+        Err(SourceFault::Duplicate)
     } else {
         Ok(step)
     }
@@ -62,7 +78,7 @@ pub(crate) fn allowed_step<S: RowStore>(
 fn is_held(locks: &LockTable, session: u16, step: &Step) -> bool
     requires least { 1 ≤ session }
     requires greatest { session ≤ 256 }
-    ensures { result ≡ one_of (λ row. clashes_with locks.now session row Share) step.now.old step.now.new }
+    ensures { result ≡ one_of (λ row. clashes_with locks.now.rows session row Share) step.now.old step.now.new }
 {
     is_row_held(locks, session, step.old) || is_row_held(locks, session, step.new)
 }
@@ -70,10 +86,30 @@ fn is_held(locks: &LockTable, session: u16, step: &Step) -> bool
 fn is_row_held(locks: &LockTable, session: u16, row: Option<RowId>) -> bool
     requires least { 1 ≤ session }
     requires greatest { session ≤ 256 }
-    ensures { result ≡ option_map_or (λ r. clashes_with locks.now session r Share) row false }
+    ensures { result ≡ option_map_or (λ r. clashes_with locks.now.rows session r Share) row false }
 {
     match row {
         Some(row) => locks.clashes(session, row, Mode::Share),
+        None => false,
+    }
+}
+
+/// Whether another session holds one of the step's marks.
+fn is_taken(locks: &LockTable, session: u16, step: &Step) -> bool
+    requires least { 1 ≤ session }
+    requires greatest { session ≤ 256 }
+    ensures { result ≡ one_of (mark_clashes locks.now session) step.now.gives_up step.now.takes }
+{
+    is_mark_held(locks, session, step.gives_up) || is_mark_held(locks, session, step.takes)
+}
+
+fn is_mark_held(locks: &LockTable, session: u16, mark: Option<Mark>) -> bool
+    requires least { 1 ≤ session }
+    requires greatest { session ≤ 256 }
+    ensures { result ≡ option_map_or (mark_clashes locks.now session) mark false }
+{
+    match mark {
+        Some(mark) => locks.clashes_mark(session, mark),
         None => false,
     }
 }
@@ -82,15 +118,43 @@ fn is_row_held(locks: &LockTable, session: u16, row: Option<RowId>) -> bool
 fn deletes_parent<S: RowStore>(
     overlay: &Overlay,
     schema: &Schema,
-    store: &S,
+    stored: &Stored<S>,
     change: &Change,
 ) -> bool
-    ensures { result ≡ deletes schema.now change.now (seen overlay.now (S.contents store.now)) }
+    requires { CountsChildren schema.now (S.contents stored.now.store) stored.now.children.counts }
+    ensures { result ≡ deletes schema.now change.now (seen overlay.now (S.contents stored.now.store)) }
 {
     match change {
         Change::Insert { .. } | Change::Update { .. } => false,
-        Change::Delete { row } => has_child(overlay, schema, store, *row),
+        Change::Delete { row } => {
+            let count = stored.children.count(*row);
+            has_child(overlay, schema, &stored.store, count, *row)
+        }
     }
+}
+
+/// Whether no other row that the transaction sees has the value that the change gives its own.
+fn value_is_free<S: RowStore>(
+    overlay: &Overlay,
+    schema: &Schema,
+    stored: &Stored<S>,
+    change: &Change,
+    step: &Step,
+) -> bool
+    requires apart { NoValueTwice schema.now (S.contents stored.now.store) }
+    requires indexed { Indexes schema.now (S.contents stored.now.store) stored.now.index.keys }
+    requires step { Ok step.now ≡ step_of schema.now change.now (get (seen overlay.now (S.contents stored.now.store)) (target change.now)) }
+    ensures { result ≡ value_stands schema.now change.now (seen overlay.now (S.contents stored.now.store)) step.now.left }
+{
+    let holder = holder_below(&stored.index, step.takes);
+    value_holds(overlay, schema, change, step.takes, holder)
+}
+
+/// The key of the committed row that has the mark that a change takes, where it takes one and there is such a row.
+fn holder_below(index: &Index, takes: Option<Mark>) -> Option<i64>
+    ensures { result ≡ option_and_then (get index.now.keys) takes }
+{
+    index.holder(takes?)
 }
 
 /// Why the change is refused where its row does not allow it.
@@ -103,7 +167,7 @@ fn refusal(change: &Change) -> SourceFault
     }
 }
 
-/// The locks of the change, the first so many of these: its row exclusively, and the step's kin for sharing.
+/// The locks of the change on rows, the first so many of these: its own exclusively, and the step's kin for sharing.
 pub(crate) fn locks_of(change: &Change, step: &Step) -> ([(RowId, Mode); 3], usize)
     ensures locks { take result.1 result.0 ≡ locks_for change.now step.now }
     ensures few { result.1 ≤ 3 }

@@ -1,6 +1,7 @@
 //! An open transaction, and the receipt that its session gets.
 
 use crate::kin::Kin;
+use crate::moved::Moved;
 use overlay::Overlay;
 use record_codec::Changes;
 
@@ -26,11 +27,12 @@ pub enum Prepared {
     Empty,
 }
 
-/// A transaction, with what its changes leave, and their kin.
+/// A transaction, with what its changes leave, their kin and their marks.
 #[derive(Debug, Drop)]
 pub struct Transaction {
     pub overlay: Overlay,
     pub kin: Kin,
+    pub marks: Moved,
     pub phase: Phase,
 }
 

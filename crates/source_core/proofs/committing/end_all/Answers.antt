@@ -23,4 +23,5 @@ loop-session-preserved c = (
   one_cleared c.args.places.now c.loop-session.places c.args.sessions.now c.loop-session.session-index c.loop-session-test.true c.loop-session.invariant.0,
   c.release_all.ensures.released ∙ one_released c.args.locks.now c.loop-session.locks c.args.sessions.now c.loop-session.session-index c.loop-session-test.true c.loop-session.invariant.1,
   c.release_all.ensures.no_clash,
+  c.release_all.ensures.no_mark_clash,
 )

@@ -7,4 +7,5 @@ abbrev pub invariant-loop-session : goal.invariant-loop-session
 invariant-loop-session l =
     (l.places ≡ cleared (take l.session-index l.sessions) l.initial.places)
     × (l.locks ≡ all_released (take l.session-index l.sessions) l.initial.locks)
-    × NoClash l.locks
+    × NoClash l.locks.rows
+    × NoClash l.locks.marks

@@ -1,0 +1,50 @@
+//! The committed rows, and what is known of them beside them.
+
+ghost use Rattle.std.specs.Prelude.{◌≡◌, OnOk, OnErr};
+ghost use Rattle.rows.specs.Database.{NoValueTwice};
+ghost use Rattle.store_trait.specs.Batch.{put_batch, IsRising};
+ghost use Rattle.row_index.specs.Keys.{Indexes};
+ghost use Rattle.row_index.specs.Counts.{CountsChildren};
+
+use row_index::{Children, Index, marks_before, parents_before};
+use schema::{Memory, Schema};
+use std::alloc::Global;
+use store_trait::{Batch, RowStore};
+
+/// The rows after the committed records, with who has each value in a unique column and how many children each row has: so a write
+/// looks up what else it would walk a table for.
+#[derive(Drop)]
+pub(crate) struct Stored<S: RowStore> {
+    pub store: S,
+    pub index: Index,
+    pub children: Children,
+}
+
+impl<S: RowStore> Stored<S> {
+    /// Puts the batch, which the index and the counts follow. All memory is taken before a row changes; where it runs out all stays
+    /// as it was, but for room that was made. With n rows in the store and b in the batch the time is b log n, and the memory that of
+    /// the marks and the parents that the batch's rows had and then have: none where no table has a unique column, or a parent.
+    pub fn put(&mut self, alloc: Global, schema: &Schema, batch: &Batch) -> Result<(), Memory>
+        requires rising { IsRising batch.now }
+        requires indexed { Indexes schema.now (S.contents self.old.store) self.old.index.keys }
+        requires counted { CountsChildren schema.now (S.contents self.old.store) self.old.children.counts }
+        requires apart { NoValueTwice schema.now (S.contents self.old.store) }
+        requires stays_apart { NoValueTwice schema.now (put_batch batch.now (S.contents self.old.store)) }
+        ensures rows { OnOk result (S.contents self.new.store ≡ put_batch batch.now (S.contents self.old.store)) }
+        ensures indexed { OnOk result (Indexes schema.now (S.contents self.new.store) self.new.index.keys) }
+        ensures counted { OnOk result (CountsChildren schema.now (S.contents self.new.store) self.new.children.counts) }
+        ensures same_rows { OnErr result (S.contents self.new.store ≡ S.contents self.old.store) }
+        ensures same_index { OnErr result (self.new.index.keys ≡ self.old.index.keys) }
+        ensures same_counts { OnErr result (self.new.children.counts ≡ self.old.children.counts) }
+    {
+        let marks = marks_before(alloc, schema, &self.store, batch)?;
+        let parents = parents_before(alloc, schema, &self.store, batch)?;
+        self.index.reserve(schema, batch)?;
+        self.children.reserve(schema, batch)?;
+        self.store.put_all(batch)?;
+        self.index.put(schema, &marks, batch);
+        let rows = self.store.len();
+        self.children.put(schema, &parents, batch, rows);
+        Ok(())
+    }
+}
