@@ -1,26 +1,33 @@
--- A record whose parent is committed looks at no row that the records between write: they conflict with it nowhere.
+-- A record whose parent is committed looks at no row that the records between write, and has no mark that they state: they conflict
+-- with it nowhere.
 use Rattle.std.proofs.Common.{◌≡◌, ◌∙◌, sym, ap, refl, ℕ, zero, suc, ◌+◌, ◌<◌, ◌≤◌, true, false, ◌||◌, inl, inr, List, [], ◌∷◌, ◌++◌, map, length, take, drop, Some, option_and_then, arith, add-zero, slice_get, get_or}
+use Rattle.std.specs.List.{AllByRecursion}
 use Rattle.std.specs.Option.{option_map}
 use Rattle.std.specs.FinMap.{get}
 use Rattle.std.proofs.lemmas.Bool.{cases_Bool, or_parts, false_from_ne_true}
 use Rattle.std.proofs.lemmas.Option.{none-some, same_Some, slice_get_within, slice_get-map, slice_get-get_or, option_and_then_some}
-use Rattle.std.proofs.lemmas.List.{length-take-le}
+use Rattle.std.proofs.lemmas.List.{length-take-le, take-take, take-append-drop}
 use Rattle.std.proofs.lemmas.List.Folds.{list_any-append}
 use Rattle.schema.specs.declared.Table.{Table}
 use Rattle.schema.specs.declared.RowId.{RowId}
 use Rattle.schema.specs.RowId.{same_row}
-use Rattle.schema.specs.Rows.{Touched, has_row, meets, conflicts}
+use Rattle.schema.specs.Rows.{Mark, Touched, has_row, meets, conflicts}
 use Rattle.schema.specs.Covering.{Covers}
-use Rattle.rows.specs.Database.{Database, effect, writes}
-use Rattle.rows.specs.Frame.{AgreeOn}
+use Rattle.rows.specs.Database.{Database, effect, writes, NoValueTwice}
+use Rattle.rows.specs.Frame.{AgreeOn, SameHolders}
+use Rattle.rows.specs.Holders.{holder_of}
 use Rattle.rows.proofs.Effect.{changes_only_writes}
 use Rattle.rows.proofs.Frame.{not_in_first}
+use Rattle.rows.proofs.Holders.{holders_are_same}
 use Rattle.store_trait.specs.Operation.{loaded}
 use Rattle.record_codec.specs.declared.records.Record.{Record}
-use Rattle.record_codec.specs.Log.{touched, place_of}
+use Rattle.record_codec.specs.Log.{after, touched, place_of}
+use Rattle.record_codec.proofs.Logs.{after-append, apart_after}
+use Rattle.record_codec.proofs.LogFrame.{unmarked_stays}
 use Rattle.executor.specs.Job.{rows_of}
 use Rattle.relay.specs.Relay.{IsAcceptable, AreAcceptable}
 use Rattle.replica_core.specs.Replica.{Replica, rows_at, working_rows}
+use Rattle.replica_core.specs.Sound.{StateMarksUpTo}
 use Rattle.replica_core.proofs.Commits.{after-next}
 
 -- ---- the records of an accepted list
@@ -63,13 +70,31 @@ no_conflict ts log i j a b h at_i at_j lt parent =
 -- the rows that a record looks at are written by none that it does not conflict with
 pub not_written : (a b : Record) (q : RowId) → conflicts (touched a) (touched b) ≡ false → has_row (rows_of b) q ≡ true → has_row (writes a.changes) q ≡ false
 not_written a b q apart is =
-    let firsts = or_parts (meets (writes a.changes) (writes b.changes) || meets (writes a.changes) b.refs) (meets (writes b.changes) a.refs) apart in
+    let rows = or_parts (meets (writes a.changes) (writes b.changes) || meets (writes a.changes) b.refs || meets (writes b.changes) a.refs) (meets a.marks b.marks) apart in
+    let firsts = or_parts (meets (writes a.changes) (writes b.changes) || meets (writes a.changes) b.refs) (meets (writes b.changes) a.refs) rows.0 in
     let parts = or_parts (meets (writes a.changes) (writes b.changes)) (meets (writes a.changes) b.refs) firsts.0 in
     let among : (has_row (writes b.changes) q || has_row b.refs q) ≡ true = sym (list_any-append (same_row q) (writes b.changes) b.refs) ∙ is in
     elim (cases_Bool (has_row (writes b.changes) q)) [
       | inl written ↦ not_in_first (writes a.changes) (writes b.changes) q parts.0 written
       | inr other ↦ not_in_first (writes a.changes) b.refs q parts.1 (ap (λ w. w || has_row b.refs q) (sym other) ∙ among)
     ]
+
+-- and the marks that it states are stated by none of these
+pub not_stated : (a b : Record) (mark : Mark) → conflicts (touched a) (touched b) ≡ false → has_row b.marks mark ≡ true → has_row a.marks mark ≡ false
+not_stated a b mark apart is =
+    let parts = or_parts (meets (writes a.changes) (writes b.changes) || meets (writes a.changes) b.refs || meets (writes b.changes) a.refs) (meets a.marks b.marks) apart in
+    not_in_first a.marks b.marks mark parts.1 is
+
+-- what holds of each of a part of a list, by its place, holds of all of the part
+all_between : {X : Type 0} (P : X → Type 0) (xs : List X) (c n : ℕ) → ((i : ℕ) (x : X) → c ≤ i → i < n → slice_get xs i ≡ Some x → P x) → AllByRecursion P (drop c (take n xs))
+all_between P [] zero zero each = tt
+all_between P [] zero (suc n) each = tt
+all_between P [] (suc c) zero each = tt
+all_between P [] (suc c) (suc n) each = tt
+all_between P (x ∷ xs) zero zero each = tt
+all_between P (x ∷ xs) zero (suc n) each = (each zero x (omega arith) (omega arith) refl, all_between P xs zero n (λ i y low high got. each (suc i) y (omega arith) (omega arith) got))
+all_between P (x ∷ xs) (suc c) zero each = tt
+all_between P (x ∷ xs) (suc c) (suc n) each = all_between P xs c n (λ i y low high got. each (suc i) y (omega arith) (omega arith) got)
 
 -- ---- what the accepted records leave
 
@@ -91,3 +116,29 @@ rows_stay r j (suc d) rec a b h got parent within is_a is_b q looks =
     (λ mid one last.
     rows_stay r j d rec a mid h got parent (omega arith) is_a one q looks
     ∙ sym (changes_only_writes r.tables before.changes mid b q last (not_written before rec q apart looks)))
+
+-- the records behind the committed ones lead from the working rows to those at a later place
+pub leads : (r : Replica) (n : ℕ) (a b : Database) → r.committed ≤ n → working_rows r ≡ Some a → rows_at r n ≡ Some b → after r.tables a (drop r.committed (take n r.accepted)) ≡ Some b
+leads r n a b behind is_a is_b =
+    let front = take r.committed r.accepted in
+    let part = drop r.committed (take n r.accepted) in
+    let whole : front ++ part ≡ take n r.accepted =
+    ap (λ l. l ++ part) (sym (take-take r.committed n r.accepted behind)) ∙ take-append-drop r.committed (take n r.accepted) in
+    ap (option_and_then (λ db. after r.tables db part)) (sym is_a)
+    ∙ sym (after-append r.tables (loaded r.base) front part)
+    ∙ ap (after r.tables (loaded r.base)) whole ∙ is_b
+
+-- no two rows of a table have one value in its unique column, wherever the accepted records lead
+pub apart_at : (r : Replica) (n : ℕ) (db : Database) → NoValueTwice r.tables (loaded r.base) → rows_at r n ≡ Some db → NoValueTwice r.tables db
+apart_at r n db apart is = apart_after r.tables (loaded r.base) db (take n r.accepted) apart is
+
+-- so the holders of its marks are the same there too, where the records that lead there state their true marks
+pub holders_stay : (r : Replica) (j n : ℕ) (rec : Record) (a b : Database) → AreAcceptable r.tables r.accepted → NoValueTwice r.tables (loaded r.base) → slice_get r.accepted j ≡ Some rec → rec.parent ≤ r.committed → r.committed ≤ n → n ≤ j → working_rows r ≡ Some a → rows_at r n ≡ Some b → StateMarksUpTo r n →
+    (mark : Mark) → has_row rec.marks mark ≡ true → holder_of r.tables a mark ≡ holder_of r.tables b mark
+holders_stay r j n rec a b h apart got parent behind within is_a is_b stated =
+    let part = drop r.committed (take n r.accepted) in
+    let same : SameHolders r.tables rec.marks a b = λ mark has q.
+    sym (unmarked_stays r.tables a b part mark (leads r n a b behind is_a is_b) (stated a is_a)
+    (all_between (λ before. has_row before.marks mark ≡ false) r.accepted r.committed n (λ i before low high at.
+    not_stated before rec mark (no_conflict r.tables r.accepted i j before rec h at got (omega arith) (omega arith)) has)) q) in
+    (holders_are_same r.tables rec.marks a b (apart_at r r.committed a apart is_a) (apart_at r n b apart is_b)).0 same

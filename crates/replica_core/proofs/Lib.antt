@@ -2,6 +2,7 @@ pub mod Commits
 pub mod Apart
 pub mod Jobs
 pub mod Kept
+pub mod LookedUp
 pub mod Steps
 pub mod Copies
 pub mod Handing

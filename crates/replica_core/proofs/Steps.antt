@@ -1,5 +1,6 @@
 -- What a replica keeps, as each call leaves its parts.
 use Rattle.std.proofs.Common.{◌≡◌, ◌∙◌, sym, ap, subst, refl, ℕ, ◌+◌, ◌-◌, ◌<◌, ◌≤◌, ◌^◌, ◌⊎◌, inl, inr, Bool, true, false, not, true≢false, ◌&&◌, ◌||◌, List, [], ◌∷◌, ◌++◌, map, length, drop, Option, Some, None, is_some, Result, Ok, Err, IfOk, OnErr, IsErrOf, IsErrAnd, arith, slice_get, slice_set, get_or, if◌then◌else◌, nat_le, nat_lt}
+use Rattle.std.specs.Map.{keys_of}
 use Rattle.std.specs.Option.{option_and_then, option_map_or, option_or}
 use Rattle.std.proofs.lemmas.Bool.{and_parts, or_parts, ltb-true, leb-true, leb-false}
 use Rattle.std.proofs.lemmas.Option.{none-some, same_Some, option_and_then_some}
@@ -16,7 +17,7 @@ use Rattle.record_codec.specs.declared.records.Record.{Record}
 use Rattle.executor.specs.declared.Job.{Job}
 use Rattle.executor.specs.declared.Outcome.{Outcome}
 use Rattle.executor.specs.declared.Outcome.TheVariants.{Output, Undefined, WrongRefs, Memory as Lacks}
-use Rattle.executor.specs.Job.{Finished, IsResult, executed, output_of}
+use Rattle.executor.specs.Job.{Finished, IsResult, output_of}
 use Rattle.relay.specs.declared.ReplicaFault.{ReplicaFault}
 use Rattle.relay.specs.declared.ReplicaFault.TheVariants.{Stopped, Stranger, Double, Memory as NoMemory}
 use Rattle.relay.specs.declared.Received.{Received}
@@ -25,12 +26,14 @@ use Rattle.relay.specs.Relay as relay
 use Rattle.relay.specs.Relay.{IsAcceptable, AreAcceptable}
 use Rattle.relay.proofs.Acceptable.{next_is_acceptable}
 use Rattle.relay.proofs.Judged.{accepts_the_acceptable}
+use Rattle.row_index.specs.Keys.{Keys, marks_at, moved}
 use Rattle.scheduler.specs.CommittedSet.{CommittedSet, all_up_to}
 use Rattle.commit_order.specs.Turns.{Line, result_at, entered, with_result, turn}
 use Rattle.replica_core.specs.Replica.{Replica, dispatched, job_of}
 use Rattle.replica_core.specs.Sound.{IsUnderWay}
 use Rattle.replica_core.specs.Calls.{relay_of, is_eligible, finish_fault, IsHandedOut, with_finished, next_commit, with_published}
-use Rattle.replica_core.specs.Core.{StandAtLowWater, IsTaken, turn_output, TakesTurn, IsJudged}
+use Rattle.replica_core.specs.declared.dispatching.HandedOut.{HandedOut}
+use Rattle.replica_core.specs.Core.{StandAtLowWater, IsTaken, kept_of, turn_output, TakesTurn, IsJudged}
 use Rattle.replica_core.proofs.Apart.{place_acceptable}
 use Rattle.replica_core.proofs.Kept.{IsNext, taken_within, kept_accepted, kept_dispatched, kept_finished, kept_committed, kept_published, length_places}
 
@@ -46,8 +49,8 @@ few_accepted ts (x ∷ xs) h =
     let bound = is.bound in
     omega arith
 
-pub few_dispatched : (r : Replica) (set : CommittedSet) (line : Line) (inputs : List (List Entry)) (rows : Database) (ops : List Op) → StandAtLowWater r set line inputs rows ops → dispatched r < 2 ^ 63
-few_dispatched r set line inputs rows ops h = let few = few_accepted r.tables r.accepted h.log.acceptable in let all = h.dispatched in omega arith
+pub few_dispatched : (r : Replica) (set : CommittedSet) (line : Line) (handed : List HandedOut) (rows : Database) (keys : Keys) (ops : List Op) → StandAtLowWater r set line handed rows keys ops → dispatched r < 2 ^ 63
+few_dispatched r set line handed rows keys ops h = let few = few_accepted r.tables r.accepted h.log.acceptable in let all = h.dispatched in omega arith
 
 -- ---- answers
 
@@ -103,35 +106,35 @@ abbrev with_line : Replica → Line → Replica
 with_line r line = record r { under_way = map is_some line.places }
 
 -- the places of a replica are those of its line
-as_line : (r : Replica) (set : CommittedSet) (line : Line) (inputs : List (List Entry)) (rows : Database) (ops : List Op) → StandAtLowWater r set line inputs rows ops → StandAtLowWater (with_line r line) set line inputs rows ops
-as_line r set line inputs rows ops h = subst (λ (u : List Bool). StandAtLowWater (record r { under_way = u }) set line inputs rows ops) h.places h
+as_line : (r : Replica) (set : CommittedSet) (line : Line) (handed : List HandedOut) (rows : Database) (keys : Keys) (ops : List Op) → StandAtLowWater r set line handed rows keys ops → StandAtLowWater (with_line r line) set line handed rows keys ops
+as_line r set line handed rows keys ops h = subst (λ (u : List Bool). StandAtLowWater (record r { under_way = u }) set line handed rows keys ops) h.places h
 
-module _ (r : Replica) (set : CommittedSet) (line : Line) (inputs : List (List Entry)) (rows : Database) (ops : List Op) where
-  pub received_kept : (from : List ℕ) (new : Record) (result : Result Received ReplicaFault) (left : relay.Relay) → StandAtLowWater r set line inputs rows ops → (IsErrOf result NoMemory ⊎ (result ≡ relay.received (relay_of r) from new)) → IfOk result (λ answer. left ≡ relay.left_by_receive (relay_of r) new answer) → OnErr result (left ≡ relay_of r) → StandAtLowWater (with_relay r left) set line inputs rows ops
-  received_kept from new (Err fault) left h answer ok err = subst (λ (v : relay.Relay). StandAtLowWater (with_relay r v) set line inputs rows ops) (sym err) h
-  received_kept from new (Ok Skipped) left h answer ok err = subst (λ (v : relay.Relay). StandAtLowWater (with_relay r v) set line inputs rows ops) (sym ok) h
+module _ (r : Replica) (set : CommittedSet) (line : Line) (handed : List HandedOut) (rows : Database) (keys : Keys) (ops : List Op) where
+  pub received_kept : (from : List ℕ) (new : Record) (result : Result Received ReplicaFault) (left : relay.Relay) → StandAtLowWater r set line handed rows keys ops → (IsErrOf result NoMemory ⊎ (result ≡ relay.received (relay_of r) from new)) → IfOk result (λ answer. left ≡ relay.left_by_receive (relay_of r) new answer) → OnErr result (left ≡ relay_of r) → StandAtLowWater (with_relay r left) set line handed rows keys ops
+  received_kept from new (Err fault) left h answer ok err = subst (λ (v : relay.Relay). StandAtLowWater (with_relay r v) set line handed rows keys ops) (sym err) h
+  received_kept from new (Ok Skipped) left h answer ok err = subst (λ (v : relay.Relay). StandAtLowWater (with_relay r v) set line handed rows keys ops) (sym ok) h
   received_kept from new (Ok Accepted) left h (inl lacks) ok err = cc
   received_kept from new (Ok Accepted) left h (inr is) ok err =
       let next : IsAcceptable r.tables r.accepted new = ((accepts_the_acceptable (relay_of r) from new).0 (sym is)).1 in
-      subst (λ (v : relay.Relay). StandAtLowWater (with_relay r v) set line inputs rows ops) (sym ok)
-      (kept_accepted r set line inputs rows ops new h (next_is_acceptable r.tables r.accepted new h.log.acceptable next))
+      subst (λ (v : relay.Relay). StandAtLowWater (with_relay r v) set line handed rows keys ops) (sym ok)
+      (kept_accepted r set line handed rows keys ops new h (next_is_acceptable r.tables r.accepted new h.log.acceptable next))
 
-  pub dispatched_kept : (job : Job) (line_then : Line) (inputs_then : List (List Entry)) → StandAtLowWater r set line inputs rows ops → is_eligible r ≡ true → job_of r (dispatched r + 1) ≡ Some job → line_then ≡ entered line → inputs_then ≡ inputs ++ job.input ∷ [] → StandAtLowWater (with_line r line_then) set line_then inputs_then rows ops
-  dispatched_kept job line_then inputs_then h may made is_line is_inputs =
+  pub dispatched_kept : (job : Job) (line_then : Line) (handed_then : List HandedOut) → StandAtLowWater r set line handed rows keys ops → is_eligible r ≡ true → job_of r (dispatched r + 1) ≡ Some job → line_then ≡ entered line → handed_then ≡ handed ++ kept_of job ∷ [] → StandAtLowWater (with_line r line_then) set line_then handed_then rows keys ops
+  dispatched_kept job line_then handed_then h may made is_line is_handed =
       let next = eligible_next r may in
-      let kept = as_line _ _ _ _ _ _ (kept_dispatched r set line inputs rows ops next.0 job h next.1 made) in
-      rw (is_line, is_inputs) kept
+      let kept = as_line _ _ _ _ _ _ _ (kept_dispatched r set line handed rows keys ops next.0 job h next.1 made) in
+      rw (is_line, is_handed) kept
 
   -- ---- a result that may be taken
 
   -- the place of a result, as it is seen and as it is in the line
-  place_seen : (gno : ℕ) → StandAtLowWater r set line inputs rows ops → get_or r.under_way (gno - r.committed - 1) false ≡ is_some (result_at line gno)
+  place_seen : (gno : ℕ) → StandAtLowWater r set line handed rows keys ops → get_or r.under_way (gno - r.committed - 1) false ≡ is_some (result_at line gno)
   place_seen gno h =
       let place : gno - r.committed - 1 ≡ gno - line.first = (let first = h.first in omega arith) in
       (λ i. get_or (h.places i) (place i) false) ∙ get_or-map is_some line.places (gno - line.first) None
 
   -- a result that nothing refuses is of a record that is dispatched and not committed, and none of it was taken
-  pub under_way_from : (gno : ℕ) → StandAtLowWater r set line inputs rows ops → finish_fault r gno ≡ None → IsUnderWay r gno × (result_at line gno ≡ None)
+  pub under_way_from : (gno : ℕ) → StandAtLowWater r set line handed rows keys ops → finish_fault r gno ≡ None → IsUnderWay r gno × (result_at line gno ≡ None)
   under_way_from gno h is =
       let so = no_cause r.stopped (nat_le 1 gno && nat_le gno (dispatched r)) (nat_le gno r.committed || get_or r.under_way (gno - r.committed - 1) false) is in
       let known = and_parts (nat_le 1 gno) (nat_le gno (dispatched r)) so.1 in
@@ -139,27 +142,23 @@ module _ (r : Replica) (set : CommittedSet) (line : Line) (inputs : List (List E
       ((leb-false gno r.committed free.0, leb-true gno (dispatched r) known.1), not_some (result_at line gno) (sym (place_seen gno h) ∙ free.1))
 
   taken_from : (result : Finished) (left : List Entry) → IsHandedOut r result → IsResult result → result.outcome ≡ Output left → IsTaken (job_of r result.job.gno) result
-  taken_from result left of made is = record { job = of; left = left; output = is; applies = came result.outcome (executed result.job) made is }
-    where
-      came : (o e : Outcome) → (o ≡ Lacks) ⊎ (o ≡ e) → o ≡ Output left → e ≡ Output left
-      came o e (inl lacks) is = cc
-      came o e (inr same) is = sym same ∙ is
+  taken_from result left of made is = record { job = of; left = left; output = is; came = made }
 
-  pub finished_kept : (result : Finished) (left : List Entry) (line_then : Line) → StandAtLowWater r set line inputs rows ops → finish_fault r result.job.gno ≡ None → IsHandedOut r result → IsResult result → result.outcome ≡ Output left → line_then ≡ with_result line result → StandAtLowWater (with_line r line_then) set line_then inputs rows ops
+  pub finished_kept : (result : Finished) (left : List Entry) (line_then : Line) → StandAtLowWater r set line handed rows keys ops → finish_fault r result.job.gno ≡ None → IsHandedOut r result → IsResult result → result.outcome ≡ Output left → line_then ≡ with_result line result → StandAtLowWater (with_line r line_then) set line_then handed rows keys ops
   finished_kept result left line_then h free of made is is_line =
       let under = under_way_from result.job.gno h free in
-      let kept = as_line _ _ _ _ _ _ (kept_finished r set line inputs rows ops result.job.gno result h under.0 refl (taken_from result left of made is)) in
+      let kept = as_line _ _ _ _ _ _ _ (kept_finished r set line handed rows keys ops result.job.gno result h under.0 refl (taken_from result left of made is)) in
       rw is_line kept
 
-  pub finished_seen : (result : Finished) (line_then : Line) → StandAtLowWater r set line inputs rows ops → line_then ≡ with_result line result → with_line r line_then ≡ with_finished r result.job.gno
+  pub finished_seen : (result : Finished) (line_then : Line) → StandAtLowWater r set line handed rows keys ops → line_then ≡ with_result line result → with_line r line_then ≡ with_finished r result.job.gno
   finished_seen result line_then h is_line =
       let place : result.job.gno - line.first ≡ result.job.gno - r.committed - 1 = (let first = h.first in omega arith) in
       rw is_line
       (ap (λ (u : List Bool). record r { under_way = u })
       (map-set is_some line.places (result.job.gno - line.first) (Some result) ∙ (λ i. slice_set (sym h.places i) (place i) true)))
 
-  pub published_kept : (upto : ℕ) (ops_then : List Op) → StandAtLowWater r set line inputs rows ops → r.published ≤ upto → upto ≤ r.committed → ops_then ≡ drop (upto - r.published) ops → StandAtLowWater (with_published r upto) set line inputs rows ops_then
-  published_kept upto ops_then h later done is_ops = rw is_ops (kept_published r set line inputs rows ops upto h later done)
+  pub published_kept : (upto : ℕ) (ops_then : List Op) → StandAtLowWater r set line handed rows keys ops → r.published ≤ upto → upto ≤ r.committed → ops_then ≡ drop (upto - r.published) ops → StandAtLowWater (with_published r upto) set line handed rows keys ops_then
+  published_kept upto ops_then h later done is_ops = rw is_ops (kept_published r set line handed rows keys ops upto h later done)
 
   -- ---- the next commit
 
@@ -173,22 +172,24 @@ module _ (r : Replica) (set : CommittedSet) (line : Line) (inputs : List (List E
       output_is WrongRefs out = absurd (none-some rows_left out)
       output_is Lacks out = absurd (none-some rows_left out)
 
-  pub committed_kept : (gno : ℕ) (done : Bool) (set_then : CommittedSet) (line_then : Line) (inputs_then : List (List Entry)) (rows_then : Database) (ops_then : List Op) → StandAtLowWater r set line inputs rows ops → gno ≡ r.committed + 1 → done ≡ true → TakesTurn gno line rows ops (Ok done) line_then rows_then ops_then → set_then ≡ all_up_to gno → inputs_then ≡ drop 1 inputs → StandAtLowWater (record r { committed = set_then.low; under_way = map is_some line_then.places }) set_then line_then inputs_then rows_then ops_then
-  committed_kept gno false set_then line_then inputs_then rows_then ops_then h number is put is_set is_inputs = absurd (true≢false (sym is))
-  committed_kept gno true set_then line_then inputs_then rows_then ops_then h number is put is_set is_inputs =
+  pub committed_kept : (ts : List Table) (gno : ℕ) (done : Bool) (set_then : CommittedSet) (line_then : Line) (handed_then : List HandedOut) (rows_then : Database) (keys_then : Keys) (ops_then : List Op) → StandAtLowWater r set line handed rows keys ops → ts ≡ r.tables → gno ≡ r.committed + 1 → done ≡ true → TakesTurn ts gno line rows keys ops (Ok done) line_then rows_then keys_then ops_then → set_then ≡ all_up_to gno → handed_then ≡ drop 1 handed → StandAtLowWater (record r { committed = set_then.low; under_way = map is_some line_then.places }) set_then line_then handed_then rows_then keys_then ops_then
+  committed_kept ts gno false set_then line_then handed_then rows_then keys_then ops_then h tables number is put is_set is_handed = absurd (true≢false (sym is))
+  committed_kept ts gno true set_then line_then handed_then rows_then keys_then ops_then h tables number is put is_set is_handed =
       let next = turn_taken put.left put.output in
       let up : set_then ≡ all_up_to (r.committed + 1) = is_set ∙ ap all_up_to number in
       let more : ops_then ≡ ops ++ Commit (r.committed + 1) put.left ∷ [] = put.ops_are ∙ ap (λ n. ops ++ Commit n put.left ∷ []) number in
-      let kept = as_line _ _ _ _ _ _ (kept_committed r set line inputs rows ops next.0 put.left h next.1 next.2) in
-      rw (up, put.line_is, is_inputs, put.rows_are, more) kept
+      let follow : keys_then ≡ moved r.tables (marks_at r.tables (keys_of put.left) rows) put.left keys =
+      put.keys_are ∙ ap (λ (t : List Table). moved t (marks_at t (keys_of put.left) rows) put.left keys) tables in
+      let kept = as_line _ _ _ _ _ _ _ (kept_committed r set line handed rows keys ops next.0 put.left h next.1 next.2) in
+      rw (up, put.line_is, is_handed, put.rows_are, follow, more) kept
 
   -- a result whose turn has come has its rows
-  no_turn : StandAtLowWater r set line inputs rows ops → is_some (turn_output line) ≡ false → turn line ≡ None
+  no_turn : StandAtLowWater r set line handed rows keys ops → is_some (turn_output line) ≡ false → turn line ≡ None
   no_turn h none = elim (turn_cases (turn line)) [
     | inl absent ↦ absent
     | inr there ↦
         let some : 0 < length line.places = taken_within line.places 0 there.0 there.1 in
-        let lengths = length_places r set line inputs rows ops h in
+        let lengths = length_places r set line handed rows keys ops h in
         let front : r.committed + 1 - line.first ≡ 0 = (let first = h.first in omega arith) in
         let taken = h.results (r.committed + 1) there.0 (omega arith, omega arith) (ap (λ n. get_or line.places n None) front ∙ there.1) in
         let output : turn_output line ≡ Some taken.left =
@@ -200,16 +201,16 @@ module _ (r : Replica) (set : CommittedSet) (line : Line) (inputs : List (List E
       turn_cases None = inl refl
       turn_cases (Some result) = inr (result, refl)
 
-  pub none_committed : (gno : ℕ) (done : Bool) (line_then : Line) (rows_then : Database) (ops_then : List Op) → StandAtLowWater r set line inputs rows ops → done ≡ false → TakesTurn gno line rows ops (Ok done) line_then rows_then ops_then → next_commit r ≡ None
-  none_committed gno true line_then rows_then ops_then h is put = absurd (true≢false is)
-  none_committed gno false line_then rows_then ops_then h is put =
+  pub none_committed : (ts : List Table) (gno : ℕ) (done : Bool) (line_then : Line) (rows_then : Database) (keys_then : Keys) (ops_then : List Op) → StandAtLowWater r set line handed rows keys ops → done ≡ false → TakesTurn ts gno line rows keys ops (Ok done) line_then rows_then keys_then ops_then → next_commit r ≡ None
+  none_committed ts gno true line_then rows_then keys_then ops_then h is put = absurd (true≢false is)
+  none_committed ts gno false line_then rows_then keys_then ops_then h is put =
       let absent : get_or r.under_way 0 false ≡ false = (λ i. get_or (h.places i) 0 false) ∙ get_or-map is_some line.places 0 None ∙ ap is_some (no_turn h put.there) in
       ap (λ (b : Bool). if b then Some (r.committed + 1) else None) absent
 
   -- ---- what is told of a result
 
   -- the tests of a number, as they are made over the line
-  pub refusal_seen : (now : Replica) (gno low many : ℕ) → StandAtLowWater r set line inputs rows ops → r ≡ now → r.stopped ≡ None → low ≡ r.committed → many ≡ dispatched now → refusal (nat_le 1 gno && nat_le gno many) (nat_le gno low || is_some (result_at line gno)) ≡ told_as (finish_fault now gno)
+  pub refusal_seen : (now : Replica) (gno low many : ℕ) → StandAtLowWater r set line handed rows keys ops → r ≡ now → r.stopped ≡ None → low ≡ r.committed → many ≡ dispatched now → refusal (nat_le 1 gno && nat_le gno many) (nat_le gno low || is_some (result_at line gno)) ≡ told_as (finish_fault now gno)
   refusal_seen now gno low many h is running is_low is_many =
       let count : many ≡ dispatched r = is_many ∙ ap dispatched (sym is) in
       (λ i. refusal (nat_le 1 gno && nat_le gno (count i)) (nat_le gno (is_low i) || sym (place_seen gno h) i))

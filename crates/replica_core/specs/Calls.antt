@@ -81,12 +81,12 @@ finish_fault r gno =
     else if was_finished r gno then Some Double
     else None)
 
--- the result is of the job that was handed out: the record, the rows and the schema
+-- the result is of the job that was handed out: the record, the rows, the holders and the schema
 abbrev pub IsHandedOut : Replica → Finished → Type 0
 IsHandedOut r result = job_of r result.job.gno ≡ Some result.job
 
--- what is answered to a result of the job that was handed out: where its changes do not apply, or look at other parent rows
--- than its record states, the replica stops
+-- what is answered to a result of the job that was handed out: where its changes do not apply, or look at other parent rows or
+-- have other marks than its record states, the replica stops
 abbrev pub taken_as : Finished → Outcome → Result (Unit {0}) (ReplicaFault × Finished)
 taken_as result (outcomes.Output batch) = Ok tt
 taken_as result outcomes.Undefined = Err (Stopped result.job.gno, result)

@@ -6,10 +6,11 @@ use Rattle.store_trait.specs.Batch.{Entry, rows_in}
 use Rattle.store_trait.specs.Operation.{left_by, loaded}
 use Rattle.store_trait.specs.declared.Op.TheVariants.{Commit}
 use Rattle.record_codec.specs.declared.records.Record.{Record}
-use Rattle.record_codec.specs.Log.{after}
+use Rattle.record_codec.specs.Log.{after, IsLegalLog}
 use Rattle.executor.specs.declared.Job.{Job}
+use Rattle.executor.specs.Job.{Agrees}
 use Rattle.replica_core.specs.Replica.{Replica, commits_from, operations, rows_at, job_of}
-use Rattle.replica_core.specs.Sound.{IsSound, IsUnderWay}
+use Rattle.replica_core.specs.Sound.{IsSound, IsUnderWay, StateMarksUpTo}
 use Rattle.replica_core.specs.Calls.{with_accepted, dispatched_next, with_finished, stopped_at, committed_next, with_published}
 
 -- one more record that applies is one more commit, at the end
@@ -33,7 +34,7 @@ abbrev pub OperationsLeaveRows : Type 0
 OperationsLeaveRows = (ts : List Table) (base : List Entry) (accepted : List Record) (n : ℕ) (left : Database) →
     after ts (loaded base) (take n accepted) ≡ Some left → left_by (operations ts base accepted n) ≡ left
 
--- the job of a record: its number, the record, copies of the rows that it looks at, and the tables
+-- the job of a record: its number, the record, copies of the rows that it looks at, who has its marks, and the tables
 pub record IsJobOf (r : Replica) (number : ℕ) (job : Job) : Type 0 where
   pub gno : job.gno ≡ number
   pub rec : slice_get r.accepted (number - 1) ≡ Some job.rec
@@ -46,10 +47,20 @@ JobIsOfItsRecord = (r : Replica) (gno : ℕ) (job : Job) → job_of r gno ≡ So
 abbrev pub EachHasJob : Type 0
 EachHasJob = (r : Replica) (gno : ℕ) → IsSound r → 1 ≤ gno → gno ≤ length r.accepted → IsSome (job_of r gno)
 
--- the next commit, where the record applies, leaves the job of each record behind it that is dispatched
+-- The job of a record under way may be of each database that the accepted records lead to from the committed one up to its own place,
+-- where those that lead there state their true marks.
+abbrev pub JobAgrees : Type 0
+JobAgrees = (r : Replica) (gno n : ℕ) (job : Job) (db : Database) → IsSound r → IsUnderWay r gno → r.committed ≤ n → n < gno →
+    job_of r gno ≡ Some job → rows_at r n ≡ Some db → StateMarksUpTo r n → Agrees job db
+
+-- those of a legal log do
+abbrev pub LegalStatesUpTo : Type 0
+LegalStatesUpTo = (r : Replica) (n : ℕ) → IsLegalLog r.tables (loaded r.base) r.accepted → r.committed ≤ n → StateMarksUpTo r n
+
+-- the next commit, where the record applies and states its true marks, leaves the job of each record behind it that is dispatched
 abbrev pub JobStays : Type 0
 JobStays = (r : Replica) (gno : ℕ) (leaves : Database) → IsSound r → IsUnderWay r gno → r.committed + 1 < gno →
-    rows_at r (r.committed + 1) ≡ Some leaves → job_of (committed_next r) gno ≡ job_of r gno
+    rows_at r (r.committed + 1) ≡ Some leaves → StateMarksUpTo r (r.committed + 1) → job_of (committed_next r) gno ≡ job_of r gno
 
 -- and one more record accepted leaves the job of each accepted before
 abbrev pub JobStaysBehind : Type 0

@@ -3,6 +3,7 @@ use Rattle.std.specs.Prelude.{ℕ, ◌+◌, ◌-◌, Bool, List, [], ◌∷◌, 
 use Rattle.std.specs.Option.{option_map_or, option_map}
 use Rattle.schema.specs.declared.Table.{Table}
 use Rattle.rows.specs.Database.{Database, effect, writes}
+use Rattle.rows.specs.Holders.{holders_in}
 use Rattle.store_trait.specs.Batch.{Entry, rows_in}
 use Rattle.store_trait.specs.declared.Op.{Op}
 use Rattle.store_trait.specs.declared.Op.TheVariants.{Load, Commit}
@@ -42,9 +43,15 @@ rows_at r n = after r.tables (loaded r.base) (take n r.accepted)
 abbrev pub working_rows : Replica → Option Database
 working_rows r = rows_at r r.committed
 
--- the job of a record over a database: copies of the rows that it looks at
+-- the job of a record over a database: copies of the rows that it looks at, and who has each of its marks there
 abbrev pub job_over : List Table → ℕ → Record → Database → Job
-job_over ts gno rec rows = record { gno = gno; rec = rec; input = rows_in (rows_of rec) rows; schema = ts }
+job_over ts gno rec rows = record {
+  gno = gno;
+  rec = rec;
+  input = rows_in (rows_of rec) rows;
+  holders = holders_in ts rec.marks rows;
+  schema = ts;
+}
 
 -- the job of the accepted record of this number, counted from 1, over the working rows
 abbrev pub job_of : Replica → ℕ → Option Job

@@ -4,28 +4,30 @@ ghost use Rattle.std.specs.Prelude.{◌≡◌, ◌≤◌, length, drop, is_some,
 ghost use Rattle.commit_order.specs.Turns.{turn, passed};
 ghost use Rattle.replica_core.specs.Core.{turn_output, TakesTurn};
 
+use crate::stored::Stored;
 use commit_order::Turns;
 use executor::Outcome;
-use schema::Memory;
+use schema::{Memory, Schema};
 use store_trait::{Batch, Op, RowStore};
 
 /// Puts the rows of the result whose turn has come, where there is one, and keeps them as the commit of this number.
 /// Answers whether it did. Where memory runs out nothing changes.
 pub fn commit_turn<S: RowStore>(
-    store: &mut S,
+    schema: &Schema,
+    stored: &mut Stored<S>,
     waiting: &mut Vec<Op>,
     turns: &mut Turns,
     gno: u64,
 ) -> Result<bool, Memory>
-    ensures { TakesTurn gno turns.old (S.contents store.old) waiting.old.items result
-        turns.new (S.contents store.new) waiting.new.items }
+    ensures { TakesTurn schema.now gno turns.old (S.contents stored.old.store) stored.old.index.keys waiting.old.items result
+        turns.new (S.contents stored.new.store) stored.new.index.keys waiting.new.items }
 {
     let Some(batch) = ready_rows(turns) else {
         return Ok(false);
     };
     // Room first: behind the put nothing may fail.
     waiting.reserve(1)?;
-    store.put_all(batch)?;
+    stored.put(*waiting.allocator(), schema, batch)?;
     let Some(batch) = take_rows(turns) else {
         unreachable!();
     };

@@ -1,4 +1,4 @@
-//! What is handed out, and what is refused.
+//! What is handed out, what is kept of it, and what is refused.
 
 ghost use Rattle.std.specs.Prelude.{◌≡◌, ◌+◌, ◌&&◌, ◌||◌, nat_le, not, is_some, map, Ok, Err, IfOk, if◌then◌else◌};
 ghost use Rattle.commit_order.specs.Turns.{result_at};
@@ -8,15 +8,38 @@ ghost use Rattle.rows.specs.Database.{Database, writes};
 ghost use Rattle.store_trait.specs.Batch.{rows_in};
 ghost use Rattle.executor.specs.Job.{rows_of};
 ghost use Rattle.replica_core.specs.Replica.{job_over};
+ghost use Rattle.row_index.specs.Keys.{Indexes};
+ghost use Rattle.replica_core.specs.Core.{kept_of, looked_up};
 
+use crate::stored::Stored;
 use commit_order::Turns;
-use executor::Job;
+use executor::{Holders, Job};
 use record_codec::Record;
 use relay::ReplicaFault;
+use row_index::Index;
 use rows::{Change, Row};
-use schema::{Memory, RowId, Schema};
+use schema::{Mark, Memory, RowId, Schema};
 use std::alloc::Global;
 use store_trait::{Batch, RowStore};
+
+/// What is kept of a job that was handed out: its record stands among those accepted, and its schema is the relay's.
+#[derive(Debug, Drop)]
+pub struct HandedOut {
+    pub input: Batch,
+    pub holders: Holders,
+}
+
+impl HandedOut {
+    /// Copies of what the job was given of the rows.
+    pub fn of(job: &Job) -> Result<HandedOut, Memory>
+        ensures { IfOk result (λ kept. kept ≡ kept_of job.now) }
+    {
+        Ok(HandedOut {
+            input: job.input.copy()?,
+            holders: job.holders.copy()?,
+        })
+    }
+}
 
 /// Refuses where the replica is stopped.
 pub fn refuse_stopped(stopped: Option<u64>) -> Result<(), ReplicaFault>
@@ -55,14 +78,32 @@ pub fn job_over<S: RowStore>(
     alloc: Global,
     gno: u64,
     rec: &Record,
-    store: &S,
+    stored: &Stored<S>,
     schema: &Schema,
 ) -> Result<Job, Memory>
-    ensures { IfOk result (λ job. job ≡ job_over schema.now gno rec.now (S.contents store.now)) }
+    requires { Indexes schema.now (S.contents stored.now.store) stored.now.index.keys }
+    ensures { IfOk result (λ job. job ≡ job_over schema.now gno rec.now (S.contents stored.now.store)) }
 {
     let rec = rec.copy()?;
-    let input = copied_rows(alloc, row_ids(alloc, &rec)?, store)?;
-    Ok(Job::new(gno, rec, input, schema.copy()?))
+    let input = copied_rows(alloc, row_ids(alloc, &rec)?, &stored.store)?;
+    let holders = each_holder(alloc, rec.marks.list(), &stored.index)?;
+    let holders = Holders::from_rising(holders);
+    Ok(Job::new(gno, rec, input, holders, schema.copy()?))
+}
+
+/// Each of these marks with the key of the row that has it, as the index tells.
+fn each_holder(
+    alloc: Global,
+    marks: &[Mark],
+    index: &Index,
+) -> Result<Vec<(Mark, Option<i64>)>, Memory>
+    ensures { IfOk result (λ holders. holders.items ≡ looked_up index.now.keys marks.now) }
+{
+    let holders = marks
+        .iter()
+        .map(|mark| (*mark, index.holder(*mark)))
+        .collect(alloc)?;
+    Ok(holders)
 }
 
 /// The rows that the execution of the record looks at.

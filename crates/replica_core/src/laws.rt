@@ -1,6 +1,6 @@
 //! What follows from the definitions alone. Each function states a law by its contract, and does nothing.
 
-ghost use Rattle.replica_core.specs.Laws.{OneCommitMore, OneCommitEach, FirstCommits, OperationsLeaveRows, JobIsOfItsRecord, EachHasJob, JobStays, JobStaysBehind, OthersLeaveJobs};
+ghost use Rattle.replica_core.specs.Laws.{OneCommitMore, OneCommitEach, FirstCommits, OperationsLeaveRows, JobIsOfItsRecord, EachHasJob, JobAgrees, LegalStatesUpTo, JobStays, JobStaysBehind, OthersLeaveJobs};
 ghost use Rattle.replica_core.specs.Wire.{NothingTaken, TakesOn};
 
 /// The commits of records grow with the records, one each.
@@ -15,14 +15,17 @@ pub fn operations()
     ensures { OperationsLeaveRows }
 {}
 
-/// Each accepted record has a job, of the record itself.
+/// Each accepted record has a job, of the record itself. Where the records before it state their true marks, as those of a legal log
+/// do, it may be of each database that they lead to from the committed one on: what comes of it is what its record does there.
 pub fn jobs()
     ensures of_record { JobIsOfItsRecord }
     ensures each { EachHasJob }
+    ensures agrees { JobAgrees }
+    ensures legal { LegalStatesUpTo }
 {}
 
-/// The job of a record that is dispatched stays as it is, whatever is committed, accepted, dispatched, finished or
-/// published.
+/// The job of a record that is dispatched stays as it is, whatever is accepted, dispatched, finished or published, and
+/// whatever record is committed that states its true marks.
 pub fn jobs_stay()
     ensures committed { JobStays }
     ensures accepted { JobStaysBehind }

@@ -3,13 +3,15 @@
 //!
 //! A `ReplicaCore` is a plain machine that is stepped by calls; it has no handle and no thread. Contracts see it
 //! as the record `Replica` of `specs/Replica.antt`. It keeps true that its store contains the database after the
-//! committed records, and that its waiting operations are their commits past the published ones. What each call
+//! committed records, that its index tells who has each value of a unique column there, and that its waiting operations are the
+//! commits past the published ones. So no call walks a table: a job's holders are looked up. What each call
 //! answers and leaves is defined in `specs/Calls.antt`, and what is true of every replica in `specs/Sound.antt`. Nothing
 //! that is received is trusted: the parent of each accepted record covers those before it (`relay`), so the rows of a job
-//! are those of every database up to its record's place, and a record is known to apply once it was executed. A `Wire` takes
+//! are those of every database up to its record's place, and so are the holders of its marks where the records that lead there
+//! state their true marks; that a record applies, and states these, is known once it was executed. A `Wire` takes
 //! the bytes of a log in pieces and hands on their records (`specs/Wire.antt`). It stands on `relay`, `scheduler`, `executor`
-//! and `commit_order`, on `store_trait` for the rows, on `record_codec` and `record_stream` for records, and on `gtid_set` for
-//! ids.
+//! and `commit_order`, on `store_trait` for the rows, on `row_index` for who has which value, on `record_codec` and `record_stream`
+//! for records, and on `gtid_set` for ids.
 #![tactic(auto)]
 
 ghost use Rattle.std.specs.Prelude.{◌≡◌, ◌≤◌, ◌<◌, ◌⊎◌, ◌↔◌, IsTrue, IfOk, IfSome, OnOk, OnErr, IfErr, IsErrOf, IsSome, None, Err, Ok, is_some, true, false, ◌+◌, if◌then◌else◌};
@@ -25,20 +27,23 @@ ghost use Rattle.replica_core.specs.Calls.{new_over, unless_stopped, received, l
 mod committing;
 mod dispatching;
 pub mod laws;
+mod stored;
 mod wire;
 
 use commit_order::{PLACES, Turns};
 use committing::{commit_turn, drop_first};
-use dispatching::{job_over, refuse_finish, refuse_stopped};
+use dispatching::{HandedOut, job_over, refuse_finish, refuse_stopped};
 use executor::{Job, JobResult, Outcome};
 use gtid_set::GtidSet;
 use record_codec::Record;
 use relay::{Received, Relay, ReplicaFault};
+use row_index::Index;
 use scheduler::Scheduler;
 use schema::{Memory, Schema};
 use std::alloc::Global;
 use std::marker::Model;
 use store_trait::{Batch, Op, RowStore, snapshot};
+use stored::Stored;
 use uuid::Uuid;
 pub use wire::{Wire, WireFault};
 
@@ -47,12 +52,11 @@ pub use wire::{Wire, WireFault};
 pub struct ReplicaCore<S: RowStore> {
     relay: Relay,
     base: Batch,
-    store: S,
+    stored: Stored<S>,
     scheduler: Scheduler,
     turns: Turns,
-    /// Of each job that was handed out and is not committed, in order, a copy of its rows: its record stands among those
-    /// accepted, and the schema is the relay's.
-    inputs: Vec<Batch>,
+    /// What is kept of each job that was handed out and is not committed, in order.
+    handed: Vec<HandedOut>,
     workers: usize,
     published: u64,
     waiting: Vec<Op>,
@@ -70,12 +74,14 @@ impl<S: RowStore> Model for ReplicaCore<S> {
 
     ghost invariant = { λ c.
         StandAtLowWater (seen_as c.relay c.base c.scheduler c.published c.turns c.workers c.stopped)
-        c.scheduler c.turns c.inputs.items (S.contents c.store) c.waiting.items };
+        c.scheduler c.turns c.handed.items (S.contents c.stored.store) c.stored.index.keys c.waiting.items };
 }
 
 impl<S: RowStore> ReplicaCore<S> {
-    /// A replica that has accepted nothing, over the rows of the store, which takes the records of this source. The time
-    /// is that of a walk over the rows. It takes the places of 64 jobs.
+    /// A replica that has accepted nothing, over the rows of the store, which takes the records of this source. Each row has its
+    /// table's columns and its parent, and no two rows of a table may have one value in its unique column: `store_trait::fits`
+    /// tells. The time is that of a walk over the rows. The memory is that of a copy of the rows, of the places of 64 jobs, and of who
+    /// has each value of a unique column: none for that where no table has such a column.
     pub fn new(
         alloc: Global,
         schema: Schema,
@@ -92,15 +98,16 @@ impl<S: RowStore> ReplicaCore<S> {
         ensures rows { IfOk result (λ core. loaded core.base ≡ S.contents store) }
     {
         let base = snapshot(alloc, &store, &schema)?;
+        let index = Index::of(alloc, &schema, &base)?;
         let turns = Turns::new(alloc)?;
-        let inputs = Vec::with_capacity(alloc, PLACES)?;
+        let handed = Vec::with_capacity(alloc, PLACES)?;
         Ok(ReplicaCore {
             relay: Relay::new(alloc, schema, source),
             base,
-            store,
+            stored: Stored { store, index },
             scheduler: Scheduler::new(),
             turns,
-            inputs,
+            handed,
             workers,
             published: 0,
             waiting: Vec::new(alloc),
@@ -126,8 +133,9 @@ impl<S: RowStore> ReplicaCore<S> {
 
     /// Hands out the job of the next record in log order, once its parent is committed (as MySQL's `LOGICAL_CLOCK` has
     /// it) and a worker is free: fewer are dispatched and not committed than there are workers. The job has copies of the
-    /// record, of the schema and of the rows that the record writes and refers to; the core keeps one more of these rows. The
-    /// time and the memory are those of the job and of its rows once more.
+    /// record, of the schema and of the rows that the record writes and refers to, and the holder of each of its marks; the core
+    /// keeps one more copy of these rows and holders. Time and memory are those of the job, and of its rows and holders once more. Each
+    /// holder is looked up, in expected constant time however many rows there are.
     pub fn dispatch(&mut self) -> Result<Option<Job>, ReplicaFault>
         ensures answer { IsErrOf result ReplicaFault.Memory ⊎ (result ≡ unless_stopped self.old (next_job self.old)) }
 
@@ -143,16 +151,20 @@ impl<S: RowStore> ReplicaCore<S> {
             return Ok(None);
         }
         let job = self.next_job()?;
-        self.inputs.push(job.input.copy()?)?;
+        self.handed.push(HandedOut::of(&job)?)?;
         self.turns.enter(job.gno);
         Ok(Some(job))
     }
 
     /// Takes the result of a job that was handed out; it waits for its turn. Each refusal hands the result back: in this
     /// order a stop; `P6` where no record of its number was dispatched; `P7` where a result of it was taken; `P8` where its record,
-    /// its rows or its schema are not those handed out; `P5` where the changes do not apply to the rows, or look at
-    /// other parent rows than the refs, which stops the replica; and `P9` where the result itself tells of memory that ran out, so that its job may be executed and finished
-    /// again. It takes no memory. The time is that of comparing the jobs.
+    /// its rows, its holders or its schema are not those handed out; `P5` where the changes do not apply to the rows, or look at
+    /// other parent rows than the refs, or have other marks than those stated, which stops the replica; and `P9` where the result
+    /// itself tells of memory that ran out, so that its job may be executed and finished again. It takes no memory. The time is that
+    /// of comparing the jobs.
+    ///
+    /// A record that states too few marks is never committed. Its own result stops the replica, or, where it comes first, that of a
+    /// later record with a mark that was left out: its job has the holder from before, so its changes may not apply.
     pub fn finish(&mut self, done: JobResult) -> Result<(), (ReplicaFault, JobResult)>
         ensures refused { IfSome (finish_fault self.old done.job.gno) (λ fault. result ≡ Err (fault, done)) }
         ensures other { finish_fault self.old done.job.gno ≡ None → ¬ IsHandedOut self.old done
@@ -182,7 +194,10 @@ impl<S: RowStore> ReplicaCore<S> {
 
     /// Commits the next record in log order, once its result was taken, and answers its number: puts what it leaves
     /// into the store, and keeps that as an operation that waits for `publish`. So commits come in the order of the source's log, as
-    /// with MySQL's `replica_preserve_commit_order`. The time is that of putting the rows that the record writes.
+    /// with MySQL's `replica_preserve_commit_order`. The time is that of putting the rows that the record writes; where these have a
+    /// value in a unique column it is also that of looking up each of them in the store, and the values that they had and then have in
+    /// expected constant time each. The memory is that of putting the rows, of one more operation, and of these values: none for them
+    /// where no table has such a column. All of it is taken before a row changes.
     pub fn commit_next(&mut self) -> Result<Option<u64>, ReplicaFault>
         ensures answer { IsErrOf result ReplicaFault.Memory
             ⊎ (result ≡ unless_stopped self.old (next_commit self.old)) }
@@ -197,10 +212,16 @@ impl<S: RowStore> ReplicaCore<S> {
     {
         refuse_stopped(self.stopped)?;
         let gno = self.scheduler.low_water() + 1;
-        if !commit_turn(&mut self.store, &mut self.waiting, &mut self.turns, gno)? {
+        if !commit_turn(
+            self.relay.schema(),
+            &mut self.stored,
+            &mut self.waiting,
+            &mut self.turns,
+            gno,
+        )? {
             return Ok(None);
         }
-        drop_first(&mut self.inputs, 1);
+        drop_first(&mut self.handed, 1);
         self.scheduler.committed(gno);
         Ok(Some(gno))
     }
@@ -283,7 +304,7 @@ impl<S: RowStore> ReplicaCore<S> {
         ensures rows { working_rows self.now ≡ Some (S.contents result.now) }
         ensures sound { IsSound self.now }
     {
-        &self.store
+        &self.stored.store
     }
 
     /// The identifier of the source whose records it takes.
@@ -330,7 +351,7 @@ impl<S: RowStore> ReplicaCore<S> {
             alloc,
             dispatched + 1,
             next,
-            &self.store,
+            &self.stored,
             self.relay.schema(),
         )
     }
@@ -353,8 +374,8 @@ impl<S: RowStore> ReplicaCore<S> {
         ensures { IsTrue result ↔ (job_of self.now job.now.gno ≡ Some job.now) }
     {
         let rec = &self.relay.accepted()[(job.gno - 1) as usize];
-        let input = &self.inputs[(job.gno - self.scheduler.low_water() - 1) as usize];
-        job.is_of(rec, input, self.relay.schema())
+        let kept = &self.handed[(job.gno - self.scheduler.low_water() - 1) as usize];
+        job.is_of(rec, &kept.input, &kept.holders, self.relay.schema())
     }
 
     /// Refuses the number of a result, whatever the result is.

@@ -1,25 +1,27 @@
 -- Why a replica stopped stays true at each step.
-use Rattle.std.proofs.Common.{◌≡◌, ◌∙◌, sym, ap, subst, refl, ℕ, ◌-◌, ◌≤◌, ◌⊎◌, inl, inr, Bool, true, false, ◌&&◌, nat_le, List, ◌++◌, length, Option, Some, None, Result, Ok, Err, IfSome, IfErr, IsErrOf, get_or}
+use Rattle.std.proofs.Common.{◌≡◌, ◌∙◌, sym, ap, subst, refl, ℕ, ◌-◌, ◌≤◌, ◌⊎◌, inl, inr, Bool, true, false, ◌&&◌, nat_le, List, length, Option, Some, None, Result, Ok, Err, IfSome, IfErr, IsErrOf, arith, slice_get, get_or}
 use Rattle.std.specs.Option.{option_map_or}
 use Rattle.std.proofs.lemmas.Bool.{cases_eq, and_parts, or_parts, leb-true, leb-false}
-use Rattle.std.proofs.lemmas.Option.{none-some, same_Some, slice_get_within}
+use Rattle.std.proofs.lemmas.Option.{same_Some, slice_get_within}
 use Rattle.std.proofs.lemmas.List.{take-append-le}
-use Rattle.schema.proofs.Lists.{get_front}
+use Rattle.schema.proofs.Lists.{get_front, get_within}
 use Rattle.schema.specs.declared.Table.{Table}
+use Rattle.rows.specs.Database.{Database}
 use Rattle.store_trait.specs.Batch.{Entry}
 use Rattle.store_trait.specs.Operation.{loaded}
+use Rattle.record_codec.specs.declared.records.Record.{Record}
 use Rattle.record_codec.specs.Log.{after}
 use Rattle.executor.specs.declared.Job.{Job}
 use Rattle.executor.specs.declared.Outcome.{Outcome}
 use Rattle.executor.specs.declared.Outcome.TheVariants as outcomes
-use Rattle.executor.specs.Job.{Finished, IsResult, executed}
+use Rattle.executor.specs.Job.{Finished, IsResult, outcome_over}
 use Rattle.relay.specs.declared.ReplicaFault.{ReplicaFault}
 use Rattle.relay.specs.declared.ReplicaFault.TheVariants as faults
-use Rattle.replica_core.specs.Replica.{Replica, dispatched, job_of}
+use Rattle.replica_core.specs.Replica.{Replica, dispatched, working_rows, job_over}
 use Rattle.replica_core.specs.Calls.{finish_fault, was_finished, IsHandedOut, taken_as, left_by_fault, unless_stopped}
-use Rattle.replica_core.specs.Sound.{IsUnderWay}
+use Rattle.replica_core.specs.Sound.{IsSound, IsUnderWay}
 use Rattle.replica_core.proofs.Handing.{Grows}
-use Rattle.replica_core.proofs.Jobs.{job_at, job_parts}
+use Rattle.replica_core.proofs.Jobs.{job_at, job_agrees_now}
 use Rattle.replica_core.proofs.Steps.{cause, no_cause}
 use Rattle.replica_shared.specs.Together.{State, HasNoOutput, MayStopAt, StopsRightly, IsNamed, IsStopBehind, TellsStop}
 
@@ -38,19 +40,12 @@ runs_where_ok r answer told (inr is) = running r.stopped is
 
 -- ---- more is accepted
 
-job_there : (o : Option Job) → HasNoOutput o → (job : Job) × (o ≡ Some job)
-job_there None none = absurd none
-job_there (Some job) none = (job, refl)
-
 may_grown : (r then : Replica) (at : ℕ) → Grows r then → r.committed ≤ length r.accepted → MayStopAt r at → MayStopAt then at
 may_grown r then at grows within may =
-    let there = job_there (job_of r at) may.1 in
-    let parts = job_parts r at there.0 there.1 in
-    let more : Replica = record r { accepted = r.accepted ++ grows.more } in
-    let got = get_front r.accepted grows.more (at - 1) (slice_get_within r.accepted (at - 1) parts.rec parts.got) ∙ parts.got in
-    let rows = ap (after r.tables (loaded r.base)) (take-append-le r.committed r.accepted grows.more within) ∙ parts.rows_are in
-    let same : job_of more at ≡ job_of r at = job_at more at parts.rec parts.rows got rows ∙ sym (job_at r at parts.rec parts.rows parts.got parts.rows_are) in
-    subst (λ (x : Replica). MayStopAt x at) (sym grows.is) (may.0, subst HasNoOutput (sym same) may.1)
+    let none = may.1 in
+    let got = get_front r.accepted grows.more (at - 1) (slice_get_within r.accepted (at - 1) none.rec none.got) ∙ none.got in
+    let rows = ap (after r.tables (loaded r.base)) (take-append-le r.committed r.accepted grows.more within) ∙ none.rows_are in
+    subst (λ (x : Replica). MayStopAt x at) (sym grows.is) (may.0, record { rec = none.rec; got = got; rows = none.rows; rows_are = rows; none = none.none })
 
 pub stops_grown : (r then : Replica) → Grows r then → r.committed ≤ length r.accepted → StopsRightly r → StopsRightly then
 stops_grown r then grows within h =
@@ -88,15 +83,20 @@ came o e (inr wrong) (inl lacks) = cc
 came o e (inl none) (inr same) = inl (sym same ∙ none)
 came o e (inr wrong) (inr same) = inr (sym same ∙ wrong)
 
-no_output : (o : Option Job) (done : Finished) → ((o ≡ Some done.job → ⊥) → ⊥) → (o ≡ Some done.job → (executed done.job ≡ outcomes.Undefined) ⊎ (executed done.job ≡ outcomes.WrongRefs)) → HasNoOutput o
-no_output None done handed none = absurd (handed (λ is. none-some done.job is))
-no_output (Some job) done handed none = by_outcome (executed job) refl
-  where
-    its : Some job ≡ Some done.job → (executed job ≡ outcomes.Undefined) ⊎ (executed job ≡ outcomes.WrongRefs)
-    its is =
-        let same : executed job ≡ executed done.job = ap executed (same_Some job done.job is) in
-        elim (none is) [ inl not ↦ inl (same ∙ not) | inr wrong ↦ inr (same ∙ wrong) ]
+-- so over the working rows there is none either
+pub none_there : (r : Replica) (done : Finished) (rec : Record) (rows : Database) → IsSound r → IsUnderWay r done.job.gno → IsResult done → slice_get r.accepted (done.job.gno - 1) ≡ Some rec → working_rows r ≡ Some rows → IsHandedOut r done →
+    (done.outcome ≡ outcomes.Undefined) ⊎ (done.outcome ≡ outcomes.WrongRefs) → (outcome_over r.tables rec rows ≡ outcomes.Undefined) ⊎ (outcome_over r.tables rec rows ≡ outcomes.WrongRefs)
+none_there r done rec rows sound under result got rows_are of none =
+    let same = same_Some (job_over r.tables done.job.gno rec rows) done.job (sym (job_at r done.job.gno rec rows got rows_are) ∙ of) in
+    let there : outcome_over r.tables rec rows ≡ outcome_over done.job.schema done.job.rec rows = ap (λ (j : Job). outcome_over j.schema j.rec rows) same in
+    let agrees = job_agrees_now r done.job.gno done.job rows sound under of rows_are in
+    came done.outcome (outcome_over r.tables rec rows) none (elim result [ inl lacks ↦ inl lacks | inr each ↦ inr (each rows agrees ∙ sym there) ])
 
+no_output : (r : Replica) (done : Finished) → IsSound r → IsUnderWay r done.job.gno → IsResult done → ((IsHandedOut r done → ⊥) → ⊥) → (IsHandedOut r done → (done.outcome ≡ outcomes.Undefined) ⊎ (done.outcome ≡ outcomes.WrongRefs)) → HasNoOutput r done.job.gno
+no_output r done sound under result handed told =
+    let got = get_within r.accepted (done.job.gno - 1) (omega (arith, under.0, under.1, sound.dispatched)) in
+    record { rec = got.0; got = got.1; rows = sound.rows; rows_are = sound.rows_are; none = by_outcome (outcome_over r.tables got.0 sound.rows) (λ of. none_there r done got.0 sound.rows sound under result got.1 sound.rows_are of (told of)) }
+  where
     not_output : (e : Outcome) (batch : List Entry) → (e ≡ outcomes.Undefined) ⊎ (e ≡ outcomes.WrongRefs) → e ≡ outcomes.Output batch → ⊥
     not_output e batch (inl none) is = cc
     not_output e batch (inr wrong) is = cc
@@ -105,15 +105,16 @@ no_output (Some job) done handed none = by_outcome (executed job) refl
     not_memory e (inl none) is = cc
     not_memory e (inr wrong) is = cc
 
-    by_outcome : (e : Outcome) → executed job ≡ e → (executed job ≡ outcomes.Undefined) ⊎ (executed job ≡ outcomes.WrongRefs)
-    by_outcome (outcomes.Output batch) is = absurd (handed (λ same. not_output (executed job) batch (its same) is))
-    by_outcome outcomes.Undefined is = inl is
-    by_outcome outcomes.WrongRefs is = inr is
-    by_outcome outcomes.Memory is = absurd (handed (λ same. not_memory (executed job) (its same) is))
+    by_outcome : (e : Outcome) → (IsHandedOut r done → (e ≡ outcomes.Undefined) ⊎ (e ≡ outcomes.WrongRefs)) → (e ≡ outcomes.Undefined) ⊎ (e ≡ outcomes.WrongRefs)
+    by_outcome (outcomes.Output batch) its = absurd (handed (λ of. not_output (outcomes.Output batch) batch (its of) refl))
+    by_outcome outcomes.Undefined its = inl refl
+    by_outcome outcomes.WrongRefs its = inr refl
+    by_outcome outcomes.Memory its = absurd (handed (λ of. not_memory outcomes.Memory (its of) refl))
 
 -- what the core's `finish` tells of a result
 pub record Finishes (r : Replica) (done : Finished) (result : Result (Unit {0}) (ReplicaFault × Finished)) : Type 0 where
   pub of_job : IsResult done
+  pub sound : IsSound r
   pub refused : IfSome (finish_fault r done.job.gno) (λ fault. result ≡ Err (fault, done))
   pub other : finish_fault r done.job.gno ≡ None → (IsHandedOut r done → ⊥) → result ≡ Err (faults.WrongInput, done)
   pub taken : finish_fault r done.job.gno ≡ None → IsHandedOut r done → result ≡ taken_as done done.outcome
@@ -149,9 +150,10 @@ may_stop r done back at result is f h = each (finish_fault r gno) refl f.refused
         let handed : (IsHandedOut r done → ⊥) → ⊥ = λ not. wrong (told_so (faults.Stopped at) faults.WrongInput done back result is (f.other free not)) in
         let told : IsHandedOut r done → ((done.outcome ≡ outcomes.Undefined) ⊎ (done.outcome ≡ outcomes.WrongRefs)) × (gno ≡ at) =
         λ of. taken_stops done back at done.outcome (sym (f.taken free of) ∙ is) in
-        let none : HasNoOutput (job_of r gno) = no_output (job_of r gno) done handed (λ of. came done.outcome (executed done.job) (told of).0 f.of_job) in
+        let under = (free_runs r gno free).1 in
+        let none : HasNoOutput r gno = no_output r done f.sound under f.of_job handed (λ of. (told of).0) in
         elim (cases_eq gno at) [
-          | inl here ↦ subst (MayStopAt r) here ((free_runs r gno free).1, none)
+          | inl here ↦ subst (MayStopAt r) here (under, none)
           | inr elsewhere ↦ absurd (handed (λ of. elsewhere (told of).1))
         ]
 
@@ -164,7 +166,10 @@ may_stop r done back at result is f h = each (finish_fault r gno) refl f.refused
         h
 
 pub stops_refused : (r : Replica) (done back : Finished) (told : ReplicaFault) (result : Result (Unit {0}) (ReplicaFault × Finished)) → result ≡ Err (told, back) → Finishes r done result → StopsRightly r → StopsRightly (left_by_fault r told)
-stops_refused r done back (faults.Stopped at) result is f h = may_stop r done back at result is f h
+stops_refused r done back (faults.Stopped at) result is f h =
+    let may = may_stop r done back at result is f h in
+    let none = may.1 in
+    (may.0, record { rec = none.rec; got = none.got; rows = none.rows; rows_are = none.rows_are; none = none.none })
 stops_refused r done back faults.Gap result is f h = h
 stops_refused r done back faults.ForeignSource result is f h = h
 stops_refused r done back faults.Malformed result is f h = h

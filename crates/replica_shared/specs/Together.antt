@@ -1,7 +1,8 @@
 -- What lies under the lock of a shared replica, and what is true of it each time that the lock is taken.
-use Rattle.std.specs.Prelude.{◌≡◌, ◌⊎◌, ℕ, ◌+◌, ◌-◌, ◌%◌, ◌<◌, ◌≤◌, Bool, true, false, not, ◌&&◌, ◌||◌, ◌==◌, nat_le, nat_lt, count_by, replicate, IfErr, IfSome, MatchOption, List, [], ◌∷◌, ◌++◌, length, slice_index_or, slice_set, Option, Some, None, is_some, Result, Ok, Err}
+use Rattle.std.specs.Prelude.{◌≡◌, ◌⊎◌, ℕ, ◌+◌, ◌-◌, ◌%◌, ◌<◌, ◌≤◌, Bool, true, false, not, ◌&&◌, ◌||◌, ◌==◌, nat_le, nat_lt, count_by, replicate, IfErr, IfSome, MatchOption, List, [], ◌∷◌, ◌++◌, length, slice_get, slice_index_or, slice_set, Option, Some, None, is_some, Result, Ok, Err}
 use mathlib.Core.List.{IsPrefix}
 use Rattle.schema.specs.declared.Table.{Table}
+use Rattle.rows.specs.Database.{Database}
 use Rattle.store_trait.specs.Batch.{Entry}
 use Rattle.store_trait.specs.declared.Op.{Op}
 use Rattle.store_trait.specs.declared.Op.TheVariants.{Load}
@@ -13,12 +14,12 @@ use Rattle.published.specs.Status.{counts_of, latest}
 use Rattle.executor.specs.declared.Job.{Job}
 use Rattle.executor.specs.declared.Outcome.{Outcome}
 use Rattle.executor.specs.declared.Outcome.TheVariants as outcomes
-use Rattle.executor.specs.Job.{executed}
+use Rattle.executor.specs.Job.{outcome_over}
 use Rattle.relay.specs.declared.ReplicaFault.{ReplicaFault}
 use Rattle.relay.specs.declared.ReplicaFault.TheVariants as faults
 use Rattle.relay.specs.declared.Received.{Received}
 use Rattle.relay.specs.declared.Received.TheVariants.{Accepted, Skipped}
-use Rattle.replica_core.specs.Replica.{Replica, dispatched, job_of, operations}
+use Rattle.replica_core.specs.Replica.{Replica, dispatched, working_rows, operations}
 use Rattle.replica_core.specs.Calls.{next_commit, next_job, is_eligible, dispatched_next, with_finished, left_by_fault, with_published, left_by_receive}
 use Rattle.replica_core.specs.Sound.{IsUnderWay}
 use Rattle.replica_shared.specs.Outlet.{Queued, AreInLine, empty_outlet}
@@ -128,15 +129,18 @@ abbrev pub TakesOut : List (Option Job) → Option Job → List (Option Job) →
 TakesOut kept None then = ((place : ℕ) → slice_index_or kept place None ≡ None) × (then ≡ kept)
 TakesOut kept (Some job) then = (slice_index_or kept (job.gno % 64) None ≡ Some job) × (then ≡ slice_set kept (job.gno % 64) None)
 
--- Nothing came of the job that a record could be committed by: its changes do not apply to its rows, or look at other parent
--- rows than the record states.
-abbrev pub HasNoOutput : Option Job → Type 0
-HasNoOutput None = ⊥
-HasNoOutput (Some job) = (executed job ≡ outcomes.Undefined) ⊎ (executed job ≡ outcomes.WrongRefs)
+-- Nothing comes of the record of this number, over the working rows, that it could be committed by: its changes do not apply there,
+-- or look at other parent rows or have other marks than it states.
+pub record HasNoOutput (r : Replica) (gno : ℕ) : Type 0 where
+  pub rec : Record
+  pub got : slice_get r.accepted (gno - 1) ≡ Some rec
+  pub rows : Database
+  pub rows_are : working_rows r ≡ Some rows
+  pub none : (outcome_over r.tables rec rows ≡ outcomes.Undefined) ⊎ (outcome_over r.tables rec rows ≡ outcomes.WrongRefs)
 
 -- it may stop at the record of this number, which was handed out and is not committed
 abbrev pub MayStopAt : Replica → ℕ → Type 0
-MayStopAt r at = IsUnderWay r at × HasNoOutput (job_of r at)
+MayStopAt r at = IsUnderWay r at × HasNoOutput r at
 
 -- where it stopped it may
 abbrev pub StopsRightly : Replica → Type 0

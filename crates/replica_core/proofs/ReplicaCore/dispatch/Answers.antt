@@ -7,7 +7,7 @@ use Rattle.replica_core.proofs.ReplicaCore.dispatch.Goals as goal
 pub invariant_of-self-2 : goal.invariant_of-self-2
 invariant_of-self-2 g c =
     let was = c.self.inside in
-    dispatched_kept _ _ _ _ _ _ c.in_ok-job.job c.enter.new.self c.push.new.self.items
+    dispatched_kept _ _ _ _ _ _ _ c.in_ok-job.job c.enter.new.self c.push.new.self.items
     c.self.invariant (ap is_eligible c.self.view_is ∙ sym c.is_eligible.ensures ∙ c.if-not-is_eligible.false)
     (ap (λ (r : Replica). job_of r (dispatched r + 1)) c.self.view_is ∙ c.in_ok-job.ensures)
-    c.enter.ensures (c.in_ok-push.ensures.items ∙ ap (λ input. was.inputs.items ++ input ∷ []) c.in_ok-copy.ensures)
+    c.enter.ensures (c.in_ok-push.ensures.items ∙ ap (λ kept. was.handed.items ++ kept ∷ []) c.in_ok-of.ensures)

@@ -1,0 +1,38 @@
+//! The working rows, and who has each value.
+
+ghost use Rattle.std.specs.Prelude.{◌≡◌, OnOk, OnErr};
+ghost use Rattle.std.specs.Map.{keys_of};
+ghost use Rattle.store_trait.specs.Batch.{put_batch};
+ghost use Rattle.row_index.specs.Keys.{marks_at, moved};
+
+use row_index::{Index, marks_before};
+use schema::{Memory, Schema};
+use std::alloc::Global;
+use store_trait::{Batch, RowStore};
+
+/// The rows after the committed records, with who has each value in a unique column: so the holders of a job's marks are looked
+/// up, and no table is walked.
+#[derive(Drop)]
+pub struct Stored<S: RowStore> {
+    pub store: S,
+    pub index: Index,
+}
+
+impl<S: RowStore> Stored<S> {
+    /// Puts the batch, and the index follows it. All memory is taken before a row changes; where it runs out all stays as it was,
+    /// but for room that was made. With n rows in the store and b in the batch the time is b log n. Beside the store's it takes the
+    /// memory of the marks that the batch's rows had, and of those that they have then: none where no table has a unique column.
+    pub fn put(&mut self, alloc: Global, schema: &Schema, batch: &Batch) -> Result<(), Memory>
+        ensures rows { OnOk result (S.contents self.new.store ≡ put_batch batch.now (S.contents self.old.store)) }
+        ensures keys { OnOk result (self.new.index.keys
+            ≡ moved schema.now (marks_at schema.now (keys_of batch.now) (S.contents self.old.store)) batch.now self.old.index.keys) }
+        ensures same_rows { OnErr result (S.contents self.new.store ≡ S.contents self.old.store) }
+        ensures same_keys { OnErr result (self.new.index.keys ≡ self.old.index.keys) }
+    {
+        let marks = marks_before(alloc, schema, &self.store, batch)?;
+        self.index.reserve(schema, batch)?;
+        self.store.put_all(batch)?;
+        self.index.put(schema, &marks, batch);
+        Ok(())
+    }
+}
