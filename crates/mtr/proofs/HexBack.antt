@@ -4,9 +4,9 @@ use Rattle.std.specs.Char.{digit_value}
 use Rattle.std.specs.List.{list_all, range_with_len}
 use Rattle.std.proofs.lemmas.Bool.{eqb-true, and_parts, not-true}
 use Rattle.std.proofs.lemmas.Bool.Decides.{eqb_tells}
-use Rattle.mtr.specs.Hex.{is_white, marks, halves, digits_of, SaysBytes}
+use Rattle.mtr.specs.Hex.{is_white, digits_read, halves, digits_of, SaysBytes}
 use Rattle.mtr.specs.HexText.{digit_text, byte_text, hex_text}
-use Rattle.mtr.proofs.HexTexts.{marks_behind, one_mark, no_marks}
+use Rattle.mtr.proofs.HexTexts.{digits_behind, one_digit, nothing_read}
 
 -- the character of a digit is read as this digit
 abbrev is_back : ℕ → Bool
@@ -24,23 +24,23 @@ in_range p a (suc n) d all low high =
       | inr w ↦ in_range p (a + 1) n d parts.1 (omega arith) (omega arith)
     ]
 
-digit_back : (d : ℕ) → d < 16 → marks (digit_text d ∷ []) ≡ Some d ∷ []
+digit_back : (d : ℕ) → d < 16 → digits_read (digit_text d ∷ []) ≡ Some d ∷ []
 digit_back d below =
     let tests : (not (is_white (digit_text d)) ≡ true) × (eqb (digit_value (digit_text d)) d ≡ true) = and_parts _ _ (in_range is_back 0 16 d all_back (omega arith) (omega arith)) in
     let value : digit_value (digit_text d) ≡ d = eqb-true _ _ tests.1 in
     let low : ltb (digit_value (digit_text d)) 16 ≡ true = lt-ltb _ _ (omega arith) in
-    one_mark (digit_text d) (Some d) (not-true _ tests.0) (ap (λ b. cond b (Some (digit_value (digit_text d))) None) low ∙ ap Some value)
+    one_digit (digit_text d) (Some d) (not-true _ tests.0) (ap (λ b. cond b (Some (digit_value (digit_text d))) None) low ∙ ap Some value)
 
-byte_back : (b : ℕ) → b < 256 → marks (byte_text b) ≡ map Some (halves b)
+byte_back : (b : ℕ) → b < 256 → digits_read (byte_text b) ≡ map Some (halves b)
 byte_back b below =
-    marks_behind (digit_text (b / 16) ∷ []) (digit_text (b % 16) ∷ [])
-    ∙ ap (λ l. l ++ marks (digit_text (b % 16) ∷ [])) (digit_back (b / 16) (omega arith))
+    digits_behind (digit_text (b / 16) ∷ []) (digit_text (b % 16) ∷ [])
+    ∙ ap (λ l. l ++ digits_read (digit_text (b % 16) ∷ [])) (digit_back (b / 16) (omega arith))
     ∙ ap (λ l. Some (b / 16) ∷ l) (digit_back (b % 16) (omega arith))
 
 pub text_says : (bytes : List ℕ) → ((k : ℕ) → get_or bytes k 0 < 256) → SaysBytes (hex_text bytes) bytes
 unfolding hex_text digits_of
-text_says [] low = no_marks
+text_says [] low = nothing_read
 text_says (b ∷ bytes) low =
-    marks_behind (byte_text b) (hex_text bytes)
-    ∙ ap (λ l. l ++ marks (hex_text bytes)) (byte_back b (low 0))
+    digits_behind (byte_text b) (hex_text bytes)
+    ∙ ap (λ l. l ++ digits_read (hex_text bytes)) (byte_back b (low 0))
     ∙ ap (λ l. map Some (halves b) ++ l) (text_says bytes (λ k. low (suc k)))

@@ -10,15 +10,15 @@ use Rattle.std.proofs.lemmas.Nat.{div-mul-add}
 use Rattle.std.specs.Prelude.{MatchOption, MatchResult}
 use Rattle.std.specs.Option.{ok_or}
 use Rattle.mtr.specs.declared.ending.Stop.TheVariants as stops
-use Rattle.mtr.specs.Hex.{is_white, hex_digit, marks, halves, digits_of, SaysBytes, SaysNone, IsUnread, GoesOnBy}
+use Rattle.mtr.specs.Hex.{is_white, hex_digit, digits_read, halves, digits_of, SaysBytes, SaysNone, IsUnread, GoesOnBy}
 
 pub no_digits : digits_of [] ≡ []
 unfolding digits_of
 no_digits = refl
 
-pub no_marks : marks [] ≡ []
-unfolding marks
-no_marks = refl
+pub nothing_read : digits_read [] ≡ []
+unfolding digits_read
+nothing_read = refl
 
 high_half : (high low : ℕ) → low < 16 → (high * 16 + low) / 16 ≡ high
 high_half high low below = div-mul-add high 16 low below
@@ -53,55 +53,55 @@ pub alone_digit : (bytes others : List ℕ) (high : ℕ) → digits_of bytes ++ 
 alone_digit bytes others high e =
     omega (arith, two_each bytes, two_each others, ap length e, length-append (digits_of bytes) (high ∷ []))
 
-pub marks_behind : (text more : List ℕ) → marks (text ++ more) ≡ marks text ++ marks more
-unfolding marks
-marks_behind text more =
+pub digits_behind : (text more : List ℕ) → digits_read (text ++ more) ≡ digits_read text ++ digits_read more
+unfolding digits_read
+digits_behind text more =
     ap (map hex_digit) (filter-append (λ c. not (is_white c)) text more) ∙ map-append hex_digit (filter (λ c. not (is_white c)) text) (filter (λ c. not (is_white c)) more)
 
-pub white_mark : (c : ℕ) → is_white c ≡ true → marks (c ∷ []) ≡ []
-unfolding marks
-white_mark c e = rw e refl
+pub white_is_none : (c : ℕ) → is_white c ≡ true → digits_read (c ∷ []) ≡ []
+unfolding digits_read
+white_is_none c e = rw e refl
 
-pub one_mark : (c : ℕ) (mark : Option ℕ) → is_white c ≡ false → hex_digit c ≡ mark → marks (c ∷ []) ≡ mark ∷ []
-unfolding marks
-one_mark c mark e h = rw e (ap (λ m. m ∷ []) h)
+pub one_digit : (c : ℕ) (digit : Option ℕ) → is_white c ≡ false → hex_digit c ≡ digit → digits_read (c ∷ []) ≡ digit ∷ []
+unfolding digits_read
+one_digit c digit e h = rw e (ap (λ d. d ∷ []) h)
 
--- the marks of one character more
-marks_more : (text : List ℕ) (i d c : ℕ) → i < length text → c ≡ get_or text i d → marks (take (i + 1) text) ≡ marks (take i text) ++ marks (c ∷ [])
-marks_more text i d c below is =
-    ap marks (take_more text i d below ∙ ap (λ e. take i text ++ e ∷ []) (sym is)) ∙ marks_behind (take i text) (c ∷ [])
+-- the digits of one character more
+read_more : (text : List ℕ) (i d c : ℕ) → i < length text → c ≡ get_or text i d → digits_read (take (i + 1) text) ≡ digits_read (take i text) ++ digits_read (c ∷ [])
+read_more text i d c below is =
+    ap digits_read (take_more text i d below ∙ ap (λ e. take i text ++ e ∷ []) (sym is)) ∙ digits_behind (take i text) (c ∷ [])
 
-pub char_more : (old now new ms : List (Option ℕ)) (text : List ℕ) (i d c : ℕ) → i < length text → c ≡ get_or text i d → marks (c ∷ []) ≡ ms
-    → now ≡ old ++ marks (take i text) → new ≡ now ++ ms → new ≡ old ++ marks (take (i + 1) text)
+pub char_more : (old now new ms : List (Option ℕ)) (text : List ℕ) (i d c : ℕ) → i < length text → c ≡ get_or text i d → digits_read (c ∷ []) ≡ ms
+    → now ≡ old ++ digits_read (take i text) → new ≡ now ++ ms → new ≡ old ++ digits_read (take (i + 1) text)
 char_more old now new ms text i d c below is here so_far more =
     more
     ∙ ap (λ l. l ++ ms) so_far
-    ∙ append_assoc old (marks (take i text)) ms
-    ∙ ap (λ l. old ++ l) (ap (λ l. marks (take i text) ++ l) (sym here) ∙ sym (marks_more text i d c below is))
+    ∙ append_assoc old (digits_read (take i text)) ms
+    ∙ ap (λ l. old ++ l) (ap (λ l. digits_read (take i text) ++ l) (sym here) ∙ sym (read_more text i d c below is))
 
 contains_along : (xs ys : List (Option ℕ)) → xs ≡ ys → Contains xs None → Contains ys None
 contains_along xs ys e h = let P : List (Option ℕ) → Type 0 = λ l. Contains l None in subst P e h
 
 -- a character that is neither a digit nor whitespace
-pub no_digit : (text : List ℕ) (i d c : ℕ) → i < length text → c ≡ get_or text i d → is_white c ≡ false → hex_digit c ≡ None → Contains (marks text) None
+pub no_digit : (text : List ℕ) (i d c : ℕ) → i < length text → c ≡ get_or text i d → is_white c ≡ false → hex_digit c ≡ None → Contains (digits_read text) None
 no_digit text i d c below is white none =
-    let here : marks (take (i + 1) text) ≡ marks (take i text) ++ None ∷ [] =
-    marks_more text i d c below is ∙ ap (λ l. marks (take i text) ++ l) (one_mark c None white none) in
-    let front : Contains (marks (take (i + 1) text)) None =
-    contains_along (marks (take i text) ++ None ∷ []) (marks (take (i + 1) text)) (sym here)
-    (Contains-append_right (marks (take i text)) (None ∷ []) None (0, omega arith, refl)) in
-    contains_along (marks (take (i + 1) text) ++ marks (drop (i + 1) text)) (marks text)
-    (sym (marks_behind (take (i + 1) text) (drop (i + 1) text)) ∙ ap marks (take-append-drop (i + 1) text))
-    (Contains-append_left (marks (take (i + 1) text)) (marks (drop (i + 1) text)) None front)
+    let here : digits_read (take (i + 1) text) ≡ digits_read (take i text) ++ None ∷ [] =
+    read_more text i d c below is ∙ ap (λ l. digits_read (take i text) ++ l) (one_digit c None white none) in
+    let front : Contains (digits_read (take (i + 1) text)) None =
+    contains_along (digits_read (take i text) ++ None ∷ []) (digits_read (take (i + 1) text)) (sym here)
+    (Contains-append_right (digits_read (take i text)) (None ∷ []) None (0, omega arith, refl)) in
+    contains_along (digits_read (take (i + 1) text) ++ digits_read (drop (i + 1) text)) (digits_read text)
+    (sym (digits_behind (take (i + 1) text) (drop (i + 1) text)) ∙ ap digits_read (take-append-drop (i + 1) text))
+    (Contains-append_left (digits_read (take (i + 1) text)) (digits_read (drop (i + 1) text)) None front)
 
 only_some : (ds : List ℕ) (k : ℕ) → k < length (map {A = ℕ} {B = Option ℕ} (λ d. Some d) ds) → get_or (map {A = ℕ} {B = Option ℕ} (λ d. Some d) ds) k None ≡ None → ⊥
 only_some [] k below e = omega (arith, below)
 only_some (d ∷ ds) zero below e = cc
 only_some (d ∷ ds) (suc k) below e = only_some ds k (omega (arith, below)) e
 
-pub says_none : (text : List ℕ) → Contains (marks text) None → SaysNone text
+pub says_none : (text : List ℕ) → Contains (digits_read text) None → SaysNone text
 says_none text h bytes e =
-    let has : Contains (map Some (digits_of bytes)) None = contains_along (marks text) (map Some (digits_of bytes)) e h in
+    let has : Contains (map Some (digits_of bytes)) None = contains_along (digits_read text) (map Some (digits_of bytes)) e h in
     only_some (digits_of bytes) has.0 has.1 has.2
 
 all_of : (a b c : Option (List ℕ)) (text got : List ℕ) (P : List ℕ → Type 0) → Consumes a b text → Consumes b c got → ((rest : List ℕ) → P ((text ++ got) ++ rest)) → IfSome a P
@@ -113,20 +113,20 @@ all_of (Some t) (Some u) (Some v) text got P front more h =
     subst P whole (h v)
 
 -- a piece with such a character
-pub bad_piece : (a b c : Option (List ℕ)) (text got : List ℕ) → Consumes a b text → Consumes b c got → Contains (marks got) None → IfSome a SaysNone
+pub bad_piece : (a b c : Option (List ℕ)) (text got : List ℕ) → Consumes a b text → Consumes b c got → Contains (digits_read got) None → IfSome a SaysNone
 bad_piece a b c text got front more h =
     all_of a b c text got SaysNone front more (λ rest.
     says_none ((text ++ got) ++ rest)
-    (contains_along (marks (text ++ got) ++ marks rest) (marks ((text ++ got) ++ rest)) (sym (marks_behind (text ++ got) rest))
-    (Contains-append_left (marks (text ++ got)) (marks rest) None
-    (contains_along (marks text ++ marks got) (marks (text ++ got)) (sym (marks_behind text got)) (Contains-append_right (marks text) (marks got) None h)))))
+    (contains_along (digits_read (text ++ got) ++ digits_read rest) (digits_read ((text ++ got) ++ rest)) (sym (digits_behind (text ++ got) rest))
+    (Contains-append_left (digits_read (text ++ got)) (digits_read rest) None
+    (contains_along (digits_read text ++ digits_read got) (digits_read (text ++ got)) (sym (digits_behind text got)) (Contains-append_right (digits_read text) (digits_read got) None h)))))
 
-pub bad_digits : (old piece new : List ℕ) (good : Bool) → good ≡ false → GoesOnBy old piece good new → Contains (marks piece) None
+pub bad_digits : (old piece new : List ℕ) (good : Bool) → good ≡ false → GoesOnBy old piece good new → Contains (digits_read piece) None
 bad_digits old piece new true e h = cc
 bad_digits old piece new false e h = h
 
-pub more_digits : (old piece new text : List ℕ) (good : Bool) → good ≡ true → GoesOnBy old piece good new → marks text ≡ map Some old → marks (text ++ piece) ≡ map Some new
-more_digits old piece new text true e h so_far = marks_behind text piece ∙ ap (λ l. l ++ marks piece) so_far ∙ sym h
+pub more_digits : (old piece new text : List ℕ) (good : Bool) → good ≡ true → GoesOnBy old piece good new → digits_read text ≡ map Some old → digits_read (text ++ piece) ≡ map Some new
+more_digits old piece new text true e h so_far = digits_behind text piece ∙ ap (λ l. l ++ digits_read piece) so_far ∙ sym h
 more_digits old piece new text false e h so_far = cc
 
 -- the text is read to its end
@@ -147,7 +147,7 @@ some_alike (x ∷ xs) (y ∷ ys) e =
     let rest : map {A = ℕ} {B = Option ℕ} (λ d. Some d) xs ≡ map (λ d. Some d) ys = cc in
     ap₂ (λ z zs. z ∷ zs) first (some_alike xs ys rest)
 
-pub says_digits : {V : Type 0} (items : V → List ℕ) (o : Option V) (text digits : List ℕ) → marks text ≡ map Some digits
+pub says_digits : {V : Type 0} (items : V → List ℕ) (o : Option V) (text digits : List ℕ) → digits_read text ≡ map Some digits
     → MatchOption o ((bytes : List ℕ) → digits ≡ digits_of bytes → ⊥) (λ v. digits ≡ digits_of (items v))
     → MatchResult (ok_or o stops.BadHexadecimal) (λ v. SaysBytes text (items v)) (IsUnread text)
 says_digits items (Some v) text digits e h = e ∙ ap (map Some) h

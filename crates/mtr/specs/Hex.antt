@@ -14,8 +14,8 @@ abbrev pub hex_digit : ℕ → Option ℕ
 hex_digit c = if is_digit c 16 then Some (digit_value c) else None
 
 -- what each character of a text is as a digit, whitespace left out
-unfoldable pub marks : List ℕ → List (Option ℕ)
-marks text = map hex_digit (filter (λ c. not (is_white c)) text)
+unfoldable pub digits_read : List ℕ → List (Option ℕ)
+digits_read text = map hex_digit (filter (λ c. not (is_white c)) text)
 
 -- the two digits of each byte
 abbrev pub halves : ℕ → List ℕ
@@ -26,7 +26,7 @@ digits_of bytes = flat_map halves bytes
 
 -- all characters of the text are the digits of these bytes, in turn
 abbrev pub SaysBytes : List ℕ → List ℕ → Type 0
-SaysBytes text bytes = marks text ≡ map Some (digits_of bytes)
+SaysBytes text bytes = digits_read text ≡ map Some (digits_of bytes)
 
 -- it says no bytes: a character is no digit, or the last digit is alone
 abbrev pub SaysNone : List ℕ → Type 0
@@ -41,5 +41,5 @@ IsUnread text stop = ⊥
 
 -- a piece more of a text whose digits so far are the old ones: its digits come behind them, or a character is none
 abbrev pub GoesOnBy : List ℕ → List ℕ → Bool → List ℕ → Type 0
-GoesOnBy old piece true new = map Some new ≡ map Some old ++ marks piece
-GoesOnBy old piece false new = Contains (marks piece) None
+GoesOnBy old piece true new = map Some new ≡ map Some old ++ digits_read piece
+GoesOnBy old piece false new = Contains (digits_read piece) None

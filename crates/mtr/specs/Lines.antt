@@ -6,7 +6,7 @@ use Rattle.schema.specs.declared.Table.{Table}
 use Rattle.schema.specs.Schema.{plain_table}
 use Rattle.mtr.specs.declared.script.Line.{Line}
 use Rattle.mtr.specs.declared.script.Line.TheVariants as lines
-use Rattle.mtr.specs.Words.{Word, ◌>>=◌, alone, first_word, words_of, number_in, row_id_in, row_in}
+use Rattle.mtr.specs.Words.{Word, ◌>>=◌, alone, behind_name, first_word, words_of, number_in, row_id_in, row_in}
 use Rattle.mtr.specs.Command.{verb_of}
 
 -- whether a table of this kind has keys
@@ -28,15 +28,24 @@ named_parent found = found >>= λ name. if bytes_eq name.0 (codes "parent") then
 unfoldable pub reference_of : List Word → Option (Option (ℕ × ℕ))
 reference_of words = if length words == 0 then Some None else named_parent (first_word words)
 
--- a table: its id, its number of columns, its kind, and its parent
+-- the unique column of a table, where the next word is `unique`, and the words behind it
+abbrev pub column_named : Bool × List Word → Option (Option ℕ × List Word)
+column_named (true, words) = option_map (λ column. (Some column.0, column.1)) (number_in (2 ^ 8) words)
+column_named (false, words) = Some (None, words)
+
+unfoldable pub unique_in : List Word → Option (Option ℕ × List Word)
+unique_in words = column_named (behind_name (codes "unique") words)
+
+-- a table: its id, its number of columns, its kind, its unique column, and its parent
 unfoldable pub table_of : List Word → Option Table
 table_of words = do
   id ← number_in (2 ^ 16) words
   columns ← number_in (2 ^ 8) id.1
   kind ← first_word columns.1
   keyed ← keyed_of kind.0
-  parent ← reference_of kind.1
-  Some (record (plain_table id.0 columns.0 keyed) { parent = parent })
+  unique ← unique_in kind.1
+  parent ← reference_of unique.1
+  Some (record (plain_table id.0 columns.0 keyed) { unique = unique.0; parent = parent })
 
 -- a row of the base: its table, its key, and its columns
 unfoldable pub base_of : List Word → Option (RowId × List ℤ)

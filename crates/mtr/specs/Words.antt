@@ -1,5 +1,7 @@
 -- The words of a line, and the numbers, row ids and rows that they are.
-use Rattle.std.specs.Prelude.{◌≡◌, ℕ, ◌^◌, ℤ, ◌==◌, ◌&&◌, nat_le, if◌then◌else◌, ◌≤◌, ◌<◌, List, [], ◌∷◌, length, take, Option, Some, None}
+use Rattle.std.specs.Prelude.{◌≡◌, ℕ, ◌^◌, ℤ, ◌==◌, ◌&&◌, nat_le, if◌then◌else◌, ◌≤◌, ◌<◌, Bool, true, false, List, [], ◌∷◌, length, take, Option, Some, None}
+use Rattle.std.specs.Str.{bytes_eq}
+use Rattle.std.specs.Option.{option_map_or}
 use Rattle.std.specs.Borrow.{Bor}
 use Rattle.std.specs.List.{slice_split}
 use Rattle.schema.specs.declared.RowId.{RowId}
@@ -26,6 +28,10 @@ None >>= f = None
 abbrev pub first_word : List Word → Option (Word × List Word)
 first_word [] = None
 first_word (word ∷ words) = Some (word, words)
+
+-- whether the first word is this name, and the words behind it; where it is not, all of them
+abbrev pub behind_name : Word → List Word → Bool × List Word
+behind_name name words = option_map_or (λ found. if bytes_eq found.0 name then (true, found.1) else (false, words)) (first_word words) (false, words)
 
 -- what was read, where nothing stands behind it
 abbrev pub alone : {A : Type 0} → Option (A × List Word) → Option A

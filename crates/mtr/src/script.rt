@@ -8,7 +8,7 @@
 ghost use Rattle.std.specs.Prelude.{◌≡◌, ◌++◌, ◌∷◌, [], ◌==◌, true, false, length, IfOk, IfSome, OnOk, Some};
 ghost use Rattle.std.specs.Bool.{then_some};
 ghost use Rattle.std.specs.List.{All};
-ghost use Rattle.mtr.specs.Lines.{table_of, keyed_of, link_in, reference_of, base_of, command_of, is_skipped, text_line};
+ghost use Rattle.mtr.specs.Lines.{table_of, keyed_of, link_in, reference_of, base_of, command_of, is_skipped, text_line, unique_in};
 ghost use Rattle.mtr.specs.Script.{said, said_with, nothing, added, Says, SaysIn, LeavesLines, TakesEnd};
 
 use crate::command::{Verb, alone};
@@ -199,8 +199,13 @@ fn table_of(words: Words) -> Option<Table>
     let (columns, words) = words.u8()?;
     let (kind, words) = words.first()?;
     let table = Table::new(id, columns, is_keyed(kind)?);
+    let (unique, words) = unique_of(words)?;
     let parent = reference_of(words)?;
-    Some(Table { parent, ..table })
+    Some(Table {
+        unique,
+        parent,
+        ..table
+    })
 }
 
 /// Whether a table of this kind has keys; `None` where the word is no kind.
@@ -212,6 +217,19 @@ fn is_keyed(kind: &str) -> Option<bool>
         "keyless" => Some(false),
         _ => None,
     }
+}
+
+/// The unique column that a table has where the next word says so, and the words behind it.
+#[tactic(auto, unfolding(crate::specs::Lines::unique_in))]
+fn unique_of(words: Words) -> Option<(Option<u8>, Words)>
+    ensures { result ≡ unique_in words.entry }
+{
+    let (is_named, words) = words.skip("unique");
+    if !is_named {
+        return Some((None, words));
+    }
+    let (column, words) = words.u8()?;
+    Some((Some(column), words))
 }
 
 /// The parent that a table has where words are left: the column, and the parent's id.

@@ -4,7 +4,7 @@
 //! makes a word without a character, which is no number and no name.
 
 ghost use Rattle.std.specs.Prelude.{◌≡◌, ◌^◌, option_map, length, ◌==◌, is_some};
-ghost use Rattle.mtr.specs.Words.{words_of, first_word, number_in, integer_in, row_id_in, row_in, naming_in, sides_of, assignment, AreAll};
+ghost use Rattle.mtr.specs.Words.{words_of, first_word, behind_name, number_in, integer_in, row_id_in, row_in, naming_in, sides_of, assignment, AreAll};
 ghost use Rattle.mtr.specs.Number.{integer};
 
 use crate::cut::cut_at;
@@ -51,6 +51,17 @@ impl<'a> Words<'a> {
         match cut_at(text, b' ') {
             Some((word, rest)) => Some((word, Words { rest: Some(rest) })),
             None => Some((text, Words { rest: None })),
+        }
+    }
+
+    /// Whether the first word is this one, and the words behind it; where it is not, all of them.
+    pub fn skip(self, name: &str) -> (bool, Words<'a>)
+        ensures { result ≡ behind_name name.now self.entry }
+    {
+        let Words { rest } = self;
+        match (Words { rest }).first() {
+            Some((word, behind)) if word == name => (true, behind),
+            _ => (false, Words { rest }),
         }
     }
 

@@ -2,20 +2,17 @@
 use Rattle.std.proofs.Common.{◌≡◌, ◌∙◌, sym, ap, subst, refl, ℕ, zero, suc, ◌+◌, ◌-◌, ◌<◌, ◌≤◌, Bool, true, false, if◌then◌else◌, get_or, set, List, [], ◌∷◌, ◌++◌, length, length-append, drop, Option, Some, None, arith, inl, inr, ◌⊎◌}
 use Rattle.std.specs.Prelude.{slice_get}
 use Rattle.std.proofs.lemmas.Bool.{cases_lt, cases_eq, cases_order}
-use Rattle.std.proofs.lemmas.List.{get_or_append_left, get_or-set_same, get_or-set_other, length-set, take-append-le, get_or_past}
+use Rattle.std.proofs.lemmas.List.{get_or_append_left, get_or-set_same, get_or-set_other, length-set, get_or_past}
 use Rattle.std.proofs.Math.Seq.{get_or-append_seam}
 use Rattle.schema.proofs.Lists.{get_within}
 use Rattle.rows.specs.Database.{Database}
-use Rattle.store_trait.specs.Operation.{loaded}
 use Rattle.record_codec.specs.declared.records.Record.{Record}
-use Rattle.record_codec.specs.Log.{after}
 use Rattle.executor.specs.declared.Job.{Job}
 use Rattle.replica_core.specs.Replica.{Replica, dispatched, rows_at, working_rows, job_over, job_of}
 use Rattle.replica_core.specs.Calls.{with_accepted, dispatched_next, with_finished, committed_next, with_published}
-use Rattle.replica_core.specs.Sound.{IsSound, IsUnderWay}
-use Rattle.replica_core.proofs.Jobs.{job_at as job_of_parts}
+use Rattle.replica_core.specs.Sound.{IsSound, IsUnderWay, StateMarksUpTo}
+use Rattle.replica_core.proofs.Jobs.{job_at as job_of_parts, job_stays, job_stays_behind}
 use Rattle.world.specs.State.{HasJobs}
-use Rattle.world.proofs.Received.{still_at}
 
 -- ---- places
 
@@ -147,11 +144,7 @@ pub jobs_accepted : (r : Replica) (jobs : List (Option Job)) (new : Record) → 
 jobs_accepted r jobs new sound h =
     as_jobs (with_accepted r new) jobs (left_same r.under_way jobs (job_at r) (job_at (with_accepted r new)) (as_left r jobs h) (λ n going.
     let under = under_at r n going in
-    let there = job_there r (r.committed + n + 1) sound under in
-    let at = still_at r.accepted (new ∷ []) (r.committed + n + 1 - 1) there.rec there.at in
-    let rows : working_rows (with_accepted r new) ≡ Some there.rows =
-    ap (after r.tables (loaded r.base)) (take-append-le r.committed r.accepted (new ∷ []) (omega (arith, under.0, under.1, sound.dispatched))) ∙ there.rows_are in
-    there.job ∙ sym (job_of_parts (with_accepted r new) (r.committed + n + 1) there.rec there.rows at rows)))
+    sym (job_stays_behind r (r.committed + n + 1) new sound (omega arith) (omega (arith, under.1, sound.dispatched)))))
 
 -- the job that is handed out is the last
 pub jobs_dispatched : (r : Replica) (jobs : List (Option Job)) (job : Job) → HasJobs r jobs → job_of r (dispatched r + 1) ≡ Some job → HasJobs (dispatched_next r) (jobs ++ Some job ∷ [])
@@ -160,18 +153,14 @@ jobs_dispatched r jobs job h is = as_jobs (dispatched_next r) (jobs ++ Some job 
 pub jobs_finished : (r : Replica) (jobs : List (Option Job)) (gno : ℕ) → HasJobs r jobs → HasJobs (with_finished r gno) (set jobs (gno - r.committed - 1) None)
 jobs_finished r jobs gno h = as_jobs (with_finished r gno) (set jobs (gno - r.committed - 1) None) (left_taken r.under_way jobs (job_at r) (gno - r.committed - 1) (as_left r jobs h))
 
--- the jobs behind the first are those that they were, since they are over the rows that the first leaves too
-pub jobs_committed : (r : Replica) (jobs : List (Option Job)) (leaves : Database) → IsSound r → rows_at r (r.committed + 1) ≡ Some leaves → HasJobs r jobs → HasJobs (committed_next r) (drop 1 jobs)
-jobs_committed r jobs leaves sound left h =
+-- the jobs behind the first are those that they were, since they are over the rows that the first leaves too, with who has their marks there
+pub jobs_committed : (r : Replica) (jobs : List (Option Job)) (leaves : Database) → IsSound r → rows_at r (r.committed + 1) ≡ Some leaves → StateMarksUpTo r (r.committed + 1) → HasJobs r jobs → HasJobs (committed_next r) (drop 1 jobs)
+jobs_committed r jobs leaves sound left stated h =
     as_jobs (committed_next r) (drop 1 jobs) (left_same (drop 1 r.under_way) (drop 1 jobs) (λ n. job_at r (suc n)) (job_at (committed_next r)) (left_passed r.under_way jobs (job_at r) (as_left r jobs h)) (λ n going.
     let gno = r.committed + suc n + 1 in
     let under = under_at r (suc n) (sym (after_first r.under_way n true) ∙ going) in
-    let there = job_there r gno sound under in
-    let input = sound.jobs gno (r.committed + 1) (job_over r.tables gno there.rec there.rows) leaves under (omega arith) (omega arith) there.job left in
     let same : gno ≡ r.committed + 1 + n + 1 = omega arith in
-    let at : slice_get r.accepted (r.committed + 1 + n + 1 - 1) ≡ Some there.rec = ap (λ (g : ℕ). slice_get r.accepted (g - 1)) (sym same) ∙ there.at in
-    there.job ∙ (λ i. Some (record { gno = same i; rec = there.rec; input = input i; schema = r.tables }))
-    ∙ sym (job_of_parts (committed_next r) (r.committed + 1 + n + 1) there.rec leaves at left)))
+    sym (job_stays r gno leaves sound under (omega arith) left stated) ∙ ap (job_of (committed_next r)) same))
 
 pub jobs_published : (r : Replica) (jobs : List (Option Job)) (upto : ℕ) → HasJobs r jobs → HasJobs (with_published r upto) jobs
 jobs_published r jobs upto h = record { each = h.each; are = h.are }

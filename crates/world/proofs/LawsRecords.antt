@@ -3,10 +3,10 @@ use Rattle.std.proofs.Common.{◌≡◌, ◌∙◌, sym, ap, subst, refl, ℕ, L
 use Rattle.std.specs.List.{AllByRecursion}
 use Rattle.std.proofs.lemmas.Option.{same_Some}
 use Rattle.schema.specs.declared.Table.{Table}
-use Rattle.schema.specs.Rows.{SameRows}
+use Rattle.schema.specs.Rows.{Mark, SameRows}
 use Rattle.schema.specs.declared.RowId.{RowId}
 use Rattle.rows.specs.declared.Change.{Change}
-use Rattle.rows.specs.Database.{writes, kin}
+use Rattle.rows.specs.Database.{writes, kin, marks as marks_of}
 use Rattle.store_trait.specs.Batch.{Entry}
 use Rattle.store_trait.specs.Operation.{loaded}
 use Rattle.record_codec.specs.declared.records.Record.{Record}
@@ -43,11 +43,13 @@ one_record s front before session made other a b spelled other_spelled m o =
     let gno : made.gno ≡ other.gno = a.gno ∙ sym b.gno in
     let sequence : made.sequence ≡ other.sequence = a.sequence ∙ sym b.sequence in
     let flags : made.flags ≡ other.flags = a.flags ∙ ap (λ (c : List Change). flags_of s.tables (writes c)) changes ∙ sym b.flags in
+    let alike : marks_of s.tables made.changes a.before ≡ marks_of s.tables other.changes b.before = (λ i. marks_of s.tables (changes i) (db i)) in
+    let values : SameRows made.marks other.marks = λ q. a.marks q ∙ sym (subst (λ (l : List Mark). SameRows other.marks l) (sym alike) b.marks q) in
+    let marks : made.marks ≡ other.marks = rising_is_one made.marks other.marks spelled.marks.rising other_spelled.marks.rising values in
     let parent : made.parent ≡ other.parent =
     m.parent
-    ∙ (λ i. dependency_of s.kind s.tables before (footprint_of s.tables (writes (changes i)) (refs i)) session (parent_of_phase (t i).phase))
+    ∙ (λ i. dependency_of s.kind s.tables before (footprint_of s.tables (writes (changes i)) (refs i) (marks i)) session (parent_of_phase (t i).phase))
     ∙ sym o.parent in
-    let marks : made.marks ≡ other.marks = a.marks ∙ sym b.marks in
     (λ i. record { gno = gno i; sequence = sequence i; parent = parent i; flags = flags i; refs = refs i; marks = marks i; changes = changes i })
 
 -- the next records behind one log, of one queue

@@ -1,3 +1,4 @@
+pub mod Fitting
 pub mod NewPairs
 pub mod Parts
 pub mod Groups

@@ -12,11 +12,14 @@ use Rattle.std.proofs.lemmas.Bool.{false≢true, and_from, lt-ltb}
 use Rattle.std.proofs.lemmas.Bool.Decides.{nat_tests}
 use Rattle.std.proofs.lemmas.Option.{none-some, same_Some}
 use Rattle.rows.specs.Database.{Database}
+use Rattle.schema.specs.declared.Table.{Table}
 use Rattle.schema.specs.declared.RowId.{RowId}
 use Rattle.gtid_set.specs.Ids.{Ids}
 use Rattle.record_codec.specs.declared.records.Record.{Record}
 use Rattle.record_codec.specs.Log.{after, IsLegalLog}
-use Rattle.record_codec.proofs.Logs.{beginning_leaves}
+use Rattle.record_codec.proofs.Logs.{beginning_leaves, beginning_is_legal}
+use Rattle.store_trait.specs.Batch.{Entry}
+use Rattle.store_trait.specs.Operation.{loaded, left_by}
 use Rattle.source_core.specs.Source.{Source}
 use Rattle.executor.specs.declared.Job.{Job}
 use Rattle.relay.specs.declared.ReplicaFault.{ReplicaFault}
@@ -24,7 +27,7 @@ use Rattle.relay.specs.declared.ReplicaFault.TheVariants as faults
 use Rattle.replica_core.specs.Replica.{Replica, dispatched as dispatched_at, job_of, operations}
 use Rattle.replica_core.specs.Sound.{IsSound}
 use Rattle.replica_core.proofs.Commits.{left_by-operations}
-use Rattle.replica_core.proofs.Jobs.{job_is_of_its_record}
+use Rattle.replica_core.proofs.Jobs.{job_is_of_its_record, legal_states_up_to}
 use Rattle.replica_core.specs.Calls.{unless_stopped, is_eligible, next_job, dispatched_next, next_commit, committed_next, executed_ids}
 use Rattle.world.specs.declared.events.Event.{Event}
 use Rattle.world.specs.declared.events.Event.TheVariants as events
@@ -35,7 +38,6 @@ use Rattle.world.specs.State.{World, IsWorld, Stands, Goes}
 use Rattle.world.specs.Run.{ShowsOperations}
 use Rattle.world.proofs.Parts.{replica_is, take_longer, stays, with_replica, untold, source_untold, unfailed}
 use Rattle.world.proofs.Jobs.{jobs_dispatched, jobs_committed}
-use Rattle.store_trait.specs.Operation.{loaded, left_by}
 
 -- a replica that runs answers what it is asked
 running_answer : {T : Type 0} (r : Replica) (answer : T) → r.stopped ≡ None → unless_stopped r answer ≡ Ok answer
@@ -203,6 +205,16 @@ accepted_leaves contents w n h within =
     let leaves = beginning_leaves_rows w.source h.source.sound.legal n in
     (leaves.0, (λ i. after (h.replica.tables i) (loaded (h.replica.base i)) (front i)) ∙ leaves.1)
 
+-- what was accepted is a legal log over the replica's own tables and base
+pub accepted_legal : {D R : Type 0} (contents : R → Database) (w : World D R) → IsWorld contents w → IsLegalLog w.replica.tables (loaded w.replica.base) w.replica.accepted
+accepted_legal contents w h =
+    let n = length w.replica.accepted in
+    let front = beginning_is_legal w.source.tables (loaded w.source.base) (take n w.source.log) (drop n w.source.log)
+    (subst (λ (l : List Record). IsLegalLog w.source.tables (loaded w.source.base) l) (sym (take-append-drop n w.source.log)) h.source.sound.legal) in
+    subst (λ (l : List Record). IsLegalLog w.replica.tables (loaded w.replica.base) l) (sym h.wire.front)
+    (subst (λ (es : List Entry). IsLegalLog w.replica.tables (loaded es) (take n w.source.log)) (sym h.replica.base)
+    (subst (λ (ts : List Table). IsLegalLog ts (loaded w.source.base) (take n w.source.log)) (sym h.replica.tables) front))
+
 -- ---- the next commit
 
 committed_is : (r : Replica) (gno : ℕ) → next_commit r ≡ Some gno → (get_or r.under_way 0 false ≡ true) × (gno ≡ r.committed + 1)
@@ -234,6 +246,7 @@ next_goes {R} contents w gno next jobs h sound is leaves kept =
     let done = committed_is w.replica gno is in
     let some = some_under w.replica.under_way done.0 in
     let left = accepted_leaves contents w (w.replica.committed + 1) h (omega (arith, some, sound.dispatched)) in
+    let stated = legal_states_up_to w.replica (w.replica.committed + 1) (accepted_legal contents w h) (omega arith) in
     let rest : length (drop 1 w.replica.under_way) ≡ length w.replica.under_way - 1 = length-drop 1 w.replica.under_way in
     subst (λ (r : Replica). Goes {R = R} contents w events.Next (replies.Commit gno) (with_jobs w r jobs)) (sym leaves)
     (subst (λ (l : List (Option Job)). Goes {R = R} contents w events.Next (replies.Commit gno) (with_jobs w (committed_next w.replica) l)) (sym kept)
@@ -242,7 +255,7 @@ next_goes {R} contents w gno next jobs h sound is leaves kept =
         source = h.source;
         wire = h.wire;
         replica = h.replica;
-        jobs = jobs_committed w.replica w.jobs left.0 sound left.1 h.jobs;
+        jobs = jobs_committed w.replica w.jobs left.0 sound left.1 stated h.jobs;
         readers = record { shows = h.readers.shows; rows = h.readers.rows; upto = h.readers.upto; later = h.readers.later; done = omega (arith, h.readers.done); there = h.readers.there; are = h.readers.are };
       };
       grows = prefix_refl w.source.log;

@@ -250,8 +250,8 @@ AreAllowed setup log past (event ∷ events_) (reply ∷ replies_) =
 AreAllowed setup log past [] (reply ∷ replies_) = ⊥
 AreAllowed setup log past (event ∷ events_) [] = ⊥
 
--- The replies of a whole run, over one legal log. Each record of it has a spelling: so its refs rise, and the log's text
--- is one.
+-- The replies of a whole run, over one legal log. Each record of it has a spelling: so its refs and its marks rise, and the
+-- log's text is one.
 pub record AreLegal (setup : Setup) (log : List Record) (events_ : List Event) (replies_ : List Reply) : Type 0 where
   pub legal : IsLegalLog setup.tables (loaded setup.base) log
   pub spelled : AllByRecursion (HasSpelling current) log

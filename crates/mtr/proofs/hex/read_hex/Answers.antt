@@ -2,11 +2,11 @@ use Rattle.std.proofs.Common.{◌∙◌, ◌++◌, ap, sym, map, Some, take, [],
 use Rattle.std.proofs.KnownBytes.{Consumes-nil, Consumes-trans}
 use Rattle.std.specs.Prelude.{MatchResult}
 use Rattle.mtr.specs.Hex.{SaysBytes, IsUnread}
-use Rattle.mtr.proofs.HexTexts.{no_marks, bad_piece, bad_digits, more_digits, to_end, says_digits}
+use Rattle.mtr.proofs.HexTexts.{nothing_read, bad_piece, bad_digits, more_digits, to_end, says_digits}
 use Rattle.mtr.proofs.hex.read_hex.Goals as goal
 
 pub loop-init : goal.loop-init
-loop-init g c = ([], Consumes-nil (g.R.Read.remaining c.args.input.now), no_marks ∙ ap (map Some) (sym c.none-digits.ensures))
+loop-init g c = ([], Consumes-nil (g.R.Read.remaining c.args.input.now), nothing_read ∙ ap (map Some) (sym c.none-digits.ensures))
 
 pub returns-then-count-eq0 : goal.returns-then-count-eq0
 returns-then-count-eq0 g c =

@@ -1,8 +1,8 @@
 use Rattle.std.proofs.Common.{◌≡◌, map, Some, List, ℕ}
 use Rattle.std.specs.Io.KnownBytes.{Consumes}
-use Rattle.mtr.specs.Hex.{marks}
+use Rattle.mtr.specs.Hex.{digits_read}
 use Rattle.mtr.proofs.hex.read_hex.Given as goal
 
 -- what was read so far has these digits
 abbrev pub invariant-loop : goal.invariant-loop
-invariant-loop g l = (text : List ℕ) × Consumes (g.R.Read.remaining l.fn.input) (g.R.Read.remaining l.input) text × (marks text ≡ map Some l.digits)
+invariant-loop g l = (text : List ℕ) × Consumes (g.R.Read.remaining l.fn.input) (g.R.Read.remaining l.input) text × (digits_read text ≡ map Some l.digits)
