@@ -1,6 +1,6 @@
-//! What crates of tests make of records: plain ones, their bytes, and the source that they come from.
+//! What crates of tests make of records: plain ones, marks, their bytes, and the source that they come from.
 
-use record_codec::{Changes, Flags, Record, Refs, Version, encode};
+use record_codec::{Changes, Flags, Marks, Record, Refs, Version, decode, encode};
 use rows::Change;
 use schema::Memory;
 use std::alloc::Global;
@@ -17,7 +17,7 @@ pub fn record(alloc: Global, gno: u64, parent: u64, change: Change) -> Result<Re
     record_of(alloc, gno, parent, vec![in alloc; change]?)
 }
 
-/// The record of this number with these changes, and neither refs nor flags.
+/// The record of this number with these changes, and neither refs nor marks nor flags.
 pub fn record_of(
     alloc: Global,
     gno: u64,
@@ -26,13 +26,30 @@ pub fn record_of(
 ) -> Result<Record, Memory> {
     let changes = Changes::new(changes).ok_or(Memory)?;
     Ok(Record::new(
-        alloc,
         gno,
         parent,
         Flags::none(),
         Refs::none(alloc),
+        Marks::none(alloc),
         changes,
     ))
+}
+
+/// These marks, each a table and a value, in rising order: as they are read from a record that has them.
+pub fn marks_of(alloc: Global, marks: &[(u16, i64)]) -> Result<Marks, Memory> {
+    let mut bytes = Vec::new(alloc);
+    let count = u16::try_from(marks.len()).map_err(|_| Memory)?;
+    let len = u32::from(count) * 10 + 42;
+    bytes.extend_from_slice(&len.to_be_bytes())?;
+    bytes.extend_from_slice(&[0; 27])?;
+    bytes.extend_from_slice(&count.to_be_bytes())?;
+    for (table, value) in marks {
+        bytes.extend_from_slice(&table.to_be_bytes())?;
+        bytes.extend_from_slice(&value.to_be_bytes())?;
+    }
+    bytes.extend_from_slice(&[0, 1, 3, 0, 1, 0, 0, 0, 0, 0, 0, 0, 0])?;
+    let (read, _) = decode(alloc, Version::Two, &bytes).map_err(|_| Memory)?;
+    Ok(read.marks)
 }
 
 /// The bytes of the records in the form that sources write, one behind the other. Each is written once more where memory lacked.

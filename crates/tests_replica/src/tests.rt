@@ -7,4 +7,5 @@ mod marks;
 mod parents;
 mod refusals;
 mod steps;
+mod values;
 mod wires;

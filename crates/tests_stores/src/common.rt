@@ -55,6 +55,18 @@ pub fn five_tables(alloc: Global) -> Result<Schema, Memory> {
     Schema::new(tables).map_err(|_| Memory)
 }
 
+/// Tables 1 and 2 have a unique column, of one and of two columns their last. Table 3 has none, and is the parent of 4, whose second
+/// of two columns is unique.
+pub fn unique_tables(alloc: Global) -> Result<Schema, Memory> {
+    let tables = vec![in alloc;
+        Table::new(1, 1, true).with_unique(0),
+        Table::new(2, 2, true).with_unique(1),
+        Table::new(3, 1, true),
+        Table::new(4, 2, true).with_unique(1).child_of(0, 3),
+    ]?;
+    Schema::new(tables).map_err(|_| Memory)
+}
+
 /// Whether the fault's text is this.
 pub fn is_told(alloc: Global, fault: &impl Display, text: &str) -> Result<bool, AllocError> {
     Ok(format!(in alloc; "{fault}")?.as_str() == text)

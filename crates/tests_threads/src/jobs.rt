@@ -4,7 +4,7 @@ ghost use Rattle.replica_shared.specs.Queue.{IsPassOf, hand_of};
 
 use crate::device::PATIENCE;
 use crate::makers::{insert, schema};
-use executor::Job;
+use executor::{Holders, Job};
 use replica_shared::{Again, Jobs, Pass};
 use schema::Memory;
 use std::alloc::Global;
@@ -88,6 +88,7 @@ fn push_beside<R: Threads + Wait + Abort + Clock + Sync>(
         1,
         record(alloc, 1, 0, change)?,
         Batch::new(alloc),
+        Holders::none(alloc),
         schema(alloc)?,
     );
     let loot = Loot::new(alloc)?;

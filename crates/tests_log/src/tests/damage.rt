@@ -5,7 +5,7 @@ use crate::tests::reader::{Fault, read};
 use record_codec::{CodecFault, Record, Version, decode};
 use record_stream::Stream;
 use rows::Change;
-use schema::RowId;
+use schema::{Mark, RowId};
 use std::alloc::{AllocError, Global};
 use std::process::Abort;
 use std::test::Fail;
@@ -65,7 +65,7 @@ fn fields_of(alloc: Global, version: Version, record: &Record) -> Result<Vec<i64
     ]?;
     put_rows(&mut fields, record.refs.rows())?;
     if version == Version::Two || !marks.is_empty() {
-        put_rows(&mut fields, marks)?;
+        put_marks(&mut fields, marks)?;
     }
     fields.push(changes.len() as i64)?;
     for change in changes {
@@ -78,6 +78,14 @@ fn put_rows(fields: &mut Vec<i64>, rows: &[RowId]) -> Result<(), AllocError> {
     fields.push(rows.len() as i64)?;
     for id in rows {
         fields.extend_from_slice(&[i64::from(id.table), id.key])?;
+    }
+    Ok(())
+}
+
+fn put_marks(fields: &mut Vec<i64>, marks: &[Mark]) -> Result<(), AllocError> {
+    fields.push(marks.len() as i64)?;
+    for mark in marks {
+        fields.extend_from_slice(&[i64::from(mark.table()), mark.value()])?;
     }
     Ok(())
 }

@@ -1,7 +1,7 @@
 //! What trackers see of a log: footprints and entries.
 
-use log_index::{Entry, Footprint, Log, Rows};
-use schema::{Flags, Memory, RowId};
+use log_index::{Entry, Footprint, Log, MarkSet, Rows};
+use schema::{Flags, Mark, Memory, RowId};
 use std::alloc::Global;
 use std::test::Fail;
 use tests_stores::again;
@@ -11,11 +11,16 @@ fn rows(alloc: Global, list: &[RowId]) -> Result<Rows, Memory> {
     Ok(Rows::new(again!(list.to_vec(alloc))?))
 }
 
-/// The footprint of a transaction that writes one row and refers to another.
+fn marks(alloc: Global, list: &[Mark]) -> Result<MarkSet, Memory> {
+    Ok(MarkSet::new(again!(list.to_vec(alloc))?))
+}
+
+/// The footprint of a transaction that writes one row, refers to another and has a mark.
 fn footprint(alloc: Global, write: RowId, to: RowId) -> Result<Footprint, Memory> {
     Ok(Footprint {
         writes: rows(alloc, &[write])?,
         refs: rows(alloc, &[to])?,
+        marks: marks(alloc, &[Mark::new(write.table, 5)])?,
         flags: Flags::none(),
     })
 }
@@ -31,7 +36,8 @@ fn kinds_of_tables(rt: HostRuntime) -> Result<(), Fail> {
         (5, false, true),
     ] {
         let writes = rows(rt.alloc(), &[row(2, 1), row(table, 1)])?;
-        let seen = Footprint::new(&schema, writes, rows(rt.alloc(), &[])?);
+        let (refs, none) = (rows(rt.alloc(), &[])?, marks(rt.alloc(), &[])?);
+        let seen = Footprint::new(&schema, writes, refs, none);
         assert_eq!(rt;
             (seen.flags.fk, seen.flags.missing_keys),
             (fk, missing_keys),
@@ -53,7 +59,7 @@ fn push_next(log: &mut Log, footprint: Footprint) -> Result<(), Memory> {
     })
 }
 
-/// A copy that finds no memory past some number of rows.
+/// A copy that finds no memory past some number of rows or marks.
 #[test]
 fn an_entry_at_the_bound_is_copied_again(rt: HostRuntime) -> Result<(), Fail> {
     let mut entry = Entry {
@@ -64,9 +70,11 @@ fn an_entry_at_the_bound_is_copied_again(rt: HostRuntime) -> Result<(), Fail> {
     };
     entry.footprint.writes = rows(rt.alloc(), &[row(4, 9); 1024])?;
     entry.footprint.refs = rows(rt.alloc(), &[row(3, 1); 2048])?;
+    entry.footprint.marks = marks(rt.alloc(), &[Mark::new(4, 5); 2048])?;
     let copy = again!(entry.copy())?;
     assert_eq!(rt; copy.footprint.writes.list().len(), 1024);
     assert_eq!(rt; copy.footprint.refs.list().len(), 2048);
+    assert_eq!(rt; copy.footprint.marks.list().len(), 2048);
     Ok(())
 }
 

@@ -7,8 +7,9 @@ ghost use Rattle.world.specs.State.{IsWorld};
 
 use crate::tests::courses::{
     Told, kin_at_the_replica, kin_at_the_source, two_at_the_replica, two_at_the_source,
+    values_at_the_replica, values_at_the_source,
 };
-use crate::tests::makers::{InOne, world, world_of_kin};
+use crate::tests::makers::{InOne, world, world_of_kin, world_of_values};
 use btree_store::BTreeStore;
 use commit_order_tracker::CommitOrder;
 use log_device::Device;
@@ -54,6 +55,19 @@ fn events_of_kin_are_sent_again(rt: HostRuntime) -> Result<(), Fail> {
     )
 }
 
+/// Catches what is left half done where rows give values of unique columns up and take them, and where children move.
+#[test]
+fn events_of_values_are_sent_again(rt: HostRuntime) -> Result<(), Fail> {
+    let world = world_of_values_again(rt.alloc())?;
+    answer_all(
+        &rt,
+        rt.alloc(),
+        world,
+        &values_at_the_source(),
+        &values_at_the_replica(),
+    )
+}
+
 /// A new world, made once more where memory is refused.
 fn world_again(alloc: Global) -> Result<InOne<BTreeStore, CommitOrder>, LogFault>
     ensures { IfOk result (λ world. IsWorld (λ rows. rows) (seen world)) }
@@ -66,6 +80,13 @@ fn world_of_kin_again(alloc: Global) -> Result<InOne<VectorStore, WriteSetTracke
     ensures { IfOk result (λ world. IsWorld (λ rows. rows) (seen world)) }
 {
     again!(world_of_kin(alloc))
+}
+
+/// The same of one with values.
+fn world_of_values_again(alloc: Global) -> Result<InOne<VectorStore, WriteSetTracker>, LogFault>
+    ensures { IfOk result (λ world. IsWorld (λ rows. rows) (seen world)) }
+{
+    again!(world_of_values(alloc))
 }
 
 /// Sends a world what happens at its source and then at its replica, and compares what each event is answered.

@@ -1,7 +1,7 @@
 //! What happens in a world, event by event, and what each event is answered.
 
-use crate::tests::makers::{CHILD, PARENT, insert, insert_of, row, set};
-use rows::Change;
+use crate::tests::makers::{CHILD, OTHER_PARENT, PARENT, insert, insert_of, row, set, set_of};
+use rows::{Change, Row};
 use schema::RowId;
 use world::Event;
 
@@ -227,6 +227,125 @@ pub fn kin_at_the_replica() -> [Told; 46] {
     ]
 }
 
+/// At a source that goes by written rows, over a row with the value 5 and two parents, of which one has a child with the value 7:
+/// - A value that a transaction gives up is locked until it is committed, and then another row takes it. Its parent is that
+///   transaction, which is not the last one.
+/// - A value that another row has is refused. Two rows swap theirs by way of a third value.
+/// - A child moves to the other parent, then takes another value. Its parents are locked, and then the one that it left is deleted,
+///   and the one that it has is not.
+pub fn values_at_the_source() -> [Told; 57] {
+    [
+        (Event::Begin { session: 1 }, "Done"),
+        (Event::Begin { session: 2 }, "Done"),
+        (write(1, delete(row(10))), "Done"),
+        (write(2, takes(11, 5)), "Source(RowLocked)"),
+        (Event::Prepare { session: 1 }, "Prepared { parent: 0 }"),
+        (Event::Queue { session: 1 }, "Done"),
+        (Event::Flush, "from 1 [(1, 0)]"),
+        (write(2, takes(11, 5)), "Source(RowLocked)"),
+        (Event::Sync, "Synced { first: 1, last: 1 }"),
+        (Event::Commit, "Committed { first: 1, last: 1 }"),
+        (Event::Log, LOG_OF_ONE_DELETE),
+        (Event::Begin { session: 1 }, "Done"),
+        (write(1, takes(12, 6)), "Done"),
+        (Event::Prepare { session: 1 }, "Prepared { parent: 1 }"),
+        (Event::Queue { session: 1 }, "Done"),
+        (Event::Flush, "from 2 [(2, 0)]"),
+        (Event::Sync, "Synced { first: 2, last: 2 }"),
+        (Event::Commit, "Committed { first: 2, last: 2 }"),
+        (write(2, takes(11, 5)), "Done"),
+        (Event::Prepare { session: 2 }, "Prepared { parent: 2 }"),
+        (Event::Queue { session: 2 }, "Done"),
+        (Event::Flush, "from 3 [(3, 1)]"),
+        (Event::Sync, "Synced { first: 3, last: 3 }"),
+        (Event::Commit, "Committed { first: 3, last: 3 }"),
+        (Event::Begin { session: 1 }, "Done"),
+        (write(1, takes(13, 6)), "Source(Duplicate)"),
+        (write(1, set(11, 6)), "Source(Duplicate)"),
+        (write(1, set(11, 9)), "Done"),
+        (write(1, set(12, 5)), "Done"),
+        (write(1, set(11, 6)), "Done"),
+        (see(1, row(11)), "row [6]"),
+        (Event::Prepare { session: 1 }, "Prepared { parent: 3 }"),
+        (Event::Queue { session: 1 }, "Done"),
+        (Event::Flush, "from 4 [(4, 3)]"),
+        (Event::Sync, "Synced { first: 4, last: 4 }"),
+        (Event::Commit, "Committed { first: 4, last: 4 }"),
+        (Event::Begin { session: 1 }, "Done"),
+        (Event::Begin { session: 2 }, "Done"),
+        (write(2, set_of(CHILD, 0, 2)), "Done"),
+        (write(2, set_of(CHILD, 1, 8)), "Done"),
+        (write(1, delete(PARENT)), "Source(RowLocked)"),
+        (write(1, delete(OTHER_PARENT)), "Source(RowLocked)"),
+        (write(1, insert_of(SIBLING, 1, 7)), "Source(RowLocked)"),
+        (Event::Prepare { session: 2 }, "Prepared { parent: 4 }"),
+        (Event::Queue { session: 2 }, "Done"),
+        (Event::Flush, "from 5 [(5, 4)]"),
+        (Event::Sync, "Synced { first: 5, last: 5 }"),
+        (Event::Commit, "Committed { first: 5, last: 5 }"),
+        (write(1, delete(OTHER_PARENT)), "Source(HasChild)"),
+        (write(1, delete(PARENT)), "Done"),
+        (write(1, insert_of(SIBLING, 2, 8)), "Source(Duplicate)"),
+        (write(1, insert_of(SIBLING, 2, 7)), "Done"),
+        (Event::Prepare { session: 1 }, "Prepared { parent: 5 }"),
+        (Event::Queue { session: 1 }, "Done"),
+        (Event::Flush, "from 6 [(6, 5)]"),
+        (Event::Sync, "Synced { first: 6, last: 6 }"),
+        (Event::Commit, "Committed { first: 6, last: 6 }"),
+    ]
+}
+
+/// The log of its first record, with its mark behind the count of its refs.
+const LOG_OF_ONE_DELETE: &str = "\
+    4d54524c4f473032\
+    01010101010101010101010101010101\
+    0100000038\
+    00000034000000000000000100000000000000010000000000000000\
+    000000\
+    000100010000000000000005\
+    0001030001000000000000000a\
+    00";
+
+/// The same records at a replica of two workers: the third, which takes the value that the first gave up, waits for that one.
+pub fn values_at_the_replica() -> [Told; 34] {
+    [
+        (Event::Deliver { gno: 1 }, "Accepted"),
+        (Event::Deliver { gno: 2 }, "Accepted"),
+        (Event::Deliver { gno: 3 }, "Accepted"),
+        (Event::Dispatch, "Job { gno: 1 }"),
+        (Event::Dispatch, "Job { gno: 2 }"),
+        (Event::Finish { gno: 2 }, "Finished { gno: 2 }"),
+        (Event::Next, "Nothing"),
+        (Event::Dispatch, "Nothing"),
+        (Event::Finish { gno: 1 }, "Finished { gno: 1 }"),
+        (Event::Next, "Commit { gno: 1 }"),
+        (Event::Dispatch, "Job { gno: 3 }"),
+        (Event::Next, "Commit { gno: 2 }"),
+        (Event::Finish { gno: 3 }, "Finished { gno: 3 }"),
+        (Event::Next, "Commit { gno: 3 }"),
+        (Event::Publish, "Published { upto: 3 }"),
+        (Event::Read { row: row(11) }, "3: [5]"),
+        (Event::Deliver { gno: 4 }, "Accepted"),
+        (Event::Deliver { gno: 5 }, "Accepted"),
+        (Event::Deliver { gno: 6 }, "Accepted"),
+        (Event::Dispatch, "Job { gno: 4 }"),
+        (Event::Dispatch, "Nothing"),
+        (Event::Finish { gno: 4 }, "Finished { gno: 4 }"),
+        (Event::Next, "Commit { gno: 4 }"),
+        (Event::Dispatch, "Job { gno: 5 }"),
+        (Event::Finish { gno: 5 }, "Finished { gno: 5 }"),
+        (Event::Next, "Commit { gno: 5 }"),
+        (Event::Dispatch, "Job { gno: 6 }"),
+        (Event::Finish { gno: 6 }, "Finished { gno: 6 }"),
+        (Event::Next, "Commit { gno: 6 }"),
+        (Event::Publish, "Published { upto: 6 }"),
+        (Event::Read { row: row(11) }, "6: [6]"),
+        (Event::Read { row: row(12) }, "6: [5]"),
+        (Event::Read { row: CHILD }, "6: [2, 8]"),
+        (Event::Read { row: SIBLING }, "6: [2, 7]"),
+    ]
+}
+
 /// Another child of the parent.
 const SIBLING: RowId = RowId { table: 4, key: 8 };
 
@@ -241,6 +360,14 @@ fn write(session: u16, change: Change) -> Event {
 /// The session looks at this row.
 fn see(session: u16, row: RowId) -> Event {
     Event::See { session, row }
+}
+
+/// The insert of a row of table 1 of this value alone.
+fn takes(key: i64, value: i64) -> Change {
+    Change::Insert {
+        row: row(key),
+        values: Row::new(&[value]).unwrap(),
+    }
 }
 
 fn delete(row: RowId) -> Change {

@@ -1,6 +1,6 @@
 //! What the tests begin with: tables, changes of their rows, and both sides.
 
-ghost use Rattle.std.specs.Prelude.{◌≡◌, ◌≤◌, [], List, IfOk};
+ghost use Rattle.std.specs.Prelude.{◌≡◌, ◌≤◌, ◌<◌, [], List, IfOk};
 ghost use Rattle.std.specs.FinMap.{empty};
 ghost use Rattle.schema.specs.declared.Table.{Table as ATable};
 ghost use Rattle.source_core.specs.Source.{new_source};
@@ -17,7 +17,7 @@ use rows::{Change, Named, Row};
 use schema::{Memory, RowId, Schema, Table};
 use std::alloc::Global;
 use store_trait::{Batch, RowStore};
-use tests_stores::common::five_tables;
+use tests_stores::common::{five_tables, unique_tables};
 use tracker_trait::Tracker;
 use uuid::Uuid;
 use vector_store::VectorStore;
@@ -57,9 +57,16 @@ pub fn insert_of(row: RowId, first: i64, second: i64) -> Change {
 
 /// A change of column 0.
 pub fn set(key: i64, value: i64) -> Change {
+    set_of(row(key), 0, value)
+}
+
+/// A change of one column of any table's row.
+pub fn set_of(row: RowId, column: u8, value: i64) -> Change
+    requires { column < 16 }
+{
     Change::Update {
-        row: row(key),
-        columns: Named::of(&[(0, value)]).unwrap(),
+        row,
+        columns: Named::of(&[(column, value)]).unwrap(),
     }
 }
 
@@ -113,7 +120,10 @@ pub fn world(alloc: Global) -> Result<InOne<BTreeStore, CommitOrder>, LogFault>
 /// A parent.
 pub const PARENT: RowId = RowId { table: 3, key: 1 };
 
-/// A child of it.
+/// Another one.
+pub const OTHER_PARENT: RowId = RowId { table: 3, key: 2 };
+
+/// A child of the first.
 pub const CHILD: RowId = RowId { table: 4, key: 9 };
 
 /// The parent and its child.
@@ -122,9 +132,40 @@ fn kin(alloc: Global) -> Result<Batch, Memory> {
     Batch::from_entries(Vec::from_slice(alloc, &rows)?).ok_or(Memory)
 }
 
-/// One world of a parent with its child, over tables with kin and one without keys: with one worker, vectors, and parents by the
-/// rows that were written.
+/// One world of a parent with its child, over tables with kin and one without keys, with one worker.
 pub fn world_of_kin(alloc: Global) -> Result<InOne<VectorStore, WriteSetTracker>, LogFault>
+    ensures { IfOk result (λ world. IsWorld (λ rows. rows) (seen world)) }
+{
+    world_by_rows(alloc, five_tables(alloc)?, kin(alloc)?, 1)
+}
+
+/// A row with the value 5, two parents, and a child of the first with the value 7.
+fn valued(alloc: Global) -> Result<Batch, Memory> {
+    let rows = [
+        (row(10), Row::new(&[5])),
+        (PARENT, Row::new(&[0])),
+        (OTHER_PARENT, Row::new(&[0])),
+        (CHILD, Row::new(&[1, 7])),
+    ];
+    Batch::from_entries(Vec::from_slice(alloc, &rows)?).ok_or(Memory)
+}
+
+/// One world of these rows, over tables with kin and with unique columns, with two workers.
+pub fn world_of_values(alloc: Global) -> Result<InOne<VectorStore, WriteSetTracker>, LogFault>
+    ensures { IfOk result (λ world. IsWorld (λ rows. rows) (seen world)) }
+{
+    world_by_rows(alloc, unique_tables(alloc)?, valued(alloc)?, 2)
+}
+
+/// One world with vectors, and parents by the rows that were written.
+fn world_by_rows(
+    alloc: Global,
+    schema: Schema,
+    base: Batch,
+    workers: usize,
+) -> Result<InOne<VectorStore, WriteSetTracker>, LogFault>
+    requires some { 1 ≤ workers }
+    requires few { workers ≤ 64 }
     ensures { IfOk result (λ world. IsWorld (λ rows. rows) (seen world)) }
 {
     let parts = PairParts {
@@ -133,8 +174,7 @@ pub fn world_of_kin(alloc: Global) -> Result<InOne<VectorStore, WriteSetTracker>
         tracker: WriteSetTracker::with_limit(alloc, 25_000)?,
         device: MemoryDevice::new(alloc),
     };
-    let (schema, base) = (five_tables(alloc)?, kin(alloc)?);
-    world_of(alloc, schema, base, 1, parts, VectorStore::new(alloc))
+    world_of(alloc, schema, base, workers, parts, VectorStore::new(alloc))
 }
 
 /// Both sides of these parts as one world, whose readers see the rows in a store of their own.

@@ -1,26 +1,37 @@
 //! Calls that were refused memory, and are made once more.
 
-use crate::tests::makers::{Replica, insert, replica, row};
+use crate::tests::makers::{Replica, replica_over};
 use crate::tests::steps::{
     accepts, commit_next, commits, dispatch, executed, finish, finishes, job, receive, stored,
     waiting,
 };
+use btree_store::BTreeStore;
 use executor::Job;
 use record_codec::Record;
 use relay::{Received, ReplicaFault};
+use rows::Row;
 use schema::Memory;
 use std::alloc::Global;
 use std::process::Abort;
 use std::test::Fail;
-use tests_log::common::record_of;
+use tests_log::common::{marks_of, record_of};
+use tests_stores::common::{insert, row, unique_tables};
 
-/// The record 1 that inserts the rows 1 to 40.
+/// A replica of no rows, of tables with unique columns.
+fn new_replica(alloc: Global) -> Result<Replica, Memory> {
+    replica_over(alloc, unique_tables(alloc)?, BTreeStore::new(alloc), 2)
+}
+
+/// The record 1 that inserts the rows 1 to 40 with these values.
 fn new_record(alloc: Global) -> Result<Record, Memory> {
-    let mut list = Vec::new(alloc);
+    let (mut list, mut marks) = (Vec::new(alloc), Vec::new(alloc));
     for key in 1..41 {
-        list.push(insert(key)?)?;
+        list.push(insert(row(1, key), &[key])?)?;
+        marks.push((1, key))?;
     }
-    record_of(alloc, 1, 0, list)
+    let marks = marks_of(alloc, &marks)?;
+    let plain = record_of(alloc, 1, 0, list)?;
+    Ok(Record { marks, ..plain })
 }
 
 /// Receives the record, once more where it is refused, which leaves the replica as it was.
@@ -80,14 +91,14 @@ fn passes_again(rt: &(impl Abort + AllocGlobal), replica: &mut Replica) -> Resul
 
 /// All rows are there, and their commit waits.
 fn has_passed(rt: &impl Abort, replica: &Replica) {
-    assert_eq!(rt; stored(replica, 10), (row(5, 6), 40));
+    assert_eq!(rt; stored(replica, 10), (Row::new(&[10]), 40));
     assert_eq!(rt; waiting(replica), (Some(1), 1));
 }
 
 /// A call that was refused memory and then answers otherwise than if it had not been.
 #[test]
 fn refused_calls_are_made_again(rt: HostRuntime) -> Result<(), Fail> {
-    let mut replica = replica(rt.alloc(), 2).or_else(|_| replica(rt.alloc(), 2))?;
+    let mut replica = new_replica(rt.alloc()).or_else(|_| new_replica(rt.alloc()))?;
     passes_again(&rt, &mut replica)?;
     has_passed(&rt, &replica);
     Ok(())

@@ -8,7 +8,7 @@ use schema::Memory;
 use std::alloc::Global;
 use std::process::Abort;
 use std::test::Fail;
-use tests_log::common::{record, source};
+use tests_log::common::{marks_of, record, source};
 use tests_stores::common;
 
 type Answer = Result<Received, ReplicaFault>;
@@ -24,10 +24,12 @@ enum Does {
     Updates(u8),
     /// It inserts a row of three columns into this table.
     Widens(u16),
+    /// It inserts this row of table 1, and states this value of table 2.
+    States(i64, i64),
 }
 
 /// Records that are delivered in this order, by number, parent and what they do, with the answer to each.
-fn worked() -> [(u64, u64, Does, Answer); 21] {
+fn worked() -> [(u64, u64, Does, Answer); 27] {
     let accepted = Ok(Received::Accepted);
     let skipped = Ok(Received::Skipped);
     let malformed = Err(ReplicaFault::Malformed);
@@ -51,15 +53,22 @@ fn worked() -> [(u64, u64, Does, Answer); 21] {
         // A write of a row that was referred to waits for that.
         (7, 5, Does::Updates(0), uncovered),
         (7, 6, Does::Updates(0), accepted),
+        // A mark waits for the last record that states it, and for no other.
+        (8, 0, Does::States(14, 5), accepted),
+        (9, 7, Does::States(15, 5), uncovered),
+        (9, 8, Does::States(15, 5), accepted),
+        (10, 0, Does::States(16, 6), accepted),
+        (11, 8, Does::States(17, 5), uncovered),
+        (11, 9, Does::States(17, 5), accepted),
         // What no source writes is told before a repeat, and a repeat before its parent is looked at.
         (1, 1, Does::Inserts(10), malformed),
         (1, 0, Does::Widens(1), malformed),
         (1, 0, Does::Widens(3), malformed),
         (1, 0, Does::Updates(2), malformed),
         (2, 0, Does::Updates(1), skipped),
-        (9, 8, Does::Inserts(14), gap),
-        (1 << 63, 0, Does::Inserts(14), malformed),
-        ((1 << 63) - 1, 0, Does::Inserts(14), gap),
+        (13, 8, Does::Inserts(18), gap),
+        (1 << 63, 0, Does::Inserts(18), malformed),
+        ((1 << 63) - 1, 0, Does::Inserts(18), gap),
     ]
 }
 
@@ -67,6 +76,7 @@ fn change_of(does: Does) -> Result<Change, Memory> {
     match does {
         Does::Inserts(key) => insert(key),
         Does::Refers(key) => insert(key),
+        Does::States(key, _) => insert(key),
         Does::Updates(column) => common::update(id(10), column, 8),
         Does::Widens(table) => common::insert(common::row(table, 10), &[7; 3]),
     }
@@ -77,6 +87,10 @@ fn delivered(alloc: Global, gno: u64, parent: u64, does: Does) -> Result<Record,
     new.flags.fk = true;
     match does {
         Does::Refers(_) => referring(alloc, new),
+        Does::States(_, value) => {
+            let marks = marks_of(alloc, &[(2, value)])?;
+            Ok(Record { marks, ..new })
+        }
         _ => Ok(new),
     }
 }
@@ -99,7 +113,7 @@ fn receives_all(rt: &(impl Abort + AllocGlobal), relay: &mut Relay) -> Result<()
 fn worked_deliveries_are_answered(rt: HostRuntime) -> Result<(), Memory> {
     let mut relay = Relay::new(rt.alloc(), family(rt.alloc())?, source());
     receives_all(&rt, &mut relay)?;
-    assert_eq!(rt; relay.accepted().len(), 7);
+    assert_eq!(rt; relay.accepted().len(), 11);
     Ok(())
 }
 

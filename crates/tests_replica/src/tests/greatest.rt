@@ -1,13 +1,15 @@
-//! A record of as many changes and refs as there may be: each change moves a child row from one parent to another.
+//! A record of as many changes, refs and marks as there may be: each change moves a child row from one parent to another, and gives it
+//! another value.
 
-use crate::tests::makers::{RELATED, family, greatest, rows_of_greatest};
-use executor::{Job, JobResult, Outcome, execute};
-use record_codec::{Record, Refs, Version, decode};
-use relay::{Received, Relay};
+use crate::tests::makers::{RELATED, Replica, family, greatest, replica_over, rows_of_greatest};
+use crate::tests::steps::passes;
+use btree_store::BTreeStore;
+use record_codec::{Marks, Record, Refs, Version, decode};
 use schema::Memory;
 use std::alloc::Global;
-use std::process::Abort;
-use tests_log::common::source;
+use std::test::Fail;
+use store_trait::RowStore;
+use tests_log::common::marks_of;
 
 /// The bytes of a record of 2048 refs, to the rows 0 to 2047, no marks and one delete.
 fn bytes_of_refs(alloc: Global) -> Result<Vec<u8>, Memory> {
@@ -29,44 +31,52 @@ fn all_refs(alloc: Global) -> Result<Refs, Memory> {
     read.refs.copy()
 }
 
-/// The record 1 that moves 1024 child rows, and refers to the 1024 parents that they had and to those that they get.
+/// The values 0 to 2047 of the child rows.
+fn all_marks(alloc: Global) -> Result<Marks, Memory> {
+    let mut marks = Vec::new(alloc);
+    for value in 0i64..2048 {
+        marks.push((2, value))?;
+    }
+    marks_of(alloc, &marks)
+}
+
+/// The record 1 that moves 1024 child rows, refers to the 1024 parents that they had and to those that they get, and has as many marks.
 fn moves(alloc: Global) -> Result<Record, Memory> {
     let plain = greatest(alloc, 1024)?;
-    let refs = all_refs(alloc)?;
+    let (refs, marks) = (all_refs(alloc)?, all_marks(alloc)?);
     Ok(Record {
         flags: RELATED,
         refs,
+        marks,
         ..plain
     })
 }
 
-/// How many rows came of a job: none where its record does not apply.
-fn rows_left(done: &JobResult) -> Result<usize, Memory> {
-    match done.outcome() {
-        Outcome::Output(batch) => Ok(batch.entries().len()),
-        Outcome::Undefined | Outcome::WrongRefs => Ok(0),
-        Outcome::Memory => Err(Memory),
+/// A replica of the rows that it moves.
+fn replica_of_moves(alloc: Global) -> Result<Replica, Memory> {
+    let mut store = BTreeStore::new(alloc);
+    store.put_all(&rows_of_greatest(alloc, None)?)?;
+    replica_over(alloc, family(alloc)?, store, 1)
+}
+
+/// Whether the commit that waits leaves the 1024 rows.
+fn leaves_all(replica: &Replica) -> bool {
+    match replica.pending().first() {
+        Some(op) => op.batch().entries().len() == 1024,
+        None => false,
     }
 }
 
-/// A relay accepts the record.
-fn is_accepted(rt: &(impl Abort + AllocGlobal), new: &Record) -> Result<(), Memory> {
-    let mut relay = Relay::new(rt.alloc(), family(rt.alloc())?, source());
-    assert_eq!(rt; relay.receive(source(), new), Ok(Received::Accepted));
-    Ok(())
-}
-
-/// The job of the record that moves 1024 child rows.
-fn job_of_moves(alloc: Global) -> Result<Job, Memory> {
-    let (rec, rows) = (moves(alloc)?, rows_of_greatest(alloc, None)?);
-    Ok(Job::new(1, rec, rows, family(alloc)?))
-}
-
-/// Memory told at 2048 refs or at a job of 3072 rows, by the relay or the execution.
+/// Memory told at 2048 refs and marks or at a job of 3072 rows, by the relay, the dispatch, the execution or the commit.
 #[test]
-fn the_greatest_record_is_executed(rt: HostRuntime) -> Result<(), Memory> {
-    is_accepted(&rt, &moves(rt.alloc())?)?;
-    let job = job_of_moves(rt.alloc())?;
-    assert_eq!(rt; rows_left(&execute(rt.alloc(), job)), Ok(1024));
+fn the_greatest_moves_are_committed(rt: HostRuntime) -> Result<(), Fail> {
+    let new = moves(rt.alloc())?;
+    assert_eq!(rt;
+        (new.refs.rows().len(), new.marks.list().len()),
+        (2048, 2048)
+    );
+    let mut replica = replica_of_moves(rt.alloc())?;
+    passes(&rt, &mut replica, &new)?;
+    assert!(rt; leaves_all(&replica));
     Ok(())
 }

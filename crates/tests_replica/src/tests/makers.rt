@@ -40,9 +40,10 @@ pub fn schema(alloc: Global) -> Result<Schema, Memory> {
     Schema::new(tables).map_err(|_| Memory)
 }
 
-/// The same tables, the one of sixteen columns being the child of the other: its column 0 names the parent row.
+/// The same tables, the one of sixteen columns being the child of the other: its column 0 names the parent row, and its last column
+/// is unique.
 pub fn family(alloc: Global) -> Result<Schema, Memory> {
-    let child = table(2, 16).child_of(0, 1);
+    let child = table(2, 16).with_unique(15).child_of(0, 1);
     Schema::new(vec![in alloc; table(1, 2), child]?).map_err(|_| Memory)
 }
 

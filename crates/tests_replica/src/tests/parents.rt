@@ -2,7 +2,8 @@
 //! and refs.
 
 use crate::tests::makers::{PLAIN, RELATED};
-use executor::{Job, Outcome, execute};
+use crate::tests::steps::{Came, came_of, executed};
+use executor::{Holders, Job};
 use record_codec::{Flags, Record, Refs};
 use relay::{Received, Relay, ReplicaFault};
 use rows::{Change, Row};
@@ -44,15 +45,6 @@ enum Names {
     Both,
     Three,
     Other,
-}
-
-/// What came of a job.
-#[derive(Clone, Copy, Debug, PartialEq, Eq)]
-enum Came {
-    Output,
-    Undefined,
-    WrongRefs,
-    Memory,
 }
 
 /// Table 1 by itself, the keyless table 2, and table 3 with its child table 4, whose column 0 names the parent.
@@ -149,17 +141,7 @@ fn input_of(alloc: Global, does: Does, names: Names) -> Result<Batch, Memory> {
 fn job_of(alloc: Global, does: Does, names: Names) -> Result<Job, Memory> {
     let rec = record_of(alloc, does, RELATED, names)?;
     let input = input_of(alloc, does, names)?;
-    Ok(Job::new(1, rec, input, tables(alloc)?))
-}
-
-fn came_of(alloc: Global, job: Job) -> Came {
-    let done = execute(alloc, job);
-    match done.outcome() {
-        Outcome::Output(_) => Came::Output,
-        Outcome::Undefined => Came::Undefined,
-        Outcome::WrongRefs => Came::WrongRefs,
-        Outcome::Memory => Came::Memory,
-    }
+    Ok(Job::new(1, rec, input, Holders::none(alloc), tables(alloc)?))
 }
 
 /// What comes of each job with the right refs, with one too few and with one too many. Where the row of a new parent is not
@@ -190,8 +172,8 @@ fn outcomes() -> [(Does, Names, Came); 17] {
 #[test]
 fn refs_are_exactly_the_parents(rt: HostRuntime) -> Result<(), Memory> {
     for (does, names, want) in outcomes() {
-        let job = job_of(rt.alloc(), does, names)?;
-        assert_eq!(rt; came_of(rt.alloc(), job), want, "{does:?} {names:?}");
+        let done = executed(rt.alloc(), job_of(rt.alloc(), does, names)?);
+        assert_eq!(rt; came_of(&done), want, "{does:?} {names:?}");
     }
     Ok(())
 }

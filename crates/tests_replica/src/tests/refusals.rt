@@ -7,7 +7,7 @@ use crate::tests::steps::{
     accepts, commit_next, commits, dispatch, hands_in, job, publishes, receive,
 };
 use btree_store::BTreeStore;
-use executor::Job;
+use executor::{Holders, Job};
 use record_codec::{Flags, Record};
 use relay::{Received, ReplicaFault};
 use rows::{Change, Row};
@@ -228,7 +228,8 @@ fn is_stranger(
     gno: u64,
 ) -> Result<(), Memory> {
     let rec = insert_of(rt.alloc(), gno, 10)?;
-    let job = Job::new(gno, rec, Batch::new(rt.alloc()), schema(rt.alloc())?);
+    let (input, holders) = (Batch::new(rt.alloc()), Holders::none(rt.alloc()));
+    let job = Job::new(gno, rec, input, holders, schema(rt.alloc())?);
     hands_in(rt, replica, Ok(job), Err(ReplicaFault::Stranger))
 }
 

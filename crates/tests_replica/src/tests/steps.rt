@@ -2,7 +2,7 @@
 //! replica to the functions that do the steps: so few ways out of a test drop one.
 
 use crate::tests::makers::{Replica, id};
-use executor::{Job, JobResult, execute};
+use executor::{Job, JobResult, Outcome, execute};
 use record_codec::Record;
 use relay::{Received, ReplicaFault};
 use rows::Row;
@@ -12,6 +12,24 @@ use std::process::Abort;
 use std::test::Fail;
 use store_trait::{Op, RowStore};
 use tests_log::common::source;
+
+/// What came of a job.
+#[derive(Clone, Copy, Debug, PartialEq, Eq)]
+pub enum Came {
+    Output,
+    Undefined,
+    WrongRefs,
+    Memory,
+}
+
+pub fn came_of(done: &JobResult) -> Came {
+    match done.outcome() {
+        Outcome::Output(_) => Came::Output,
+        Outcome::Undefined => Came::Undefined,
+        Outcome::WrongRefs => Came::WrongRefs,
+        Outcome::Memory => Came::Memory,
+    }
+}
 
 pub fn receive(replica: &mut Replica, next: &Record) -> Result<Received, ReplicaFault> {
     replica.receive(source(), next)

@@ -1,7 +1,7 @@
 //! Which locks clash, how many there may be, and that a refused call may be made again.
 
 use row_locks::{LockFault, LockTable, MAX_SESSIONS, Mode};
-use schema::RowId;
+use schema::{Mark, RowId};
 use std::alloc::Global;
 use std::test::Fail;
 use tests_stores::again;
@@ -30,6 +30,42 @@ fn two_clash_unless_both_share(rt: HostRuntime) -> Result<(), Fail> {
     Ok(())
 }
 
+/// Catches a `take_all` that takes some where one clashes, or a row's lock that is a mark's; and marks that outlive their session.
+#[test]
+fn values_are_locked_with_their_rows(rt: HostRuntime) -> Result<(), Fail> {
+    let mut locks = LockTable::new(rt.alloc())?;
+    let (five, six) = (Mark::new(1, 5), Mark::new(1, 6));
+    let (first, second) = (
+        [(row(1, 10), Mode::Exclusive)],
+        [(row(1, 11), Mode::Exclusive)],
+    );
+    locks.take_all(1, &first, &[five])?;
+    assert_eq!(rt;
+        locks.take_all(256, &second, &[six, five]),
+        Err(LockFault::Clash)
+    );
+    assert_eq!(rt; locks.take_all(256, &first, &[six]), Err(LockFault::Clash));
+    for (session, mark, clashes) in [
+        (2, five, true),
+        (1, five, false),
+        (2, six, false),
+        (2, Mark::new(2, 5), false),
+        (2, Mark::new(1, 10), false),
+    ] {
+        assert_eq!(rt;
+            locks.clashes_mark(session, mark),
+            clashes,
+            "{session} {mark:?}"
+        );
+    }
+    assert!(rt; !locks.clashes(2, row(1, 11), Mode::Share));
+    assert!(rt; !locks.clashes(2, row(1, 5), Mode::Exclusive));
+    locks.take_all(1, &second, &[five, six])?;
+    locks.release_all(1);
+    locks.take_all(256, &second, &[six, five])?;
+    Ok(())
+}
+
 /// The rows of a transaction of 1024 changes that refer to 2048 rows.
 fn longest_list(alloc: Global) -> Result<Vec<(RowId, Mode)>, Fail> {
     let mut list = again!(Vec::with_capacity(alloc, 3072))?;
@@ -44,15 +80,28 @@ fn longest_list(alloc: Global) -> Result<Vec<(RowId, Mode)>, Fail> {
     Ok(list)
 }
 
-/// Catches a `take` that gives up at a long list, or for good once it was refused memory.
+/// As many values of unique columns as 1024 changes may have.
+fn most_marks(alloc: Global) -> Result<Vec<Mark>, Fail> {
+    let mut list = again!(Vec::with_capacity(alloc, 2048))?;
+    for value in 0..2048 {
+        list.push(Mark::new(1, value))?;
+    }
+    Ok(list)
+}
+
+/// Catches a `take_all` that gives up at long lists, or for good once it was refused memory.
 #[test]
-fn the_longest_list_is_taken_again(rt: HostRuntime) -> Result<(), Fail> {
+fn the_longest_lists_are_taken_again(rt: HostRuntime) -> Result<(), Fail> {
     let mut locks = again!(LockTable::new(rt.alloc()))?;
-    let list = longest_list(rt.alloc())?;
-    again!(locks.take(256, &list))?;
+    let (list, marks) = (longest_list(rt.alloc())?, most_marks(rt.alloc())?);
+    again!(locks.take_all(256, &list, &marks))?;
     assert_eq!(rt; again!(locks.take(1, &list)), Err(LockFault::Clash));
+    assert_eq!(rt;
+        again!(locks.take_all(1, &[], &marks)),
+        Err(LockFault::Clash)
+    );
     locks.release_all(256);
-    again!(locks.take(1, &list))?;
+    again!(locks.take_all(1, &list, &marks))?;
     Ok(())
 }
 

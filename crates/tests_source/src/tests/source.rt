@@ -14,7 +14,7 @@ use std::process::Abort;
 use std::test::Fail;
 use store_trait::fits;
 use tests_stores::again;
-use tests_stores::common::{five_tables, insert, row};
+use tests_stores::common::{insert, row, unique_tables};
 
 /// Catches a text that no clause fixes.
 #[test]
@@ -35,6 +35,7 @@ fn texts_of_source_faults(rt: HostRuntime) -> Result<(), Fail> {
         (SourceFault::Memory, "S13 Memory"),
         (SourceFault::NotPrepared, "S14 NotPrepared"),
         (SourceFault::Exhausted, "S15 Exhausted"),
+        (SourceFault::Duplicate, "S16 Duplicate"),
     ] {
         let said = format!(in rt.alloc(); "{fault}")?;
         assert_eq!(rt; said.as_str(), text);
@@ -44,9 +45,9 @@ fn texts_of_source_faults(rt: HostRuntime) -> Result<(), Fail> {
 
 type Source = SourceCore<BTreeStore, CommitOrder>;
 
-/// A source of no rows.
+/// A source of no rows, of tables with unique columns.
 fn source(alloc: Global) -> Result<Source, Memory> {
-    let schema = five_tables(alloc)?;
+    let schema = unique_tables(alloc)?;
     let store = BTreeStore::new(alloc);
     if !fits(&schema, &store) {
         return Err(Memory);
@@ -82,7 +83,8 @@ fn sync(source: &mut Source) -> Result<(), SourceFault> {
 /// Makes a group of a transaction of session 3 and one of session 256.
 fn sync_two(source: &mut Source) -> Result<(), Fail> {
     for session in [3, 256] {
-        enqueue(source, session, insert(row(2, session as i64), &[5, 6])?)?;
+        let key = session as i64;
+        enqueue(source, session, insert(row(2, key), &[5, key])?)?;
     }
     sync(source)?;
     Ok(())

@@ -10,14 +10,14 @@ ghost use Rattle.writeset_trackers.specs.Agreement.{IsHistoryOf};
 ghost use Rattle.writeset_trackers.specs.Places.{AreLast};
 
 use commit_order_tracker::CommitOrder;
-use log_index::{Entry, Footprint, Log, Rows};
+use log_index::{Entry, Footprint, Log, MarkSet, Rows};
 use row_locks::MAX_SESSIONS;
-use schema::{Memory, RowId, Schema};
+use schema::{Mark, Memory, RowId, Schema};
 use std::alloc::Global;
 use std::process::Abort;
 use std::test::Fail;
 use tests_stores::again;
-use tests_stores::common::five_tables;
+use tests_stores::common::{five_tables, unique_tables};
 use tracker_trait::Tracker;
 use write_set::{WriteSet, digests};
 use writeset_trackers::{WriteSetSession, WriteSetTracker};
@@ -27,12 +27,14 @@ fn footprint(
     schema: &Schema,
     writes: &[RowId],
     refs: &[RowId],
+    marks: &[Mark],
 ) -> Result<Footprint, Memory>
-    ensures { IfOk result (λ t. t ≡ footprint_of schema.now t.writes t.refs) }
+    ensures { IfOk result (λ t. t ≡ footprint_of schema.now t.writes t.refs t.marks) }
 {
     let writes = Rows::new(again!(writes.to_vec(alloc))?);
     let refs = Rows::new(again!(refs.to_vec(alloc))?);
-    Ok(Footprint::new(schema, writes, refs))
+    let marks = MarkSet::new(again!(marks.to_vec(alloc))?);
+    Ok(Footprint::new(schema, writes, refs, marks))
 }
 
 /// Whether the transaction writes rows of the schema's tables, and refers to rows only where it is foreign-key related.
@@ -77,8 +79,8 @@ fn log_next<T: Tracker>(
     parent
 }
 
-/// A transaction: its session, its rows and those that it refers to, and behind these the parent that it gets.
-type Step<'a> = (u16, &'a [RowId], &'a [RowId], u64);
+/// A transaction: its session, its rows, those that it refers to and its marks, and behind these the parent that it gets.
+type Step<'a> = (u16, &'a [RowId], &'a [RowId], &'a [Mark], u64);
 
 /// Gives each transaction its parent, and compares.
 fn follow<T: Tracker>(
@@ -91,8 +93,8 @@ fn follow<T: Tracker>(
     requires { T.agrees tracker.old schema.now [] }
 {
     let mut log = Log::new(alloc);
-    for (session, writes, refs, wanted) in steps {
-        let t = footprint(alloc, schema, writes, refs)?;
+    for (session, writes, refs, marks, wanted) in steps {
+        let t = footprint(alloc, schema, writes, refs, marks)?;
         assert!(rt; is_of_tables(schema, &t));
         assert!(rt; *session >= 1 && *session <= MAX_SESSIONS);
         let w = again!(digests(alloc, schema, &t))?;
@@ -128,6 +130,10 @@ const TWIN: RowId = RowId {
     key: 844424930131968,
 };
 
+const BELOW: RowId = RowId { table: 1, key: -1 };
+
+const THREE: RowId = RowId { table: 1, key: 3 };
+
 const PARENT: RowId = RowId { table: 3, key: 1 };
 
 const CHILD: RowId = RowId { table: 4, key: 9 };
@@ -140,7 +146,7 @@ const OTHER_KEYLESS: RowId = RowId { table: 5, key: 2 };
 #[test]
 fn parents_by_commit_order_again(rt: HostRuntime) -> Result<(), Fail> {
     let schema = again!(five_tables(rt.alloc()))?;
-    let steps: [Step; 2] = [(1, &[TEN], &[], 0), (1, &[ELEVEN], &[], 1)];
+    let steps: [Step; 2] = [(1, &[TEN], &[], &[], 0), (1, &[ELEVEN], &[], &[], 1)];
     follow(&rt, rt.alloc(), &mut CommitOrder, &schema, &steps)
 }
 
@@ -149,27 +155,33 @@ fn parents_by_commit_order_again(rt: HostRuntime) -> Result<(), Fail> {
 #[test]
 fn parents_by_rows_again(rt: HostRuntime) -> Result<(), Fail> {
     let schema = again!(five_tables(rt.alloc()))?;
-    let apart: [Step; 2] = [(1, &[TEN], &[], 0), (1, &[ELEVEN], &[], 0)];
+    let apart: [Step; 2] = [(1, &[TEN], &[], &[], 0), (1, &[ELEVEN], &[], &[], 0)];
     let emptied: [Step; 4] = [
-        (1, &[TEN], &[], 0),
-        (1, &[ELEVEN], &[], 0),
-        (1, &[TWELVE], &[], 0),
-        (1, &[TEN], &[], 3),
+        (1, &[TEN], &[], &[], 0),
+        (1, &[ELEVEN], &[], &[], 0),
+        (1, &[TWELVE], &[], &[], 0),
+        (1, &[TEN], &[], &[], 3),
     ];
-    let too_many: [Step; 2] = [(1, &[TEN, ELEVEN], &[], 0), (1, &[TWELVE], &[], 1)];
+    let too_many: [Step; 2] = [
+        (1, &[TEN, ELEVEN], &[], &[], 0),
+        (1, &[TWELVE], &[], &[], 1),
+    ];
     let filled: [Step; 4] = [
-        (1, &[TEN], &[], 0),
-        (1, &[ELEVEN, TWELVE], &[], 0),
-        (1, &[TEN], &[], 1),
-        (1, &[ELEVEN], &[], 3),
+        (1, &[TEN], &[], &[], 0),
+        (1, &[ELEVEN, TWELVE], &[], &[], 0),
+        (1, &[TEN], &[], &[], 1),
+        (1, &[ELEVEN], &[], &[], 3),
     ];
-    let twins: [Step; 2] = [(1, &[ZERO], &[], 0), (1, &[TWIN], &[], 1)];
+    let twins: [Step; 2] = [(1, &[ZERO], &[], &[], 0), (1, &[TWIN], &[], &[], 1)];
     let related: [Step; 3] = [
-        (1, &[PARENT], &[], 0),
-        (1, &[CHILD], &[PARENT], 1),
-        (1, &[TEN], &[], 2),
+        (1, &[PARENT], &[], &[], 0),
+        (1, &[CHILD], &[PARENT], &[], 1),
+        (1, &[TEN], &[], &[], 2),
     ];
-    let keyless: [Step; 2] = [(1, &[KEYLESS], &[], 0), (1, &[OTHER_KEYLESS], &[], 1)];
+    let keyless: [Step; 2] = [
+        (1, &[KEYLESS], &[], &[], 0),
+        (1, &[OTHER_KEYLESS], &[], &[], 1),
+    ];
     let logs: [(u32, &[Step]); 7] = [
         (1000000, &apart),
         (2, &emptied),
@@ -191,13 +203,50 @@ fn parents_by_rows_again(rt: HostRuntime) -> Result<(), Fail> {
 fn parents_by_session_again(rt: HostRuntime) -> Result<(), Fail> {
     let schema = again!(five_tables(rt.alloc()))?;
     let steps: [Step; 6] = [
-        (1, &[TEN], &[], 0),
-        (256, &[ELEVEN], &[], 0),
-        (1, &[TWELVE], &[], 1),
-        (256, &[TEN], &[], 2),
-        (2, &[ZERO], &[], 0),
-        (1, &[KEYLESS], &[], 5),
+        (1, &[TEN], &[], &[], 0),
+        (256, &[ELEVEN], &[], &[], 0),
+        (1, &[TWELVE], &[], &[], 1),
+        (256, &[TEN], &[], &[], 2),
+        (2, &[ZERO], &[], &[], 0),
+        (1, &[KEYLESS], &[], &[], 5),
     ];
     let mut tracker = by_session(rt.alloc(), 25000)?;
     follow(&rt, rt.alloc(), &mut tracker, &schema, &steps)
+}
+
+/// The tracker gives each step its parent over a schema with unique columns.
+fn follow_values<T: Tracker>(
+    rt: &(impl Abort + AllocGlobal),
+    mut tracker: T,
+    steps: &[Step],
+) -> Result<(), Fail>
+where
+    T: Drop,
+    requires { (ts : List ATable) → T.agrees tracker ts [] }
+{
+    let schema = again!(unique_tables(rt.alloc()))?;
+    follow(rt, rt.alloc(), &mut tracker, &schema, steps)
+}
+
+/// Catches a tracker that does not look at marks: the row 11 takes the value that the row 10 gave up.
+#[test]
+fn parents_by_values_again(rt: HostRuntime) -> Result<(), Fail> {
+    let five = [Mark::new(1, 5)];
+    let freed: [Step; 3] = [
+        (1, &[TEN], &[], &five, 0),
+        (2, &[TEN], &[], &five, 1),
+        (3, &[ELEVEN], &[], &five, 2),
+    ];
+    follow_values(&rt, CommitOrder, &freed)?;
+    follow_values(&rt, by_rows(rt.alloc(), 25000)?, &freed)?;
+    follow_values(&rt, by_session(rt.alloc(), 25000)?, &freed)?;
+    Ok(())
+}
+
+/// Catches a mark whose digest is not one with that of a row: that of (1, 0) is the row (1, -1)'s.
+#[test]
+fn parents_by_one_digest_again(rt: HostRuntime) -> Result<(), Fail> {
+    let (seven, zero) = ([Mark::new(1, 7)], [Mark::new(1, 0)]);
+    let steps: [Step; 2] = [(1, &[BELOW], &[], &seven, 0), (2, &[THREE], &[], &zero, 1)];
+    follow_values(&rt, by_rows(rt.alloc(), 25000)?, &steps)
 }

@@ -1,6 +1,6 @@
-//! The schema, rows, changes, batches and stores that the tests are of. Each row has 16 columns of one value.
+//! The schema, rows, changes, batches and stores that the tests are of. Where its columns are not given, a row has 16 of one value.
 
-ghost use Rattle.std.specs.Prelude.{◌<◌};
+ghost use Rattle.std.specs.Prelude.{◌≤◌, ◌<◌, length};
 
 use btree_store::BTreeStore;
 use rows::{Change, Named, Row};
@@ -22,13 +22,30 @@ pub fn table(id: u16, parent: Option<u16>) -> Table {
 
 /// Four tables, listed out of order. Table 2 is a child of table 1.
 pub fn four_tables(alloc: Global) -> Result<Schema, Memory> {
-    let (first, child) = (table(1, None), table(2, Some(1)));
+    four(alloc, table(1, None), table(2, Some(1)))
+}
+
+/// The same, where the first column of table 1 and the last one of its child are unique.
+pub fn four_unique(alloc: Global) -> Result<Schema, Memory> {
+    four(
+        alloc,
+        table(1, None).with_unique(0),
+        table(2, Some(1)).with_unique(15),
+    )
+}
+
+fn four(alloc: Global, first: Table, child: Table) -> Result<Schema, Memory> {
     let tables = [table(3, None), child, first, table(256, None)];
     Schema::new(Vec::from_slice(alloc, &tables)?).map_err(|_| Memory)
 }
 
 pub fn set(table: u16, key: i64, value: i64) -> Entry {
-    (RowId { table, key }, Row::new(&[value; 16]))
+    given(table, key, &[value; 16])
+}
+
+/// The row with these columns.
+pub fn given(table: u16, key: i64, columns: &[i64]) -> Entry {
+    (RowId { table, key }, Row::new(columns))
 }
 
 pub fn removed(table: u16, key: i64) -> Entry {
@@ -36,8 +53,16 @@ pub fn removed(table: u16, key: i64) -> Entry {
 }
 
 pub fn insert(table: u16, key: i64, value: i64) -> Change {
+    insert_of(table, key, &[value; 16])
+}
+
+/// The insert of the row with these columns.
+pub fn insert_of(table: u16, key: i64, columns: &[i64]) -> Change
+    requires some { 1 ≤ length columns.now }
+    requires few { length columns.now ≤ 16 }
+{
     let row = RowId { table, key };
-    let values = Row::new(&[value; 16]).unwrap();
+    let values = Row::new(columns).unwrap();
     Change::Insert { row, values }
 }
 

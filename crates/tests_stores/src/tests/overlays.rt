@@ -1,16 +1,35 @@
 //! What a transaction's changes leave over committed rows.
 
 use crate::again;
+use crate::common::unique_tables;
 use crate::tests::makers::{
-    Entry, delete, four_tables, insert, many_rows, removed, same_rows, set, store, update,
+    Entry, delete, four_tables, four_unique, given, insert, insert_of, many_rows, removed,
+    same_rows, set, store, update,
 };
 use btree_store::BTreeStore;
-use overlay::{Overlay, parent_holds, step_seen};
+use overlay::{Overlay, Step, parent_holds, step_seen, value_holds};
 use rows::Change;
 use schema::{Memory, Schema};
 use std::alloc::Global;
+use std::process::Abort;
 use std::test::Fail;
-use store_trait::Batch;
+use store_trait::{Batch, holder_of};
+
+/// Whether the parent and the value that the change gives its row stand, as the transaction sees the rows.
+fn stands(
+    overlay: &Overlay,
+    schema: &Schema,
+    store: &BTreeStore,
+    change: &Change,
+    step: &Step,
+) -> bool {
+    let holder = match step.takes {
+        Some(mark) => holder_of(schema, store, mark),
+        None => None,
+    };
+    parent_holds(overlay, schema, store, change, step.left.as_ref())
+        && value_holds(overlay, schema, change, step.takes, holder)
+}
 
 /// The overlay of the changes, step by step, or `None` where one of them does not apply behind those before it; each call is
 /// made again where memory lacked.
@@ -25,7 +44,7 @@ fn ran(
         let Ok(step) = step_seen(&overlay, schema, store, change) else {
             return Ok(None);
         };
-        if !parent_holds(&overlay, schema, store, change, step.left.as_ref()) {
+        if !stands(&overlay, schema, store, change, &step) {
             return Ok(None);
         }
         again!(overlay.push(*change, step.left))?;
@@ -49,13 +68,30 @@ fn leaves(
     Ok(want.is_some_and(|want| batch.entries() == want))
 }
 
+/// A list of changes, and what they leave, or `None` where one of them does not apply.
+type Case<'a> = (&'a [Change], Option<&'a [Entry]>);
+
+/// Over these rows the changes of each case leave what it says.
+fn all_leave(
+    rt: &(impl Abort + AllocGlobal),
+    schema: &Schema,
+    rows: &[Entry],
+    cases: &[Case],
+) -> Result<(), Fail> {
+    let store = store(rt.alloc(), rows)?;
+    for (changes, want) in cases {
+        let left = leaves(rt.alloc(), schema, &store, changes, *want);
+        assert_eq!(rt; left, Ok(true), "{changes:?}");
+    }
+    Ok(())
+}
+
 /// A parent that is looked for among the committed rows alone, or asked for where the change gives none. Row 1 of table 1 is
 /// committed, with a child, and row 5 is not.
 #[test]
 fn children_have_the_parents_that_are_seen(rt: HostRuntime) -> Result<(), Fail> {
     let schema = four_tables(rt.alloc())?;
-    let store = store(rt.alloc(), &[set(1, 1, 0), set(2, 9, 1)])?;
-    let cases: [(&[Change], Option<&[Entry]>); 7] = [
+    let cases: [Case; 7] = [
         (&[insert(2, 10, 5), insert(1, 5, 0)], None),
         (
             &[insert(1, 5, 0), insert(2, 10, 5)],
@@ -74,11 +110,73 @@ fn children_have_the_parents_that_are_seen(rt: HostRuntime) -> Result<(), Fail> 
             Some(&[removed(1, 1), set(2, 9, 1)]),
         ),
     ];
-    for (changes, want) in cases {
-        let left = leaves(rt.alloc(), &schema, &store, changes, want);
-        assert_eq!(rt; left, Ok(true), "{changes:?}");
-    }
-    Ok(())
+    all_leave(&rt, &schema, &[set(1, 1, 0), set(2, 9, 1)], &cases)
+}
+
+/// The row of table 1 with this value alone.
+fn has(key: i64, value: i64) -> Entry {
+    given(1, key, &[value])
+}
+
+/// Its insert.
+fn adds(key: i64, value: i64) -> Change {
+    insert_of(1, key, &[value])
+}
+
+/// The update that gives it this value.
+fn moves(key: i64, value: i64) -> Change {
+    update(1, key, 0, value)
+}
+
+/// A value that is looked for among the committed rows alone, in the own row, in another table or column, where a row is removed
+/// or has it no more, or where the change gives none.
+#[test]
+fn values_are_free_where_none_is_seen(rt: HostRuntime) -> Result<(), Fail> {
+    let schema = unique_tables(rt.alloc())?;
+    let rows = [
+        has(10, 5),
+        has(11, 6),
+        given(2, 1, &[8, 7]),
+        given(2, 2, &[7, 8]),
+    ];
+    let cases: [Case; 13] = [
+        (&[adds(12, 5)], None),
+        (
+            &[delete(1, 10), adds(12, 5)],
+            Some(&[removed(1, 10), has(12, 5)]),
+        ),
+        (
+            &[moves(10, 7), adds(12, 5)],
+            Some(&[has(10, 7), has(12, 5)]),
+        ),
+        (&[moves(10, 7), adds(12, 5), moves(10, 5)], None),
+        (&[delete(1, 10), adds(12, 5), adds(10, 5)], None),
+        // Two rows swap their values by way of a third.
+        (&[moves(10, 6), moves(11, 5)], None),
+        (
+            &[moves(10, 7), moves(11, 5), moves(10, 6)],
+            Some(&[has(10, 6), has(11, 5)]),
+        ),
+        // The own row is no other one.
+        (&[moves(10, 5)], Some(&[has(10, 5)])),
+        (&[delete(1, 10), adds(10, 5)], Some(&[has(10, 5)])),
+        // What the transaction itself took, and what it gave up again.
+        (&[adds(12, 7), moves(10, 7)], None),
+        (
+            &[adds(12, 7), delete(1, 12), moves(10, 7)],
+            Some(&[has(10, 7), removed(1, 12)]),
+        ),
+        // The column is not named, or it is another one.
+        (
+            &[update(2, 1, 0, 7), insert_of(2, 3, &[7, 5])],
+            Some(&[given(2, 1, &[7, 7]), given(2, 3, &[7, 5])]),
+        ),
+        (
+            &[update(2, 1, 1, 9), update(2, 2, 1, 7), update(2, 1, 0, 7)],
+            Some(&[given(2, 1, &[7, 9]), given(2, 2, &[7, 7])]),
+        ),
+    ];
+    all_leave(&rt, &schema, &rows, &cases)
 }
 
 /// So many inserts into table 1 and, behind each, of its child into table 2, from the greatest key down.
@@ -93,11 +191,10 @@ fn inserts(alloc: Global, keys: u16) -> Result<Vec<Change>, Memory> {
 }
 
 /// Whether the most changes of a transaction leave these rows, where there were none.
-fn most_leave(alloc: Global, rows: &Batch) -> Result<bool, Memory> {
-    let schema = again!(four_tables(alloc))?;
+fn most_leave(alloc: Global, schema: &Schema, rows: &Batch) -> Result<bool, Memory> {
     let changes = again!(inserts(alloc, 512))?;
     let store = BTreeStore::new(alloc);
-    leaves(alloc, &schema, &store, &changes, Some(rows.entries()))
+    leaves(alloc, schema, &store, &changes, Some(rows.entries()))
 }
 
 /// A step or a batch that gives up, at the most changes of a transaction or where memory lacked once.
@@ -105,7 +202,9 @@ fn most_leave(alloc: Global, rows: &Batch) -> Result<bool, Memory> {
 fn most_changes_are_run_again(rt: HostRuntime) -> Result<(), Fail> {
     let alloc = rt.alloc();
     let rows = again!(many_rows(alloc, &[1, 2], 512))?;
-    assert_eq!(rt; most_leave(alloc, &rows), Ok(true));
+    for schema in [again!(four_tables(alloc))?, again!(four_unique(alloc))?] {
+        assert_eq!(rt; most_leave(alloc, &schema, &rows), Ok(true));
+    }
     Ok(())
 }
 

@@ -1,13 +1,15 @@
 //! Batches, operations and stores of rows. What is tested of a store is tested of each.
 
 use crate::again;
-use crate::tests::makers::{Entry, batch, four_tables, many_rows, removed, same_rows, set};
+use crate::common::unique_tables;
+use crate::tests::makers::{Entry, batch, four_tables, given, many_rows, removed, same_rows, set};
 use btree_store::BTreeStore;
 use rows::Row;
 use schema::{Memory, RowId, Schema};
 use std::alloc::Global;
+use std::process::Abort;
 use std::test::Fail;
-use store_trait::{Batch, Op, RowStore, fits, run, snapshot};
+use store_trait::{Batch, Op, RowStore, fits, holder, run, snapshot};
 use vector_store::VectorStore;
 
 /// Whether these rows, put into a store of none, fit the schema.
@@ -21,6 +23,21 @@ fn rows_fit<S: RowStore + Drop>(
     Ok(fits(schema, &store))
 }
 
+/// Whether each of these lists of rows fits the schema, in either store.
+fn all_fit(
+    rt: &(impl Abort + AllocGlobal),
+    schema: &Schema,
+    cases: &[(&[Entry], bool)],
+) -> Result<(), Fail> {
+    for (entries, want) in cases {
+        let in_tree = rows_fit(rt.alloc(), schema, BTreeStore::new(rt.alloc()), entries);
+        assert_eq!(rt; in_tree, Ok(*want), "{entries:?}");
+        let in_vector = rows_fit(rt.alloc(), schema, VectorStore::new(rt.alloc()), entries);
+        assert_eq!(rt; in_vector, Ok(*want), "{entries:?}");
+    }
+    Ok(())
+}
+
 /// A rule of rows that is not the one meant: a parent in another table or of another key, a column too few, no table.
 #[test]
 fn rows_fit_their_schema(rt: HostRuntime) -> Result<(), Fail> {
@@ -32,12 +49,62 @@ fn rows_fit_their_schema(rt: HostRuntime) -> Result<(), Fail> {
         (&[set(1, 7, 0), set(4, 7, 7)], false),
         (&[(RowId { table: 3, key: 1 }, Row::new(&[0; 15]))], false),
     ];
-    for (entries, want) in cases {
-        let in_tree = rows_fit(rt.alloc(), &schema, BTreeStore::new(rt.alloc()), entries);
-        assert_eq!(rt; in_tree, Ok(want), "{entries:?}");
-        let in_vector = rows_fit(rt.alloc(), &schema, VectorStore::new(rt.alloc()), entries);
-        assert_eq!(rt; in_vector, Ok(want), "{entries:?}");
-    }
+    all_fit(&rt, &schema, &cases)
+}
+
+/// A rule of values that is not the one meant: of two tables, of another column, of neighbours alone, or of a table without it.
+#[test]
+fn values_fit_their_schema(rt: HostRuntime) -> Result<(), Fail> {
+    let schema = unique_tables(rt.alloc())?;
+    let cases: [(&[Entry], bool); 7] = [
+        (&[given(1, 7, &[5]), given(1, 8, &[6])], true),
+        (&[given(1, 7, &[5]), given(1, 8, &[5])], false),
+        (
+            &[given(1, 7, &[5]), given(1, 8, &[6]), given(1, 9, &[5])],
+            false,
+        ),
+        (&[given(1, 7, &[5]), given(2, 7, &[5, 5])], true),
+        (&[given(2, 1, &[5, 6]), given(2, 2, &[5, 5])], true),
+        (&[given(2, 1, &[5, 6]), given(2, 2, &[6, 6])], false),
+        (&[given(3, 1, &[5]), given(3, 2, &[5])], true),
+    ];
+    all_fit(&rt, &schema, &cases)
+}
+
+/// Whether each value of a column of a table is held so in a store of no rows into which these rows are put: a table, a column,
+/// a value, and the key.
+fn are_held<S: RowStore + Drop>(
+    mut store: S,
+    rows: &Batch,
+    held: &[(u16, u8, i64, Option<i64>)],
+) -> Result<bool, Memory> {
+    store.put_all(rows)?;
+    Ok(
+        held.iter().all(|(table, column, value, key)| holder(&store, *table, *column, *value)
+            == *key),
+    )
+}
+
+/// A holder in another column or table, or of the greatest key.
+#[test]
+fn values_have_their_holders(rt: HostRuntime) -> Result<(), Fail> {
+    let entries = [
+        given(2, -3, &[5, 7]),
+        given(2, 1, &[5, 6]),
+        given(2, 4, &[7, 5]),
+        given(3, -9, &[5]),
+    ];
+    let held = [
+        (2, 0, 5, Some(-3)),
+        (2, 1, 5, Some(4)),
+        (2, 1, 8, None),
+        (2, 2, 5, None),
+        (1, 0, 5, None),
+        (3, 0, 5, Some(-9)),
+    ];
+    let rows = batch(rt.alloc(), &entries)?;
+    assert!(rt; are_held(BTreeStore::new(rt.alloc()), &rows, &held)?);
+    assert!(rt; are_held(VectorStore::new(rt.alloc()), &rows, &held)?);
     Ok(())
 }
 

@@ -12,19 +12,28 @@ fn fault(alloc: Global, tables: &[Table]) -> Result<Option<SchemaFault>, Memory>
     Ok(Schema::new(Vec::from_slice(alloc, tables)?).err())
 }
 
-/// A rule of parents that is not the one meant, or faults that are told in another order.
+/// A rule of parents or of unique columns that is not the one meant, or faults that are told in another order.
 #[test]
 fn first_fault_of_a_list(rt: HostRuntime) -> Result<(), Fail> {
     let (top, child) = (table(1, None), table(3, Some(1)));
     let (own_parent, no_table) = (table(2, Some(2)), table(257, None));
     let mut narrow = child;
     narrow.columns = 15;
-    let cases: [(&[Table], Option<SchemaFault>); 5] = [
+    let (last, outside) = (top.with_unique(15), top.with_unique(16));
+    let mut keyless = last;
+    keyless.keyed = false;
+    let cases: [(&[Table], Option<SchemaFault>); 11] = [
         (&[child, top], None),
         (&[child], Some(SchemaFault::Parent)),
         (&[top, narrow], Some(SchemaFault::Parent)),
         (&[top, own_parent, no_table], Some(SchemaFault::Parent)),
         (&[no_table, own_parent, top], Some(SchemaFault::Id)),
+        (&[child.with_unique(15), last], None),
+        (&[outside], Some(SchemaFault::Unique)),
+        (&[top.with_unique(255)], Some(SchemaFault::Unique)),
+        (&[keyless], Some(SchemaFault::Unique)),
+        (&[own_parent.with_unique(16)], Some(SchemaFault::Parent)),
+        (&[outside, no_table], Some(SchemaFault::Unique)),
     ];
     for (tables, want) in cases {
         assert_eq!(rt; fault(rt.alloc(), tables)?, want, "{tables:?}");
@@ -60,6 +69,7 @@ fn faults_are_told_by_number_and_name(rt: HostRuntime) -> Result<(), Fail> {
     assert!(rt; is_told(rt.alloc(), &SchemaFault::Twice, "B4 Twice")?);
     assert!(rt; is_told(rt.alloc(), &SchemaFault::Parent, "B5 Parent")?);
     assert!(rt; is_told(rt.alloc(), &SchemaFault::Memory, "B6 Memory")?);
+    assert!(rt; is_told(rt.alloc(), &SchemaFault::Unique, "B7 Unique")?);
     assert!(rt; is_told(rt.alloc(), &ChangeFault::Present, "F1 Present")?);
     assert!(rt; is_told(rt.alloc(), &ChangeFault::Absent, "F2 Absent")?);
     assert!(rt; is_told(rt.alloc(), &ChangeFault::Columns, "F3 Columns")?);
