@@ -1,17 +1,21 @@
-//! Turns: results are given in the order of their records, whatever the order in which they came.
+//! Turns: results are given in the order of their records, whatever the order in which they came; or in the order in which they came.
 //!
-//! A record enters as it is dispatched. Its result is kept until those of all that entered before it were taken. There are 64
-//! places, made with the object, so that no call takes memory. It stands on `executor`, for results.
+//! A record enters as it is dispatched. Where the order of the log is kept, its result waits until those of all that entered before it
+//! were taken; else it is given as soon as those that came before it were. There are 64 places, made with the object, so that no call
+//! takes memory. It stands on `executor`, for results, and on `scheduler`, for sets of numbers.
 #![tactic(auto)]
 
-ghost use Rattle.std.specs.Prelude.{◌≡◌, ◌+◌, ◌-◌, ◌<◌, ◌≤◌, [], length, None, IfOk, IfSome, option_copied, is_some, if◌then◌else◌};
-ghost use Rattle.commit_order.specs.Turns.{result_at, entered, with_result, turn, passed};
+ghost use Rattle.std.specs.Prelude.{◌≡◌, ℕ, ◌+◌, ◌-◌, ◌<◌, ◌≤◌, ◌==◌, true, length, take, IfOk, IfSome, option_copied, is_some, if◌then◌else◌};
+ghost use Rattle.std.specs.List.{position_or_len};
+ghost use Rattle.scheduler.specs.Gnos.{has_gno, without};
+ghost use Rattle.commit_order.specs.Turns.{no_turns, entered, with_result, first_of, place_of, turn, passed};
 
 use executor::JobResult;
 use schema::Memory;
 use std::alloc::Global;
-use std::collections::VecDeque;
 use std::marker::Model;
+
+pub mod laws;
 
 /// How many records there is a place for.
 pub const PLACES: usize = 64;
@@ -19,97 +23,167 @@ pub const PLACES: usize = 64;
 /// The records that wait for their turn, each with its result where it has one. `new` makes it.
 #[derive(Debug, Drop)]
 pub struct Turns {
-    /// The gno of the record that entered last; 0 where none did.
+    preserve: bool,
+    /// Where the order of the log is kept: the record that left last; 0 where none did.
     last: u64,
-    /// The results of the records that entered and did not leave, the last of which is that one.
-    places: VecDeque<Option<JobResult>>,
+    /// The gnos of the records that have no result, the first so many.
+    out: [u64; 64],
+    count: usize,
+    /// The results of the others, in the order in which they came.
+    done: Vec<JobResult>,
 }
 
 impl Model for Turns {
-    ghost use Rattle.std.specs.Prelude.{◌+◌, ◌-◌, length};
-    ghost use Rattle.std.specs.VecDeque.{deque_capacity};
+    ghost use Rattle.std.specs.Prelude.{◌+◌, take, vec_capacity};
     ghost use Rattle.commit_order.specs.Turns.{Line};
-    ghost use Rattle.commit_order.specs.Places.{ArePlaces};
+    ghost use Rattle.commit_order.specs.Places.{HavePlaces};
 
     ghost Value = { Line };
 
-    ghost view = { λ t. record { first = t.last + 1 - length t.places.items; places = t.places.items } };
+    ghost view = { λ t. record { preserve = t.preserve; next = t.last + 1; out = take t.count t.out; done = t.done.items } };
 
-    ghost invariant = { λ t. ArePlaces t.last t.places.items (deque_capacity t.places) };
+    ghost invariant = { λ t. HavePlaces t.count (take t.count t.out) t.done.items (vec_capacity t.done) };
 }
 
 impl Turns {
-    /// No record entered; the first that enters is the one of gno 1. It takes the 64 places.
-    pub fn new(alloc: Global) -> Result<Turns, Memory>
-        ensures { IfOk result (λ turns. turns ≡ record { first = 1; places = [] }) }
+    /// No record entered; where the order of the log is kept, the first whose turn comes is the one of gno 1. It takes the 64 places.
+    pub fn new(alloc: Global, preserve: bool) -> Result<Turns, Memory>
+        ensures { IfOk result (λ turns. turns ≡ no_turns preserve) }
     {
         Ok(Turns {
+            preserve,
             last: 0,
-            places: VecDeque::with_capacity(alloc, PLACES)?,
+            out: [0; PLACES],
+            count: 0,
+            done: Vec::with_capacity(alloc, PLACES)?,
         })
     }
 
-    /// The record of this gno enters, behind the others. It takes no memory.
+    /// The record of this gno enters. It takes no memory.
     pub fn enter(&mut self, gno: u64)
-        requires next { gno ≡ self.old.first + length self.old.places }
-        requires room { length self.old.places < 64 }
-        ensures { self.new ≡ entered self.old }
+        requires room { length self.old.out + length self.old.done < 64 }
+        ensures { self.new ≡ entered self.old gno }
     {
-        self.places.push_back(None).unwrap();
-        self.last = gno;
+        self.out[self.count] = gno;
+        self.count += 1;
     }
 
-    /// Keeps the result of a record that entered and has none. It takes no memory.
+    /// Keeps the result of a record that entered and has none. It takes no memory. The time is that of a look at each record that has
+    /// no result.
     pub fn finish(&mut self, done: JobResult)
-        requires entered { self.old.first ≤ done.job.gno }
-        requires there { done.job.gno < self.old.first + length self.old.places }
-        requires free { result_at self.old done.job.gno ≡ None }
+        requires out { has_gno self.old.out done.job.gno ≡ true }
         ensures { self.new ≡ with_result self.old done }
     {
-        let place = self.place(done.job().gno);
-        self.places[place] = Some(done);
+        take_out(&mut self.out[..self.count], done.gno());
+        self.count -= 1;
+        self.done.push(done).unwrap();
     }
 
-    /// Whether the record of this gno has its result. It takes no memory.
-    pub fn is_finished(&self, gno: u64) -> bool
-        requires entered { self.now.first ≤ gno }
-        ensures { result ≡ is_some (result_at self.now gno) }
+    /// Whether the record of this gno entered and has no result. It takes no memory.
+    pub fn is_out(&self, gno: u64) -> bool
+        ensures { result ≡ has_gno self.now.out gno }
     {
-        matches!(self.places.get(self.place(gno)), Some(Some(_)))
+        self.out[..self.count].contains(&gno)
     }
 
     /// How many records entered and did not leave.
     pub fn len(&self) -> usize
-        ensures value { result ≡ length self.now.places }
+        ensures value { result ≡ length self.now.out + length self.now.done }
         ensures few { result ≤ 64 }
     {
-        self.places.len()
+        self.count + self.done.len()
     }
 
-    /// The result whose turn has come: that of the record in front, where it has one. It takes no memory.
+    /// Whether results leave in the order of the log.
+    pub fn preserve(&self) -> bool
+        ensures { result ≡ self.now.preserve }
+    {
+        self.preserve
+    }
+
+    /// The result whose turn has come: in the order of the log that of the next record, else the one that came first. It takes no
+    /// memory.
     pub fn ready(&self) -> Option<&JobResult>
         ensures value { option_copied result ≡ turn self.now }
-        ensures in_turn { IfSome result (λ done. done.now.job.gno ≡ self.now.first) }
+        ensures in_turn { IfSome result (λ done. self.now.preserve ≡ true → done.now.job.gno ≡ self.now.next) }
     {
-        self.places.front()?.as_ref()
+        self.shown()
     }
 
     /// Takes what `ready` shows; the record leaves. It takes no memory.
     pub fn next(&mut self) -> Option<JobResult>
         ensures value { result ≡ turn self.old }
-        ensures in_turn { IfSome result (λ done. done.job.gno ≡ self.old.first) }
+        ensures in_turn { IfSome result (λ done. self.old.preserve ≡ true → done.job.gno ≡ self.old.next) }
         ensures left { self.new ≡ (if is_some result then passed self.old else self.old) }
     {
-        self.ready()?;
-        self.places.pop_front()?
+        let place = self.place();
+        if place >= self.done.len() {
+            return None;
+        }
+        let done = self.done.remove(place);
+        self.last = last_left(self.preserve, done.gno(), self.last);
+        Some(done)
     }
 
-    /// The place of the record of this gno, from the front.
-    fn place(&self, gno: u64) -> usize
-        requires { self.now.first ≤ gno }
-        ensures { result ≡ gno - self.now.first }
+    /// The result whose turn has come.
+    fn shown(&self) -> Option<&JobResult>
+        ensures { option_copied result ≡ turn self.now }
     {
-        let left = self.last - self.places.len() as u64;
-        (gno - left - 1) as usize
+        self.done.get(self.place())
     }
+
+    /// The place of the result whose turn has come, or past all of them.
+    fn place(&self) -> usize
+        ensures { result ≡ place_of self.now }
+    {
+        if self.preserve {
+            first_behind(&self.done, self.last)
+        } else {
+            0
+        }
+    }
+}
+
+/// The record that left last, where the order of the log is kept.
+fn last_left(preserve: bool, gno: u64, last: u64) -> u64
+    ensures { result ≡ (if preserve then gno else last) }
+{
+    if preserve { gno } else { last }
+}
+
+/// The place of the first result of the record behind this one, or past all of them.
+fn first_behind(done: &[JobResult], last: u64) -> usize
+    ensures { result ≡ first_of done.now (last + 1) }
+{
+    done.iter()
+        .position(|other| is_behind(other.gno(), last))
+        .unwrap_or(done.len())
+}
+
+/// Whether a record is the one behind another.
+fn is_behind(gno: u64, last: u64) -> bool
+    ensures { result ≡ (gno == last + 1) }
+{
+    gno > last && gno - last == 1
+}
+
+/// Takes this number out: those behind it come to the front by one, and it stands last.
+fn take_out(out: &mut [u64], gno: u64)
+    requires { has_gno out.old gno ≡ true }
+    ensures front { take (length out.old - 1) out.new ≡ without gno out.old }
+    ensures len { length out.new ≡ length out.old }
+{
+    let place = place_of(out, gno);
+    out[place..].rotate_left(1);
+}
+
+/// The place of this number, the first of it.
+fn place_of(gnos: &[u64], gno: u64) -> usize
+    requires { has_gno gnos.now gno ≡ true }
+    ensures value { result ≡ position_or_len (λ (n : ℕ). n == gno) gnos.now }
+    ensures within { result < length gnos.now }
+{
+    gnos.iter()
+        .position(|other| *other == gno)
+        .unwrap_or(gnos.len())
 }

@@ -1,3 +1,4 @@
-pub mod CommittedSet
+pub mod Gnos
+pub mod Marks
 pub mod Places
 pub mod Laws

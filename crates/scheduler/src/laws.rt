@@ -1,6 +1,7 @@
 //! What follows from the definitions alone. Each function states a law by its contract, and does nothing.
 
-ghost use Rattle.scheduler.specs.Laws.{LowIsGreatest, UpToAlone};
+ghost use Rattle.scheduler.specs.Gnos.{LowIsLow, OneLow, HasFirst, LowOfFirst, LowRises, AreFewer, LowIsFew};
+ghost use Rattle.scheduler.specs.Laws.{LowIsGreatest};
 
 /// Wherever the transaction behind the low-water mark is not committed, the mark is the greatest number such that every
 /// transaction up to it is committed.
@@ -8,7 +9,17 @@ pub fn low_is_greatest()
     ensures { LowIsGreatest }
 {}
 
-/// Where transactions are committed in turn, exactly those up to the low-water mark are committed.
-pub fn up_to_alone()
-    ensures { UpToAlone }
+/// The low-water mark of a set of numbers: there is just one, that of the numbers from 1 to n is n, and it never falls as numbers come.
+pub fn low_of_set()
+    ensures low { LowIsLow }
+    ensures one { OneLow }
+    ensures has_first { HasFirst }
+    ensures first { LowOfFirst }
+    ensures rises { LowRises }
+    ensures few { LowIsFew }
+{}
+
+/// Distinct numbers that are all among others are no more than these.
+pub fn are_fewer()
+    ensures { AreFewer }
 {}

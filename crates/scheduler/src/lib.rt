@@ -1,69 +1,71 @@
 //! The low-water mark: up to which number every transaction is committed.
 //!
-//! A `Scheduler` knows which transactions are committed at the replica: all up to the low-water mark, and which of the 64
+//! A `Scheduler` knows which transactions are committed at the replica: all up to the low-water mark, and which of the 4096
 //! behind it. A transaction whose parent is at most the mark may be executed, since all that it depends on is committed.
-//! It has fixed places and takes no memory.
+//! It has fixed places and takes no memory. Where the order of the log is kept, transactions are committed in turn, and none
+//! behind the mark. Else one that takes long holds the mark while others go on: 64 may be under way at once, and 4096 places let
+//! some 64 times as many go ahead of it, in 4 kilobytes, before the others wait for it too.
 #![tactic(auto)]
 
-ghost use Rattle.std.specs.Prelude.{◌≡◌, ℕ, ◌+◌, ◌-◌, ◌<◌, ◌≤◌, ◌||◌, ◌==◌, ◌++◌, nat_le, false, not, drop, replicate, length};
-ghost use Rattle.std.specs.List.{position_or_len};
-ghost use Rattle.scheduler.specs.CommittedSet.{is_committed, all_up_to};
+ghost use Rattle.std.specs.Prelude.{◌≡◌, ℕ, ◌+◌, ◌%◌, ◌<◌, ◌≤◌, ◌||◌, ◌&&◌, ◌==◌, nat_le, false, replicate};
+ghost use Rattle.scheduler.specs.Marks.{is_committed, none_committed};
+ghost use Rattle.scheduler.specs.Places.{AreWithin, Passes};
 
 pub mod laws;
 
 use std::marker::Model;
 
 /// How far behind the low-water mark a transaction may be committed.
-pub const AHEAD: usize = 64;
+pub const AHEAD: usize = 4096;
 
 /// Which transactions are committed.
 #[derive(Debug, Drop)]
 pub struct Scheduler {
     low: u64,
-    ahead: [bool; 64],
+    /// None behind the mark that is committed is above this one.
+    most: u64,
+    /// Whether each of those behind the mark is committed, at its number modulo the length.
+    ring: [bool; 4096],
 }
 
 impl Model for Scheduler {
-    ghost use Rattle.std.specs.Prelude.{◌≡◌, false, slice_index_or};
-    ghost use Rattle.scheduler.specs.CommittedSet.{CommittedSet};
+    ghost use Rattle.scheduler.specs.Marks.{Marks};
 
-    ghost Value = { CommittedSet };
+    ghost Value = { Marks };
 
-    ghost view = { λ s. record { low = s.low; ahead = s.ahead } };
+    ghost view = { λ s. record { low = s.low; ring = s.ring } };
 
-    ghost use Rattle.scheduler.specs.Places.{ArePlaces};
+    ghost use Rattle.scheduler.specs.Places.{IsRing};
 
-    ghost invariant = { λ s. ArePlaces s.low s.ahead };
+    ghost invariant = { λ s. IsRing s.low s.most s.ring };
 }
 
 impl Scheduler {
     /// No transaction is committed.
     pub fn new() -> Scheduler
-        ensures { result ≡ all_up_to 0 }
+        ensures { result ≡ none_committed }
     {
         Scheduler {
             low: 0,
-            ahead: [false; AHEAD],
+            most: 0,
+            ring: none_marked(),
         }
     }
 
-    /// The transaction of this number is committed: one that was not, among the 64 behind the low-water mark. It takes no
-    /// memory. Where the transaction is the one behind the mark, the mark moves, and the time is that of a look at each of the
-    /// 64 places; else it is constant.
+    /// The transaction of this number is committed: one of the 4096 behind the low-water mark. It takes no
+    /// memory. Where the transaction is the one behind the mark, the mark moves past all that are committed; else the time is
+    /// constant, and over all calls it is constant for each.
     pub fn committed(&mut self, gno: u64)
         requires later { self.old.low < gno }
-        requires near { gno ≤ self.old.low + 64 }
-        requires new { is_committed self.old gno ≡ false }
+        requires near { gno ≤ self.old.low + 4096 }
         ensures exact { (g : ℕ) → is_committed self.new g ≡ (is_committed self.old g || g == gno) }
-        // In turn the mark goes up by one.
-        ensures in_turn { self.old ≡ all_up_to self.old.low → gno ≡ self.old.low + 1 → self.new ≡ all_up_to gno }
         // Behind a gap the mark stays.
         ensures gap { self.old.low + 1 < gno → self.new.low ≡ self.old.low }
+        ensures greatest { is_committed self.new (self.new.low + 1) ≡ false }
     {
-        self.ahead[(gno - self.low - 1) as usize] = true;
-        let count = leading(&self.ahead);
-        self.low += count as u64;
-        pass(&mut self.ahead, count);
+        self.most = self.most.max(gno);
+        self.ring[place(gno)] = true;
+        self.low = pass(self.low, self.most, &mut self.ring);
     }
 
     /// The low-water mark: the greatest number such that every transaction up to it is committed.
@@ -74,30 +76,46 @@ impl Scheduler {
         self.low
     }
 
-    /// Whether a record of this parent may be executed: all up to the parent is committed.
-    pub fn eligible(&self, parent: u64) -> bool
-        ensures { result ≡ nat_le parent self.now.low }
+    /// Whether the transaction of this number, counted from 1, is committed. It takes no memory, and constant time.
+    pub fn is_committed(&self, gno: u64) -> bool
+        ensures { result ≡ is_committed self.now gno }
     {
-        parent <= self.low
+        gno <= self.low || (gno - self.low <= AHEAD as u64 && self.ring[place(gno)])
+    }
+
+    /// Whether the record of this number and parent may be executed: all up to the parent is committed, and there is a place for the
+    /// record.
+    pub fn eligible(&self, gno: u64, parent: u64) -> bool
+        ensures { result ≡ (nat_le parent self.now.low && nat_le gno (self.now.low + 4096)) }
+    {
+        parent <= self.low && gno.saturating_sub(self.low) <= AHEAD as u64
     }
 }
 
-/// How many places at the front are those of committed transactions.
-fn leading(ahead: &[bool]) -> usize
-    ensures { result ≡ position_or_len not ahead.now }
+/// Places of which none is marked.
+fn none_marked<const N: usize>() -> [bool; N]
+    ensures { result ≡ replicate N false }
 {
-    ahead
-        .iter()
-        .position(|is_committed| !*is_committed)
-        .unwrap_or(ahead.len())
+    [false; N]
 }
 
-/// Takes so many places off the front, and puts as many of transactions that are not committed behind.
-fn pass(ahead: &mut [bool], count: usize)
-    requires { count ≤ length ahead.old }
-    ensures { ahead.new ≡ drop count ahead.old ++ replicate count false }
+/// The place of this number.
+fn place(gno: u64) -> usize
+    ensures { result ≡ gno % 4096 }
 {
-    ahead.rotate_left(count);
-    let kept = ahead.len() - count;
-    ahead[kept..].fill(false);
+    (gno % AHEAD as u64) as usize
+}
+
+/// Moves the mark past all that are marked behind it, and gives back where it then is. Their places are free for the numbers that come
+/// into reach.
+fn pass(low: u64, most: u64, ring: &mut [bool]) -> u64
+    requires { AreWithin low most ring.old }
+    ensures { Passes low most ring.old result ring.new }
+{
+    let mut then = low;
+    while then < most && ring[place(then + 1)] {
+        then += 1;
+        ring[place(then)] = false;
+    }
+    then
 }

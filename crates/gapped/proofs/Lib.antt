@@ -1,0 +1,9 @@
+pub mod Choosing
+pub mod Meeting
+pub mod Swapping
+pub mod Running
+pub mod Waiters
+pub mod Committing
+pub mod Children
+pub mod Alongside
+pub mod Legally

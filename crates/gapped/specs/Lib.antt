@@ -1,0 +1,2 @@
+pub mod Gapped
+pub mod Laws
