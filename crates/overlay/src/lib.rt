@@ -69,6 +69,10 @@ impl Overlay {
         ensures value { result ≡ left_at self.now id }
         ensures rising { IsRising self.now.left }
     {
+        if self.left.is_empty() {
+            // Where there are no changes, the row is not even hashed.
+            return None;
+        }
         self.left.get(&id).copied()
     }
 
@@ -148,9 +152,12 @@ fn parent_seen<S: RowStore>(
 ) -> bool
     ensures { result ≡ has_parent schema.now (seen overlay.now (S.contents store.now)) table columns.now }
 {
+    if schema.link_of(table).is_none() {
+        return true;
+    }
     match parent_row(schema, table, columns) {
         Some(parent) => row_seen(overlay, store, parent).is_some(),
-        None => schema.link_of(table).is_none(),
+        None => false,
     }
 }
 

@@ -1,7 +1,8 @@
 //! What a change does to its row, as a transaction sees it.
 
-ghost use Rattle.std.specs.Prelude.{◌≡◌, ◌≤◌, ◌+◌, ◌++◌, length, option_copied, option_to_list, vec_capacity, OnOk, OnErr};
+ghost use Rattle.std.specs.Prelude.{◌≡◌, ◌≤◌, ◌+◌, ◌++◌, length, option_copied, option_to_list, vec_capacity, IsTrue, OnOk, OnErr, None};
 ghost use Rattle.std.specs.FinMap.{get};
+ghost use Rattle.schema.specs.Schema.{link_of, unique_of};
 ghost use Rattle.rows.specs.Database.{target, moves_value};
 ghost use Rattle.overlay.specs.Pending.{seen};
 ghost use Rattle.overlay.specs.Step.{parent_at, mark_moved, step_from, step_of, kin_of, marks_of};
@@ -41,7 +42,27 @@ pub fn step_seen<S: RowStore>(
 {
     let before = row_seen(overlay, store, change.target());
     let left = apply_one(change, before.as_ref())?;
+    if is_plain(schema, change.target().table) {
+        return Ok(Step {
+            left,
+            old: None,
+            new: None,
+            gives_up: None,
+            takes: None,
+        });
+    }
     Ok(step_from(schema, change, before.as_ref(), left))
+}
+
+/// Whether the table has neither a parent nor a unique column, so that no step of its rows has kin or marks.
+fn is_plain(schema: &Schema, id: u16) -> bool
+    ensures parent { IsTrue result → link_of schema.now id ≡ None }
+    ensures unique { IsTrue result → unique_of schema.now id ≡ None }
+{
+    match schema.table(id) {
+        Some(table) => table.parent.is_none() && table.unique.is_none(),
+        None => true,
+    }
 }
 
 /// The step of a change whose row is so before it, and which leaves it so.
@@ -94,6 +115,9 @@ impl Step {
         ensures ok { OnOk result (rows.new.items ≡ rows.old.items ++ kin_of self.now) }
         ensures err { OnErr result (rows.new.items ≡ rows.old.items) }
     {
+        if self.old.is_none() && self.new.is_none() {
+            return Ok(());
+        }
         rows.reserve(usize::from(self.old.is_some()) + usize::from(self.new.is_some()))?;
         put_item(rows, self.old);
         put_item(rows, self.new);
@@ -106,6 +130,9 @@ impl Step {
         ensures ok { OnOk result (marks.new.items ≡ marks.old.items ++ marks_of self.now) }
         ensures err { OnErr result (marks.new.items ≡ marks.old.items) }
     {
+        if self.gives_up.is_none() && self.takes.is_none() {
+            return Ok(());
+        }
         marks.reserve(usize::from(self.gives_up.is_some()) + usize::from(self.takes.is_some()))?;
         put_item(marks, self.gives_up);
         put_item(marks, self.takes);

@@ -1,10 +1,12 @@
 //! How many children each row has.
 
-ghost use Rattle.std.specs.Prelude.{◌≡◌, ◌+◌, ◌<◌, ◌≤◌, [], ◌∷◌, length, option_to_list, IfOk, OnOk, IsOk};
+ghost use Rattle.std.specs.Prelude.{◌≡◌, ◌+◌, ◌<◌, ◌≤◌, [], ◌∷◌, length, is_some, option_to_list, IfOk, OnOk, IsOk};
+ghost use Rattle.std.specs.List.{list_any};
 ghost use Rattle.std.specs.Map.{keys_of};
 ghost use Rattle.std.specs.FinMap.{empty};
 ghost use Rattle.schema.specs.declared.RowId.{RowId};
-ghost use Rattle.rows.specs.Database.{parent_of, parent_in};
+ghost use Rattle.schema.specs.declared.Table.{Table};
+ghost use Rattle.rows.specs.Database.{Database, parent_of, parent_in};
 ghost use Rattle.store_trait.specs.Batch.{put_batch};
 ghost use Rattle.overlay.specs.Step.{parent_at};
 ghost use Rattle.row_index.specs.Counts.{count_at, times_in, parents_at, parents_left, CountsChildren, Recounts};
@@ -77,7 +79,8 @@ impl Children {
         ensures room { OnOk result (length (parents_left schema.now batch.now) ≤ self.new.room) }
         ensures succeeds { length (parents_left schema.now batch.now) ≤ self.old.room → IsOk result }
     {
-        self.counts.reserve(parents_in(schema, batch.entries()))?;
+        self.counts
+            .reserve(parents_in(schema, child_entries(schema, batch)))?;
         Ok(())
     }
 
@@ -91,7 +94,7 @@ impl Children {
         ensures { Recounts old.now (parents_left schema.now batch.now) self.old.counts self.new.counts }
     {
         self.give_up(old);
-        self.take_up(schema, batch.entries(), rows);
+        self.take_up(schema, child_entries(schema, batch), rows);
     }
 
     fn give_up(&mut self, old: &[RowId])
@@ -141,6 +144,25 @@ impl Children {
     }
 }
 
+/// The batch's entries; none where no table has a parent, so that no row has one.
+fn child_entries<'a>(schema: &Schema, batch: &'a Batch) -> &'a [(RowId, Option<Row>)]
+    ensures left { parents_left schema.now result.now ≡ parents_left schema.now batch.now }
+    ensures before { (db : Database) → parents_at schema.now (keys_of result.now) db ≡ parents_at schema.now (keys_of batch.now) db }
+{
+    if has_parent(schema) {
+        batch.entries()
+    } else {
+        &[]
+    }
+}
+
+/// Whether a table has a parent.
+fn has_parent(schema: &Schema) -> bool
+    ensures { result ≡ list_any (λ (t : Table). is_some t.parent) schema.now }
+{
+    schema.tables().iter().any(|table| table.parent.is_some())
+}
+
 /// How many of the entries give their row a parent.
 fn parents_in(schema: &Schema, entries: &[(RowId, Option<Row>)]) -> usize
     ensures { result ≡ length (parents_left schema.now entries.now) }
@@ -181,7 +203,7 @@ pub fn parents_before<S: RowStore>(
     ensures { IfOk result (λ parents. parents.items ≡ parents_at schema.now (keys_of batch.now) (S.contents store.now)) }
 {
     let mut parents = Vec::new(alloc);
-    for entry in batch.entries() {
+    for entry in child_entries(schema, batch) {
         if let Some(parent) = parent_in(schema, store, entry.0) {
             parents.push(parent)?;
         }

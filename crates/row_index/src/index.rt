@@ -1,11 +1,13 @@
 //! Who has each value of the unique columns.
 
-ghost use Rattle.std.specs.Prelude.{◌≡◌, ◌+◌, ◌<◌, ◌≤◌, length, option_to_list, IfOk, OnOk, IsOk};
+ghost use Rattle.std.specs.Prelude.{◌≡◌, ◌+◌, ◌<◌, ◌≤◌, length, is_some, option_to_list, IfOk, OnOk, IsOk};
+ghost use Rattle.std.specs.List.{list_any};
 ghost use Rattle.std.specs.Map.{keys_of};
 ghost use Rattle.std.specs.FinMap.{empty, get, insert};
-ghost use Rattle.rows.specs.Database.{mark_in, NoValueTwice};
+ghost use Rattle.schema.specs.declared.Table.{Table};
+ghost use Rattle.rows.specs.Database.{Database, mark_in, NoValueTwice};
 ghost use Rattle.store_trait.specs.Batch.{put_batch};
-ghost use Rattle.row_index.specs.Keys.{Indexes, marks_at, mark_left, marks_left, given_up, taken_up, moved};
+ghost use Rattle.row_index.specs.Keys.{Keys, Indexes, marks_at, mark_left, marks_left, given_up, taken_up, moved};
 
 use indexmap::IndexMap;
 use rows::{Row, mark_of};
@@ -68,7 +70,8 @@ impl Index {
         ensures room { OnOk result (length (marks_left schema.now batch.now) ≤ self.new.room) }
         ensures succeeds { length (marks_left schema.now batch.now) ≤ self.old.room → IsOk result }
     {
-        self.keys.reserve(marks_in(schema, batch.entries()))?;
+        self.keys
+            .reserve(marks_in(schema, marked_entries(schema, batch)))?;
         Ok(())
     }
 
@@ -79,7 +82,7 @@ impl Index {
         ensures { self.new.keys ≡ moved schema.now old.now batch.now self.old.keys }
     {
         self.give_up(old);
-        self.take_up(schema, batch.entries());
+        self.take_up(schema, marked_entries(schema, batch));
     }
 
     fn give_up(&mut self, old: &[Mark])
@@ -109,6 +112,26 @@ impl Index {
     {
         let _ = self.keys.insert(mark, key);
     }
+}
+
+/// The batch's entries; none where no table has a unique column, so that no row has a mark.
+fn marked_entries<'a>(schema: &Schema, batch: &'a Batch) -> &'a [(RowId, Option<Row>)]
+    ensures left { marks_left schema.now result.now ≡ marks_left schema.now batch.now }
+    ensures before { (db : Database) → marks_at schema.now (keys_of result.now) db ≡ marks_at schema.now (keys_of batch.now) db }
+    ensures taken_up { (keys : Keys) → taken_up schema.now result.now keys ≡ taken_up schema.now batch.now keys }
+{
+    if has_unique(schema) {
+        batch.entries()
+    } else {
+        &[]
+    }
+}
+
+/// Whether a table has a unique column.
+fn has_unique(schema: &Schema) -> bool
+    ensures { result ≡ list_any (λ (t : Table). is_some t.unique) schema.now }
+{
+    schema.tables().iter().any(|table| table.unique.is_some())
 }
 
 /// How many of the entries give their row a mark.
@@ -142,7 +165,7 @@ pub fn marks_before<S: RowStore>(
     ensures { IfOk result (λ marks. marks.items ≡ marks_at schema.now (keys_of batch.now) (S.contents store.now)) }
 {
     let mut marks = Vec::new(alloc);
-    for entry in batch.entries() {
+    for entry in marked_entries(schema, batch) {
         if let Some(mark) = mark_in(schema, store, entry.0) {
             marks.push(mark)?;
         }

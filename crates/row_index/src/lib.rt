@@ -4,8 +4,8 @@
 //! many rows name it so. Both are made of the batch that loads the rows, and follow them batch by batch: before a batch is put
 //! `marks_before` and `parents_before` tell what its rows have, and room is made for what they get; behind it `put` takes no memory, so
 //! that rows and maps go on together or not at all. Of tables without a unique column, and of such as have no parent, nothing is kept,
-//! and no memory is asked for. `values_apart` tells of a batch whether no two of its rows have one value. `laws` states that the maps
-//! follow the rows.
+//! and no memory is asked for; where no table has the one, or the other, a call walks over the tables alone, and not over the batch.
+//! `values_apart` tells of a batch whether no two of its rows have one value. `laws` states that the maps follow the rows.
 #![tactic(auto)]
 
 mod apart;

@@ -1,8 +1,8 @@
 -- A map from rows in the order of insertion, as a finite map.
-use Rattle.std.proofs.Common.{◌≡◌, ◌∙◌, sym, ap, true≢false, cond, ◌++◌, Option, Some, None, IfSome, Result, Ok, Err, IsOk, OnOk}
+use Rattle.std.proofs.Common.{◌≡◌, ◌∙◌, sym, ap, arith, true≢false, cond, List, [], ◌∷◌, ◌++◌, length, Option, Some, None, IfSome, Result, Ok, Err, IsOk, OnOk}
 use Rattle.std.specs.Prelude.{option_to_list}
 use Rattle.std.specs.Map.{lookup}
-use Rattle.std.specs.FinMap.{get, find, insert, remove, get-from_entries}
+use Rattle.std.specs.FinMap.{get, find, insert, remove, get-empty, get-from_entries}
 use Rattle.std.specs.FinMap.Entries.{find-append}
 use Rattle.indexmap.specs.IndexMap.{IndexMap, Updates}
 use Rattle.schema.specs.declared.RowId.{RowId}
@@ -26,3 +26,8 @@ module _ {X : Type 0} where
   pub rows-inserted : {S T E : Type 0} (m n : IndexMap RowId X S) (r : Result T E) (k : RowId) (v : X) → IsOk r → OnOk r (Updates row_eq m n k (Some v)) → rows_of n.entries ≡ insert (rows_of m.entries) k v
   rows-inserted m n (Ok x) k v h is = rows-set m.entries n.entries k v is.0
   rows-inserted m n (Err e) k v h is = absurd (true≢false (sym h))
+
+-- in a map without entries there is no row
+pub no_row : {X : Type 0} (entries : List (RowId × X)) (row : RowId) → length entries ≡ 0 → get (rows_of entries) row ≡ None
+no_row [] row none = get-empty row_cmp row
+no_row (e ∷ es) row none = absurd (omega arith)

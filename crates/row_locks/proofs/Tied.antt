@@ -28,6 +28,9 @@ use Rattle.schema.proofs.RowMaps.{row_is}
 ltb_tells : (a b : ℕ) → ((nat_lt a b ≡ true) × (a < b)) ⊎ ((nat_lt a b ≡ false) × (b ≤ a))
 ltb_tells a b = elim (leb_tells (suc a) b) [ inl h ↦ inl (h.0, omega (arith, h.1)) | inr h ↦ inr (h.0, omega (arith, h.1)) ]
 
+pub none_below : (n : ℕ) → nat_lt n 0 ≡ false
+none_below n = elim (ltb_tells n 0) [ inl h ↦ absurd (omega (arith, h.1)) | inr h ↦ h.0 ]
+
 with_first : (first rest : Bool) (n m : ℕ) → rest ≡ nat_lt 0 n → m ≡ 0 + cond first 1 0 + n → (first || rest) ≡ nat_lt 0 m
 with_first true rest n m h e = elim (ltb_tells 0 m) [ inl some ↦ sym some.0 | inr none ↦ absurd (omega (arith, none.1, e)) ]
 with_first false rest n m h e = let f : n ≡ m = omega (arith, e) in h ∙ ap (nat_lt 0) f

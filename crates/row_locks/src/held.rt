@@ -41,6 +41,10 @@ impl Held {
     pub(crate) fn mode_of(&self, row: RowId) -> Option<Mode>
         ensures { result ≡ get self.now.rows row }
     {
+        if self.rows.is_empty() {
+            // Where the session holds nothing, the row is not even hashed.
+            return None;
+        }
         self.rows.get(&row).copied()
     }
 

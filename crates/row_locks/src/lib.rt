@@ -13,7 +13,7 @@
 //! and marks and orders them, and on `indexmap`.
 #![tactic(auto)]
 
-ghost use Rattle.std.specs.Prelude.{◌≡◌, ◌≤◌, ◌↔◌, IsTrue, IfOk, OnOk, OnErr, Err, length};
+ghost use Rattle.std.specs.Prelude.{◌≡◌, ◌≤◌, ◌↔◌, false, IsTrue, IfOk, OnOk, OnErr, Err, length};
 ghost use Rattle.std.specs.List.{list_any};
 ghost use Rattle.row_locks.specs.declared.LockFault.TheVariants.{Clash};
 ghost use Rattle.row_locks.specs.Mode.{stronger, weight};
@@ -44,7 +44,7 @@ pub enum Mode {
 /// Why locks are not taken.
 #[derive(Clone, Copy, Debug, PartialEq, Eq, Error)]
 pub enum LockFault {
-    /// Another session holds one of the rows in a way that clashes, or one of the marks.
+    /// Another session holds one of the rows in a way that clashes, or one of the marks; the text says that a row is locked of both.
     #[error("a row is locked")]
     Clash,
     /// Memory ran out.
@@ -166,9 +166,32 @@ impl LockTable {
         ensures places { length self.new.rows ≡ 256 }
         ensures mark_places { length self.new.marks ≡ 256 }
     {
+        let _ = &self.rows;
         if self.clashes_any(session, rows, marks) {
             return Err(LockFault::Clash);
         }
+        self.take_free(session, rows, marks)?;
+        Ok(())
+    }
+
+    /// Takes them where, as the caller knows, none of them clashes: `take_all` without the look-ups that find it out. It is
+    /// refused where there is no room for both whole lists; then nothing is taken.
+    pub fn take_free(
+        &mut self,
+        session: u16,
+        rows: &[(RowId, Mode)],
+        marks: &[Mark],
+    ) -> Result<(), Memory>
+        requires least { 1 ≤ session }
+        requires greatest { session ≤ 256 }
+        requires free { any_clashes_all self.old session rows.now marks.now ≡ false }
+        ensures ok { OnOk result (self.new ≡ taken_all self.old session rows.now marks.now) }
+        ensures err { OnErr result (self.new ≡ self.old) }
+        ensures no_clash { NoClash self.new.rows }
+        ensures no_mark_clash { NoClash self.new.marks }
+        ensures places { length self.new.rows ≡ 256 }
+        ensures mark_places { length self.new.marks ≡ 256 }
+    {
         self.rows.reserve(session, rows.len())?;
         self.marks.reserve(session, marks.len())?;
         self.rows.lock_rows(session, rows);

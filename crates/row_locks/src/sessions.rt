@@ -55,8 +55,13 @@ impl Sessions {
         requires greatest { session ≤ 256 }
         ensures { result ≡ clashes_with (locks_in self.now) session row mode }
     {
+        let opposing = self.tally.opposing(row, mode);
+        if opposing == 0 {
+            // What the session holds itself is not even looked up.
+            return false;
+        }
         let own = self.places[session as usize - 1].mode_of(row);
-        weight(own, mode) < self.tally.opposing(row, mode)
+        weight(own, mode) < opposing
     }
 
     /// Makes room for this many more locks of the session.

@@ -68,6 +68,10 @@ impl Tally {
     fn count(&self, row: RowId) -> Count
         ensures { (mode : Mode) → opposing result mode ≡ count_at self.now.rows row mode }
     {
+        if self.rows.is_empty() {
+            // Where no session holds anything, the row is not even hashed.
+            return NOBODY;
+        }
         self.rows.get(&row).copied().unwrap_or(NOBODY)
     }
 

@@ -14,7 +14,7 @@ use crate::moved::Moved;
 use crate::stepping::locks_of;
 use crate::transaction::{Phase, Prepared, Transaction};
 use overlay::{Overlay, Step};
-use row_locks::{LockFault, LockTable, MAX_SESSIONS};
+use row_locks::{LockTable, MAX_SESSIONS};
 use rows::Change;
 use schema::{Mark, Memory};
 use std::alloc::Global;
@@ -62,15 +62,15 @@ pub(crate) fn write_locked(
     place: &mut Option<Transaction>,
     locks: &mut LockTable,
     session: u16,
-    change: Change,
+    change: &Change,
     step: &Step,
 ) -> Result<(), Memory>
     requires some { IsSome place.old }
     requires least { 1 ≤ session }
     requires greatest { session ≤ 256 }
-    requires free { any_clashes_all locks.old session (locks_for change step.now) (marks_of step.now) ≡ false }
-    ensures place { OnOk result (place.new ≡ with_change place.old change step.now) }
-    ensures locks { OnOk result (locks.new ≡ taken_all locks.old session (locks_for change step.now) (marks_of step.now)) }
+    requires free { any_clashes_all locks.old session (locks_for change.now step.now) (marks_of step.now) ≡ false }
+    ensures place { OnOk result (place.new ≡ with_change place.old change.now step.now) }
+    ensures locks { OnOk result (locks.new ≡ taken_all locks.old session (locks_for change.now step.now) (marks_of step.now)) }
     ensures no_clash { OnOk result (NoClash locks.new.rows) }
     ensures no_mark_clash { OnOk result (NoClash locks.new.marks) }
     ensures same { OnErr result (place.new ≡ place.old) }
@@ -96,16 +96,16 @@ fn add_kin(
     marks: Moved,
     locks: &mut LockTable,
     session: u16,
-    change: Change,
+    change: &Change,
     step: &Step,
 ) -> (Overlay, Kin, Moved, Result<(), Memory>)
     requires least { 1 ≤ session }
     requires greatest { session ≤ 256 }
-    requires free { any_clashes_all locks.old session (locks_for change step.now) (marks_of step.now) ≡ false }
-    ensures overlay { OnOk result.3 (result.0 ≡ pushed overlay change step.now.left) }
+    requires free { any_clashes_all locks.old session (locks_for change.now step.now) (marks_of step.now) ≡ false }
+    ensures overlay { OnOk result.3 (result.0 ≡ pushed overlay change.now step.now.left) }
     ensures kin { OnOk result.3 (result.1 ≡ kin ++ kin_of step.now) }
     ensures marks { OnOk result.3 (result.2 ≡ marks ++ marks_of step.now) }
-    ensures locks { OnOk result.3 (locks.new ≡ taken_all locks.old session (locks_for change step.now) (marks_of step.now)) }
+    ensures locks { OnOk result.3 (locks.new ≡ taken_all locks.old session (locks_for change.now step.now) (marks_of step.now)) }
     ensures no_clash { OnOk result.3 (NoClash locks.new.rows) }
     ensures no_mark_clash { OnOk result.3 (NoClash locks.new.marks) }
     ensures same { OnErr result.3 (result.0 ≡ overlay) }
@@ -132,15 +132,15 @@ fn add_marks(
     mut marks: Moved,
     locks: &mut LockTable,
     session: u16,
-    change: Change,
+    change: &Change,
     step: &Step,
 ) -> Result<(Overlay, Moved), (Memory, Overlay, Moved)>
     requires least { 1 ≤ session }
     requires greatest { session ≤ 256 }
-    requires free { any_clashes_all locks.old session (locks_for change step.now) (marks_of step.now) ≡ false }
-    ensures overlay { IfOk result (λ next. next.0 ≡ pushed overlay change step.now.left) }
+    requires free { any_clashes_all locks.old session (locks_for change.now step.now) (marks_of step.now) ≡ false }
+    ensures overlay { IfOk result (λ next. next.0 ≡ pushed overlay change.now step.now.left) }
     ensures marks { IfOk result (λ next. next.1 ≡ marks ++ marks_of step.now) }
-    ensures locks { OnOk result (locks.new ≡ taken_all locks.old session (locks_for change step.now) (marks_of step.now)) }
+    ensures locks { OnOk result (locks.new ≡ taken_all locks.old session (locks_for change.now step.now) (marks_of step.now)) }
     ensures no_clash { OnOk result (NoClash locks.new.rows) }
     ensures no_mark_clash { OnOk result (NoClash locks.new.marks) }
     ensures same { IfErr result (λ refused. refused.1 ≡ overlay) }
@@ -166,26 +166,25 @@ fn push_locked(
     overlay: Overlay,
     locks: &mut LockTable,
     session: u16,
-    change: Change,
+    change: &Change,
     step: &Step,
     marks: &[Mark],
 ) -> Result<Overlay, (Memory, Overlay)>
     requires least { 1 ≤ session }
     requires greatest { session ≤ 256 }
-    requires free { any_clashes_all locks.old session (locks_for change step.now) marks.now ≡ false }
-    ensures ok { IfOk result (λ next. next ≡ pushed overlay change step.now.left) }
-    ensures locks { OnOk result (locks.new ≡ taken_all locks.old session (locks_for change step.now) marks.now) }
+    requires free { any_clashes_all locks.old session (locks_for change.now step.now) marks.now ≡ false }
+    ensures ok { IfOk result (λ next. next ≡ pushed overlay change.now step.now.left) }
+    ensures locks { OnOk result (locks.new ≡ taken_all locks.old session (locks_for change.now step.now) marks.now) }
     ensures no_clash { OnOk result (NoClash locks.new.rows) }
     ensures no_mark_clash { OnOk result (NoClash locks.new.marks) }
     ensures same { IfErr result (λ refused. refused.1 ≡ overlay) }
     ensures err { OnErr result (locks.new ≡ locks.old) }
 {
-    let (wanted, count) = locks_of(&change, step);
+    let (wanted, count) = locks_of(change, step);
     match overlay.into_roomy() {
-        Ok(roomy) => match locks.take_all(session, &wanted[..count], marks) {
-            Ok(()) => Ok(roomy.push(change, step.left)),
-            Err(LockFault::Memory) => Err((Memory, roomy.into_overlay())),
-            Err(LockFault::Clash) => unreachable!(),
+        Ok(roomy) => match locks.take_free(session, &wanted[..count], marks) {
+            Ok(()) => Ok(roomy.push(*change, step.left)),
+            Err(memory) => Err((memory, roomy.into_overlay())),
         },
         Err(refused) => Err(refused),
     }

@@ -13,7 +13,7 @@ ghost use Rattle.row_index.specs.Counts.{CountsChildren};
 ghost use Rattle.overlay.specs.Pending.{seen};
 ghost use Rattle.overlay.specs.Step.{step_of};
 ghost use Rattle.source_core.specs.Calls.{shape_fault};
-ghost use Rattle.source_core.specs.Steps.{refusal as why, one_of, deletes_parent as deletes, stepped, locks_of as locks_for};
+ghost use Rattle.source_core.specs.Steps.{refusal as why, one_of, deletes_parent as deletes, kin_fault, stepped, locks_of as locks_for};
 
 use crate::fault::SourceFault;
 use crate::stored::Stored;
@@ -56,21 +56,46 @@ pub(crate) fn allowed_step<S: RowStore>(
     requires counted { CountsChildren schema.now (S.contents stored.now.store) stored.now.children.counts }
     ensures { result ≡ stepped schema.now (seen overlay.now (S.contents stored.now.store)) (λ row. clashes_with locks.now.rows session row Share) (mark_clashes locks.now session) change.now }
 {
-    let Ok(step) = step_seen(overlay, schema, &stored.store, change) else {
-        return Err(refusal(change));
-    };
-    if is_held(locks, session, &step) {
-        Err(SourceFault::RowLocked)
+    let seen = step_seen(overlay, schema, &stored.store, change);
+    match &seen {
+        Ok(step) => match cause(overlay, schema, stored, locks, session, change, step) {
+            Some(fault) => Err(fault),
+            None => Ok(*step),
+        },
+        Err(_) => Err(refusal(change)),
+    }
+}
+
+/// The first cause that refuses a change whose row allows it, which does this to it.
+fn cause<S: RowStore>(
+    overlay: &Overlay,
+    schema: &Schema,
+    stored: &Stored<S>,
+    locks: &LockTable,
+    session: u16,
+    change: &Change,
+    step: &Step,
+) -> Option<SourceFault>
+    requires least { 1 ≤ session }
+    requires greatest { session ≤ 256 }
+    requires apart { NoValueTwice schema.now (S.contents stored.now.store) }
+    requires indexed { Indexes schema.now (S.contents stored.now.store) stored.now.index.keys }
+    requires counted { CountsChildren schema.now (S.contents stored.now.store) stored.now.children.counts }
+    requires step { Ok step.now ≡ step_of schema.now change.now (get (seen overlay.now (S.contents stored.now.store)) (target change.now)) }
+    ensures { result ≡ kin_fault schema.now (seen overlay.now (S.contents stored.now.store)) (λ row. clashes_with locks.now.rows session row Share) (mark_clashes locks.now session) change.now step.now }
+{
+    if is_held(locks, session, step) {
+        Some(SourceFault::RowLocked)
     } else if !parent_holds(overlay, schema, &stored.store, change, step.left.as_ref()) {
-        Err(SourceFault::NoParent)
+        Some(SourceFault::NoParent)
     } else if deletes_parent(overlay, schema, stored, change) {
-        Err(SourceFault::HasChild)
-    } else if is_taken(locks, session, &step) {
-        Err(SourceFault::RowLocked)
-    } else if !value_is_free(overlay, schema, stored, change, &step) {
-        Err(SourceFault::Duplicate)
+        Some(SourceFault::HasChild)
+    } else if is_taken(locks, session, step) {
+        Some(SourceFault::RowLocked)
+    } else if !value_is_free(overlay, schema, stored, change, step) {
+        Some(SourceFault::Duplicate)
     } else {
-        Ok(step)
+        None
     }
 }
 

@@ -1,4 +1,4 @@
-use Rattle.std.proofs.Common.{sym, ap, Some, None, Vec, Global}
+use Rattle.std.proofs.Common.{◌∙◌, refl, sym, ap, Some, None, Vec, Global}
 use Rattle.std.proofs.lemmas.List.{append-nil}
 use Rattle.schema.specs.declared.RowId.{RowId}
 use Rattle.rows.specs.Database.{parent_in}
@@ -9,7 +9,7 @@ use Rattle.row_index.proofs.children.parents_before.Goals.{in-Some+in_ok-push, i
 pub loop-entry-preserved : goal.loop-entry-preserved
 loop-entry-preserved g c =
     let f = parent_in c.args.schema.now (g.S.RowStore.contents c.args.store.now) in
-    let entries = c.entries-entry-items.result.now in
+    let entries = c.child_entries-entry-items.result.now in
     let found = c.loop-entry.parents.items in
     elim c.match-parent_in.branch [
       | in-Some+in_ok-push w ↦
@@ -22,5 +22,7 @@ loop-entry-preserved g c =
 
 pub returns : goal.returns
 returns g c =
-    listed_all (parent_in c.args.schema.now (g.S.RowStore.contents c.args.store.now)) c.entries-entry-items.result.now c.args.batch.now c.loop-entry.entry-index c.loop-entry.parents.items
-    c.loop-entry-test.false c.entries-entry-items.ensures.value c.loop-entry.invariant
+    let db = g.S.RowStore.contents c.args.store.now in
+    listed_all (parent_in c.args.schema.now db) c.child_entries-entry-items.result.now c.child_entries-entry-items.result.now c.loop-entry.entry-index c.loop-entry.parents.items
+    c.loop-entry-test.false refl c.loop-entry.invariant
+    ∙ c.child_entries-entry-items.ensures.before db
