@@ -1,20 +1,23 @@
 -- What a publication does to a copy.
-use Rattle.std.proofs.Common.{◌≡◌, ℕ, ◌+◌, ◌-◌, ◌≤◌, List, [], ◌∷◌, ◌++◌, length, drop, map, fold, refl, sym, ap, subst, ◌∙◌, Option, Some, IfSome, arith, append_assoc, length-append}
+use Rattle.std.proofs.Common.{◌≡◌, ℕ, ◌+◌, ◌-◌, ◌≤◌, ◌==◌, ◌||◌, Bool, false, List, [], ◌∷◌, ◌++◌, length, drop, map, fold, refl, sym, ap, subst, ◌∙◌, Option, Some, IfSome, arith, append_assoc, length-append}
 use Rattle.std.proofs.Math.Seq.{drop-length, drop-nil}
 use Rattle.std.proofs.lemmas.List.{append-nil, drop-append-le, length-drop}
 use Rattle.std.proofs.lemmas.List.Sums.{fold-append}
 use Rattle.rows.specs.Database.{Database}
 use Rattle.store_trait.specs.declared.Op.{Op}
-use Rattle.store_trait.specs.Batch.{put_batches}
+use Rattle.store_trait.specs.declared.Op.TheVariants.{Commit}
+use Rattle.store_trait.specs.Batch.{Entry, put_batches}
 use Rattle.store_trait.specs.Operation.{batch_of, left_by}
-use Rattle.published.specs.History.{IsCommit, CommitsFrom, IsHistory, commits_in}
+use Rattle.scheduler.specs.Gnos.{has_gno, low_of}
+use Rattle.scheduler.proofs.Gnos.{has_gno-push, low_of_same}
+use Rattle.published.specs.History.{IsHistory, MayAppend, gnos_of, commits_in}
 use Rattle.published.specs.Held.{Held}
 use Rattle.published.specs.Copies.{after_step, puts_in, Settles}
 use Rattle.published.specs.Publication.{Publishing, unsaid, IsTied}
 use Rattle.published.specs.declared.version.Step.{Step}
 use Rattle.published.specs.declared.version.Step.TheVariants.{Put, Note}
 use Rattle.store_trait.proofs.Batches.{left_by-append}
-use Rattle.published.proofs.Histories.{commits_with, history_length, history_with, history_past, history_front, commits_in-with}
+use Rattle.published.proofs.Histories.{begun, history_put, put_is_new, history_front, commits_in-with, gnos_of-append, no_gnos}
 
 module _ {J : Type 0} where
   pub puts_in-put : (steps : List (Step J)) (op : Op) → puts_in (steps ++ Put op ∷ []) ≡ puts_in steps ++ op ∷ []
@@ -52,37 +55,54 @@ module _ {J : Type 0} where
       ap (λ (h : Held). h.by) (ap (fold after_step (record { rows = rows; by = published })) is ∙ noted steps (record { rows = rows; by = published }) all)
 
 -- the history has no more than what is published and what waits
-known_within : (rows : Database) (p : Publishing) (appended : ℕ) → IsTied rows p appended → length p.history - length p.published ≤ length p.waiting
-known_within rows p appended tied =
+known_within : (preserve : Bool) (rows : Database) (p : Publishing) (gnos : List ℕ) → IsTied preserve rows p gnos
+    → length p.history - length p.published ≤ length p.waiting
+known_within preserve rows p gnos tied =
     let sizes = ap length tied.whole in
     omega (arith, length-append p.history (unsaid p), length-append p.published p.waiting, length-drop (length p.history - length p.published) p.waiting, sizes)
 
+-- a commit that may be appended has a number that is not noted
+pub new_number : (preserve : Bool) (rows : Database) (p : Publishing) (gnos : List ℕ) (op : Op) (gno : ℕ) (batch : List Entry)
+    → IsTied preserve rows p gnos → MayAppend preserve (p.published ++ p.waiting) op → op ≡ Commit gno batch → (1 ≤ gno) × (has_gno gnos gno ≡ false)
+new_number preserve rows p gnos op gno batch tied may is =
+    let new = put_is_new preserve (p.published ++ p.waiting) gno batch tied.history (subst (MayAppend preserve (p.published ++ p.waiting)) is may) in
+    (new.0, tied.has gno ∙ new.1)
+
 -- one more commit waits
-pub tied_put : (rows : Database) (p : Publishing) (longer : List Op) (appended gno : ℕ) (op : Op)
-    → IsTied rows p appended → IsCommit op (commits_in p.published + length p.waiting + 1) → gno ≡ commits_in p.published + length p.waiting + 1
-    → longer ≡ p.waiting ++ op ∷ []
-    → IsTied rows (record p { waiting = longer }) gno
-tied_put rows p longer appended gno op tied next number is = record {
-  left = tied.left;
-  history = tied.history;
-  commits = subst (CommitsFrom (commits_in p.published + 1)) (sym is) (commits_with (commits_in p.published + 1) p.waiting (op ∷ []) tied.commits (subst (IsCommit op) (omega arith) next, tt));
-  number = number ∙ sym (ap (λ l. commits_in p.published + length l) is ∙ omega (arith, length-append p.waiting (op ∷ [])));
-  whole =
-      let known = length p.history - length p.published in
-      ap (λ l. p.history ++ drop known l) is
-      ∙ ap (λ l. p.history ++ l) (drop-append-le known p.waiting (op ∷ []) (known_within rows p appended tied))
-      ∙ sym (append_assoc p.history (unsaid p) (op ∷ []))
-      ∙ ap (λ l. l ++ op ∷ []) tied.whole
-      ∙ append_assoc p.published p.waiting (op ∷ [])
-      ∙ ap (λ l. p.published ++ l) (sym is);
-}
+pub tied_put : (preserve : Bool) (rows : Database) (p : Publishing) (longer : List Op) (gnos more : List ℕ) (op : Op) (gno : ℕ) (batch : List Entry)
+    → IsTied preserve rows p gnos → MayAppend preserve (p.published ++ p.waiting) op → op ≡ Commit gno batch → longer ≡ p.waiting ++ op ∷ []
+    → ((g : ℕ) → has_gno more g ≡ (has_gno gnos g || (gno == g))) → length more ≡ length gnos + 1
+    → IsTied preserve rows (record p { waiting = longer }) more
+tied_put preserve rows p longer gnos more op gno batch tied may is waits has count =
+    let all : p.published ++ longer ≡ (p.published ++ p.waiting) ++ op ∷ [] = ap (λ l. p.published ++ l) waits ∙ sym (append_assoc p.published p.waiting (op ∷ [])) in
+    let some : 1 ≤ length (p.published ++ p.waiting) = begun preserve (p.published ++ p.waiting) tied.history in record {
+      left = tied.left;
+      begun = tied.begun;
+      history = subst (IsHistory preserve) (sym all) (history_put preserve (p.published ++ p.waiting) op tied.history may);
+      has = λ g.
+          has g
+          ∙ ap (λ b. b || (gno == g)) (tied.has g)
+          ∙ sym (has_gno-push (gnos_of (p.published ++ p.waiting)) gno g)
+          ∙ ap (λ l. has_gno (gnos_of (p.published ++ p.waiting) ++ l) g) (sym (ap (λ o. gnos_of (o ∷ [])) is))
+          ∙ ap (λ l. has_gno l g) (sym (gnos_of-append (p.published ++ p.waiting) (op ∷ [])) ∙ ap gnos_of (sym all));
+      number = count ∙ ap (λ n. n + 1) tied.number ∙ sym (ap commits_in all ∙ commits_in-with (p.published ++ p.waiting) (op ∷ []) some);
+      whole =
+          let known = length p.history - length p.published in
+          ap (λ l. p.history ++ drop known l) waits
+          ∙ ap (λ l. p.history ++ l) (drop-append-le known p.waiting (op ∷ []) (known_within preserve rows p gnos tied))
+          ∙ sym (append_assoc p.history (unsaid p) (op ∷ []))
+          ∙ ap (λ l. l ++ op ∷ []) tied.whole
+          ∙ sym all;
+    }
 
 -- all that waits is in the history
-pub tied_known : (rows : Database) (p : Publishing) (all : List Op) (appended : ℕ) → IsTied rows p appended → all ≡ p.published ++ p.waiting → IsTied rows (record p { history = all }) appended
-tied_known rows p all appended tied whole = record {
+pub tied_known : (preserve : Bool) (rows : Database) (p : Publishing) (all : List Op) (gnos : List ℕ) → IsTied preserve rows p gnos
+    → all ≡ p.published ++ p.waiting → IsTied preserve rows (record p { history = all }) gnos
+tied_known preserve rows p all gnos tied whole = record {
   left = tied.left;
+  begun = tied.begun;
   history = tied.history;
-  commits = tied.commits;
+  has = tied.has;
   number = tied.number;
   whole =
       let none : drop (length all - length p.published) p.waiting ≡ [] =
@@ -91,33 +111,56 @@ tied_known rows p all appended tied whole = record {
 }
 
 -- all that waited is published
-pub tied_shown : (rows rows' : Database) (p : Publishing) (by : List Op) (appended : ℕ)
-    → IsTied rows p appended → p.history ≡ p.published ++ p.waiting → rows' ≡ left_by by → by ≡ p.history
-    → IsTied rows' (record { published = by; waiting = []; history = p.history }) appended
-tied_shown rows rows' p by appended tied whole left same =
-    let both : by ≡ p.published ++ p.waiting = same ∙ whole in record {
+pub tied_shown : (preserve : Bool) (rows rows' : Database) (p : Publishing) (by : List Op) (gnos : List ℕ)
+    → IsTied preserve rows p gnos → p.history ≡ p.published ++ p.waiting → rows' ≡ left_by by → by ≡ p.history
+    → IsTied preserve rows' (record { published = by; waiting = []; history = p.history }) gnos
+tied_shown preserve rows rows' p by gnos tied whole left same =
+    let both : by ++ [] ≡ p.published ++ p.waiting = append-nil by ∙ same ∙ whole in record {
       left = left;
-      history = subst IsHistory (sym both) (history_with p.published p.waiting tied.history tied.commits);
-      commits = tt;
-      number = tied.number ∙ sym (omega (arith, ap commits_in both, commits_in-with p.published p.waiting tied.history));
+      begun = subst (λ (l : List Op). 1 ≤ length l) (sym (same ∙ whole)) (begun preserve (p.published ++ p.waiting) tied.history);
+      history = subst (IsHistory preserve) (sym both) tied.history;
+      has = λ g. tied.has g ∙ ap (λ l. has_gno (gnos_of l) g) (sym both);
+      number = tied.number ∙ ap commits_in (sym both);
       whole = ap (λ l. p.history ++ l) (drop-nil (length p.history - length by)) ∙ ap (λ l. l ++ []) (sym same);
     }
 
--- what is not in the history goes on from it, up to the number of the last
-pub unsaid_goes_on : (rows : Database) (p : Publishing) (appended : ℕ) → IsTied rows p appended
-    → CommitsFrom (commits_in p.history + 1) (unsaid p) × (appended ≡ commits_in p.history + length (unsaid p))
-unsaid_goes_on rows p appended tied =
-    let sizes = ap length tied.whole in
-    let some : 1 ≤ length p.history =
-    omega (arith, length-append p.history (unsaid p), length-append p.published p.waiting, length-drop (length p.history - length p.published) p.waiting, sizes, history_length p.published tied.history) in
-    let all : IsHistory (p.history ++ unsaid p) = subst IsHistory (sym tied.whole) (history_with p.published p.waiting tied.history tied.commits) in
-    let h = history_front p.history (unsaid p) some all in (
-      history_past p.history (unsaid p) h all,
-      tied.number
-          ∙ sym (commits_in-with p.published p.waiting tied.history)
-          ∙ ap commits_in (sym tied.whole)
-          ∙ commits_in-with p.history (unsaid p) h,
-    )
+-- The history, and then what is not in it, is all that was appended: a history, whose number of commits and whose mark are those of what
+-- was noted.
+pub whole_history : (preserve : Bool) (rows : Database) (p : Publishing) (gnos : List ℕ) → IsTied preserve rows p gnos
+    → IsHistory preserve (p.history ++ unsaid p)
+whole_history preserve rows p gnos tied = subst (IsHistory preserve) (sym tied.whole) tied.history
+
+pub whole_number : (preserve : Bool) (rows : Database) (p : Publishing) (gnos : List ℕ) (count : ℕ) → IsTied preserve rows p gnos
+    → count ≡ length gnos → count ≡ commits_in (p.history ++ unsaid p)
+whole_number preserve rows p gnos count tied is = is ∙ tied.number ∙ ap commits_in (sym tied.whole)
+
+pub whole_mark : (preserve : Bool) (rows : Database) (p : Publishing) (gnos : List ℕ) (upto : ℕ) → IsTied preserve rows p gnos
+    → upto ≡ low_of gnos → upto ≡ low_of (gnos_of (p.history ++ unsaid p))
+whole_mark preserve rows p gnos upto tied is =
+    is ∙ low_of_same gnos (gnos_of (p.published ++ p.waiting)) (λ g some. tied.has g) ∙ ap (λ l. low_of (gnos_of l)) (sym tied.whole)
+
+-- so many are published, and so many wait
+pub number_of : (preserve : Bool) (rows : Database) (p : Publishing) (gnos : List ℕ) (count : ℕ) → IsTied preserve rows p gnos
+    → count ≡ length gnos → count ≡ commits_in p.published + length p.waiting
+number_of preserve rows p gnos count tied is = is ∙ tied.number ∙ commits_in-with p.published p.waiting tied.begun
+
+-- what is published is a history
+pub published_history : (preserve : Bool) (rows : Database) (p : Publishing) (gnos : List ℕ) → IsTied preserve rows p gnos
+    → IsHistory preserve p.published
+published_history preserve rows p gnos tied = history_front preserve p.published p.waiting tied.begun tied.history
+
+-- at first nothing is noted
+pub tied_begun : (preserve : Bool) (rows : Database) (load : List Op) (gnos : List ℕ) → IsHistory preserve load → commits_in load ≡ 0
+    → rows ≡ left_by load → gnos ≡ []
+    → IsTied preserve rows (record { published = load; waiting = []; history = load }) gnos
+tied_begun preserve rows load gnos h none left is = record {
+  left = left;
+  begun = begun preserve load h;
+  history = subst (IsHistory preserve) (sym (append-nil load)) h;
+  has = λ g. ap (λ l. has_gno l g) (is ∙ sym (no_gnos preserve load h none) ∙ ap gnos_of (sym (append-nil load)));
+  number = ap (λ (l : List ℕ). length l) is ∙ sym none ∙ ap commits_in (sym (append-nil load));
+  whole = ap (λ l. load ++ l) (drop-nil (length load - length load));
+}
 
 pub same_publishing : (a b : Publishing) → a.published ≡ b.published → a.waiting ≡ b.waiting → a.history ≡ b.history → a ≡ b
 same_publishing a b p w h i = record { published = p i; waiting = w i; history = h i }

@@ -1,4 +1,5 @@
 pub mod History
+pub mod Gaps
 pub mod Book
 pub mod Held
 pub mod Copies

@@ -1,11 +1,12 @@
 -- What contracts see of a publication that begins, and of its publisher.
-use Rattle.std.specs.Prelude.{◌≡◌, ℕ, ◌+◌, ◌-◌, List, ◌++◌, length, drop}
+use Rattle.std.specs.Prelude.{◌≡◌, ℕ, ◌-◌, ◌≤◌, Bool, List, ◌++◌, length, drop}
 use Rattle.logbook.specs.Pages.{Book}
 use Rattle.rows.specs.Database.{Database}
 use Rattle.store_trait.specs.Batch.{Entry}
 use Rattle.store_trait.specs.declared.Op.{Op}
 use Rattle.store_trait.specs.Operation.{left_by}
-use Rattle.published.specs.History.{IsHistory, CommitsFrom, commits_in}
+use Rattle.scheduler.specs.Gnos.{has_gno}
+use Rattle.published.specs.History.{IsHistory, gnos_of, commits_in}
 
 -- which publication it is, and the rows that are there at first
 pub record Begun : Type 0 where
@@ -23,11 +24,12 @@ pub record Publishing : Type 0 where
 abbrev pub unsaid : Publishing → List Op
 unsaid p = drop (length p.history - length p.published) p.waiting
 
--- The shown rows are what the published operations left. What waits are the commits behind these, and `appended`
--- is the number of the last of all. The history has the published ones, and of those that wait the first
-pub record IsTied (rows : Database) (p : Publishing) (appended : ℕ) : Type 0 where
+-- The shown rows are what the published operations left. What waits are commits behind these, whose numbers are noted with those of the
+-- published ones. The history has the published operations, and of those that wait the first
+pub record IsTied (preserve : Bool) (rows : Database) (p : Publishing) (gnos : List ℕ) : Type 0 where
   pub left : rows ≡ left_by p.published
-  pub history : IsHistory p.published
-  pub commits : CommitsFrom (commits_in p.published + 1) p.waiting
-  pub number : appended ≡ commits_in p.published + length p.waiting
+  pub begun : 1 ≤ length p.published
+  pub history : IsHistory preserve (p.published ++ p.waiting)
+  pub has : (gno : ℕ) → has_gno gnos gno ≡ has_gno (gnos_of (p.published ++ p.waiting)) gno
+  pub number : length gnos ≡ commits_in (p.published ++ p.waiting)
   pub whole : p.history ++ unsaid p ≡ p.published ++ p.waiting

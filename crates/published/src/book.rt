@@ -1,9 +1,10 @@
 //! The history of operations, which exists in proofs alone: all that seats see and are told is a beginning of
 //! it. What is shared at run time is one word, the number of its commits. It grows where commits are published,
 //! by all that wait at once, and nowhere else.
-ghost use Rattle.std.specs.Prelude.{◌≡◌, ◌≢◌, false, ◌+◌, ◌++◌, ◌∷◌, [], length, MatchBool, IfSome};
+ghost use Rattle.std.specs.Prelude.{◌≡◌, ◌≢◌, ◌+◌, ◌≤◌, true, false, ◌++◌, ◌∷◌, [], MatchBool, IfSome};
 ghost use mathlib.Core.List.{IsPrefix};
-ghost use Rattle.published.specs.History.{CommitsFrom, IsHistory, commits_in};
+ghost use Rattle.scheduler.specs.Gnos.{low_of};
+ghost use Rattle.published.specs.History.{IsHistory, gnos_of, commits_in, count_above};
 ghost use Rattle.published.specs.Book.{head_of};
 ghost use Rattle.store_trait.specs.declared.Op.TheVariants.{Load};
 
@@ -65,17 +66,25 @@ impl Play<Part, u64> for Add {
 }
 
 /// Which publication a publisher, a seat and a notice are of: a type stands for it, so that those of two
-/// publications can't be mixed. Write a function over `J: Naming` that takes a `Beginning` and requires
-/// `beginning.book ≡ J.book`. Its caller passes the marker `Brand` for `J`, and says in its `Invariants.antt`
-/// that the book is that of the argument.
+/// publications can't be mixed. Write a function over `J: Naming` that takes a `Beginning` and whether the order of the log is
+/// kept, and requires `beginning.book ≡ J.book` and `preserve ≡ J.preserve`. Its caller passes the marker `Brand` for `J`, and
+/// says in its `Invariants.antt` that both are those of the arguments.
 pub trait Naming {
+    ghost use Rattle.std.specs.Prelude.{Bool};
     ghost use Rattle.logbook.specs.Pages.{Book};
 
     ghost book: { Book };
+
+    /// Whether commits are published in the order of the log.
+    ghost preserve: { Bool };
 }
 
 impl Naming for Brand {
+    ghost use Rattle.std.specs.Prelude.{true};
+
     ghost book = { record { number = 0; log_name = 0; cells_name = 0 } };
+
+    ghost preserve = { true };
 }
 
 /// The one word. It counts the commits of the history.
@@ -130,6 +139,7 @@ impl Beginning {
             of: PhantomData,
         };
         let notice = Notice {
+            count: 0,
             upto: 0,
             seen,
             of: PhantomData,
@@ -139,9 +149,10 @@ impl Beginning {
 }
 
 /// Operations that were published, the load first: a beginning of the history. Contracts see it as that list;
-/// at run time it is the number of its commits. It may go to any thread.
+/// at run time it is the number of its commits, and up to which gno these leave no gap. It may go to any thread.
 #[derive(Drop)]
 pub struct Notice<J: Naming> {
+    count: u64,
     upto: u64,
     seen: Seen<Part, u64, Law>,
     of: PhantomData<J>,
@@ -150,23 +161,35 @@ pub struct Notice<J: Naming> {
 impl<J: Naming> Model for Notice<J> {
     ghost use Rattle.std.specs.Prelude.{◌≡◌, List};
     ghost use Rattle.store_trait.specs.declared.Op.{Op};
-    ghost use Rattle.published.specs.History.{IsHistory, commits_in};
+    ghost use Rattle.scheduler.specs.Gnos.{low_of};
+    ghost use Rattle.published.specs.History.{IsHistory, gnos_of, commits_in};
     ghost use Rattle.published.specs.Book.{operations_of};
 
     ghost Value = { List Op };
 
     ghost view = { λ n. operations_of n.seen.log };
 
-    ghost invariant = { λ n. (n.upto ≡ commits_in (operations_of n.seen.log)) × (n.seen.book ≡ J.book) × IsHistory (operations_of n.seen.log) };
+    ghost invariant = { λ n. (n.count ≡ commits_in (operations_of n.seen.log)) × (n.upto ≡ low_of (gnos_of (operations_of n.seen.log))) × (n.seen.book ≡ J.book) × IsHistory J.preserve (operations_of n.seen.log) };
 }
 
 impl<J: Naming> Notice<J> {
-    /// The gno of its last commit, 0 where it has the load alone.
+    /// It has all commits of the gnos 1 to this one, and not the next; 0 where it has not the first.
     pub fn upto(&self) -> u64
-        ensures number { result ≡ commits_in self.now }
-        ensures history { IsHistory self.now }
+        ensures mark { result ≡ low_of (gnos_of self.now) }
+        // In the order of the log it is the gno of its last commit.
+        ensures in_order { J.preserve ≡ true → result ≡ commits_in self.now }
+        ensures within { result ≤ commits_in self.now }
+        ensures above { count_above result (gnos_of self.now) + result ≡ commits_in self.now }
+        ensures history { IsHistory J.preserve self.now }
     {
         self.upto
+    }
+
+    /// How many commits it has, 0 where it has the load alone.
+    pub fn count(&self) -> u64
+        ensures { result ≡ commits_in self.now }
+    {
+        self.count
     }
 
     /// A copy. It takes no memory.
@@ -174,6 +197,7 @@ impl<J: Naming> Notice<J> {
         ensures { result ≡ self.now }
     {
         Notice {
+            count: self.count,
             upto: self.upto,
             seen: self.seen.again(),
             of: PhantomData,
@@ -187,19 +211,21 @@ impl<J: Naming> Notice<J> {
     {
         let mut both = self.seen.again();
         both.learn(&other.seen);
-        other.upto >= self.upto
+        other.count >= self.count
     }
 
-    // It and the commits that `M` names behind it, up to this number. `None` where the history went on without
-    // them.
+    // It and the commits that `M` names behind it: so many then, with no gap up to this gno. `None` where the history went on
+    // without them.
     pub(crate) fn and<X, M: Plain<X, Part, u64>>(
         &self,
         head: &Head<J>,
         of: &X,
+        count: u64,
         upto: u64,
     ) -> Option<Notice<J>>
-        requires commits { CommitsFrom (commits_in self.now + 1) (M.ask of.now) }
-        requires number { upto ≡ commits_in self.now + length (M.ask of.now) }
+        requires history { IsHistory J.preserve (self.now ++ M.ask of.now) }
+        requires number { count ≡ commits_in (self.now ++ M.ask of.now) }
+        requires mark { upto ≡ low_of (gnos_of (self.now ++ M.ask of.now)) }
         ensures { IfSome result (λ longer. longer ≡ self.now ++ M.ask of.now) }
     {
         let mut seen = self.seen.again();
@@ -207,11 +233,12 @@ impl<J: Naming> Notice<J> {
         let mut pen = seen.no_pen();
         let found = head
             .word
-            .compare_exchange::<Add, Nothing>(self.upto, upto, &mut seen, &mut offer, &mut pen);
-        if found != self.upto {
+            .compare_exchange::<Add, Nothing>(self.count, count, &mut seen, &mut offer, &mut pen);
+        if found != self.count {
             return None;
         }
         Some(Notice {
+            count,
             upto,
             seen,
             of: PhantomData,

@@ -7,9 +7,9 @@ use std::collections::LinkedList;
 pub struct Counts {
     /// How many records were received.
     pub received: u64,
-    /// How many of these are committed.
+    /// How many of these are committed, in the order of the log or not.
     pub committed: u64,
-    /// How many commits are published.
+    /// How many of these are published: it counts commits, and tells no gno where they come in another order than the log.
     pub published: u64,
 }
 

@@ -51,11 +51,13 @@ pub trait Supply<S: RowStore + Drop, J: Naming> {
     fn publisher(
         alloc: Global,
         beginning: Beginning,
+        preserve: bool,
         first: S,
         second: S,
         seats: usize,
     ) -> Result<(Publisher<S, J>, Vec<ReadSeat<S, J>>), Memory>
         requires named { beginning.book ≡ J.book }
+        requires order { preserve ≡ J.preserve }
         requires first { S.contents first ≡ empty }
         requires second { S.contents second ≡ empty }
         requires seats { (1 ≤ seats) × (seats ≤ 32) }
@@ -73,9 +75,11 @@ pub trait Supply<S: RowStore + Drop, J: Naming> {
 pub struct LeftRight;
 
 impl<S: RowStore + Drop, J: Naming> Supply<S, J> for LeftRight {
+    // A publisher takes commits in any order. That they come in the order which `preserve` tells is asked of who appends them.
     fn publisher(
         alloc: Global,
         beginning: Beginning,
+        preserve: bool,
         first: S,
         second: S,
         seats: usize,
@@ -83,7 +87,7 @@ impl<S: RowStore + Drop, J: Naming> Supply<S, J> for LeftRight {
         let (base, head, notice) = beginning.named::<J>();
         let places = Vec::with_capacity(alloc, seats)?;
         let writer = both(alloc, &base, &notice, first, second, seats)?;
-        Ok((Publisher::begun(writer, head, notice), places))
+        Ok((Publisher::begun(alloc, writer, head, notice), places))
     }
 
     fn seat(publisher: &Publisher<S, J>) -> Option<ReadSeat<S, J>> {
@@ -91,18 +95,21 @@ impl<S: RowStore + Drop, J: Naming> Supply<S, J> for LeftRight {
     }
 }
 
-/// Opens a publication on two empty stores, with the load of the base published, and makes 1 to 32 seats. Want of
+/// Opens a publication on two empty stores, with the load of the base published, and makes 1 to 32 seats. Where `preserve` is
+/// true commits are appended in the order of the log, as with MySQL's `replica_preserve_commit_order`, else in any order. Want of
 /// memory is told only where the supply refused memory, and a refused seat only where it refused a reader. The time
 /// and the memory are those of the base in both stores. It waits only where it has to give up.
 pub fn open<S: RowStore + Drop, J: Naming, R: Wait, P: Supply<S, J>>(
     rt: &R,
     alloc: Global,
     beginning: Beginning,
+    preserve: bool,
     first: S,
     second: S,
     seats: usize,
 ) -> Result<(Publisher<S, J>, Vec<ReadSeat<S, J>>), OpenError>
     requires named { beginning.book ≡ J.book }
+    requires order { preserve ≡ J.preserve }
     requires first { S.contents first ≡ empty }
     requires second { S.contents second ≡ empty }
     requires some { 1 ≤ seats }
@@ -111,7 +118,7 @@ pub fn open<S: RowStore + Drop, J: Naming, R: Wait, P: Supply<S, J>>(
     ensures seats { IfOk result (λ opened. opened.1.items ≡ replicate seats (Load beginning.base ∷ [])) }
     ensures cause { IfErr result (λ cause. Tells cause P.lacks_memory P.lacks_readers) }
 {
-    let (publisher, places) = P::publisher(alloc, beginning, first, second, seats)?;
+    let (publisher, places) = P::publisher(alloc, beginning, preserve, first, second, seats)?;
     match take_seats::<S, J, P>(&publisher, places, seats) {
         Some(places) => Ok((publisher, places)),
         None => {

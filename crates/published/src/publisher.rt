@@ -2,16 +2,17 @@
 ghost use Rattle.std.specs.Prelude.{◌≡◌, ◌⊎◌, ◌+◌, [], ◌∷◌, ◌++◌, length, drop, OnOk, OnErr, IfOk, IfSome, fold};
 ghost use Rattle.published.specs.Copies.{after_step, Settles};
 ghost use Rattle.store_trait.specs.Operation.{left_by};
-ghost use Rattle.published.specs.History.{IsCommit, IsHistory, commits_in};
+ghost use Rattle.published.specs.History.{IsHistory, MayAppend, commits_in};
 
 use crate::book::{Head, Naming, Notice, Part};
+use crate::gaps::Gaps;
 use crate::seat::ReadSeat;
 use crate::version::{Common, Consistent, Step, StoreWriter, Version};
 use core::mem::replace_with;
 use left_right::Absorb;
 use logbook::Plain;
 use schema::Memory;
-use std::alloc::AllocError;
+use std::alloc::{AllocError, Global};
 use std::marker::Model;
 use std::sync::Wait;
 use store_trait::{Op, RowStore};
@@ -26,7 +27,8 @@ where
     writer: StoreWriter<S, J>,
     head: Head<J>,
     history: Notice<J>,
-    appended: u64,
+    /// The gnos of all that was appended.
+    appended: Gaps,
 }
 
 impl<S: RowStore + Drop, J: Naming> Model for Publisher<S, J>
@@ -41,7 +43,7 @@ where
 
     ghost view = { λ p. record { published = p.writer.desk.shown.value.by; waiting = puts_in (drop p.writer.behind p.writer.log.items); history = p.history } };
 
-    ghost invariant = { λ p. IsTied (S.contents p.writer.desk.shown.value.store) (record { published = p.writer.desk.shown.value.by; waiting = puts_in (drop p.writer.behind p.writer.log.items); history = p.history }) p.appended };
+    ghost invariant = { λ p. IsTied J.preserve (S.contents p.writer.desk.shown.value.store) (record { published = p.writer.desk.shown.value.by; waiting = puts_in (drop p.writer.behind p.writer.log.items); history = p.history }) p.appended.gnos };
 }
 
 /// What waits and is not in the history.
@@ -59,11 +61,12 @@ impl<S: RowStore + Drop, J: Naming> Plain<Publisher<S, J>, Part, u64> for Unsaid
 impl<S: RowStore + Drop, J: Naming> Publisher<S, J> {
     // Over the two copies, which have the load of the base.
     pub(crate) fn begun(
+        alloc: Global,
         writer: StoreWriter<S, J>,
         head: Head<J>,
         notice: Notice<J>,
     ) -> Publisher<S, J>
-        requires load { IsHistory notice × (commits_in notice ≡ 0) }
+        requires load { IsHistory J.preserve notice × (commits_in notice ≡ 0) }
         requires shown { (writer.desk.shown.value.by ≡ notice) × (S.contents writer.desk.shown.value.store ≡ left_by notice) }
         requires none { drop writer.behind writer.log.items ≡ [] }
         ensures published { result.published ≡ notice }
@@ -74,7 +77,7 @@ impl<S: RowStore + Drop, J: Naming> Publisher<S, J> {
             writer,
             head,
             history: notice,
-            appended: 0,
+            appended: Gaps::new(alloc),
         }
     }
 
@@ -86,19 +89,21 @@ impl<S: RowStore + Drop, J: Naming> Publisher<S, J> {
         Some(ReadSeat::taken(reader, self.tell()))
     }
 
-    /// Appends a commit, which no reader sees before the next `publish`. It is the one of the gno after the last
-    /// appended, 1 at first. The time and the memory are those of a copy of the batch.
+    /// Appends a commit, which no reader sees before the next `publish`. Where the order of the log is kept, it is the one of the
+    /// gno after the last appended, 1 at first; else that of any gno from 1 on that was not appended. The time and the memory are
+    /// those of a copy of the batch, and linear in the commits ahead of a gap.
     pub fn append(&mut self, op: &Op) -> Result<(), Memory>
-        requires { IsCommit op.now (commits_in self.old.published + length self.old.waiting + 1) }
+        requires { MayAppend J.preserve (self.old.published ++ self.old.waiting) op.now }
         ensures ok { OnOk result (self.new ≡ record self.old { waiting = self.old.waiting ++ op.now ∷ [] }) }
         ensures err { OnErr result (self.new ≡ self.old) }
     {
         let Op::Commit { gno, batch } = op else {
             unreachable!();
         };
+        self.appended.room_for(*gno)?;
         let batch = batch.copy()?;
         add(&mut self.writer, Step::Put(Op::Commit { gno: *gno, batch }))?;
-        self.appended = *gno;
+        self.appended.add(*gno);
         Ok(())
     }
 
@@ -111,8 +116,8 @@ impl<S: RowStore + Drop, J: Naming> Publisher<S, J> {
     /// have them, which is at the `publish` after. (It would also answer `Memory` if another had added to the
     /// history, which nobody but this publisher can.)
     pub fn publish<R: Wait>(&mut self, rt: &R) -> Result<u64, Memory>
-        ensures number { IfOk result (λ upto. (upto ≡ commits_in self.new.published) × (upto ≡ commits_in self.old.published + length self.old.waiting)) }
-        ensures is_history { IsHistory self.new.published }
+        ensures number { IfOk result (λ count. (count ≡ commits_in self.new.published) × (count ≡ commits_in self.old.published + length self.old.waiting)) }
+        ensures is_history { IsHistory J.preserve self.new.published }
         ensures published { OnOk result (self.new.published ≡ self.old.published ++ self.old.waiting) }
         ensures all { OnOk result (self.new.waiting ≡ []) }
         ensures history { OnOk result (self.new.history ≡ self.new.published) }
@@ -125,15 +130,16 @@ impl<S: RowStore + Drop, J: Naming> Publisher<S, J> {
         self.history = history;
         add(&mut self.writer, Step::Note(self.history.again()))?;
         show(&mut self.writer, rt)?;
-        Ok(self.appended)
+        Ok(self.appended.count())
     }
 
     // The history with all that waits. `None` where it went on without that.
     fn extended(&self) -> Option<Notice<J>>
         ensures { IfSome result (λ all. all ≡ self.now.published ++ self.now.waiting) }
     {
+        let (count, upto) = (self.appended.count(), self.appended.upto());
         self.history
-            .and::<Publisher<S, J>, Unsaid>(&self.head, self, self.appended)
+            .and::<Publisher<S, J>, Unsaid>(&self.head, self, count, upto)
     }
 
     /// What is published now. It takes no memory.
@@ -158,7 +164,7 @@ where
             writer,
             head: _head,
             history: _history,
-            appended: _,
+            appended: _appended,
         } = self;
         let Version { store, by: _by } = Box::into_inner(writer.take(rt));
         store

@@ -1,9 +1,10 @@
 //! The seats of those who read.
-ghost use Rattle.std.specs.Prelude.{◌≡◌, ◌⊎◌, IfSome, IfNone};
+ghost use Rattle.std.specs.Prelude.{◌≡◌, ◌+◌, ◌⊎◌, true, IfSome, IfNone};
 ghost use mathlib.Core.List.{IsPrefix};
 ghost use Rattle.std.specs.FinMap.{get as row_of};
 ghost use Rattle.store_trait.specs.Operation.{left_by};
-ghost use Rattle.published.specs.History.{IsHistory, commits_in};
+ghost use Rattle.scheduler.specs.Gnos.{low_of};
+ghost use Rattle.published.specs.History.{IsHistory, gnos_of, commits_in, count_above};
 
 use crate::Answer;
 use crate::book::{Naming, Notice};
@@ -46,8 +47,11 @@ impl<S: RowStore + Drop, J: Naming> ReadSeat<S, J> {
     /// shows, though no clause of it says so.
     pub fn read(&mut self, id: RowId) -> Option<Answer>
         ensures row { IfSome result (λ answer. answer.row ≡ row_of (left_by self.new) id) }
-        ensures upto { IfSome result (λ answer. answer.upto ≡ commits_in self.new) }
-        ensures history { IfSome result (λ answer. IsHistory self.new) }
+        ensures upto { IfSome result (λ answer. answer.upto ≡ low_of (gnos_of self.new)) }
+        ensures more { IfSome result (λ answer. answer.upto + answer.more ≡ commits_in self.new) }
+        ensures above { IfSome result (λ answer. answer.more ≡ count_above answer.upto (gnos_of self.new)) }
+        ensures in_order { IfSome result (λ answer. J.preserve ≡ true → (answer.upto ≡ commits_in self.new) × (answer.more ≡ 0)) }
+        ensures history { IfSome result (λ answer. IsHistory J.preserve self.new) }
         ensures later { IsPrefix self.old self.new }
         ensures none { IfNone result (self.new ≡ self.old) }
     {
@@ -55,9 +59,13 @@ impl<S: RowStore + Drop, J: Naming> ReadSeat<S, J> {
         if !self.seen.begins(&by) {
             return None;
         }
-        let upto = by.upto();
+        let (upto, count) = (by.upto(), by.count());
         self.seen = by;
-        Some(Answer { row, upto })
+        Some(Answer {
+            row,
+            upto,
+            more: count - upto,
+        })
     }
 
     /// From now on no answer is below the notice: the seen list is the longer of the two. It takes no memory.

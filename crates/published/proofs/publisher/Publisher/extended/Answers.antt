@@ -1,13 +1,18 @@
-use Rattle.std.proofs.Common.{◌≡◌, ◌+◌, length, subst}
-use Rattle.published.specs.History.{CommitsFrom, commits_in}
+use Rattle.std.proofs.Common.{◌≡◌, ◌++◌, subst}
+use Rattle.scheduler.specs.Gnos.{low_of}
+use Rattle.published.specs.History.{IsHistory, gnos_of, commits_in}
 use Rattle.published.specs.Publication.{Publishing, unsaid}
-use Rattle.published.proofs.Steps.{unsaid_goes_on}
+use Rattle.published.proofs.Steps.{whole_history, whole_number, whole_mark}
 use Rattle.published.proofs.publisher.Publisher.extended.Goals as goal
 
-pub and-requires-clause-commits : goal.and-requires-clause-commits
-and-requires-clause-commits g c =
-    subst (λ (p : Publishing). CommitsFrom (commits_in c.self.inside.history + 1) (unsaid p)) c.self.view_is (unsaid_goes_on _ _ c.self.inside.appended c.self.invariant).0
+pub and-requires-clause-history : goal.and-requires-clause-history
+and-requires-clause-history g c =
+    subst (λ (p : Publishing). IsHistory g.J.Naming.preserve (c.self.inside.history ++ unsaid p)) c.self.view_is (whole_history _ _ _ _ c.self.invariant)
 
 pub and-requires-clause-number : goal.and-requires-clause-number
 and-requires-clause-number g c =
-    subst (λ (p : Publishing). c.self.inside.appended ≡ commits_in c.self.inside.history + length (unsaid p)) c.self.view_is (unsaid_goes_on _ _ c.self.inside.appended c.self.invariant).1
+    subst (λ (p : Publishing). c.count-count.result ≡ commits_in (c.self.inside.history ++ unsaid p)) c.self.view_is (whole_number _ _ _ _ _ c.self.invariant c.count-count.ensures)
+
+pub and-requires-clause-mark : goal.and-requires-clause-mark
+and-requires-clause-mark g c =
+    subst (λ (p : Publishing). c.upto-upto.result ≡ low_of (gnos_of (c.self.inside.history ++ unsaid p))) c.self.view_is (whole_mark _ _ _ _ _ c.self.invariant c.upto-upto.ensures.mark)

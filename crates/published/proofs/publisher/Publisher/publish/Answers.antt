@@ -20,7 +20,7 @@ invariant_of-self-in_err-show g c =
     let steps = drop c.self.inside.writer.behind c.self.inside.writer.log.items in
     let all = found _ _ _ c.extended.result c.self.view_is c.in-Some.is c.extended.ensures in
     let waits = ap puts_in (c.in_err-show.ensures.err ∙ c.in_ok-add.ensures.ok) ∙ puts_in-note steps c.again.result in
-    rw (c.in_err-show.ensures.same, c.add.ensures.desk, waits) (tied_known _ _ c.in-Some.history c.self.inside.appended c.self.invariant all)
+    rw (c.in_err-show.ensures.same, c.add.ensures.desk, waits) (tied_known _ _ _ c.in-Some.history c.self.inside.appended.gnos c.self.invariant all)
 
 pub returns-in_err-show-clause-err : goal.returns-in_err-show-clause-err
 returns-in_err-show-clause-err g c =
@@ -37,7 +37,7 @@ invariant_of-self-2 g c =
     let steps = drop c.self.inside.writer.behind c.self.inside.writer.log.items in
     let after = drop c.add.new.writer.behind c.add.new.writer.log.items in
     let p : Publishing = record { published = published; waiting = puts_in steps; history = c.self.inside.history } in
-    let tied : IsTied rows p c.self.inside.appended = rw c.add.ensures.desk c.self.invariant in
+    let tied : IsTied g.J.Naming.preserve rows p c.self.inside.appended.gnos = rw c.add.ensures.desk c.self.invariant in
     let known = found _ _ _ c.extended.result c.self.view_is c.in-Some.is c.extended.ensures in
     let all : c.in-Some.history ≡ published ++ puts_in steps = rw c.add.ensures.desk known in
     let whole : c.again.result ≡ published ++ puts_in steps = c.again.ensures ∙ all in
@@ -46,4 +46,4 @@ invariant_of-self-2 g c =
     let left = ap (λ (h : Held). h.rows) done ∙ settled ∙ ap (λ (h : Held). left_by h.by) (sym done) in
     let by = ap (λ (h : Held). h.by) done ∙ published_after rows published c.again.result steps after c.in_ok-add.ensures.ok ∙ c.again.ensures in
     rw (ap puts_in c.in_ok-show.ensures.ok)
-    (tied_shown rows _ (record p { history = c.in-Some.history }) _ c.self.inside.appended (tied_known rows p c.in-Some.history c.self.inside.appended tied all) all left by)
+    (tied_shown g.J.Naming.preserve rows _ (record p { history = c.in-Some.history }) _ c.self.inside.appended.gnos (tied_known g.J.Naming.preserve rows p c.in-Some.history c.self.inside.appended.gnos tied all) all left by)
