@@ -1,33 +1,29 @@
--- A record whose parent is committed looks at no row that the records between write, and has no mark that they state: they conflict
--- with it nowhere.
-use Rattle.std.proofs.Common.{◌≡◌, ◌∙◌, sym, ap, refl, ℕ, zero, suc, ◌+◌, ◌<◌, ◌≤◌, true, false, ◌||◌, inl, inr, List, [], ◌∷◌, ◌++◌, map, length, take, drop, Some, option_and_then, arith, add-zero, slice_get, get_or}
+-- A record looks at no row that the records between its parent and itself write, and has no mark that they state: they conflict with it
+-- nowhere.
+use Rattle.std.proofs.Common.{◌≡◌, ◌∙◌, sym, ap, refl, ℕ, zero, suc, ◌+◌, ◌<◌, ◌≤◌, true, false, true≢false, List, [], ◌∷◌, ◌++◌, map, length, take, drop, Some, option_and_then, arith, add-zero, slice_get, get_or}
 use Rattle.std.specs.List.{AllByRecursion}
 use Rattle.std.specs.Option.{option_map}
 use Rattle.std.specs.FinMap.{get}
-use Rattle.std.proofs.lemmas.Bool.{cases_Bool, or_parts, false_from_ne_true}
+use Rattle.std.proofs.lemmas.Bool.{false_from_ne_true}
 use Rattle.std.proofs.lemmas.Option.{none-some, same_Some, slice_get_within, slice_get-map, slice_get-get_or, option_and_then_some}
 use Rattle.std.proofs.lemmas.List.{length-take-le, take-take, take-append-drop}
-use Rattle.std.proofs.lemmas.List.Folds.{list_any-append}
 use Rattle.schema.specs.declared.Table.{Table}
-use Rattle.schema.specs.declared.RowId.{RowId}
-use Rattle.schema.specs.RowId.{same_row}
-use Rattle.schema.specs.Rows.{Mark, Touched, has_row, meets, conflicts}
+use Rattle.schema.specs.Rows.{Mark, Touched, has_row, conflicts}
 use Rattle.schema.specs.Covering.{Covers}
-use Rattle.rows.specs.Database.{Database, effect, writes, NoValueTwice}
+use Rattle.rows.specs.Database.{Database, effect, NoValueTwice}
 use Rattle.rows.specs.Frame.{AgreeOn, SameHolders}
 use Rattle.rows.specs.Holders.{holder_of}
 use Rattle.rows.proofs.Effect.{changes_only_writes}
-use Rattle.rows.proofs.Frame.{not_in_first}
 use Rattle.rows.proofs.Holders.{holders_are_same}
 use Rattle.store_trait.specs.Operation.{loaded}
 use Rattle.record_codec.specs.declared.records.Record.{Record}
-use Rattle.record_codec.specs.Log.{after, touched, place_of}
+use Rattle.record_codec.specs.Log.{after, touched, place_of, StateMarks}
 use Rattle.record_codec.proofs.Logs.{after-append, apart_after}
 use Rattle.record_codec.proofs.LogFrame.{unmarked_stays}
 use Rattle.executor.specs.Job.{rows_of}
 use Rattle.relay.specs.Relay.{IsAcceptable, AreAcceptable}
-use Rattle.replica_core.specs.Replica.{Replica, rows_at, working_rows}
-use Rattle.replica_core.specs.Sound.{StateMarksUpTo}
+use Rattle.gapped.proofs.Meeting.{not_written, conflict_by_mark}
+use Rattle.replica_core.specs.Replica.{Replica, rows_at}
 use Rattle.replica_core.proofs.Commits.{after-next}
 
 -- ---- the records of an accepted list
@@ -44,10 +40,12 @@ slice_get-take (x ∷ xs) (suc n) zero lt = refl
 slice_get-take (x ∷ xs) (suc n) (suc i) lt = slice_get-take xs n i (omega arith)
 
 -- each of them may stand behind those before it
-pub place_acceptable : (ts : List Table) (log : List Record) (n : ℕ) (rec : Record) → AreAcceptable ts log → slice_get log n ≡ Some rec → IsAcceptable ts (take n log) rec
+pub place_acceptable : (ts : List Table) (log : List Record) (n : ℕ) (rec : Record) → AreAcceptable ts log → slice_get log n ≡ Some rec →
+    IsAcceptable ts (take n log) rec
 place_acceptable ts log n rec h got = h (take n log) rec (drop (suc n) log) (split log n rec got)
 
-covers_at : (past : List (ℕ × Touched)) (rows : Touched) (parent i number : ℕ) (before : Touched) → Covers past rows parent → slice_get past i ≡ Some (number, before) → conflicts before rows ≡ true → number ≤ parent
+covers_at : (past : List (ℕ × Touched)) (rows : Touched) (parent i number : ℕ) (before : Touched) → Covers past rows parent →
+    slice_get past i ≡ Some (number, before) → conflicts before rows ≡ true → number ≤ parent
 covers_at [] rows parent i number before h got is = absurd (none-some (number, before) got)
 covers_at (p ∷ past) rows parent zero number before h got is =
     let same : p ≡ (number, before) = same_Some p (number, before) got in
@@ -57,88 +55,88 @@ covers_at (p ∷ past) rows parent zero number before h got is =
 covers_at (p ∷ past) rows parent (suc i) number before h got is = covers_at past rows parent i number before h.1 got is
 
 -- a record conflicts with none that stands between its parent and itself
-pub no_conflict : (ts : List Table) (log : List Record) (i j : ℕ) (a b : Record) → AreAcceptable ts log → slice_get log i ≡ Some a → slice_get log j ≡ Some b → i < j → b.parent ≤ i → conflicts (touched a) (touched b) ≡ false
+pub no_conflict : (ts : List Table) (log : List Record) (i j : ℕ) (a b : Record) → AreAcceptable ts log → slice_get log i ≡ Some a →
+    slice_get log j ≡ Some b → i < j → b.parent ≤ i → conflicts (touched a) (touched b) ≡ false
 no_conflict ts log i j a b h at_i at_j lt parent =
     let within : i < length log = slice_get_within log i a at_i in
-    let number : a.sequence ≡ i + 1 = (place_acceptable ts log i a h at_i).sequence ∙ ap (λ n. n + 1) (length-take-le i log (omega arith)) in
+    let number : a.sequence ≡ i + 1 =
+    (place_acceptable ts log i a h at_i).sequence ∙ ap (λ n. n + 1) (length-take-le i log (omega arith)) in
     let got : slice_get (map place_of (take j log)) i ≡ Some (a.sequence, touched a) =
     slice_get-map place_of (take j log) i ∙ ap (option_map place_of) (slice_get-take log j i lt ∙ at_i) in
     false_from_ne_true (conflicts (touched a) (touched b)) (λ is.
-    let bound : a.sequence ≤ b.parent = covers_at (map place_of (take j log)) (touched b) b.parent i a.sequence (touched a) (place_acceptable ts log j b h at_j).covers got is in
+    let covers = (place_acceptable ts log j b h at_j).covers in
+    let bound : a.sequence ≤ b.parent = covers_at (map place_of (take j log)) (touched b) b.parent i a.sequence (touched a) covers got is in
     absurd (omega arith))
 
--- the rows that a record looks at are written by none that it does not conflict with
-pub not_written : (a b : Record) (q : RowId) → conflicts (touched a) (touched b) ≡ false → has_row (rows_of b) q ≡ true → has_row (writes a.changes) q ≡ false
-not_written a b q apart is =
-    let rows = or_parts (meets (writes a.changes) (writes b.changes) || meets (writes a.changes) b.refs || meets (writes b.changes) a.refs) (meets a.marks b.marks) apart in
-    let firsts = or_parts (meets (writes a.changes) (writes b.changes) || meets (writes a.changes) b.refs) (meets (writes b.changes) a.refs) rows.0 in
-    let parts = or_parts (meets (writes a.changes) (writes b.changes)) (meets (writes a.changes) b.refs) firsts.0 in
-    let among : (has_row (writes b.changes) q || has_row b.refs q) ≡ true = sym (list_any-append (same_row q) (writes b.changes) b.refs) ∙ is in
-    elim (cases_Bool (has_row (writes b.changes) q)) [
-      | inl written ↦ not_in_first (writes a.changes) (writes b.changes) q parts.0 written
-      | inr other ↦ not_in_first (writes a.changes) b.refs q parts.1 (ap (λ w. w || has_row b.refs q) (sym other) ∙ among)
-    ]
-
--- and the marks that it states are stated by none of these
-pub not_stated : (a b : Record) (mark : Mark) → conflicts (touched a) (touched b) ≡ false → has_row b.marks mark ≡ true → has_row a.marks mark ≡ false
+-- the marks that a record states are stated by none that it does not conflict with
+not_stated : (a b : Record) (mark : Mark) → conflicts (touched a) (touched b) ≡ false → has_row b.marks mark ≡ true →
+    has_row a.marks mark ≡ false
 not_stated a b mark apart is =
-    let parts = or_parts (meets (writes a.changes) (writes b.changes) || meets (writes a.changes) b.refs || meets (writes b.changes) a.refs) (meets a.marks b.marks) apart in
-    not_in_first a.marks b.marks mark parts.1 is
+    false_from_ne_true (has_row a.marks mark) (λ states. absurd (true≢false (sym (conflict_by_mark a b mark is states) ∙ apart)))
 
 -- what holds of each of a part of a list, by its place, holds of all of the part
-all_between : {X : Type 0} (P : X → Type 0) (xs : List X) (c n : ℕ) → ((i : ℕ) (x : X) → c ≤ i → i < n → slice_get xs i ≡ Some x → P x) → AllByRecursion P (drop c (take n xs))
+all_between : {X : Type 0} (P : X → Type 0) (xs : List X) (c n : ℕ) → ((i : ℕ) (x : X) → c ≤ i → i < n → slice_get xs i ≡ Some x → P x) →
+    AllByRecursion P (drop c (take n xs))
 all_between P [] zero zero each = tt
 all_between P [] zero (suc n) each = tt
 all_between P [] (suc c) zero each = tt
 all_between P [] (suc c) (suc n) each = tt
 all_between P (x ∷ xs) zero zero each = tt
-all_between P (x ∷ xs) zero (suc n) each = (each zero x (omega arith) (omega arith) refl, all_between P xs zero n (λ i y low high got. each (suc i) y (omega arith) (omega arith) got))
+all_between P (x ∷ xs) zero (suc n) each =
+    let rest = all_between P xs zero n (λ i y low high got. each (suc i) y (omega arith) (omega arith) got) in
+    (each zero x (omega arith) (omega arith) refl, rest)
 all_between P (x ∷ xs) (suc c) zero each = tt
 all_between P (x ∷ xs) (suc c) (suc n) each = all_between P xs c n (λ i y low high got. each (suc i) y (omega arith) (omega arith) got)
 
 -- ---- what the accepted records leave
 
--- so the rows that it looks at are the same in each database from the committed one up to its own place
-pub rows_stay : (r : Replica) (j d : ℕ) (rec : Record) (a b : Database) → AreAcceptable r.tables r.accepted → slice_get r.accepted j ≡ Some rec → rec.parent ≤ r.committed → r.committed + d ≤ j → working_rows r ≡ Some a → rows_at r (r.committed + d) ≡ Some b → AgreeOn (rows_of rec) a b
-rows_stay r j zero rec a b h got parent within is_a is_b q looks =
-    let same : Some a ≡ Some b = sym is_a ∙ ap (rows_at r) (sym (add-zero r.committed)) ∙ is_b in
+-- so the rows that it looks at are the same in each database from the k-th on up to its own place, where its parent is at most k
+pub rows_stay : (r : Replica) (k j d : ℕ) (rec : Record) (a b : Database) → AreAcceptable r.tables r.accepted →
+    slice_get r.accepted j ≡ Some rec → rec.parent ≤ k → k + d ≤ j → rows_at r k ≡ Some a → rows_at r (k + d) ≡ Some b →
+    AgreeOn (rows_of rec) a b
+rows_stay r k j zero rec a b h got parent within is_a is_b q looks =
+    let same : Some a ≡ Some b = sym is_a ∙ ap (rows_at r) (sym (add-zero k)) ∙ is_b in
     ap (λ (db : Database). get db q) (same_Some a b same)
-rows_stay r j (suc d) rec a b h got parent within is_a is_b q looks =
-    let n = r.committed + d in
+rows_stay r k j (suc d) rec a b h got parent within is_a is_b q looks =
+    let n = k + d in
     let lt : j < length r.accepted = slice_get_within r.accepted j rec got in
-    let place : r.committed + suc d ≡ n + 1 = omega arith in
+    let place : k + suc d ≡ n + 1 = omega arith in
     let before = get_or r.accepted n rec in
     let at : slice_get r.accepted n ≡ Some before = slice_get-get_or r.accepted n rec (omega arith) in
-    let apart : conflicts (touched before) (touched rec) ≡ false = no_conflict r.tables r.accepted n j before rec h at got (omega arith) (omega arith) in
+    let apart = no_conflict r.tables r.accepted n j before rec h at got (omega arith) (omega arith) in
     let leaves : option_and_then (effect r.tables before.changes) (rows_at r n) ≡ Some b =
     sym (after-next r.tables (loaded r.base) r.accepted n before at) ∙ ap (rows_at r) (sym place) ∙ is_b in
     option_and_then_some (effect r.tables before.changes) (rows_at r n) b leaves
     (λ mid one last.
-    rows_stay r j d rec a mid h got parent (omega arith) is_a one q looks
+    rows_stay r k j d rec a mid h got parent (omega arith) is_a one q looks
     ∙ sym (changes_only_writes r.tables before.changes mid b q last (not_written before rec q apart looks)))
 
--- the records behind the committed ones lead from the working rows to those at a later place
-pub leads : (r : Replica) (n : ℕ) (a b : Database) → r.committed ≤ n → working_rows r ≡ Some a → rows_at r n ≡ Some b → after r.tables a (drop r.committed (take n r.accepted)) ≡ Some b
-leads r n a b behind is_a is_b =
-    let front = take r.committed r.accepted in
-    let part = drop r.committed (take n r.accepted) in
+-- the records behind the first k lead from the database after these to those at a later place
+pub leads : (r : Replica) (k n : ℕ) (a b : Database) → k ≤ n → rows_at r k ≡ Some a → rows_at r n ≡ Some b →
+    after r.tables a (drop k (take n r.accepted)) ≡ Some b
+leads r k n a b behind is_a is_b =
+    let front = take k r.accepted in
+    let part = drop k (take n r.accepted) in
     let whole : front ++ part ≡ take n r.accepted =
-    ap (λ l. l ++ part) (sym (take-take r.committed n r.accepted behind)) ∙ take-append-drop r.committed (take n r.accepted) in
+    ap (λ l. l ++ part) (sym (take-take k n r.accepted behind)) ∙ take-append-drop k (take n r.accepted) in
     ap (option_and_then (λ db. after r.tables db part)) (sym is_a)
     ∙ sym (after-append r.tables (loaded r.base) front part)
     ∙ ap (after r.tables (loaded r.base)) whole ∙ is_b
 
 -- no two rows of a table have one value in its unique column, wherever the accepted records lead
-pub apart_at : (r : Replica) (n : ℕ) (db : Database) → NoValueTwice r.tables (loaded r.base) → rows_at r n ≡ Some db → NoValueTwice r.tables db
+pub apart_at : (r : Replica) (n : ℕ) (db : Database) → NoValueTwice r.tables (loaded r.base) → rows_at r n ≡ Some db →
+    NoValueTwice r.tables db
 apart_at r n db apart is = apart_after r.tables (loaded r.base) db (take n r.accepted) apart is
 
 -- so the holders of its marks are the same there too, where the records that lead there state their true marks
-pub holders_stay : (r : Replica) (j n : ℕ) (rec : Record) (a b : Database) → AreAcceptable r.tables r.accepted → NoValueTwice r.tables (loaded r.base) → slice_get r.accepted j ≡ Some rec → rec.parent ≤ r.committed → r.committed ≤ n → n ≤ j → working_rows r ≡ Some a → rows_at r n ≡ Some b → StateMarksUpTo r n →
+pub holders_stay : (r : Replica) (k j n : ℕ) (rec : Record) (a b : Database) → AreAcceptable r.tables r.accepted →
+    NoValueTwice r.tables (loaded r.base) → slice_get r.accepted j ≡ Some rec → rec.parent ≤ k → k ≤ n → n ≤ j → rows_at r k ≡ Some a →
+    rows_at r n ≡ Some b → StateMarks r.tables a (drop k (take n r.accepted)) →
     (mark : Mark) → has_row rec.marks mark ≡ true → holder_of r.tables a mark ≡ holder_of r.tables b mark
-holders_stay r j n rec a b h apart got parent behind within is_a is_b stated =
-    let part = drop r.committed (take n r.accepted) in
+holders_stay r k j n rec a b h apart got parent behind within is_a is_b stated =
+    let part = drop k (take n r.accepted) in
     let same : SameHolders r.tables rec.marks a b = λ mark has q.
-    sym (unmarked_stays r.tables a b part mark (leads r n a b behind is_a is_b) (stated a is_a)
-    (all_between (λ before. has_row before.marks mark ≡ false) r.accepted r.committed n (λ i before low high at.
+    sym (unmarked_stays r.tables a b part mark (leads r k n a b behind is_a is_b) stated
+    (all_between (λ before. has_row before.marks mark ≡ false) r.accepted k n (λ i before low high at.
     not_stated before rec mark (no_conflict r.tables r.accepted i j before rec h at got (omega arith) (omega arith)) has)) q) in
-    (holders_are_same r.tables rec.marks a b (apart_at r r.committed a apart is_a) (apart_at r n b apart is_b)).0 same
+    (holders_are_same r.tables rec.marks a b (apart_at r k a apart is_a) (apart_at r n b apart is_b)).0 same

@@ -1,32 +1,47 @@
 -- The jobs of the accepted records, over the working rows.
-use Rattle.std.proofs.Common.{◌≡◌, ◌∙◌, sym, ap, subst, refl, ℕ, zero, suc, ◌+◌, ◌-◌, ◌≤◌, List, [], ◌∷◌, ◌++◌, length, take, drop, Option, Some, None, is_some, arith, slice_get}
+use Rattle.std.proofs.Common.{◌≡◌, ◌∙◌, sym, ap, subst, refl, ℕ, suc, ◌+◌, ◌-◌, ◌≤◌, List, [], ◌∷◌, ◌++◌, length, take, drop, Option, Some, None, is_some, arith, slice_get}
 use Rattle.std.specs.Option.{option_and_then, option_map}
 use Rattle.std.proofs.lemmas.Option.{none-some, same_Some, option_and_then_some}
-use Rattle.std.proofs.lemmas.List.{take-append-le, take-take, take-append-drop}
+use Rattle.std.proofs.lemmas.List.{drop-append-le}
+use Rattle.schema.specs.declared.Table.{Table}
+use Rattle.schema.specs.Rows.{SameRows}
 use Rattle.schema.proofs.Lists.{get_front, get_within}
-use Rattle.rows.specs.Database.{Database, NoValueTwice}
-use Rattle.rows.specs.Frame.{AgreeOn}
-use Rattle.rows.specs.Holders.{holders_in}
-use Rattle.store_trait.specs.Batch.{rows_in}
+use Rattle.rows.specs.Database.{Database, effect, writes, kin, marks, NoValueTwice}
+use Rattle.rows.proofs.Effect.{values_stay_apart}
+use Rattle.store_trait.specs.Batch.{Entry, IsRising, rows_in, put_batch}
 use Rattle.store_trait.specs.Operation.{loaded}
+use Rattle.store_trait.specs.declared.Op.TheVariants.{Commit}
+use Rattle.store_trait.proofs.Batches.{put_batch-writes, rows_in_rise}
 use Rattle.record_codec.specs.declared.records.Record.{Record}
-use Rattle.record_codec.specs.Log.{after, StateMarks, IsLegalLog}
-use Rattle.record_codec.proofs.Logs.{beginning_is_legal, legal_states_marks}
+use Rattle.record_codec.specs.Group.{AreNumbered}
+use Rattle.record_codec.specs.Log.{after}
+use Rattle.record_codec.proofs.Numbered.{numbered-append}
 use Rattle.executor.specs.declared.Job.{Job}
-use Rattle.executor.specs.Job.{rows_of, Agrees}
-use Rattle.executor.specs.Laws.{LooksAlike}
-use Rattle.executor.proofs.Handed.{same_rows_in, same_handed_over, handed_agrees}
-use Rattle.relay.specs.Relay.{AreAcceptable}
+use Rattle.executor.specs.declared.Outcome.TheVariants.{Output}
+use Rattle.executor.specs.Job.{Finished, IsResult, Agrees}
+use Rattle.executor.specs.Laws.{IsGood, LeavesThere, LooksAlike}
+use Rattle.executor.proofs.Handed.{same_handed_over, handed_agrees}
+use Rattle.executor.proofs.Elsewhere.{output_is_good, output_is_there}
 use Rattle.relay.proofs.Stated.{acceptable_states_given}
-use Rattle.replica_core.specs.Replica.{Replica, rows_at, working_rows, job_over, job_of}
-use Rattle.replica_core.specs.Sound.{IsSound, IsUnderWay, AreEligible, HoldAlong, HoldersAlong}
-use Rattle.replica_core.specs.Calls.{with_accepted, committed_next}
-use Rattle.replica_core.specs.Laws.{JobIsOfItsRecord, EachHasJob, JobAgrees, LegalStatesUpTo, JobStays, JobStaysBehind, OthersLeaveJobs}
-use Rattle.replica_core.proofs.Apart.{place_acceptable, rows_stay, apart_at, holders_stay}
+use Rattle.scheduler.specs.Gnos.{has_gno}
+use Rattle.scheduler.proofs.Gnos.{low_is_low, low_rises}
+use Rattle.gapped.specs.Gapped.{AreCommits}
+use Rattle.gapped.specs.Laws.{Waits, CommitsOne}
+use Rattle.gapped.proofs.Choosing.{number_at, longer_log, records_at_pushed, records_at_longer, length_records_at, commits_longer}
+use Rattle.gapped.proofs.Waiters.{eligible_waits, waiting_looks_alike}
+use Rattle.gapped.proofs.Committing.{commit_leaves}
+use Rattle.replica_core.specs.Replica.{Replica, low_water, working_rows, ran, commits_from, job_over, job_of, waiting}
+use Rattle.replica_core.specs.Sound.{IsUnderWay, AreEligible}
+use Rattle.replica_core.specs.Calls.{with_accepted, with_commit}
+use Rattle.replica_core.specs.Laws.{JobIsOfItsRecord, EachHasJob, JobAgreesNow, JobStays, JobStaysBehind, OthersLeaveJobs}
+use Rattle.replica_core.proofs.Commits.{one_commit_more, one_commit_each}
+use Rattle.replica_core.proofs.Showing.{Stands, sound_stands, numbered, rows_of_ran, rows_apart, commits_within}
+use Rattle.replica_core.proofs.Apart.{split, place_acceptable}
 
 -- ---- the job of a record
 
-pub job_at : (r : Replica) (gno : ℕ) (rec : Record) (rows : Database) → slice_get r.accepted (gno - 1) ≡ Some rec → working_rows r ≡ Some rows → job_of r gno ≡ Some (job_over r.tables gno rec rows)
+pub job_at : (r : Replica) (gno : ℕ) (rec : Record) (rows : Database) → slice_get r.accepted (gno - 1) ≡ Some rec →
+    working_rows r ≡ Some rows → job_of r gno ≡ Some (job_over r.tables gno rec rows)
 job_at r gno rec rows got is =
     λ i. option_and_then (λ (x : Record). option_map (job_over r.tables gno x) (is i)) (got i)
 
@@ -62,87 +77,228 @@ each_has_job r gno sound low high =
     let got = get_within r.accepted (gno - 1) (omega arith) in
     ap is_some (job_at r gno got.0 sound.rows got.1 sound.rows_are)
 
--- ---- the rows of a job are those of each database up to its record's place
+-- ---- records under way
 
-pub hold_along : (r : Replica) → AreAcceptable r.tables r.accepted → AreEligible r → HoldAlong r
-hold_along r acceptable eligible gno n job db under low high is rows_are =
-    let parts = job_parts r gno job is in
-    let behind = n - r.committed in
-    let place : r.committed + behind ≡ n = omega arith in
-    let agree : AgreeOn (rows_of parts.rec) parts.rows db =
-    rows_stay r (gno - 1) behind parts.rec parts.rows db acceptable parts.got (eligible gno parts.rec under parts.got) (omega arith) parts.rows_are (ap (rows_at r) place ∙ rows_are) in
-    ap (λ (j : Job). j.input) parts.job_is ∙ same_rows_in (rows_of parts.rec) parts.rows db agree
-    ∙ ap (λ (j : Job). rows_in (rows_of j.rec) db) (sym parts.job_is)
+-- the record at a number has it
+number_there : (r : Replica) (gno : ℕ) (rec : Record) → Stands r → 1 ≤ gno → slice_get r.accepted (gno - 1) ≡ Some rec → rec.gno ≡ gno
+number_there r gno rec h low got =
+    let there : rec.gno ≡ gno - 1 + 1 = number_at r.accepted (gno - 1) rec (numbered r h) got in
+    omega arith
 
--- and who has its marks, where the records that lead there state their true marks
-pub holders_along : (r : Replica) → AreAcceptable r.tables r.accepted → NoValueTwice r.tables (loaded r.base) → AreEligible r → HoldersAlong r
-holders_along r acceptable apart eligible gno n job db under low high is rows_are stated =
+-- each of them waits: it is not committed, and each earlier record that conflicts with it is
+pub waits_of : (r : Replica) (gno : ℕ) (rec : Record) → Stands r → IsUnderWay r gno → slice_get r.accepted (gno - 1) ≡ Some rec →
+    Waits r.accepted r.commits rec
+waits_of r gno rec h under got =
+    let parts = split r.accepted (gno - 1) rec got in
+    let parent = (h.eligible gno rec under.0 under.1 got).parent in
+    let front = take (gno - 1) r.accepted in
+    let rest = drop (suc (gno - 1)) r.accepted in
+    record {
+      front = front;
+      rest = rest;
+      split = parts;
+      new = ap (has_gno r.commits) (number_there r gno rec h under.0 got) ∙ under.2;
+      chosen_ = eligible_waits r.tables r.accepted front rest rec r.commits (low_water r) h.acceptable parts parent (low_is_low r.commits);
+    }
+
+-- its job may be of the working rows
+pub job_agrees_of : (r : Replica) (gno : ℕ) (job : Job) (rows : Database) → Stands r → job_of r gno ≡ Some job →
+    working_rows r ≡ Some rows → Agrees job rows
+job_agrees_of r gno job rows h is rows_are =
     let parts = job_parts r gno job is in
-    let behind = n - r.committed in
-    let place : r.committed + behind ≡ n = omega arith in
-    let parent = eligible gno parts.rec under parts.got in
-    let alike : LooksAlike r.tables parts.rec parts.rows db = record {
-      rows = rows_stay r (gno - 1) behind parts.rec parts.rows db acceptable parts.got parent (omega arith) parts.rows_are (ap (rows_at r) place ∙ rows_are);
-      holders = holders_stay r (gno - 1) n parts.rec parts.rows db acceptable apart parts.got parent low (omega arith) parts.rows_are rows_are stated;
-    } in
-    ap (λ (j : Job). j.holders) parts.job_is ∙ (same_handed_over r.tables parts.rec parts.rows db alike).holders
-    ∙ ap (λ (j : Job). holders_in r.tables j.rec.marks db) (sym parts.job_is)
+    let same : parts.rows ≡ rows = same_Some parts.rows rows (sym parts.rows_are ∙ rows_are) in
+    let here = place_acceptable r.tables r.accepted (gno - 1) parts.rec h.acceptable parts.got in
+    let gives = acceptable_states_given r.tables (take (gno - 1) r.accepted) parts.rec here in
+    let apart = rows_apart r parts.rows h parts.rows_are in
+    let its = handed_agrees (job_over r.tables gno parts.rec parts.rows) parts.rows gives apart refl refl in
+    subst (λ (x : Job × Database). Agrees x.0 x.1) (λ i. (sym parts.job_is i, same i)) its
+
+pub job_agrees_now : JobAgreesNow
+job_agrees_now r gno job rows sound under is rows_are = job_agrees_of r gno job rows (sound_stands r sound) is rows_are
+
+-- ---- one more commit
+
+-- a record under way that is good over the working rows is one more commit, and these are then what it leaves
+record Leaves (r : Replica) (gno : ℕ) (leaves : Database) : Type 0 where
+  commits : AreCommits r.tables (loaded r.base) r.accepted (r.commits ++ gno ∷ [])
+  rows_are : working_rows (with_commit r gno) ≡ Some leaves
+
+leaves_of : (r : Replica) (gno : ℕ) (rec : Record) (rows : Database) → Stands r → IsUnderWay r gno →
+    slice_get r.accepted (gno - 1) ≡ Some rec → working_rows r ≡ Some rows → (good : IsGood r.tables rec rows) → Leaves r gno good.leaves
+leaves_of r gno rec rows h under got rows_are good =
+    let output = (output_is_good r.tables rec rows).1 good in
+    let one : CommitsOne r.tables (loaded r.base) r.accepted r.commits rec rows output.0 =
+    commit_leaves r.tables (loaded r.base) r.accepted r.commits rec rows output.0 h.apart (numbered r h) h.commits
+    (waits_of r gno rec h under got) rows_are output.1 in
+    let same : one.good.leaves ≡ good.leaves = same_Some one.good.leaves good.leaves (sym one.good.applies ∙ good.applies) in
+    let number = number_there r gno rec h under.0 got in
+    record {
+      commits = subst (λ n. AreCommits r.tables (loaded r.base) r.accepted (r.commits ++ n ∷ [])) number one.are;
+      rows_are = ap (λ n. working_rows (with_commit r n)) (sym number) ∙ one.rows_are ∙ ap Some same;
+    }
+
+-- what it leaves looks alike to each other record under way, so the job of that one stays
+pub job_stays_of : (r : Replica) (gno other : ℕ) (rec : Record) (rows : Database) → Stands r → IsUnderWay r gno → IsUnderWay r other →
+    (gno ≡ other → ⊥) →
+    slice_get r.accepted (other - 1) ≡ Some rec → working_rows r ≡ Some rows → IsGood r.tables rec rows →
+    job_of (with_commit r other) gno ≡ job_of r gno
+job_stays_of r gno other rec rows h under under_other apart got rows_are good = by (slice_get r.accepted (gno - 1)) refl
+  where
+    by : (o : Option Record) → slice_get r.accepted (gno - 1) ≡ o → job_of (with_commit r other) gno ≡ job_of r gno
+    by None is =
+        ap (option_and_then (λ (x : Record). option_map (job_over r.tables gno x) (working_rows (with_commit r other)))) is
+        ∙ sym (ap (option_and_then (λ (x : Record). option_map (job_over r.tables gno x) (working_rows r))) is)
+    by (Some mine) is =
+        let number : rec.gno ≡ other = number_there r other rec h under_other.0 got in
+        let its : mine.gno ≡ gno = number_there r gno mine h under.0 is in
+        let alike : LooksAlike r.tables mine rows good.leaves =
+        waiting_looks_alike r.tables r.accepted r.commits rec mine rows (rows_apart r rows h rows_are) (numbered r h)
+        (waits_of r other rec h under_other got) (waits_of r gno mine h under is) (λ e. apart (sym its ∙ sym e ∙ number)) good in
+        let same = same_handed_over r.tables mine rows good.leaves alike in
+        let leaves = leaves_of r other rec rows h under_other got rows_are good in
+        job_at (with_commit r other) gno mine good.leaves is leaves.rows_are
+        ∙ (λ i. Some (record { gno = gno; rec = mine; input = sym same.input i; holders = sym same.holders i; schema = r.tables }))
+        ∙ sym (job_at r gno mine rows is rows_are)
 
 pub job_stays : JobStays
-job_stays r gno leaves sound under later applies stated =
-    let got = get_within r.accepted (gno - 1) (let all = sound.dispatched in omega arith) in
-    let now = job_at r gno got.0 sound.rows got.1 sound.rows_are in
-    let job = job_over r.tables gno got.0 sound.rows in
-    let rows : job.input ≡ rows_in (rows_of got.0) leaves = sound.jobs gno (r.committed + 1) job leaves under (omega arith) later now applies in
-    let holders : job.holders ≡ holders_in r.tables got.0.marks leaves = sound.holders gno (r.committed + 1) job leaves under (omega arith) later now applies stated in
-    job_at (committed_next r) gno got.0 leaves got.1 applies
-    ∙ (λ i. Some (record { gno = gno; rec = got.0; input = sym rows i; holders = sym holders i; schema = r.tables }))
-    ∙ sym now
+job_stays r gno other rec rows sound = job_stays_of r gno other rec rows (sound_stands r sound)
 
--- ---- a job may be of each of these databases
+-- The commit of a record under way, whose result is an output: it is one more, its batch puts the rows that the commits leave then,
+-- and it is the last of the operations; each other job under way stays, and each record dispatched stays eligible.
+pub record StepsOn (r : Replica) (gno : ℕ) (rows : Database) (left : List Entry) : Type 0 where
+  pub rec : Record
+  pub got : slice_get r.accepted (gno - 1) ≡ Some rec
+  pub good : IsGood r.tables rec rows
+  pub left_is : left ≡ rows_in (writes rec.changes) good.leaves
+  pub put : put_batch left rows ≡ good.leaves
+  pub commits : AreCommits r.tables (loaded r.base) r.accepted (r.commits ++ gno ∷ [])
+  pub rows_are : working_rows (with_commit r gno) ≡ Some (put_batch left rows)
+  pub rising : IsRising left
+  pub apart : NoValueTwice r.tables rows
+  pub apart_then : NoValueTwice r.tables (put_batch left rows)
+  pub ops : r.published ≤ length r.commits → waiting (with_commit r gno) ≡ waiting r ++ Commit gno left ∷ []
+  pub jobs : (other : ℕ) → IsUnderWay r other → (other ≡ gno → ⊥) → job_of (with_commit r gno) other ≡ job_of r other
+  pub eligible : AreEligible (with_commit r gno)
 
-pub job_agrees : JobAgrees
-job_agrees r gno n job db sound under low high is rows_are stated =
-    let parts = job_parts r gno job is in
-    let made = job_over r.tables gno parts.rec parts.rows in
-    let now : job_of r gno ≡ Some made = is ∙ ap Some parts.job_is in
-    let gives = acceptable_states_given r.tables (take (gno - 1) r.accepted) parts.rec (place_acceptable r.tables r.accepted (gno - 1) parts.rec sound.accepted parts.got) in
-    subst (λ (j : Job). Agrees j db) (sym parts.job_is)
-    (handed_agrees made db gives (apart_at r n db sound.apart rows_are)
-    (sound.jobs gno n made db under low high now rows_are)
-    (sound.holders gno n made db under low high now rows_are stated))
+-- more commits have no lower mark
+eligible_then : (r : Replica) (gno : ℕ) → AreEligible r → AreEligible (with_commit r gno)
+eligible_then r gno eligible number rec low high got =
+    let before = eligible number rec low high got in
+    let parent = before.parent in
+    let near = before.near in
+    let rises : low_water r ≤ low_water (with_commit r gno) = low_rises r.commits (gno ∷ []) in
+    record { parent = omega arith; near = omega arith }
 
-drop-took : {X : Type 0} (xs : List X) (n : ℕ) → drop n (take n xs) ≡ []
-drop-took [] zero = refl
-drop-took [] (suc n) = refl
-drop-took (x ∷ xs) zero = refl
-drop-took (x ∷ xs) (suc n) = drop-took xs n
+-- the operations that wait then
+waits_then : (r : Replica) (gno : ℕ) (rec : Record) (rows leaves : Database) → Stands r → 1 ≤ gno →
+    slice_get r.accepted (gno - 1) ≡ Some rec → working_rows r ≡ Some rows → effect r.tables rec.changes rows ≡ Some leaves →
+    r.published ≤ length r.commits → waiting (with_commit r gno) ≡ waiting r ++ Commit gno (rows_in (writes rec.changes) leaves) ∷ []
+waits_then r gno rec rows leaves h low got rows_are applies earlier =
+    let so_far = commits_from r.tables (loaded r.base) (ran r) in
+    let its = rows_in (writes rec.changes) leaves in
+    let are : after r.tables (loaded r.base) (ran r) ≡ Some rows = rows_of_ran r rows h rows_are in
+    let all : length so_far ≡ length r.commits =
+    one_commit_each r.tables (loaded r.base) (ran r) rows are ∙ length_records_at r.accepted r.commits (commits_within r h) in
+    let more : commits_from r.tables (loaded r.base) (ran (with_commit r gno)) ≡ so_far ++ Commit gno its ∷ [] =
+    ap (commits_from r.tables (loaded r.base)) (records_at_pushed r.accepted r.commits gno rec got)
+    ∙ one_commit_more r.tables (loaded r.base) (ran r) rec rows leaves are applies
+    ∙ ap (λ n. so_far ++ Commit n its ∷ []) (number_there r gno rec h low got) in
+    ap (drop r.published) more ∙ drop-append-le r.published so_far (Commit gno its ∷ []) (omega arith)
 
--- so it may be of the working rows
-pub job_agrees_now : (r : Replica) (gno : ℕ) (job : Job) (rows : Database) → IsSound r → IsUnderWay r gno → job_of r gno ≡ Some job → working_rows r ≡ Some rows → Agrees job rows
-job_agrees_now r gno job rows sound under is rows_are =
-    job_agrees r gno r.committed job rows sound under (omega arith) (omega (arith, under.0)) is rows_are
-    (λ db now. subst (StateMarks r.tables db) (sym (drop-took r.accepted r.committed)) tt)
+-- the record of a result that is an output is good over the working rows
+record GoodHere (r : Replica) (gno : ℕ) (rows : Database) (left : List Entry) : Type 0 where
+  rec : Record
+  got : slice_get r.accepted (gno - 1) ≡ Some rec
+  good : IsGood r.tables rec rows
+  left_is : left ≡ rows_in (writes rec.changes) good.leaves
 
--- the records of a legal log state their true marks, from each place of it on
-pub legal_states_up_to : LegalStatesUpTo
-legal_states_up_to r n legal behind rows is =
-    let front = take r.committed r.accepted in
-    let part = drop r.committed (take n r.accepted) in
-    let whole : front ++ part ≡ take n r.accepted =
-    ap (λ l. l ++ part) (sym (take-take r.committed n r.accepted behind)) ∙ take-append-drop r.committed (take n r.accepted) in
-    let beginning = beginning_is_legal r.tables (loaded r.base) (take n r.accepted) (drop n r.accepted)
-    (subst (IsLegalLog r.tables (loaded r.base)) (sym (take-append-drop n r.accepted)) legal) in
-    legal_states_marks r.tables (loaded r.base) rows front part (subst (IsLegalLog r.tables (loaded r.base)) (sym whole) beginning) is
+good_here : (r : Replica) (gno : ℕ) (result : Finished) (rows : Database) (left : List Entry) → Stands r → working_rows r ≡ Some rows →
+    job_of r gno ≡ Some result.job → IsResult result → result.outcome ≡ Output left → GoodHere r gno rows left
+good_here r gno result rows left h rows_are handed came output =
+    let parts = job_parts r gno result.job handed in
+    let agrees = job_agrees_of r gno result.job rows h handed rows_are in
+    let there : LeavesThere result.job.schema result.job.rec rows left = output_is_there result rows left came agrees output in
+    let tables : result.job.schema ≡ r.tables = ap (λ (j : Job). j.schema) parts.job_is in
+    let of : result.job.rec ≡ parts.rec = ap (λ (j : Job). j.rec) parts.job_is in
+    let both : (result.job.schema, result.job.rec) ≡ (r.tables, parts.rec) = λ i. (tables i, of i) in
+    record {
+      rec = parts.rec;
+      got = parts.got;
+      good = record {
+        leaves = there.after_;
+        applies = subst (λ (x : List Table × Record). effect x.0 x.1.changes rows ≡ Some there.after_) both there.applies;
+        refs = subst (λ (x : List Table × Record). SameRows x.1.refs (kin x.0 x.1.changes rows)) both there.refs;
+        marks = subst (λ (x : List Table × Record). SameRows x.1.marks (marks x.0 x.1.changes rows)) both there.marks;
+      };
+      left_is = there.rows ∙ ap (λ (x : Record). rows_in (writes x.changes) there.after_) of;
+    }
+
+pub commit_step : (r : Replica) (gno : ℕ) (result : Finished) (rows : Database) (left : List Entry) → Stands r → IsUnderWay r gno →
+    working_rows r ≡ Some rows →
+    job_of r gno ≡ Some result.job → IsResult result → result.outcome ≡ Output left → StepsOn r gno rows left
+commit_step r gno result rows left h under rows_are handed came output =
+    let here = good_here r gno result rows left h rows_are handed came output in
+    let rec = here.rec in
+    let leaves = here.good.leaves in
+    let put : put_batch left rows ≡ leaves =
+    ap (λ b. put_batch b rows) here.left_is ∙ put_batch-writes r.tables rec.changes rows leaves here.good.applies in
+    let apart = rows_apart r rows h rows_are in
+    let then = leaves_of r gno rec rows h under here.got rows_are here.good in
+    record {
+      rec = rec;
+      got = here.got;
+      good = here.good;
+      left_is = here.left_is;
+      put = put;
+      commits = then.commits;
+      rows_are = then.rows_are ∙ ap Some (sym put);
+      rising = subst IsRising (sym here.left_is) (rows_in_rise (writes rec.changes) leaves);
+      apart = apart;
+      apart_then = subst (NoValueTwice r.tables) (sym put) (values_stay_apart r.tables rec.changes rows leaves apart here.good.applies);
+      ops = λ earlier.
+          waits_then r gno rec rows leaves h under.0 here.got rows_are here.good.applies earlier
+          ∙ ap (λ b. waiting r ++ Commit gno b ∷ []) (sym here.left_is);
+      jobs = λ other its apart_from. job_stays_of r other gno rec rows h its under apart_from here.got rows_are here.good;
+      eligible = eligible_then r gno h.eligible;
+    }
+
+-- ---- one more record accepted
+
+-- what was committed, the rows, the operations and the jobs stay
+pub record AcceptsOn (r : Replica) (new : Record) : Type 0 where
+  pub commits : AreCommits r.tables (loaded r.base) (r.accepted ++ new ∷ []) r.commits
+  pub rows : working_rows (with_accepted r new) ≡ working_rows r
+  pub ran_ : ran (with_accepted r new) ≡ ran r
+  pub ops : waiting (with_accepted r new) ≡ waiting r
+  pub jobs : (gno : ℕ) → 1 ≤ gno → gno ≤ length r.accepted → job_of (with_accepted r new) gno ≡ job_of r gno
+  pub eligible : r.dispatched ≤ length r.accepted → AreEligible (with_accepted r new)
+
+pub accept_step : (r : Replica) (new : Record) → Stands r → new.gno ≡ length r.accepted + 1 → AcceptsOn r new
+accept_step r new h next =
+    let number : new.gno ≡ 1 + length r.accepted = omega arith in
+    let all : AreNumbered 1 (r.accepted ++ new ∷ []) = numbered-append 1 r.accepted (new ∷ []) (numbered r h) (number, tt) in
+    let within = commits_within r h in
+    let same : working_rows (with_accepted r new) ≡ working_rows r =
+    ap (after r.tables (loaded r.base)) (longer_log r.accepted (new ∷ []) r.commits all (λ gno is. (within gno is).1)) in
+    let same_ran : ran (with_accepted r new) ≡ ran r = records_at_longer r.accepted (new ∷ []) r.commits within in
+    let front : (gno : ℕ) → 1 ≤ gno → gno ≤ length r.accepted →
+    slice_get (r.accepted ++ new ∷ []) (gno - 1) ≡ slice_get r.accepted (gno - 1) =
+    λ gno low high. get_front r.accepted (new ∷ []) (gno - 1) (omega arith) in
+    record {
+      commits = commits_longer r.tables (loaded r.base) r.accepted (new ∷ []) r.commits all h.commits;
+      rows = same;
+      ran_ = same_ran;
+      ops = ap (λ l. drop r.published (commits_from r.tables (loaded r.base) l)) same_ran;
+      jobs = λ gno low high i. option_and_then (λ (x : Record). option_map (job_over r.tables gno x) (same i)) (front gno low high i);
+      eligible = λ within_all gno rec low high got.
+          let before = h.eligible gno rec low high (sym (front gno low (omega arith)) ∙ got) in
+          record { parent = before.parent; near = before.near };
+    }
 
 pub job_stays_behind : JobStaysBehind
-job_stays_behind r gno new sound low high =
-    let got = get_within r.accepted (gno - 1) (omega arith) in
-    let within : r.committed ≤ length r.accepted = (let all = sound.dispatched in omega arith) in
-    let same : rows_at (with_accepted r new) r.committed ≡ rows_at r r.committed =
-    ap (after r.tables (loaded r.base)) (take-append-le r.committed r.accepted (new ∷ []) within) in
-    job_at (with_accepted r new) gno got.0 sound.rows (get_front r.accepted (new ∷ []) (gno - 1) (omega arith) ∙ got.1) (same ∙ sound.rows_are)
-    ∙ sym (job_at r gno got.0 sound.rows got.1 sound.rows_are)
+job_stays_behind r gno new sound next low high = (accept_step r new (sound_stands r sound) next).jobs gno low high
+
+-- ---- nothing else changes a job
 
 pub others_leave_jobs : OthersLeaveJobs
 others_leave_jobs r gno = record {

@@ -1,383 +1,427 @@
 -- What a replica keeps, at each of its steps.
-use Rattle.std.proofs.Common.{◌≡◌, ◌∙◌, sym, ap, subst, refl, ℕ, zero, suc, ◌+◌, ◌-◌, ◌<◌, ◌≤◌, true, false, inl, inr, List, [], ◌∷◌, ◌++◌, length, take, drop, Option, Some, None, is_some, arith, slice_get, slice_set, get_or, length-drop, add-one}
+use Rattle.std.proofs.Common.{◌≡◌, ◌∙◌, sym, ap, subst, refl, true≢false, ℕ, ◌+◌, ◌-◌, ◌<◌, ◌≤◌, Bool, true, false, ◌&&◌, ◌||◌, nat_le, eqb, if◌then◌else◌, inl, inr, List, [], ◌∷◌, ◌++◌, map, length, drop, Option, Some, arith, slice_get}
+use Rattle.std.specs.List.{remove}
 use Rattle.std.specs.Map.{keys_of}
-use Rattle.std.specs.Option.{option_and_then, option_map}
-use Rattle.std.proofs.lemmas.Bool.{cases_lt, cases_eq}
-use Rattle.std.proofs.lemmas.Option.{none-some, same_Some, slice_get_within}
-use Rattle.std.proofs.lemmas.List.{map-append, take-append-le, length_push, length-map, length-set, map-set, drop-drop, drop-map, get_or-drop, get_or_append_left, get_or-set_same, get_or-set_other}
-use Rattle.std.proofs.Math.Seq.{get_or-append_seam}
-use Rattle.schema.proofs.Lists.{get_front}
+use Rattle.std.specs.Option.{option_map}
+use Rattle.std.proofs.lemmas.Bool.{cases_lt, and_parts, leb-true}
+use Rattle.std.proofs.lemmas.Bool.Decides.{nat_tests}
+use Rattle.std.proofs.lemmas.Option.{same_Some, slice_get_within}
+use Rattle.std.proofs.lemmas.List.{map-append, length_push, length-drop, drop-drop}
 use Rattle.schema.specs.declared.Table.{Table}
-use Rattle.schema.specs.Rows.{SameRows}
-use Rattle.rows.specs.Database.{Database, effect, writes, marks as marks_of, NoValueTwice}
-use Rattle.rows.proofs.Effect.{values_stay_apart}
-use Rattle.store_trait.specs.Batch.{Entry, IsRising, rows_in, put_batch}
+use Rattle.rows.specs.Database.{Database, NoValueTwice}
+use Rattle.store_trait.specs.Batch.{Entry, put_batch}
 use Rattle.store_trait.specs.Fits.{Fits}
 use Rattle.store_trait.specs.Operation.{loaded}
 use Rattle.store_trait.proofs.Values.{fits_apart}
-use Rattle.store_trait.proofs.Batches.{put_batch-writes, rows_in_rise}
 use Rattle.store_trait.specs.declared.Op.{Op}
 use Rattle.store_trait.specs.declared.Op.TheVariants.{Commit}
 use Rattle.record_codec.specs.declared.records.Record.{Record}
-use Rattle.record_codec.specs.Log.{after, StateMarks}
-use Rattle.record_codec.proofs.Logs.{state_marks_of_joined}
 use Rattle.executor.specs.declared.Job.{Job}
 use Rattle.executor.specs.Job.{Finished}
 use Rattle.executor.specs.declared.Outcome.TheVariants.{Output}
-use Rattle.executor.specs.Laws.{LeavesThere}
-use Rattle.executor.proofs.Elsewhere.{output_is_there}
 use Rattle.row_index.specs.Keys.{Keys, Indexes, marks_at, moved}
 use Rattle.row_index.proofs.Keys.{keys_follow}
 use Rattle.relay.specs.Relay.{AreAcceptable}
 use Rattle.relay.proofs.Acceptable.{empty_is_acceptable}
-use Rattle.scheduler.specs.CommittedSet.{CommittedSet, all_up_to}
-use Rattle.commit_order.specs.Turns.{Line, entered, with_result, turn, passed}
-use Rattle.replica_core.specs.Replica.{Replica, dispatched, rows_at, working_rows, job_of, commits_from}
-use Rattle.replica_core.specs.Sound.{IsSound, IsUnderWay, StateMarksUpTo}
-use Rattle.replica_core.specs.Calls.{new_over, with_accepted, dispatched_next, with_finished, stopped_at, committed_next, with_published}
-use Rattle.replica_core.specs.Core.{StandAtLowWater, IsLogKept, IsTaken, kept_of}
+use Rattle.scheduler.specs.Gnos.{has_gno, without, first_gnos, AreDistinct}
+use Rattle.scheduler.specs.Marks.{Marks, is_committed, none_committed}
+use Rattle.scheduler.proofs.Gnos.{has_gno_front, has_gno_behind, distinct_apart_behind, AreDistinct_behind, has_gno-without_same, has_gno_of_without, length-without, distinct_entered, has_gno_entered, distinct_moved_behind, has_gno_moved_behind, distinct_moved_front, has_gno_moved_front, first_gnos-next}
+use Rattle.scheduler.proofs.Marks.{none_is_committed, low_of_marks, marks_of_more}
+use Rattle.commit_order.specs.Turns.{Line, no_turns, entered, with_result, turn, passed}
+use Rattle.commit_order.proofs.Lines.{gnos_of, turn_has, turn_waits, turn_is_next, gnos-with_result, gnos-passed, all_with_result, all_passed}
+use Rattle.gapped.proofs.Choosing.{no_commits, commits_are_within, length_records_at}
+use Rattle.replica_core.specs.Replica.{Replica, low_water, ran, job_of, waiting, commits_from}
+use Rattle.replica_core.specs.Sound.{IsSound, IsUnderWay, IsEligible, ShowsGapped}
+use Rattle.replica_core.specs.Calls.{new_over, with_accepted, dispatched_next, with_finished, stopped_at, with_commit, with_published}
+use Rattle.replica_core.specs.Core.{IsTaken, IsLogKept, IsCounted, ArePartsOf, kept_of, place_in}
 use Rattle.replica_core.specs.declared.dispatching.HandedOut.{HandedOut}
-use Rattle.replica_core.proofs.Apart.{apart_at}
-use Rattle.replica_core.proofs.Commits.{take-got, after-next, length-committed, waiting-next}
-use Rattle.replica_core.proofs.Jobs.{hold_along, holders_along, job_parts, job_agrees_now, job_stays, job_stays_behind}
-
--- ---- lists
-
-slice_get-seam : {X : Type 0} (xs : List X) (y : X) (ys : List X) → slice_get (xs ++ y ∷ ys) (length xs) ≡ Some y
-slice_get-seam [] y ys = refl
-slice_get-seam (x ∷ xs) y ys = slice_get-seam xs y ys
-
-slice_get-behind : {X : Type 0} (xs : List X) (n : ℕ) → slice_get (drop 1 xs) n ≡ slice_get xs (n + 1)
-slice_get-behind [] n = refl
-slice_get-behind (x ∷ xs) n = ap (slice_get (x ∷ xs)) (sym (add-one n))
-
-drop-got : {X : Type 0} (xs : List X) (n : ℕ) (x : X) → slice_get xs n ≡ Some x → drop n (take (n + 1) xs) ≡ x ∷ []
-drop-got [] n x is = absurd (none-some x is)
-drop-got (y ∷ xs) zero x is = ap (λ z. z ∷ []) (same_Some y x is)
-drop-got (y ∷ xs) (suc n) x is = ap (λ k. drop (suc n) (take k (y ∷ xs))) (add-one (suc n)) ∙ ap (λ k. drop n (take k xs)) (sym (add-one n)) ∙ drop-got xs n x is
-
--- a place that is taken is one of the list
-pub taken_within : {X : Type 0} (xs : List (Option X)) (n : ℕ) (x : X) → get_or xs n None ≡ Some x → n < length xs
-taken_within [] n x is = absurd (none-some x is)
-taken_within (y ∷ xs) zero x is = omega arith
-taken_within (y ∷ xs) (suc n) x is = let rest = taken_within xs n x is in omega arith
-
--- behind the committed records the next stands alone up to itself
-next_states : (r : Replica) (rec : Record) (rows : Database) → slice_get r.accepted r.committed ≡ Some rec → working_rows r ≡ Some rows → SameRows rec.marks (marks_of r.tables rec.changes rows) → StateMarksUpTo r (r.committed + 1)
-next_states r rec rows got rows_are marks other is =
-    let same : rows ≡ other = same_Some rows other (sym rows_are ∙ is) in
-    subst (StateMarks r.tables other) (sym (drop-got r.accepted r.committed rec got))
-    (subst (λ (db : Database). StateMarks r.tables db (rec ∷ [])) same (marks, λ _ _. tt))
+use Rattle.replica_core.proofs.Commits.{one_commit_each}
+use Rattle.replica_core.proofs.Showing.{Stands, numbered_of, rows_of_ran, published_is_gapped}
+use Rattle.replica_core.proofs.InOrder.{in_order_of}
+use Rattle.replica_core.proofs.Jobs.{StepsOn, commit_step, AcceptsOn, accept_step}
+use Rattle.replica_core.proofs.Lists.{same_each, all_each, remove-map}
 
 -- a result that was taken stays one of its job
-of_same_job : {one other : Option Job} {result : Finished} → one ≡ other → IsTaken one result → IsTaken other result
+pub of_same_job : {one other : Option Job} {result : Finished} → one ≡ other → IsTaken one result → IsTaken other result
 of_same_job {result = result} same = subst (λ job. IsTaken job result) same
 
--- the next record may be dispatched: it is there, its parent is committed, and a worker is free
+-- the next record may be dispatched: it is there, its parent is committed, a worker is free, and its number is near the low-water mark
 pub record IsNext (r : Replica) (rec : Record) : Type 0 where
-  pub got : slice_get r.accepted (dispatched r) ≡ Some rec
-  pub parent : rec.parent ≤ r.committed
-  pub free : length r.under_way < r.workers
+  pub got : slice_get r.accepted r.dispatched ≡ Some rec
+  pub parent : rec.parent ≤ low_water r
+  pub free : r.dispatched - length r.commits < r.workers
+  pub near : r.dispatched + 1 ≤ low_water r + 4096
+
+-- ---- numbers of those that are dispatched
+
+past_all : (n : ℕ) → (nat_le 1 (n + 1) && nat_le (n + 1) n) ≡ false
+past_all n = grind (arith, nat_tests)
+
+up_to_next : (n gno : ℕ) → ((nat_le 1 gno && nat_le gno n) || eqb (n + 1) gno) ≡ (nat_le 1 gno && nat_le gno (n + 1))
+up_to_next n gno = grind (arith, nat_tests)
 
 -- ---- a replica that has accepted nothing
 
-pub kept_new : (ts : List Table) (source : List ℕ) (base : List Entry) (workers : ℕ) (rows : Database) (keys : Keys) → Fits ts rows → loaded base ≡ rows → (NoValueTwice ts (loaded base) → Indexes ts (loaded base) keys) → 1 ≤ workers → workers ≤ 64 → StandAtLowWater (new_over ts source base workers) (all_up_to 0) (record { first = 1; places = [] }) [] rows keys []
-kept_new ts source base workers rows keys fits loads indexed some few = record {
+pub kept_new : (ts : List Table) (source : List ℕ) (base : List Entry) (workers : ℕ) (preserve : Bool) (rows : Database) (keys : Keys) → Fits ts rows → loaded base ≡ rows → (NoValueTwice ts (loaded base) → Indexes ts (loaded base) keys) → 1 ≤ workers → workers ≤ 64 →
+    ArePartsOf (new_over ts source base workers preserve) none_committed (no_turns preserve) [] rows keys []
+kept_new ts source base workers preserve rows keys fits loads indexed some few = record {
   set_up = record { some = some; few = few };
   log = record {
     acceptable = empty_is_acceptable ts;
+    commits = no_commits ts (loaded base) [];
     rows_are = ap Some loads;
-    stated = tt;
     apart = apart;
     indexed = subst (λ (db : Database). Indexes ts db keys) loads (indexed apart);
     published = omega arith;
     ops_are = refl;
   };
-  set_is = refl;
-  dispatched = omega arith;
-  busy = omega arith;
-  eligible = λ gno rec under got. absurd (omega (arith, under.0, under.1));
-  first = refl;
-  places = refl;
-  count = refl;
-  kept = λ gno under. absurd (omega (arith, under.0, under.1));
-  results = λ gno result under is. absurd (omega (arith, under.0, under.1));
+  turned = record { preserve = refl; next = λ _. refl; out = refl; done = refl };
+  counted = record {
+    dispatched = omega arith;
+    counted = refl;
+    busy = omega arith;
+    distinct = tt;
+    each = λ gno. none_between gno;
+    marked = λ gno low. none_is_committed gno ∙ no_low gno low;
+    low = refl;
+    in_turn = λ _. refl;
+  };
+  eligible = λ gno rec low high got. absurd (omega arith);
+  kept = refl;
+  results = tt;
 }
   where
     apart : NoValueTwice ts (loaded base)
     apart = subst (NoValueTwice ts) (sym loads) (fits_apart ts rows fits)
 
-module _ (r : Replica) (set : CommittedSet) (line : Line) (handed : List HandedOut) (rows : Database) (keys : Keys) (ops : List Op) where
-  pub kept_sound : StandAtLowWater r set line handed rows keys ops → IsSound r
+    none_between : (gno : ℕ) → false ≡ (nat_le 1 gno && nat_le gno 0)
+    none_between gno = grind (arith, nat_tests)
+
+    no_low : (gno : ℕ) → 1 ≤ gno → nat_le gno 0 ≡ false
+    no_low gno low = grind (arith, nat_tests)
+
+module _ (r : Replica) (marks : Marks) (line : Line) (handed : List HandedOut) (rows : Database) (keys : Keys) (ops : List Op) where
+  pub stands : ArePartsOf r marks line handed rows keys ops → Stands r
+  stands h = record { acceptable = h.log.acceptable; commits = h.log.commits; apart = h.log.apart; eligible = h.eligible }
+
+  pub kept_sound : ArePartsOf r marks line handed rows keys ops → IsSound r
   kept_sound h = record {
     accepted = h.log.acceptable;
+    commits = h.log.commits;
+    distinct = h.counted.distinct;
+    each = h.counted.each;
     published = h.log.published;
-    dispatched = h.dispatched;
-    busy = h.busy;
+    dispatched = h.counted.dispatched;
+    counted = h.counted.counted;
+    busy = h.counted.busy;
     some = h.set_up.some;
     few = h.set_up.few;
     rows = rows;
     rows_are = h.log.rows_are;
-    eligible = h.eligible;
-    stated = h.log.stated;
     apart = h.log.apart;
-    jobs = hold_along r h.log.acceptable h.eligible;
-    holders = holders_along r h.log.acceptable h.log.apart h.eligible;
+    eligible = h.eligible;
+    in_order = λ preserve. in_order_of r (stands h) (h.counted.in_turn preserve);
   }
 
   -- as what it is seen as
-  pub sound_as_seen : (now : Replica) → StandAtLowWater r set line handed rows keys ops → r ≡ now → IsSound now
+  pub sound_as_seen : (now : Replica) → ArePartsOf r marks line handed rows keys ops → r ≡ now → IsSound now
   sound_as_seen now h is = subst IsSound is (kept_sound h)
 
-  pub length_places : StandAtLowWater r set line handed rows keys ops → length line.places ≡ length r.under_way
-  length_places h = sym (length-map line.places is_some) ∙ ap length (sym h.places)
+  -- ---- which records are where
+
+  -- each that is committed, out or finished was dispatched
+  dispatched_has : (gno : ℕ) → ArePartsOf r marks line handed rows keys ops → has_gno (r.commits ++ (r.out ++ r.finished)) gno ≡ true → (1 ≤ gno) × (gno ≤ r.dispatched)
+  dispatched_has gno h has =
+      let both = and_parts (nat_le 1 gno) (nat_le gno r.dispatched) (sym (h.counted.each gno) ∙ has) in
+      (leb-true 1 gno both.0, leb-true gno r.dispatched both.1)
+
+  -- and those that are out or finished are not committed
+  under_way : (gno : ℕ) → ArePartsOf r marks line handed rows keys ops → has_gno (r.out ++ r.finished) gno ≡ true → IsUnderWay r gno
+  under_way gno h has =
+      let within = dispatched_has gno h (has_gno_behind r.commits (r.out ++ r.finished) gno has) in
+      (within.0, within.1, distinct_apart_behind r.commits (r.out ++ r.finished) h.counted.distinct gno has)
+
+  pub out_under_way : (gno : ℕ) → ArePartsOf r marks line handed rows keys ops → has_gno r.out gno ≡ true → IsUnderWay r gno
+  out_under_way gno h has = under_way gno h (has_gno_front r.out r.finished gno has)
+
+  pub finished_under_way : (gno : ℕ) → ArePartsOf r marks line handed rows keys ops → has_gno r.finished gno ≡ true → IsUnderWay r gno
+  finished_under_way gno h has = under_way gno h (has_gno_behind r.out r.finished gno has)
+
+  -- the results that wait are of these
+  finished_has : (gno : ℕ) → ArePartsOf r marks line handed rows keys ops → has_gno (gnos_of line.done) gno ≡ true → has_gno r.finished gno ≡ true
+  finished_has gno h has = ap (λ (l : List ℕ). has_gno l gno) (sym h.turned.done) ∙ has
+
+  -- what is kept of the jobs is of those that are out, where these jobs stay
+  kept_stays : (now : Replica) → ArePartsOf r marks line handed rows keys ops → ((gno : ℕ) → has_gno r.out gno ≡ true → job_of now gno ≡ job_of r gno) →
+      map Some handed ≡ map (λ gno. option_map kept_of (job_of now gno)) r.out
+  kept_stays now h stays =
+      h.kept ∙ same_each (λ gno. option_map kept_of (job_of r gno)) (λ gno. option_map kept_of (job_of now gno)) r.out (λ gno has. ap (option_map kept_of) (sym (stays gno has)))
+
+  -- what is dispatched, out, finished, published or stopped changes nothing of the log that is kept, but for the operations
+  log_with : (published dispatched : ℕ) (out finished : List ℕ) (stopped : Option ℕ) (left : List Op) → ArePartsOf r marks line handed rows keys ops → published ≤ length r.commits →
+      left ≡ waiting (record r { published = published }) →
+      IsLogKept (record r { published = published; dispatched = dispatched; out = out; finished = finished; stopped = stopped }) rows keys left
+  log_with published dispatched out finished stopped left h few are = record {
+    acceptable = h.log.acceptable;
+    commits = h.log.commits;
+    rows_are = h.log.rows_are;
+    apart = h.log.apart;
+    indexed = h.log.indexed;
+    published = few;
+    ops_are = are;
+  }
+
+  -- nor of what was eligible
+  eligible_with : (published dispatched : ℕ) (out finished : List ℕ) (stopped : Option ℕ) (gno : ℕ) (rec : Record) → IsEligible r gno rec →
+      IsEligible (record r { published = published; dispatched = dispatched; out = out; finished = finished; stopped = stopped }) gno rec
+  eligible_with published dispatched out finished stopped gno rec is = record { parent = is.parent; near = is.near }
 
   -- ---- one more record accepted
 
-  pub kept_accepted : (new : Record) → StandAtLowWater r set line handed rows keys ops → AreAcceptable r.tables (r.accepted ++ new ∷ []) → StandAtLowWater (with_accepted r new) set line handed rows keys ops
+  pub kept_accepted : (new : Record) → ArePartsOf r marks line handed rows keys ops → AreAcceptable r.tables (r.accepted ++ new ∷ []) → ArePartsOf (with_accepted r new) marks line handed rows keys ops
   kept_accepted new h acceptable =
-      let all = h.dispatched in
-      let within : r.committed ≤ length r.accepted = omega arith in
-      let same : take r.committed (r.accepted ++ new ∷ []) ≡ take r.committed r.accepted = take-append-le r.committed r.accepted (new ∷ []) within in
+      let step : AcceptsOn r new = accept_step r new (stands h) (acceptable r.accepted new [] refl).gno in
       let stays : (gno : ℕ) → IsUnderWay r gno → job_of (with_accepted r new) gno ≡ job_of r gno = λ gno under.
-      job_stays_behind r gno new (kept_sound h) (omega arith) (omega arith) in
+      step.jobs gno under.0 (let high = under.1 in let all = h.counted.dispatched in omega arith) in
       record {
         set_up = h.set_up;
         log = record {
           acceptable = acceptable;
-          rows_are = ap (after r.tables (loaded r.base)) same ∙ h.log.rows_are;
-          stated = subst (StateMarks r.tables (loaded r.base)) (sym same) h.log.stated;
+          commits = step.commits;
+          rows_are = step.rows ∙ h.log.rows_are;
           apart = h.log.apart;
           indexed = h.log.indexed;
           published = h.log.published;
-          ops_are = h.log.ops_are ∙ ap (λ l. drop r.published (commits_from r.tables (loaded r.base) 1 l)) (sym same);
+          ops_are = h.log.ops_are ∙ sym step.ops;
         };
-        set_is = h.set_is;
-        dispatched = rw (length_push r.accepted new) (omega arith);
-        busy = h.busy;
-        eligible = λ gno rec under got. h.eligible gno rec under (sym (get_front r.accepted (new ∷ []) (gno - 1) (omega arith)) ∙ got);
-        first = h.first;
-        places = h.places;
-        count = h.count;
-        kept = λ gno under. h.kept gno under ∙ ap (option_map kept_of) (sym (stays gno under));
-        results = λ gno result under is. of_same_job (sym (stays gno under)) (h.results gno result under is);
+        turned = record { preserve = h.turned.preserve; next = h.turned.next; out = h.turned.out; done = h.turned.done };
+        counted = record {
+          dispatched = (let all = h.counted.dispatched in omega (arith, length_push r.accepted new));
+          counted = h.counted.counted;
+          busy = h.counted.busy;
+          distinct = h.counted.distinct;
+          each = h.counted.each;
+          marked = h.counted.marked;
+          low = h.counted.low;
+          in_turn = h.counted.in_turn;
+        };
+        eligible = step.eligible h.counted.dispatched;
+        kept = kept_stays (with_accepted r new) h (λ gno has. stays gno (out_under_way gno h has));
+        results =
+            all_each (λ result. IsTaken (job_of r result.job.gno) result) (λ result. IsTaken (job_of (with_accepted r new) result.job.gno) result) line.done
+            (λ result has is. of_same_job (sym (stays result.job.gno (finished_under_way result.job.gno h (finished_has result.job.gno h has)))) is) h.results;
       }
 
   -- ---- the next record dispatched
 
-  pub kept_dispatched : (rec : Record) (job : Job) → StandAtLowWater r set line handed rows keys ops → IsNext r rec → job_of r (dispatched r + 1) ≡ Some job → StandAtLowWater (dispatched_next r) set (entered line) (handed ++ kept_of job ∷ []) rows keys ops
+  pub kept_dispatched : (rec : Record) (job : Job) → ArePartsOf r marks line handed rows keys ops → IsNext r rec → job_of r (r.dispatched + 1) ≡ Some job →
+      ArePartsOf (dispatched_next r) marks (entered line (r.dispatched + 1)) (handed ++ kept_of job ∷ []) rows keys ops
   kept_dispatched rec job h next made =
-      let lengths = length_places h in
-      let free = next.free in
-      let within : dispatched r < length r.accepted = slice_get_within r.accepted (dispatched r) rec next.got in
-      let one_more : length (r.under_way ++ false ∷ []) ≡ length r.under_way + 1 = length_push r.under_way false in
+      let gno = r.dispatched + 1 in
+      let within : r.dispatched < length r.accepted = slice_get_within r.accepted r.dispatched rec next.got in
+      let counted = h.counted.counted in
+      let new : has_gno (r.commits ++ (r.out ++ r.finished)) gno ≡ false = h.counted.each gno ∙ past_all r.dispatched in
+      let as_before = λ (number : ℕ). option_map kept_of (job_of r number) in
       record {
         set_up = h.set_up;
-        log = h.log;
-        set_is = h.set_is;
-        dispatched = rw one_more (omega arith);
-        busy = rw one_more (omega arith);
-        eligible = λ gno rec' under got. elim (cases_lt (dispatched r) gno) [
-          | inl new ↦
-              let place : gno - 1 ≡ dispatched r = (let last = under.1 in omega (arith, one_more)) in
+        log = log_with r.published gno (r.out ++ gno ∷ []) r.finished r.stopped ops h h.log.published h.log.ops_are;
+        turned = record { preserve = h.turned.preserve; next = h.turned.next; out = ap (λ (l : List ℕ). l ++ gno ∷ []) h.turned.out; done = h.turned.done };
+        counted = record {
+          dispatched = omega arith;
+          counted = omega (arith, length_push r.out gno);
+          busy = (let free = next.free in omega (arith, length_push r.out gno));
+          distinct = distinct_entered r.commits r.out r.finished gno h.counted.distinct new;
+          each = λ other. has_gno_entered r.commits r.out r.finished gno other ∙ ap (λ (b : Bool). b || eqb gno other) (h.counted.each other) ∙ up_to_next r.dispatched other;
+          marked = h.counted.marked;
+          low = h.counted.low;
+          in_turn = h.counted.in_turn;
+        };
+        eligible = λ other rec' low high got. elim (cases_lt r.dispatched other) [
+          | inl last ↦
+              let place : other - 1 ≡ r.dispatched = omega arith in
               let same : rec ≡ rec' = same_Some rec rec' (sym next.got ∙ ap (slice_get r.accepted) (sym place) ∙ got) in
               let parent : rec.parent ≡ rec'.parent = ap (λ (x : Record). x.parent) same in
-              (let below = next.parent in omega arith)
-          | inr old ↦ h.eligible gno rec' (under.0, old) got
+              let below = next.parent in
+              let near = next.near in
+              record { parent = omega arith; near = omega arith }
+          | inr old ↦ eligible_with r.published gno (r.out ++ gno ∷ []) r.finished r.stopped other rec' (h.eligible other rec' low old got)
         ];
-        first = h.first;
-        places = ap (λ l. l ++ false ∷ []) h.places ∙ sym (map-append is_some line.places (None ∷ []));
-        count = length_push handed (kept_of job) ∙ ap (λ n. n + 1) h.count ∙ sym one_more;
-        kept = λ gno under. elim (cases_lt (dispatched r) gno) [
-          | inl new ↦
-              let number : gno ≡ dispatched r + 1 = (let last = under.1 in omega (arith, one_more)) in
-              let place : gno - r.committed - 1 ≡ length handed = (let count = h.count in omega arith) in
-              ap (slice_get (handed ++ kept_of job ∷ [])) place ∙ slice_get-seam handed (kept_of job) [] ∙ ap (option_map kept_of) (sym made ∙ ap (job_of r) (sym number))
-          | inr old ↦ get_front handed (kept_of job ∷ []) (gno - r.committed - 1) (let count = h.count in let low = under.0 in omega arith) ∙ h.kept gno (under.0, old)
-        ];
-        results = λ gno result under is. elim (cases_lt (dispatched r) gno) [
-          | inl new ↦
-              let place : gno - line.first ≡ length line.places = (let first = h.first in let last = under.1 in omega (arith, one_more)) in
-              absurd (none-some result (sym (get_or-append_seam line.places None [] None) ∙ ap (λ n. get_or (line.places ++ None ∷ []) n None) (sym place) ∙ is))
-          | inr old ↦ h.results gno result (under.0, old) (sym (get_or_append_left line.places (None ∷ []) None (gno - line.first) (let first = h.first in let low = under.0 in omega arith)) ∙ is)
-        ];
+        kept =
+            map-append Some handed (kept_of job ∷ [])
+            ∙ (λ i. h.kept i ++ option_map kept_of (sym made i) ∷ [])
+            ∙ sym (map-append as_before r.out (gno ∷ []));
+        results = h.results;
       }
 
   -- ---- a result taken
 
-  pub kept_finished : (gno : ℕ) (result : Finished) → StandAtLowWater r set line handed rows keys ops → IsUnderWay r gno → result.job.gno ≡ gno → IsTaken (job_of r gno) result → StandAtLowWater (with_finished r gno) set (with_result line result) handed rows keys ops
-  kept_finished gno result h under number taken =
-      let lengths = length_places h in
-      let first = h.first in
-      let low = under.0 in
-      let high = under.1 in
-      let here : result.job.gno - line.first ≡ gno - r.committed - 1 = omega arith in
-      let as_many : length (slice_set r.under_way (gno - r.committed - 1) true) ≡ length r.under_way = length-set r.under_way (gno - r.committed - 1) true in
+  pub kept_finished : (result : Finished) (place : ℕ) → ArePartsOf r marks line handed rows keys ops → has_gno r.out result.job.gno ≡ true → place ≡ place_in r.out result.job.gno →
+      IsTaken (job_of r result.job.gno) result → ArePartsOf (with_finished r result.job.gno) marks (with_result line result) (remove handed place) rows keys ops
+  kept_finished result place h out at taken =
+      let gno = result.job.gno in
+      let counted = h.counted.counted in
+      let busy = h.counted.busy in
+      let fewer = length-without gno r.out out in
+      let more = length_push r.finished gno in
+      let as_before = λ (number : ℕ). option_map kept_of (job_of r number) in
       record {
         set_up = h.set_up;
-        log = h.log;
-        set_is = h.set_is;
-        dispatched = rw as_many h.dispatched;
-        busy = rw as_many h.busy;
-        eligible = λ g rec u got. h.eligible g rec (u.0, (let last = u.1 in omega (arith, as_many))) got;
-        first = h.first;
-        places =
-            (λ i. slice_set (h.places i) (sym here i) true)
-            ∙ sym (map-set is_some line.places (result.job.gno - line.first) (Some result));
-        count = h.count ∙ sym as_many;
-        kept = λ g u. h.kept g (u.0, (let last = u.1 in omega (arith, as_many)));
-        results = λ g other u is.
-            let u_old : IsUnderWay r g = (u.0, (let last = u.1 in omega (arith, as_many))) in
-            elim (cases_eq g gno) [
-              | inl same ↦
-                  let place : g - line.first ≡ result.job.gno - line.first = omega arith in
-                  let within : result.job.gno - line.first < length line.places = omega arith in
-                  let got : Some result ≡ Some other =
-                  sym (get_or-set_same line.places (result.job.gno - line.first) (Some result) None within)
-                  ∙ ap (λ n. get_or (slice_set line.places (result.job.gno - line.first) (Some result)) n None) (sym place) ∙ is in
-                  subst (λ (f : Finished). IsTaken (job_of r g) f) (same_Some result other got) (of_same_job (ap (job_of r) (sym same)) taken)
-              | inr differs ↦
-                  let at_least = u.0 in
-                  h.results g other u_old
-                  (sym (get_or-set_other line.places (result.job.gno - line.first) (g - line.first) (Some result) None (λ e. differs (omega arith))) ∙ is)
-            ];
+        log = log_with r.published r.dispatched (without gno r.out) (r.finished ++ gno ∷ []) r.stopped ops h h.log.published h.log.ops_are;
+        turned = record {
+          preserve = h.turned.preserve;
+          next = h.turned.next;
+          out = ap (without gno) h.turned.out;
+          done = gnos-with_result line result ∙ ap (λ (l : List ℕ). l ++ gno ∷ []) h.turned.done;
+        };
+        counted = record {
+          dispatched = h.counted.dispatched;
+          counted = omega arith;
+          busy = omega arith;
+          distinct = distinct_moved_behind r.commits r.out r.finished gno h.counted.distinct out;
+          each = λ other. has_gno_moved_behind r.commits r.out r.finished gno other out ∙ h.counted.each other;
+          marked = h.counted.marked;
+          low = h.counted.low;
+          in_turn = h.counted.in_turn;
+        };
+        eligible = λ other rec low high got. eligible_with r.published r.dispatched (without gno r.out) (r.finished ++ gno ∷ []) r.stopped other rec (h.eligible other rec low high got);
+        kept =
+            sym (remove-map Some place handed)
+            ∙ (λ i. remove (h.kept i) (at i))
+            ∙ remove-map as_before (place_in r.out gno) r.out;
+        results = all_with_result (λ other. IsTaken (job_of r other.job.gno) other) line result h.results taken;
       }
 
   -- ---- a stop, or more published
 
-  kept_beside : (published : ℕ) (stopped : Option ℕ) (left : List Op) → IsLogKept r.tables r.base r.accepted r.committed published rows keys left → StandAtLowWater r set line handed rows keys ops → StandAtLowWater (record r { published = published; stopped = stopped }) set line handed rows keys left
+  kept_beside : (published : ℕ) (stopped : Option ℕ) (left : List Op) → IsLogKept (record r { published = published; stopped = stopped }) rows keys left → ArePartsOf r marks line handed rows keys ops →
+      ArePartsOf (record r { published = published; stopped = stopped }) marks line handed rows keys left
   kept_beside published stopped left log h = record {
     set_up = h.set_up;
     log = log;
-    set_is = h.set_is;
-    dispatched = h.dispatched;
-    busy = h.busy;
-    eligible = h.eligible;
-    first = h.first;
-    places = h.places;
-    count = h.count;
+    turned = record { preserve = h.turned.preserve; next = h.turned.next; out = h.turned.out; done = h.turned.done };
+    counted = record {
+      dispatched = h.counted.dispatched;
+      counted = h.counted.counted;
+      busy = h.counted.busy;
+      distinct = h.counted.distinct;
+      each = h.counted.each;
+      marked = h.counted.marked;
+      low = h.counted.low;
+      in_turn = h.counted.in_turn;
+    };
+    eligible = λ gno rec low high got. eligible_with published r.dispatched r.out r.finished stopped gno rec (h.eligible gno rec low high got);
     kept = h.kept;
     results = h.results;
   }
 
-  pub kept_stopped : (gno : ℕ) → StandAtLowWater r set line handed rows keys ops → StandAtLowWater (stopped_at r gno) set line handed rows keys ops
-  kept_stopped gno h = kept_beside r.published (Some gno) ops h.log h
+  pub kept_stopped : (gno : ℕ) → ArePartsOf r marks line handed rows keys ops → ArePartsOf (stopped_at r gno) marks line handed rows keys ops
+  kept_stopped gno h = kept_beside r.published (Some gno) ops (log_with r.published r.dispatched r.out r.finished (Some gno) ops h h.log.published h.log.ops_are) h
 
-  pub length_ops : StandAtLowWater r set line handed rows keys ops → length ops ≡ r.committed - r.published
+  -- an operation waits for each commit that is not published
+  pub length_ops : ArePartsOf r marks line handed rows keys ops → length ops ≡ length r.commits - r.published
   length_ops h =
-      let all = h.dispatched in
-      let within : r.committed ≤ length r.accepted = omega arith in
-      ap length h.log.ops_are ∙ length-drop r.published (commits_from r.tables (loaded r.base) 1 (take r.committed r.accepted))
-      ∙ ap (λ n. n - r.published) (length-committed r.tables (loaded r.base) r.accepted r.committed rows within h.log.rows_are)
+      let all = commits_from r.tables (loaded r.base) (ran r) in
+      let within = commits_are_within r.tables (loaded r.base) r.accepted r.commits (numbered_of r.tables r.accepted h.log.acceptable) h.log.commits in
+      ap length h.log.ops_are ∙ length-drop r.published all
+      ∙ ap (λ n. n - r.published) (one_commit_each r.tables (loaded r.base) (ran r) rows (rows_of_ran r rows (stands h) h.log.rows_are) ∙ length_records_at r.accepted r.commits within)
 
-  pub kept_published : (upto : ℕ) → StandAtLowWater r set line handed rows keys ops → r.published ≤ upto → upto ≤ r.committed → StandAtLowWater (with_published r upto) set line handed rows keys (drop (upto - r.published) ops)
+  pub kept_published : (upto : ℕ) → ArePartsOf r marks line handed rows keys ops → r.published ≤ upto → upto ≤ length r.commits →
+      ArePartsOf (with_published r upto) marks line handed rows keys (drop (upto - r.published) ops)
   kept_published upto h later done =
+      let all = commits_from r.tables (loaded r.base) (ran r) in
       let sum : r.published + (upto - r.published) ≡ upto = omega arith in
-      let log : IsLogKept r.tables r.base r.accepted r.committed upto rows keys (drop (upto - r.published) ops) = record {
-        acceptable = h.log.acceptable;
-        rows_are = h.log.rows_are;
-        stated = h.log.stated;
-        apart = h.log.apart;
-        indexed = h.log.indexed;
-        published = done;
-        ops_are =
-            ap (drop (upto - r.published)) h.log.ops_are
-            ∙ drop-drop (upto - r.published) r.published (commits_from r.tables (loaded r.base) 1 (take r.committed r.accepted))
-            ∙ ap (λ n. drop n (commits_from r.tables (loaded r.base) 1 (take r.committed r.accepted))) sum;
-      } in
-      kept_beside upto r.stopped (drop (upto - r.published) ops) log h
+      let left = drop (upto - r.published) ops in
+      let are : left ≡ drop upto all =
+      ap (drop (upto - r.published)) h.log.ops_are ∙ drop-drop (upto - r.published) r.published all ∙ ap (λ n. drop n all) sum in
+      kept_beside upto r.stopped left (log_with upto r.dispatched r.out r.finished r.stopped left h done are) h
+
+  -- what is published is a gapped state
+  pub shows_gapped : (n : ℕ) → ArePartsOf r marks line handed rows keys ops → n ≤ length r.commits → ShowsGapped r n
+  shows_gapped n h few = published_is_gapped r n (kept_sound h) few
 
   -- ---- the next commit
 
-  -- the record behind the committed ones applies to the working rows, has its marks there, and leaves these at what it writes
-  pub record LeavesNext (left : List Entry) : Type 0 where
-    pub rec : Record
-    pub leaves : Database
-    pub got : slice_get r.accepted r.committed ≡ Some rec
-    pub applies : effect r.tables rec.changes rows ≡ Some leaves
-    pub marks : SameRows rec.marks (marks_of r.tables rec.changes rows)
-    pub left_is : left ≡ rows_in (writes rec.changes) leaves
+  module _ (result : Finished) (left : List Entry) (h : ArePartsOf r marks line handed rows keys ops) (is : turn line ≡ Some result) (output : result.outcome ≡ Output left) where
+    gno_waits : has_gno r.finished result.job.gno ≡ true
+    gno_waits = finished_has result.job.gno h (turn_waits line result is)
 
-  leaves_next : (result : Finished) → StandAtLowWater r set line handed rows keys ops → IsUnderWay r (r.committed + 1) → (t : IsTaken (job_of r (r.committed + 1)) result) → LeavesNext t.left
-  leaves_next result h under t =
-      let parts = job_parts r (r.committed + 1) result.job t.job in
-      let here : r.committed + 1 - 1 ≡ r.committed = omega arith in
-      let tables : result.job.schema ≡ r.tables = ap (λ (j : Job). j.schema) parts.job_is in
-      let of : result.job.rec ≡ parts.rec = ap (λ (j : Job). j.rec) parts.job_is in
-      let agrees = job_agrees_now r (r.committed + 1) result.job rows (kept_sound h) under t.job h.log.rows_are in
-      let there : LeavesThere result.job.schema result.job.rec rows t.left = output_is_there result rows t.left t.came agrees t.output in
-      record {
-        rec = parts.rec;
-        leaves = there.after_;
-        got = ap (slice_get r.accepted) (sym here) ∙ parts.got;
-        applies = (λ i. effect (sym tables i) ((sym of i).changes) rows) ∙ there.applies;
-        marks = subst (λ (x : List Table × Record). SameRows x.1.marks (marks_of x.0 x.1.changes rows)) (λ i. (tables i, of i)) there.marks;
-        left_is = there.rows ∙ ap (λ (x : Record). rows_in (writes x.changes) there.after_) of;
-      }
+    taken : IsTaken (job_of r result.job.gno) result
+    taken = turn_has (λ other. IsTaken (job_of r other.job.gno) other) line result is h.results
 
-  -- its batch puts them
-  put_next : (left : List Entry) (next : LeavesNext left) → put_batch left rows ≡ next.leaves
-  put_next left next = ap (λ b. put_batch b rows) next.left_is ∙ put_batch-writes r.tables next.rec.changes rows next.leaves next.applies
+    step : StepsOn r result.job.gno rows left
+    step = commit_step r result.job.gno result rows left (stands h) (finished_under_way result.job.gno h gno_waits) h.log.rows_are taken.job taken.came output
 
-  -- so the committed records with it state their true marks
-  states_next : (left : List Entry) (next : LeavesNext left) → StandAtLowWater r set line handed rows keys ops → StateMarks r.tables (loaded r.base) (take (r.committed + 1) r.accepted)
-  states_next left next h =
-      subst (StateMarks r.tables (loaded r.base)) (sym (take-got r.accepted r.committed next.rec next.got))
-      ((state_marks_of_joined r.tables (loaded r.base) rows (take r.committed r.accepted) (next.rec ∷ []) h.log.rows_are).1 (h.log.stated, (next.marks, λ _ _. tt)))
+    distinct_behind : AreDistinct (r.out ++ r.finished)
+    distinct_behind = AreDistinct_behind r.commits (r.out ++ r.finished) h.counted.distinct
 
-  -- and behind its batch the keys say who has each mark among the rows that it leaves
-  keys_next : (left : List Entry) (next : LeavesNext left) → StandAtLowWater r set line handed rows keys ops → Indexes r.tables (put_batch left rows) (moved r.tables (marks_at r.tables (keys_of left) rows) left keys)
-  keys_next left next h =
-      let apart : NoValueTwice r.tables rows = apart_at r r.committed rows h.log.apart h.log.rows_are in
-      let behind : NoValueTwice r.tables (put_batch left rows) =
-      subst (NoValueTwice r.tables) (sym (put_next left next)) (values_stay_apart r.tables next.rec.changes rows next.leaves apart next.applies) in
-      keys_follow r.tables rows left keys (subst IsRising (sym next.left_is) (rows_in_rise (writes next.rec.changes) next.leaves)) apart behind h.log.indexed
+    -- each other job stays
+    out_stays : (other : ℕ) → has_gno r.out other ≡ true → job_of (with_commit r result.job.gno) other ≡ job_of r other
+    out_stays other has = step.jobs other (out_under_way other h has)
+        (λ same. true≢false (sym has ∙ ap (has_gno r.out) same ∙ distinct_apart_behind r.out r.finished distinct_behind result.job.gno gno_waits))
 
-  pub kept_committed : (result : Finished) (left : List Entry) → StandAtLowWater r set line handed rows keys ops → turn line ≡ Some result → result.outcome ≡ Output left → StandAtLowWater (committed_next r) (all_up_to (r.committed + 1)) (passed line) (drop 1 handed) (put_batch left rows) (moved r.tables (marks_at r.tables (keys_of left) rows) left keys) (ops ++ Commit (r.committed + 1) left ∷ [])
-  kept_committed result left h is output =
-      let lengths = length_places h in
-      let first = h.first in
-      let all = h.dispatched in
-      let some : 0 < length line.places = taken_within line.places 0 result is in
-      let under : IsUnderWay r (r.committed + 1) = (omega arith, omega arith) in
-      let front : r.committed + 1 - line.first ≡ 0 = omega arith in
-      let taken = h.results (r.committed + 1) result under (ap (λ n. get_or line.places n None) front ∙ is) in
-      let same_left : taken.left ≡ left = cc (taken.output) in
-      let next : LeavesNext left = subst LeavesNext same_left (leaves_next result h under taken) in
-      let fewer : length (drop 1 r.under_way) ≡ length r.under_way - 1 = length-drop 1 r.under_way in
-      let rows_then : rows_at r (r.committed + 1) ≡ Some next.leaves =
-      after-next r.tables (loaded r.base) r.accepted r.committed next.rec next.got
-      ∙ ap (option_and_then (effect r.tables next.rec.changes)) h.log.rows_are ∙ next.applies in
-      let was : (gno : ℕ) → IsUnderWay (committed_next r) gno → IsUnderWay r gno = λ gno u.
-      (let low = u.0 in omega arith, let high = u.1 in omega (arith, fewer)) in
-      let stays : (gno : ℕ) → IsUnderWay (committed_next r) gno → job_of (committed_next r) gno ≡ job_of r gno = λ gno u.
-      job_stays r gno next.leaves (kept_sound h) (was gno u) u.0 rows_then (next_states r next.rec rows next.got h.log.rows_are next.marks) in
-      record {
-        set_up = h.set_up;
-        log = record {
-          acceptable = h.log.acceptable;
-          rows_are = rows_then ∙ ap Some (sym (put_next left next));
-          stated = states_next left next h;
-          apart = h.log.apart;
-          indexed = keys_next left next h;
-          published = (let before = h.log.published in omega arith);
-          ops_are =
-              (λ i. h.log.ops_are i ++ Commit (r.committed + 1) (next.left_is i) ∷ [])
-              ∙ waiting-next r next.rec rows next.leaves next.got h.log.rows_are next.applies h.log.published;
-        };
-        set_is = refl;
-        dispatched = rw fewer (omega arith);
-        busy = rw fewer (let busy = h.busy in omega arith);
-        eligible = λ gno rec u got. (let before = h.eligible gno rec (was gno u) got in omega arith);
-        first = ap (λ n. n + 1) h.first;
-        places = ap (drop 1) h.places ∙ drop-map is_some 1 line.places;
-        count = length-drop 1 handed ∙ ap (λ n. n - 1) h.count ∙ sym fewer;
-        kept = λ gno u.
-            let low = u.0 in
-            let place : gno - (r.committed + 1) - 1 + 1 ≡ gno - r.committed - 1 = omega arith in
-            slice_get-behind handed (gno - (r.committed + 1) - 1) ∙ ap (slice_get handed) place ∙ h.kept gno (was gno u) ∙ ap (option_map kept_of) (sym (stays gno u));
-        results = λ gno other u at.
-            let low = u.0 in
-            let place : 1 + (gno - (line.first + 1)) ≡ gno - line.first = omega arith in
-            of_same_job (sym (stays gno u)) (h.results gno other (was gno u) (ap (λ n. get_or line.places n None) (sym place) ∙ sym (get_or-drop 1 line.places (gno - (line.first + 1)) None) ∙ at));
-      }
+    finished_stays : (other : ℕ) → has_gno (without result.job.gno r.finished) other ≡ true → job_of (with_commit r result.job.gno) other ≡ job_of r other
+    finished_stays other has = step.jobs other (finished_under_way other h (has_gno_of_without result.job.gno r.finished other has))
+        (λ same. true≢false (sym has ∙ ap (has_gno (without result.job.gno r.finished)) same ∙ has_gno-without_same result.job.gno r.finished (AreDistinct_behind r.out r.finished distinct_behind)))
+
+    -- in the order of the log it is the next
+    pub next_in_turn : r.preserve ≡ true → result.job.gno ≡ length r.commits + 1
+    next_in_turn preserve = turn_is_next line result (h.turned.preserve ∙ preserve) is ∙ h.turned.next preserve
+
+    next_then : r.preserve ≡ true → (passed line).next ≡ length (r.commits ++ result.job.gno ∷ []) + 1
+    next_then preserve =
+        ap (λ (b : Bool). if b then line.next + 1 else line.next) (h.turned.preserve ∙ preserve)
+        ∙ ap (λ (n : ℕ). n + 1) (h.turned.next preserve ∙ sym (length_push r.commits result.job.gno))
+
+    commits_in_turn : r.preserve ≡ true → r.commits ++ result.job.gno ∷ [] ≡ first_gnos (length (r.commits ++ result.job.gno ∷ []))
+    commits_in_turn preserve =
+        (λ i. h.counted.in_turn preserve i ++ next_in_turn preserve i ∷ [])
+        ∙ sym (first_gnos-next (length r.commits)) ∙ ap first_gnos (sym (length_push r.commits result.job.gno))
+
+    done_then : gnos_of (passed line).done ≡ without result.job.gno r.finished
+    done_then = gnos-passed line result is ∙ ap (without result.job.gno) h.turned.done
+
+    counted_then : (marks_then : Marks) → ((g : ℕ) → is_committed marks_then g ≡ (is_committed marks g || eqb g result.job.gno)) → is_committed marks_then (marks_then.low + 1) ≡ false →
+        IsCounted (with_commit r result.job.gno) marks_then
+    counted_then marks_then exact greatest =
+        let gno = result.job.gno in
+        let counted = h.counted.counted in
+        let busy = h.counted.busy in
+        let more = length_push r.commits gno in
+        let fewer = length-without gno r.finished gno_waits in
+        let marked = marks_of_more marks marks_then r.commits gno exact h.counted.marked in
+        record {
+          dispatched = h.counted.dispatched;
+          counted = omega arith;
+          busy = omega arith;
+          distinct = distinct_moved_front r.commits r.out r.finished gno h.counted.distinct gno_waits;
+          each = λ other. has_gno_moved_front r.commits r.out r.finished gno other gno_waits ∙ h.counted.each other;
+          marked = marked;
+          low = low_of_marks marks_then (r.commits ++ gno ∷ []) greatest marked;
+          in_turn = commits_in_turn;
+        }
+
+    pub kept_committed : (marks_then : Marks) → ((g : ℕ) → is_committed marks_then g ≡ (is_committed marks g || eqb g result.job.gno)) → is_committed marks_then (marks_then.low + 1) ≡ false →
+        ArePartsOf (with_commit r result.job.gno) marks_then (passed line) handed (put_batch left rows) (moved r.tables (marks_at r.tables (keys_of left) rows) left keys) (ops ++ Commit result.job.gno left ∷ [])
+    kept_committed marks_then exact greatest =
+        let gno = result.job.gno in
+        let more = length_push r.commits gno in
+        record {
+          set_up = h.set_up;
+          log = record {
+            acceptable = h.log.acceptable;
+            commits = step.commits;
+            rows_are = step.rows_are;
+            apart = h.log.apart;
+            indexed = keys_follow r.tables rows left keys step.rising step.apart step.apart_then h.log.indexed;
+            published = (let before = h.log.published in omega arith);
+            ops_are = ap (λ (l : List Op). l ++ Commit gno left ∷ []) h.log.ops_are ∙ sym (step.ops h.log.published);
+          };
+          turned = record { preserve = h.turned.preserve; next = next_then; out = h.turned.out; done = done_then };
+          counted = counted_then marks_then exact greatest;
+          eligible = step.eligible;
+          kept = kept_stays (with_commit r gno) h out_stays;
+          results =
+              all_each (λ other. IsTaken (job_of r other.job.gno) other) (λ other. IsTaken (job_of (with_commit r gno) other.job.gno) other) (passed line).done
+              (λ other has was. of_same_job (sym (finished_stays other.job.gno (ap (λ (l : List ℕ). has_gno l other.job.gno) (sym done_then) ∙ has))) was)
+              (all_passed (λ other. IsTaken (job_of r other.job.gno) other) line h.results);
+        }

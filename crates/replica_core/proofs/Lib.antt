@@ -1,8 +1,12 @@
 pub mod Commits
+pub mod Showing
 pub mod Apart
 pub mod Jobs
+pub mod InOrder
+pub mod Lists
 pub mod Kept
 pub mod LookedUp
+pub mod Marked
 pub mod Steps
 pub mod Copies
 pub mod Handing

@@ -1,16 +1,18 @@
 -- What a replica keeps, as each call leaves its parts.
-use Rattle.std.proofs.Common.{◌≡◌, ◌∙◌, sym, ap, subst, refl, ℕ, ◌+◌, ◌-◌, ◌<◌, ◌≤◌, ◌^◌, ◌⊎◌, inl, inr, Bool, true, false, not, true≢false, ◌&&◌, ◌||◌, List, [], ◌∷◌, ◌++◌, map, length, drop, Option, Some, None, is_some, Result, Ok, Err, IfOk, OnErr, IsErrOf, IsErrAnd, arith, slice_get, slice_set, get_or, if◌then◌else◌, nat_le, nat_lt}
+use Rattle.std.proofs.Common.{◌≡◌, ◌∙◌, sym, ap, subst, refl, ℕ, ◌+◌, ◌-◌, ◌<◌, ◌≤◌, ◌^◌, ◌⊎◌, ◌↔◌, inl, inr, Bool, true, false, not, true≢false, ◌&&◌, ◌||◌, eqb, List, [], ◌∷◌, ◌++◌, map, length, drop, Option, Some, None, is_some, Result, Ok, Err, IfOk, OnErr, IsErrOf, IsErrAnd, arith, slice_get, get_or, if◌then◌else◌, nat_le, nat_lt}
+use Rattle.std.specs.List.{position_or_len, remove}
 use Rattle.std.specs.Map.{keys_of}
-use Rattle.std.specs.Option.{option_and_then, option_map_or, option_or}
-use Rattle.std.proofs.lemmas.Bool.{and_parts, or_parts, ltb-true, leb-true, leb-false}
-use Rattle.std.proofs.lemmas.Option.{none-some, same_Some, option_and_then_some}
-use Rattle.std.proofs.lemmas.List.{map-set, length-take-le}
-use Rattle.std.proofs.Math.ListN.{get_or-map}
+use Rattle.std.specs.Option.{option_and_then, option_map, option_map_or, option_or}
+use Rattle.std.proofs.lemmas.Bool.{and_parts, or_cases, cases_Bool, cases_lt, ltb-true, leb-true, le-leb}
+use Rattle.std.proofs.lemmas.Option.{none-some, same_Some, option_and_then_some, slice_get-map, slice_get_within, slice_get_read}
+use Rattle.std.proofs.lemmas.List.{length-map, length-take-le, length_push}
 use Rattle.schema.specs.declared.Table.{Table}
 use Rattle.schema.proofs.Telling.{not_some}
 use Rattle.schema.proofs.Lists.{option_map_or_true, get_within}
-use Rattle.rows.specs.Database.{Database}
-use Rattle.store_trait.specs.Batch.{Entry}
+use Rattle.rows.specs.Database.{Database, NoValueTwice}
+use Rattle.store_trait.specs.Batch.{Entry, put_batch}
+use Rattle.store_trait.specs.Fits.{Fits}
+use Rattle.store_trait.specs.Operation.{loaded}
 use Rattle.store_trait.specs.declared.Op.{Op}
 use Rattle.store_trait.specs.declared.Op.TheVariants.{Commit}
 use Rattle.record_codec.specs.declared.records.Record.{Record}
@@ -26,16 +28,22 @@ use Rattle.relay.specs.Relay as relay
 use Rattle.relay.specs.Relay.{IsAcceptable, AreAcceptable}
 use Rattle.relay.proofs.Acceptable.{next_is_acceptable}
 use Rattle.relay.proofs.Judged.{accepts_the_acceptable}
-use Rattle.row_index.specs.Keys.{Keys, marks_at, moved}
-use Rattle.scheduler.specs.CommittedSet.{CommittedSet, all_up_to}
-use Rattle.commit_order.specs.Turns.{Line, result_at, entered, with_result, turn}
-use Rattle.replica_core.specs.Replica.{Replica, dispatched, job_of}
-use Rattle.replica_core.specs.Sound.{IsUnderWay}
-use Rattle.replica_core.specs.Calls.{relay_of, is_eligible, finish_fault, IsHandedOut, with_finished, next_commit, with_published}
+use Rattle.row_index.specs.Keys.{Keys, Indexes, marks_at, moved}
+use Rattle.scheduler.specs.Gnos.{has_gno, first_gnos}
+use Rattle.scheduler.specs.Marks.{Marks, is_committed, none_committed}
+use Rattle.scheduler.proofs.Gnos.{first_gnos-next, below_low, low_is_few, AreDistinct_front}
+use Rattle.commit_order.specs.Turns.{Line, no_turns, entered, with_result, turn, passed}
+use Rattle.commit_order.proofs.Lines.{turn_has, turn_waits, turn_free, turn_kept}
+use Rattle.replica_core.specs.Replica.{Replica, low_water, job_over, job_of}
+use Rattle.replica_core.specs.Sound.{IsUnderWay, ShowsGapped}
+use Rattle.replica_core.specs.Calls.{new_over, relay_of, is_near, is_eligible, finish_fault, dispatched_next, with_finished, next_commit, with_commit, with_published}
 use Rattle.replica_core.specs.declared.dispatching.HandedOut.{HandedOut}
-use Rattle.replica_core.specs.Core.{StandAtLowWater, IsTaken, kept_of, turn_output, TakesTurn, IsJudged}
+use Rattle.replica_core.specs.Core.{ArePartsOf, IsTaken, Parts, commits_seen, seen_as, kept_of, turn_rows, CommitsTurn, LeavesTurn, TakesTurn, IsJudged, place_in}
 use Rattle.replica_core.proofs.Apart.{place_acceptable}
-use Rattle.replica_core.proofs.Kept.{IsNext, taken_within, kept_accepted, kept_dispatched, kept_finished, kept_committed, kept_published, length_places}
+use Rattle.replica_core.proofs.Jobs.{job_at, job_is_of_its_record}
+use Rattle.replica_core.proofs.InOrder.{low_in_order}
+use Rattle.replica_core.proofs.Lists.{place-map, place_there}
+use Rattle.replica_core.proofs.Kept.{IsNext, shows_gapped, finished_under_way, kept_new, kept_accepted, kept_dispatched, kept_finished, kept_committed, next_in_turn, kept_published, out_under_way}
 
 -- ---- numbers fit
 
@@ -49,9 +57,6 @@ few_accepted ts (x ∷ xs) h =
     let bound = is.bound in
     omega arith
 
-pub few_dispatched : (r : Replica) (set : CommittedSet) (line : Line) (handed : List HandedOut) (rows : Database) (keys : Keys) (ops : List Op) → StandAtLowWater r set line handed rows keys ops → dispatched r < 2 ^ 63
-few_dispatched r set line handed rows keys ops h = let few = few_accepted r.tables r.accepted h.log.acceptable in let all = h.dispatched in omega arith
-
 -- ---- answers
 
 pub not_stopped : (stopped : Option ℕ) (u : Unit {0}) → Ok u ≡ option_map_or (λ gno. Err (Stopped gno)) stopped (Ok tt) → stopped ≡ None
@@ -60,159 +65,443 @@ not_stopped (Some gno) u is = cc
 
 -- the causes for which a result is refused, one after another
 abbrev pub cause : Option ℕ → Bool → Bool → Option ReplicaFault
-cause stopped known taken =
-    option_or (option_map_or (λ gno. Some (Stopped gno)) stopped None) (if not known then Some Stranger else if taken then Some Double else None)
+cause stopped known out =
+    option_or (option_map_or (λ gno. Some (Stopped gno)) stopped None) (if not known then Some Stranger else if not out then Some Double else None)
 
 abbrev pub refusal : Bool → Bool → Result (Unit {0}) ReplicaFault
-refusal known taken = if not known then Err Stranger else if taken then Err Double else Ok tt
+refusal known out = if not known then Err Stranger else if not out then Err Double else Ok tt
 
 abbrev pub told_as : Option ReplicaFault → Result (Unit {0}) ReplicaFault
 told_as fault = option_map_or (λ f. Err f) fault (Ok tt)
 
-pub refusal_is_cause : (stopped : Option ℕ) (known taken : Bool) → stopped ≡ None → refusal known taken ≡ told_as (cause stopped known taken)
+pub refusal_is_cause : (stopped : Option ℕ) (known out : Bool) → stopped ≡ None → refusal known out ≡ told_as (cause stopped known out)
 refusal_is_cause None true true running = refl
 refusal_is_cause None true false running = refl
-refusal_is_cause None false taken running = refl
-refusal_is_cause (Some gno) known taken running = cc
+refusal_is_cause None false out running = refl
+refusal_is_cause (Some gno) known out running = cc
 
 pub err_refuses_so : (fault : Option ReplicaFault) (told : ReplicaFault) → Err told ≡ told_as fault → fault ≡ Some told
 err_refuses_so None told is = cc
 err_refuses_so (Some fault) told is = cc
 
-pub judged_err : (r : Replica) (done : Finished) (told : ReplicaFault) (result : Result (Unit {0}) ReplicaFault) → IsErrAnd result (λ e. e ≡ told) → finish_fault r done.job.gno ≡ Some told → IsJudged r done result
+pub ok_refuses_none : (fault : Option ReplicaFault) (u : Unit {0}) → Ok u ≡ told_as fault → fault ≡ None
+ok_refuses_none None u is = refl
+ok_refuses_none (Some fault) u is = cc
+
+pub judged_err : (r : Replica) (done : Finished) (told : ReplicaFault) (result : Result ℕ ReplicaFault) → IsErrAnd result (λ e. e ≡ told) → finish_fault r done.job.gno ≡ Some told → IsJudged r done result
 judged_err r done told (Ok u) is fault = absurd is
 judged_err r done told (Err e) is fault = inl (fault ∙ ap Some (sym is))
 
-pub no_cause : (stopped : Option ℕ) (known taken : Bool) → cause stopped known taken ≡ None → (stopped ≡ None) × (known ≡ true) × (taken ≡ false)
-no_cause None true true is = cc
-no_cause None true false is = (refl, refl, refl)
-no_cause None false taken is = cc
-no_cause (Some gno) known taken is = cc
+no_cause : (stopped : Option ℕ) (known out : Bool) → cause stopped known out ≡ None → out ≡ true
+no_cause None true true is = refl
+no_cause None true false is = cc
+no_cause None false out is = cc
+no_cause (Some gno) known out is = cc
 
-pub eligible_next : (r : Replica) → is_eligible r ≡ true → (rec : Record) × IsNext r rec
-eligible_next r is =
-    let next = λ (rec : Record). nat_le rec.parent r.committed in
-    let parts = and_parts (option_map_or next (slice_get r.accepted (dispatched r)) false) (nat_lt (length r.under_way) r.workers) is in
-    let found = option_map_or_true next (slice_get r.accepted (dispatched r)) parts.0 in
-    (found.0, record { got = found.1; parent = leb-true found.0.parent r.committed found.2; free = ltb-true (length r.under_way) r.workers parts.1 })
+-- a result that nothing refuses is of a record that is out
+pub out_from : (r : Replica) (gno : ℕ) → finish_fault r gno ≡ None → has_gno r.out gno ≡ true
+out_from r gno is = no_cause r.stopped (nat_le 1 gno && nat_le gno r.dispatched) (has_gno r.out gno) is
 
 -- ---- the parts
 
--- a replica whose relay is this, or whose line
+-- a replica whose relay is this; and whose scheduler, whose list of commits and whose line are these
 abbrev with_relay : Replica → relay.Relay → Replica
 with_relay r v = record r { tables = v.tables; source = v.source; accepted = v.accepted }
 
-abbrev with_line : Replica → Line → Replica
-with_line r line = record r { under_way = map is_some line.places }
+abbrev pub with_parts : Replica → Marks → List ℕ → Line → Replica
+with_parts r marks order line = record r {
+  preserve = line.preserve;
+  commits = commits_seen line.preserve marks.low order;
+  dispatched = length (commits_seen line.preserve marks.low order) + (length line.out + length line.done);
+  out = line.out;
+  finished = map (λ (result : Finished). result.job.gno) line.done;
+}
 
--- the places of a replica are those of its line
-as_line : (r : Replica) (set : CommittedSet) (line : Line) (handed : List HandedOut) (rows : Database) (keys : Keys) (ops : List Op) → StandAtLowWater r set line handed rows keys ops → StandAtLowWater (with_line r line) set line handed rows keys ops
-as_line r set line handed rows keys ops h = subst (λ (u : List Bool). StandAtLowWater (record r { under_way = u }) set line handed rows keys ops) h.places h
+none_seen : (preserve : Bool) → commits_seen preserve 0 [] ≡ []
+none_seen true = refl
+none_seen false = refl
 
-module _ (r : Replica) (set : CommittedSet) (line : Line) (handed : List HandedOut) (rows : Database) (keys : Keys) (ops : List Op) where
-  pub received_kept : (from : List ℕ) (new : Record) (result : Result Received ReplicaFault) (left : relay.Relay) → StandAtLowWater r set line handed rows keys ops → (IsErrOf result NoMemory ⊎ (result ≡ relay.received (relay_of r) from new)) → IfOk result (λ answer. left ≡ relay.left_by_receive (relay_of r) new answer) → OnErr result (left ≡ relay_of r) → StandAtLowWater (with_relay r left) set line handed rows keys ops
-  received_kept from new (Err fault) left h answer ok err = subst (λ (v : relay.Relay). StandAtLowWater (with_relay r v) set line handed rows keys ops) (sym err) h
-  received_kept from new (Ok Skipped) left h answer ok err = subst (λ (v : relay.Relay). StandAtLowWater (with_relay r v) set line handed rows keys ops) (sym ok) h
+module _ (r : Replica) (marks : Marks) (order : List ℕ) (line : Line) (handed : List HandedOut) (rows : Database) (keys : Keys) (ops : List Op) where
+  -- the parts are seen as the replica whose parts they are
+  pub as_parts : ArePartsOf r marks line handed rows keys ops → commits_seen line.preserve marks.low order ≡ r.commits → with_parts r marks order line ≡ r
+  as_parts h seen =
+      let all = h.counted.counted in
+      let outs = ap (λ (l : List ℕ). length l) h.turned.out in
+      let dones = ap (λ (l : List ℕ). length l) h.turned.done in
+      let commits = ap (λ (l : List ℕ). length l) seen in
+      let count : length (commits_seen line.preserve marks.low order) + (length line.out + length line.done) ≡ r.dispatched =
+      omega (arith, length-map line.done (λ (result : Finished). result.job.gno)) in
+      λ i. record r { preserve = h.turned.preserve i; commits = seen i; dispatched = count i; out = h.turned.out i; finished = h.turned.done i }
+
+  pub parts_kept : ArePartsOf r marks line handed rows keys ops → commits_seen line.preserve marks.low order ≡ r.commits → ArePartsOf (with_parts r marks order line) marks line handed rows keys ops
+  parts_kept h seen = subst (λ (q : Replica). ArePartsOf q marks line handed rows keys ops) (sym (as_parts h seen)) h
+
+-- ---- a replica that has accepted nothing
+
+-- the parts that it is made of
+pub record AreNew (preserve : Bool) (marks : Marks) (order : List ℕ) (line : Line) (handed : List HandedOut) (ops : List Op) : Type 0 where
+  pub marks_are : marks ≡ none_committed
+  pub order_is : order ≡ []
+  pub line_is : line ≡ no_turns preserve
+  pub handed_is : handed ≡ []
+  pub ops_are : ops ≡ []
+
+module _ (v : relay.Relay) (base : List Entry) (workers : ℕ) (preserve : Bool) (marks : Marks) (order : List ℕ) (line : Line) (handed : List HandedOut) (rows : Database) (keys : Keys) (ops : List Op) where
+  pub new_seen : AreNew preserve marks order line handed ops → v.accepted ≡ [] → seen_as v base marks order 0 line workers None ≡ new_over v.tables v.source base workers preserve
+  new_seen are none =
+      rw (are.marks_are, are.order_is, are.line_is, none)
+      (ap (λ (l : List ℕ). record (new_over v.tables v.source base workers preserve) { commits = l; dispatched = length l + 0 }) (none_seen preserve))
+
+  pub new_kept : AreNew preserve marks order line handed ops → v.accepted ≡ [] → Fits v.tables rows → loaded base ≡ rows → (NoValueTwice v.tables (loaded base) → Indexes v.tables (loaded base) keys) → 1 ≤ workers → workers ≤ 64 →
+      ArePartsOf (seen_as v base marks order 0 line workers None) marks line handed rows keys ops
+  new_kept are none fits loads indexed some few =
+      subst (λ (q : Replica). ArePartsOf q marks line handed rows keys ops) (sym (new_seen are none))
+      (rw (are.marks_are, are.line_is, are.handed_is, are.ops_are) (kept_new v.tables v.source base workers preserve rows keys fits loads indexed some few))
+
+-- ---- the parts that each call leaves
+
+-- in the order of the log the list of the commits stays empty, and they are those up to the mark; else one more is the last
+commits_then : (preserve : Bool) (low low_then : ℕ) (order : List ℕ) (gno : ℕ) → (preserve ≡ true → (gno ≡ low + 1) × (low_then ≡ low + 1)) →
+    commits_seen preserve low_then (if preserve then order else order ++ gno ∷ []) ≡ commits_seen preserve low order ++ gno ∷ []
+commits_then true low low_then order gno h =
+    let is = h refl in
+    ap first_gnos is.1 ∙ first_gnos-next low ∙ ap (λ (n : ℕ). first_gnos low ++ n ∷ []) (sym is.0)
+commits_then false low low_then order gno h = refl
+
+-- a place is near, or no worker is free
+any_order : (parent near worker : Bool) (always : Bool) → (always ≡ true → worker ≡ true → near ≡ true) → ((parent && near) && worker) ≡ ((parent && worker) && (always || near))
+any_order false true true true h = refl
+any_order false true true false h = refl
+any_order false true false always h = refl
+any_order false false true true h = refl
+any_order false false true false h = refl
+any_order false false false always h = refl
+any_order true true true true h = refl
+any_order true true true false h = refl
+any_order true true false true h = refl
+any_order true true false false h = refl
+any_order true false true true h = h refl refl
+any_order true false true false h = refl
+any_order true false false true h = refl
+any_order true false false false h = refl
+
+module _ (r : Replica) (marks : Marks) (line : Line) (handed : List HandedOut) (rows : Database) (keys : Keys) (ops : List Op) where
+  -- ---- receive
+
+  pub received_kept : (from : List ℕ) (new : Record) (result : Result Received ReplicaFault) (left : relay.Relay) → ArePartsOf r marks line handed rows keys ops → (IsErrOf result NoMemory ⊎ (result ≡ relay.received (relay_of r) from new)) → IfOk result (λ answer. left ≡ relay.left_by_receive (relay_of r) new answer) → OnErr result (left ≡ relay_of r) → ArePartsOf (with_relay r left) marks line handed rows keys ops
+  received_kept from new (Err fault) left h answer ok err = subst (λ (v : relay.Relay). ArePartsOf (with_relay r v) marks line handed rows keys ops) (sym err) h
+  received_kept from new (Ok Skipped) left h answer ok err = subst (λ (v : relay.Relay). ArePartsOf (with_relay r v) marks line handed rows keys ops) (sym ok) h
   received_kept from new (Ok Accepted) left h (inl lacks) ok err = cc
   received_kept from new (Ok Accepted) left h (inr is) ok err =
       let next : IsAcceptable r.tables r.accepted new = ((accepts_the_acceptable (relay_of r) from new).0 (sym is)).1 in
-      subst (λ (v : relay.Relay). StandAtLowWater (with_relay r v) set line handed rows keys ops) (sym ok)
-      (kept_accepted r set line handed rows keys ops new h (next_is_acceptable r.tables r.accepted new h.log.acceptable next))
+      subst (λ (v : relay.Relay). ArePartsOf (with_relay r v) marks line handed rows keys ops) (sym ok)
+      (kept_accepted r marks line handed rows keys ops new h (next_is_acceptable r.tables r.accepted new h.log.acceptable next))
 
-  pub dispatched_kept : (job : Job) (line_then : Line) (handed_then : List HandedOut) → StandAtLowWater r set line handed rows keys ops → is_eligible r ≡ true → job_of r (dispatched r + 1) ≡ Some job → line_then ≡ entered line → handed_then ≡ handed ++ kept_of job ∷ [] → StandAtLowWater (with_line r line_then) set line_then handed_then rows keys ops
+  -- ---- dispatch
+
+  pub few_dispatched : ArePartsOf r marks line handed rows keys ops → r.dispatched < 2 ^ 63
+  few_dispatched h = let few = few_accepted r.tables r.accepted h.log.acceptable in let all = h.counted.dispatched in omega arith
+
+  -- the mark is not above them, and in the order of the log it is the number of the commits
+  pub low_dispatched : ArePartsOf r marks line handed rows keys ops → marks.low ≤ r.dispatched
+  low_dispatched h =
+      let few = low_is_few r.commits (AreDistinct_front r.commits (r.out ++ r.finished) h.counted.distinct) in
+      let low = h.counted.low in
+      let counted = h.counted.counted in
+      omega arith
+
+  pub low_in_turn : ArePartsOf r marks line handed rows keys ops → r.preserve ≡ true → marks.low ≡ length r.commits
+  low_in_turn h preserve = h.counted.low ∙ low_in_order r (h.counted.in_turn preserve)
+
+  -- in the order of the log a place is near wherever a worker is free
+  near_in_order : ArePartsOf r marks line handed rows keys ops → r.preserve ≡ true → r.dispatched - length r.commits < r.workers → r.dispatched + 1 ≤ low_water r + 4096
+  near_in_order h preserve free =
+      let low = low_in_order r (h.counted.in_turn preserve) in
+      let counted = h.counted.counted in
+      let few = h.set_up.few in
+      omega arith
+
+  -- the line has as many as were dispatched and are not committed
+  length_line : ArePartsOf r marks line handed rows keys ops → length line.out + length line.done ≡ r.dispatched - length r.commits
+  length_line h =
+      let counted = h.counted.counted in
+      let outs = ap (λ (l : List ℕ). length l) h.turned.out in
+      let dones = ap (λ (l : List ℕ). length l) h.turned.done in
+      omega (arith, length-map line.done (λ (result : Finished). result.job.gno))
+
+  -- whether the next record may be dispatched, as it is tested
+  pub eligible_seen : (next : Record) → ArePartsOf r marks line handed rows keys ops → slice_get r.accepted r.dispatched ≡ Some next →
+      ((nat_le next.parent marks.low && nat_le (r.dispatched + 1) (marks.low + 4096)) && nat_lt (length line.out + length line.done) r.workers) ≡ is_eligible r
+  eligible_seen next h got =
+      (λ i. (nat_le next.parent (h.counted.low i) && nat_le (r.dispatched + 1) (h.counted.low i + 4096)) && nat_lt (length_line h i) r.workers)
+      ∙ any_order (nat_le next.parent (low_water r)) (nat_le (r.dispatched + 1) (low_water r + 4096)) (nat_lt (r.dispatched - length r.commits) r.workers) r.preserve
+      (λ preserve free. le-leb (r.dispatched + 1) (low_water r + 4096) (near_in_order h preserve (ltb-true (r.dispatched - length r.commits) r.workers free)))
+      ∙ ap (λ (o : Option Record). option_map_or (λ rec. nat_le rec.parent (low_water r)) o false && nat_lt (r.dispatched - length r.commits) r.workers && is_near r) (sym got)
+
+  pub eligible_next : ArePartsOf r marks line handed rows keys ops → is_eligible r ≡ true → (rec : Record) × IsNext r rec
+  eligible_next h is =
+      let next = λ (rec : Record). nat_le rec.parent (low_water r) in
+      let both = and_parts (option_map_or next (slice_get r.accepted r.dispatched) false && nat_lt (r.dispatched - length r.commits) r.workers) (is_near r) is in
+      let parts = and_parts (option_map_or next (slice_get r.accepted r.dispatched) false) (nat_lt (r.dispatched - length r.commits) r.workers) both.0 in
+      let found = option_map_or_true next (slice_get r.accepted r.dispatched) parts.0 in
+      let free = ltb-true (r.dispatched - length r.commits) r.workers parts.1 in
+      let near : r.dispatched + 1 ≤ low_water r + 4096 = elim (or_cases r.preserve (nat_le (r.dispatched + 1) (low_water r + 4096)) both.1) [
+        | inl preserve ↦ near_in_order h preserve free
+        | inr near ↦ leb-true (r.dispatched + 1) (low_water r + 4096) near
+      ] in
+      (found.0, record { got = found.1; parent = leb-true found.0.parent (low_water r) found.2; free = free; near = near })
+
+  pub dispatched_kept : (job : Job) (line_then : Line) (handed_then : List HandedOut) → ArePartsOf r marks line handed rows keys ops → is_eligible r ≡ true → job_of r (r.dispatched + 1) ≡ Some job → line_then ≡ entered line job.gno → handed_then ≡ handed ++ kept_of job ∷ [] →
+      ArePartsOf (dispatched_next r) marks line_then handed_then rows keys ops
   dispatched_kept job line_then handed_then h may made is_line is_handed =
-      let next = eligible_next r may in
-      let kept = as_line _ _ _ _ _ _ _ (kept_dispatched r set line handed rows keys ops next.0 job h next.1 made) in
-      rw (is_line, is_handed) kept
+      let next = eligible_next h may in
+      let number = (job_is_of_its_record r (r.dispatched + 1) job made).gno in
+      rw (is_line ∙ ap (entered line) number, is_handed) (kept_dispatched r marks line handed rows keys ops next.0 job h next.1 made)
 
-  -- ---- a result that may be taken
+  -- ---- what is kept of a job that is out
 
-  -- the place of a result, as it is seen and as it is in the line
-  place_seen : (gno : ℕ) → StandAtLowWater r set line handed rows keys ops → get_or r.under_way (gno - r.committed - 1) false ≡ is_some (result_at line gno)
-  place_seen gno h =
-      let place : gno - r.committed - 1 ≡ gno - line.first = (let first = h.first in omega arith) in
-      (λ i. get_or (h.places i) (place i) false) ∙ get_or-map is_some line.places (gno - line.first) None
+  kept_gno : (gno : ℕ) (kept : HandedOut) (o : Option Job) → o ≡ job_of r gno → Some kept ≡ option_map kept_of o → kept.gno ≡ gno
+  kept_gno gno kept None is same = absurd (none-some kept (sym same))
+  kept_gno gno kept (Some job) is same = ap (λ (k : HandedOut). k.gno) (same_Some kept (kept_of job) same) ∙ (job_is_of_its_record r gno job (sym is)).gno
 
-  -- a result that nothing refuses is of a record that is dispatched and not committed, and none of it was taken
-  pub under_way_from : (gno : ℕ) → StandAtLowWater r set line handed rows keys ops → finish_fault r gno ≡ None → IsUnderWay r gno × (result_at line gno ≡ None)
-  under_way_from gno h is =
-      let so = no_cause r.stopped (nat_le 1 gno && nat_le gno (dispatched r)) (nat_le gno r.committed || get_or r.under_way (gno - r.committed - 1) false) is in
-      let known = and_parts (nat_le 1 gno) (nat_le gno (dispatched r)) so.1 in
-      let free = or_parts (nat_le gno r.committed) (get_or r.under_way (gno - r.committed - 1) false) so.2 in
-      ((leb-false gno r.committed free.0, leb-true gno (dispatched r) known.1), not_some (result_at line gno) (sym (place_seen gno h) ∙ free.1))
+  kept_gnos : (kept : List HandedOut) (out : List ℕ) → map Some kept ≡ map (λ gno. option_map kept_of (job_of r gno)) out → map (λ (k : HandedOut). k.gno) kept ≡ out
+  kept_gnos [] [] same = refl
+  kept_gnos [] (gno ∷ out) same = cc
+  kept_gnos (k ∷ kept) [] same = cc
+  kept_gnos (k ∷ kept) (gno ∷ out) same =
+      let first : Some (Some k) ≡ Some (option_map kept_of (job_of r gno)) = ap (λ (l : List (Option HandedOut)). slice_get l 0) same in
+      let rest : map Some kept ≡ map (λ n. option_map kept_of (job_of r n)) out = ap (λ (l : List (Option HandedOut)). drop 1 l) same in
+      λ i. kept_gno gno k (job_of r gno) refl (same_Some (Some k) (option_map kept_of (job_of r gno)) first) i ∷ kept_gnos kept out rest i
 
-  taken_from : (result : Finished) (left : List Entry) → IsHandedOut r result → IsResult result → result.outcome ≡ Output left → IsTaken (job_of r result.job.gno) result
-  taken_from result left of made is = record { job = of; left = left; output = is; came = made }
+  pub place_seen : (gno : ℕ) → ArePartsOf r marks line handed rows keys ops → position_or_len (λ (k : HandedOut). eqb k.gno gno) handed ≡ place_in r.out gno
+  place_seen gno h = place-map (λ (k : HandedOut). k.gno) gno handed ∙ ap (λ (l : List ℕ). place_in l gno) (kept_gnos handed r.out h.kept)
 
-  pub finished_kept : (result : Finished) (left : List Entry) (line_then : Line) → StandAtLowWater r set line handed rows keys ops → finish_fault r result.job.gno ≡ None → IsHandedOut r result → IsResult result → result.outcome ≡ Output left → line_then ≡ with_result line result → StandAtLowWater (with_line r line_then) set line_then handed rows keys ops
-  finished_kept result left line_then h free of made is is_line =
-      let under = under_way_from result.job.gno h free in
-      let kept = as_line _ _ _ _ _ _ _ (kept_finished r set line handed rows keys ops result.job.gno result h under.0 refl (taken_from result left of made is)) in
-      rw is_line kept
+  pub kept_there : (gno place : ℕ) → ArePartsOf r marks line handed rows keys ops → has_gno r.out gno ≡ true → place ≡ place_in r.out gno → slice_get handed place ≡ option_map kept_of (job_of r gno)
+  kept_there gno place h out at = of_some (slice_get handed place) (option_map kept_of (job_of r gno))
+      (sym (slice_get-map Some handed place)
+      ∙ ap (λ (l : List (Option HandedOut)). slice_get l place) h.kept
+      ∙ slice_get-map (λ n. option_map kept_of (job_of r n)) r.out place
+      ∙ ap (λ (n : ℕ). option_map (λ g. option_map kept_of (job_of r g)) (slice_get r.out n)) at
+      ∙ ap (option_map (λ n. option_map kept_of (job_of r n))) (place_there r.out gno out))
+    where
+      of_some : (a b : Option HandedOut) → option_map Some a ≡ Some b → a ≡ b
+      of_some None b is = absurd (none-some b is)
+      of_some (Some k) b is = same_Some (Some k) b is
 
-  pub finished_seen : (result : Finished) (line_then : Line) → StandAtLowWater r set line handed rows keys ops → line_then ≡ with_result line result → with_line r line_then ≡ with_finished r result.job.gno
-  finished_seen result line_then h is_line =
-      let place : result.job.gno - line.first ≡ result.job.gno - r.committed - 1 = (let first = h.first in omega arith) in
-      rw is_line
-      (ap (λ (u : List Bool). record r { under_way = u })
-      (map-set is_some line.places (result.job.gno - line.first) (Some result) ∙ (λ i. slice_set (sym h.places i) (place i) true)))
+  -- a job is the one that was handed out exactly where its record is that of its number, and it has what is kept
+  pub handed_is : (job : Job) (place : ℕ) (rec : Record) (kept : HandedOut) (schema : List Table) (told : Type 0) → ArePartsOf r marks line handed rows keys ops → has_gno r.out job.gno ≡ true → place ≡ place_in r.out job.gno →
+      slice_get r.accepted (job.gno - 1) ≡ Some rec → slice_get handed place ≡ Some kept → schema ≡ r.tables →
+      (told ↔ ((job.rec ≡ rec) × (job.input ≡ kept.input) × (job.holders ≡ kept.holders) × (job.schema ≡ schema))) → told ↔ (job_of r job.gno ≡ Some job)
+  handed_is job place rec kept schema told h out at got there tables tells =
+      let made = job_over r.tables job.gno rec rows in
+      let now : job_of r job.gno ≡ Some made = job_at r job.gno rec rows got h.log.rows_are in
+      let same : kept ≡ kept_of made =
+      same_Some kept (kept_of made) (sym there ∙ kept_there job.gno place h out at ∙ ap (option_map kept_of) now) in (
+        λ is.
+            let parts = tells.0 is in
+            let input : made.input ≡ job.input = ap (λ (k : HandedOut). k.input) (sym same) ∙ sym parts.1 in
+            let holders : made.holders ≡ job.holders = ap (λ (k : HandedOut). k.holders) (sym same) ∙ sym parts.2 in
+            let schema_is : made.schema ≡ job.schema = sym tables ∙ sym parts.3 in
+            now ∙ (λ i. Some (record { gno = job.gno; rec = sym parts.0 i; input = input i; holders = holders i; schema = schema_is i })),
+        λ is.
+            let made_is : made ≡ job = same_Some made job (sym now ∙ is) in
+            tells.1 (
+              ap (λ (j : Job). j.rec) (sym made_is),
+              ap (λ (j : Job). j.input) (sym made_is) ∙ ap (λ (k : HandedOut). k.input) (sym same),
+              ap (λ (j : Job). j.holders) (sym made_is) ∙ ap (λ (k : HandedOut). k.holders) (sym same),
+              ap (λ (j : Job). j.schema) (sym made_is) ∙ sym tables,
+            ),
+      )
 
-  pub published_kept : (upto : ℕ) (ops_then : List Op) → StandAtLowWater r set line handed rows keys ops → r.published ≤ upto → upto ≤ r.committed → ops_then ≡ drop (upto - r.published) ops → StandAtLowWater (with_published r upto) set line handed rows keys ops_then
-  published_kept upto ops_then h later done is_ops = rw is_ops (kept_published r set line handed rows keys ops upto h later done)
+  -- its record is one of those accepted
+  pub record_within : (gno : ℕ) → ArePartsOf r marks line handed rows keys ops → has_gno r.out gno ≡ true → gno - 1 < length r.accepted
+  record_within gno h out =
+      let under = out_under_way r marks line handed rows keys ops gno h out in
+      let low = under.0 in
+      let high = under.1 in
+      let all = h.counted.dispatched in
+      omega arith
+
+  -- and it is kept there
+  pub place_within : (gno place : ℕ) → ArePartsOf r marks line handed rows keys ops → has_gno r.out gno ≡ true → place ≡ place_in r.out gno → place < length handed
+  place_within gno place h out at =
+      let got = get_within r.accepted (gno - 1) (record_within gno h out) in
+      slice_get_within handed place (kept_of (job_over r.tables gno got.0 rows))
+      (kept_there gno place h out at ∙ ap (option_map kept_of) (job_at r gno got.0 rows got.1 h.log.rows_are))
+
+  -- ---- finish
+
+  pub judged_within : (result : Finished) (place : ℕ) → ArePartsOf r marks line handed rows keys ops → IsJudged r result (Ok place) → place < length handed
+  judged_within result place h judged = place_within result.job.gno place h (out_from r result.job.gno judged.0) judged.2
+
+  pub finished_kept : (result : Finished) (left : List Entry) (place : ℕ) (line_then : Line) (handed_then : List HandedOut) → ArePartsOf r marks line handed rows keys ops → IsJudged r result (Ok place) → IsResult result → result.outcome ≡ Output left → line_then ≡ with_result line result → handed_then ≡ remove handed place →
+      ArePartsOf (with_finished r result.job.gno) marks line_then handed_then rows keys ops
+  finished_kept result left place line_then handed_then h judged made is is_line is_handed =
+      rw (is_line, is_handed)
+      (kept_finished r marks line handed rows keys ops result place h (out_from r result.job.gno judged.0) judged.2 (record { job = judged.1; left = left; output = is; came = made }))
+
+  pub published_kept : (upto : ℕ) (ops_then : List Op) → ArePartsOf r marks line handed rows keys ops → r.published ≤ upto → upto ≤ length r.commits → ops_then ≡ drop (upto - r.published) ops → ArePartsOf (with_published r upto) marks line handed rows keys ops_then
+  published_kept upto ops_then h later done is_ops = rw is_ops (kept_published r marks line handed rows keys ops upto h later done)
 
   -- ---- the next commit
 
-  turn_taken : (rows_left : List Entry) → turn_output line ≡ Some rows_left → (result : Finished) × (turn line ≡ Some result) × (result.outcome ≡ Output rows_left)
-  turn_taken rows_left is =
-      option_and_then_some (λ (result : Finished). output_of result.outcome) (turn line) rows_left is (λ result at out. (result, at, output_is result.outcome out))
-    where
-      output_is : (o : Outcome) → output_of o ≡ Some rows_left → o ≡ Output rows_left
-      output_is (Output entries) out = ap Output (same_Some entries rows_left out)
-      output_is Undefined out = absurd (none-some rows_left out)
-      output_is WrongRefs out = absurd (none-some rows_left out)
-      output_is Lacks out = absurd (none-some rows_left out)
-
-  pub committed_kept : (ts : List Table) (gno : ℕ) (done : Bool) (set_then : CommittedSet) (line_then : Line) (handed_then : List HandedOut) (rows_then : Database) (keys_then : Keys) (ops_then : List Op) → StandAtLowWater r set line handed rows keys ops → ts ≡ r.tables → gno ≡ r.committed + 1 → done ≡ true → TakesTurn ts gno line rows keys ops (Ok done) line_then rows_then keys_then ops_then → set_then ≡ all_up_to gno → handed_then ≡ drop 1 handed → StandAtLowWater (record r { committed = set_then.low; under_way = map is_some line_then.places }) set_then line_then handed_then rows_then keys_then ops_then
-  committed_kept ts gno false set_then line_then handed_then rows_then keys_then ops_then h tables number is put is_set is_handed = absurd (true≢false (sym is))
-  committed_kept ts gno true set_then line_then handed_then rows_then keys_then ops_then h tables number is put is_set is_handed =
-      let next = turn_taken put.left put.output in
-      let up : set_then ≡ all_up_to (r.committed + 1) = is_set ∙ ap all_up_to number in
-      let more : ops_then ≡ ops ++ Commit (r.committed + 1) put.left ∷ [] = put.ops_are ∙ ap (λ n. ops ++ Commit n put.left ∷ []) number in
-      let follow : keys_then ≡ moved r.tables (marks_at r.tables (keys_of put.left) rows) put.left keys =
-      put.keys_are ∙ ap (λ (t : List Table). moved t (marks_at t (keys_of put.left) rows) put.left keys) tables in
-      let kept = as_line _ _ _ _ _ _ _ (kept_committed r set line handed rows keys ops next.0 put.left h next.1 next.2) in
-      rw (up, put.line_is, is_handed, put.rows_are, follow, more) kept
-
-  -- a result whose turn has come has its rows
-  no_turn : StandAtLowWater r set line handed rows keys ops → is_some (turn_output line) ≡ false → turn line ≡ None
-  no_turn h none = elim (turn_cases (turn line)) [
-    | inl absent ↦ absent
-    | inr there ↦
-        let some : 0 < length line.places = taken_within line.places 0 there.0 there.1 in
-        let lengths = length_places r set line handed rows keys ops h in
-        let front : r.committed + 1 - line.first ≡ 0 = (let first = h.first in omega arith) in
-        let taken = h.results (r.committed + 1) there.0 (omega arith, omega arith) (ap (λ n. get_or line.places n None) front ∙ there.1) in
-        let output : turn_output line ≡ Some taken.left =
-        ap (option_and_then (λ (result : Finished). output_of result.outcome)) there.1 ∙ ap output_of taken.output in
-        absurd (true≢false (sym (ap is_some output) ∙ none))
+  -- whose turn it is, as it is told
+  next_is : ArePartsOf r marks line handed rows keys ops → next_commit r ≡ option_map (λ (result : Finished). result.job.gno) (turn line)
+  next_is h = elim (cases_Bool r.preserve) [
+    | inl preserve ↦
+        ap (λ (b : Bool). if b then (if has_gno r.finished (length r.commits + 1) then Some (length r.commits + 1) else None) else slice_get r.finished 0) preserve
+        ∙ (λ i. if has_gno (sym h.turned.done i) (sym (h.turned.next preserve) i) then Some (sym (h.turned.next preserve) i) else None)
+        ∙ sym (turn_kept line (h.turned.preserve ∙ preserve))
+    | inr free ↦
+        ap (λ (b : Bool). if b then (if has_gno r.finished (length r.commits + 1) then Some (length r.commits + 1) else None) else slice_get r.finished 0) free
+        ∙ ap (λ (l : List ℕ). slice_get l 0) (sym h.turned.done)
+        ∙ sym (turn_free line (h.turned.preserve ∙ free))
   ]
-    where
-      turn_cases : (o : Option Finished) → (o ≡ None) ⊎ ((result : Finished) × (o ≡ Some result))
-      turn_cases None = inl refl
-      turn_cases (Some result) = inr (result, refl)
 
-  pub none_committed : (ts : List Table) (gno : ℕ) (done : Bool) (line_then : Line) (rows_then : Database) (keys_then : Keys) (ops_then : List Op) → StandAtLowWater r set line handed rows keys ops → done ≡ false → TakesTurn ts gno line rows keys ops (Ok done) line_then rows_then keys_then ops_then → next_commit r ≡ None
-  none_committed ts gno true line_then rows_then keys_then ops_then h is put = absurd (true≢false is)
-  none_committed ts gno false line_then rows_then keys_then ops_then h is put =
-      let absent : get_or r.under_way 0 false ≡ false = (λ i. get_or (h.places i) 0 false) ∙ get_or-map is_some line.places 0 None ∙ ap is_some (no_turn h put.there) in
-      ap (λ (b : Bool). if b then Some (r.committed + 1) else None) absent
+  -- each result that was taken has rows
+  turn_told : ArePartsOf r marks line handed rows keys ops → (o : Option Finished) → o ≡ turn line → option_map (λ (ready : ℕ × List Entry). ready.0) (option_and_then (λ (result : Finished). option_map {U = ℕ × List Entry} (λ left. (result.job.gno, left)) (output_of result.outcome)) o) ≡ option_map (λ (result : Finished). result.job.gno) o
+  turn_told h None is = refl
+  turn_told h (Some result) is =
+      let taken = turn_has (λ (other : Finished). IsTaken (job_of r other.job.gno) other) line result (sym is) h.results in
+      ap (λ (outcome : Outcome). option_map (λ (ready : ℕ × List Entry). ready.0) (option_map {U = ℕ × List Entry} (λ left. (result.job.gno, left)) (output_of outcome))) taken.output
 
-  -- ---- what is told of a result
+  pub next_seen : ArePartsOf r marks line handed rows keys ops → option_map (λ (ready : ℕ × List Entry). ready.0) (turn_rows line) ≡ next_commit r
+  next_seen h = turn_told h (turn line) refl ∙ sym (next_is h)
 
-  -- the tests of a number, as they are made over the line
-  pub refusal_seen : (now : Replica) (gno low many : ℕ) → StandAtLowWater r set line handed rows keys ops → r ≡ now → r.stopped ≡ None → low ≡ r.committed → many ≡ dispatched now → refusal (nat_le 1 gno && nat_le gno many) (nat_le gno low || is_some (result_at line gno)) ≡ told_as (finish_fault now gno)
-  refusal_seen now gno low many h is running is_low is_many =
-      let count : many ≡ dispatched r = is_many ∙ ap dispatched (sym is) in
-      (λ i. refusal (nat_le 1 gno && nat_le gno (count i)) (nat_le gno (is_low i) || sym (place_seen gno h) i))
-      ∙ refusal_is_cause r.stopped (nat_le 1 gno && nat_le gno (dispatched r)) (nat_le gno r.committed || get_or r.under_way (gno - r.committed - 1) false) running
-      ∙ ap (λ (q : Replica). told_as (finish_fault q gno)) is
+  some_of_first : (o : Option (ℕ × List Entry)) → is_some (option_map (λ (ready : ℕ × List Entry). ready.0) o) ≡ is_some o
+  some_of_first None = refl
+  some_of_first (Some ready) = refl
+
+  pub next_some : ArePartsOf r marks line handed rows keys ops → is_some (turn_rows line) ≡ is_some (next_commit r)
+  next_some h = sym (some_of_first (turn_rows line)) ∙ ap is_some (next_seen h)
+
+-- what a turn came to, as it is told
+pub commits_of : (ts tables : List Table) (o : Option ℕ) (gno : ℕ) (old new : Parts) → ts ≡ tables → o ≡ Some gno → TakesTurn ts (Ok o) old new → CommitsTurn tables gno old new
+commits_of ts tables None gno old new same is put = absurd (none-some gno is)
+commits_of ts tables (Some n) gno old new same is put = subst (λ (t : List Table). CommitsTurn t gno old new) same (subst (λ (k : ℕ). CommitsTurn ts k old new) (same_Some n gno is) put)
+
+pub leaves_of : (ts : List Table) (o : Option ℕ) (old new : Parts) → o ≡ None → TakesTurn ts (Ok o) old new → LeavesTurn false old new
+leaves_of ts None old new is put = put
+leaves_of ts (Some n) old new is put = absurd (none-some n (sym is))
+
+-- no turn came, and what the replica shows stays
+module _ (r : Replica) (marks : Marks) (handed : List HandedOut) (old new : Parts) (h : ArePartsOf r marks old.line handed old.rows old.keys old.ops) (put : LeavesTurn false old new) where
+  pub none_next : next_commit r ≡ None
+  none_next = not_some (next_commit r) (sym (next_some r marks old.line handed old.rows old.keys old.ops h) ∙ put.there)
+
+  pub still_gapped : commits_seen old.line.preserve marks.low old.order ≡ r.commits → ShowsGapped (with_parts r marks new.order new.line) (length (commits_seen new.line.preserve marks.low new.order))
+  still_gapped seen =
+      subst (λ (p : Parts). ShowsGapped (with_parts r marks p.order p.line) (length (commits_seen p.line.preserve marks.low p.order))) (sym put.same)
+      (shows_gapped (with_parts r marks old.order old.line) marks old.line handed old.rows old.keys old.ops (length (commits_seen old.line.preserve marks.low old.order))
+      (parts_kept r marks old.order old.line handed old.rows old.keys old.ops h seen) (omega arith))
+
+-- the result whose turn has come
+record HasTurn (line : Line) (gno : ℕ) (left : List Entry) : Type 0 where
+  result : Finished
+  is : turn line ≡ Some result
+  output : result.outcome ≡ Output left
+  number : result.job.gno ≡ gno
+
+has_turn : (line : Line) (gno : ℕ) (left : List Entry) → turn_rows line ≡ Some (gno, left) → HasTurn line gno left
+has_turn line gno left is =
+    option_and_then_some (λ (result : Finished). option_map {U = ℕ × List Entry} (λ rows. (result.job.gno, rows)) (output_of result.outcome)) (turn line) (gno, left) is
+    (λ result at made. of_output result at result.outcome refl made)
+  where
+    of_output : (result : Finished) → turn line ≡ Some result → (o : Outcome) → o ≡ result.outcome → option_map {U = ℕ × List Entry} (λ rows. (result.job.gno, rows)) (output_of o) ≡ Some (gno, left) → HasTurn line gno left
+    of_output result at (Output entries) same made =
+        let both = same_Some (result.job.gno, entries) (gno, left) made in
+        record {
+          result = result;
+          is = at;
+          output = sym same ∙ ap (λ (p : ℕ × List Entry). Output p.1) both;
+          number = ap (λ (p : ℕ × List Entry). p.0) both;
+        }
+    of_output result at Undefined same made = absurd (none-some (gno, left) made)
+    of_output result at WrongRefs same made = absurd (none-some (gno, left) made)
+    of_output result at Lacks same made = absurd (none-some (gno, left) made)
+
+-- the turn of a record: it was dispatched and is not committed, so it is behind the mark, and near it
+module _ (r : Replica) (marks : Marks) (handed : List HandedOut) (gno : ℕ) (old new : Parts) (h : ArePartsOf r marks old.line handed old.rows old.keys old.ops) (put : CommitsTurn r.tables gno old new) where
+  turn_under_way : IsUnderWay r gno
+  turn_under_way =
+      let now = has_turn old.line gno put.left put.output in
+      subst (λ (n : ℕ). IsUnderWay r n) now.number
+      (finished_under_way r marks old.line handed old.rows old.keys old.ops now.result.job.gno h
+      (ap (λ (l : List ℕ). has_gno l now.result.job.gno) (sym h.turned.done) ∙ turn_waits old.line now.result now.is))
+
+  pub turn_next : Some gno ≡ next_commit r
+  turn_next = ap (option_map (λ (ready : ℕ × List Entry). ready.0)) (sym put.output) ∙ next_seen r marks old.line handed old.rows old.keys old.ops h
+
+  pub turn_later : marks.low < gno
+  turn_later = elim (cases_lt marks.low gno) [
+    | inl behind ↦ behind
+    | inr before ↦
+        let under = turn_under_way in
+        let low = h.counted.low in
+        absurd (true≢false (sym (below_low r.commits gno under.0 (omega arith)) ∙ under.2))
+  ]
+
+  pub turn_near : gno ≤ marks.low + 4096
+  turn_near =
+      let under = turn_under_way in
+      let low = under.0 in
+      let high = under.1 in
+      let all = h.counted.dispatched in
+      let got = get_within r.accepted (gno - 1) (omega arith) in
+      let near = (h.eligible gno got.0 under.0 under.1 got.1).near in
+      let mark = h.counted.low in
+      omega arith
+
+module _ (r : Replica) (marks : Marks) (handed : List HandedOut) (gno : ℕ) (old new : Parts) (marks_then : Marks) (h : ArePartsOf r marks old.line handed old.rows old.keys old.ops) (put : CommitsTurn r.tables gno old new)
+    (exact : (g : ℕ) → is_committed marks_then g ≡ (is_committed marks g || eqb g gno)) (greatest : is_committed marks_then (marks_then.low + 1) ≡ false) where
+  now : HasTurn old.line gno put.left
+  now = has_turn old.line gno put.left put.output
+
+  pub committed_step : ArePartsOf (with_commit r gno) marks_then new.line handed new.rows new.keys new.ops
+  committed_step =
+      rw (put.line_is, put.rows_are, put.keys_are, put.ops_are)
+      (subst (λ (n : ℕ). ArePartsOf (with_commit r n) marks_then (passed old.line) handed (put_batch put.left old.rows) (moved r.tables (marks_at r.tables (keys_of put.left) old.rows) put.left old.keys) (old.ops ++ Commit n put.left ∷ [])) now.number
+      (kept_committed r marks old.line handed old.rows old.keys old.ops now.result put.left h now.is now.output marks_then (λ g. exact g ∙ ap (λ (n : ℕ). is_committed marks g || eqb g n) (sym now.number)) greatest))
+
+  -- in the order of the log the mark goes up by one
+  goes_up : r.preserve ≡ true → (gno ≡ marks.low + 1) × (marks_then.low ≡ marks.low + 1)
+  goes_up preserve =
+      let next : gno ≡ length r.commits + 1 = sym now.number ∙ next_in_turn r marks old.line handed old.rows old.keys old.ops now.result put.left h now.is now.output preserve in
+      let low : marks.low ≡ length r.commits = h.counted.low ∙ low_in_order r (h.counted.in_turn preserve) in
+      let low_then : marks_then.low ≡ length (r.commits ++ gno ∷ []) =
+      committed_step.counted.low ∙ low_in_order (with_commit r gno) (committed_step.counted.in_turn preserve) in
+      (omega arith, omega (arith, length_push r.commits gno))
+
+  commits_are : commits_seen old.line.preserve marks.low old.order ≡ r.commits → commits_seen new.line.preserve marks_then.low new.order ≡ r.commits ++ gno ∷ []
+  commits_are seen =
+      (λ i. commits_seen ((put.line_is i).preserve) marks_then.low (put.order_is i))
+      ∙ commits_then old.line.preserve marks.low marks_then.low old.order gno (λ preserve. goes_up (sym h.turned.preserve ∙ preserve))
+      ∙ ap (λ (l : List ℕ). l ++ gno ∷ []) seen
+
+  pub committed_seen : commits_seen old.line.preserve marks.low old.order ≡ r.commits → with_parts r marks_then new.order new.line ≡ with_commit r gno
+  committed_seen seen = as_parts (with_commit r gno) marks_then new.order new.line handed new.rows new.keys new.ops committed_step (commits_are seen)
+
+  pub committed_kept : commits_seen old.line.preserve marks.low old.order ≡ r.commits → ArePartsOf (with_parts r marks_then new.order new.line) marks_then new.line handed new.rows new.keys new.ops
+  committed_kept seen = parts_kept (with_commit r gno) marks_then new.order new.line handed new.rows new.keys new.ops committed_step (commits_are seen)
+
+  pub committed_gapped : commits_seen old.line.preserve marks.low old.order ≡ r.commits → ShowsGapped (with_parts r marks_then new.order new.line) (length (commits_seen new.line.preserve marks_then.low new.order))
+  committed_gapped seen =
+      shows_gapped (with_parts r marks_then new.order new.line) marks_then new.line handed new.rows new.keys new.ops (length (commits_seen new.line.preserve marks_then.low new.order)) (committed_kept seen) (omega arith)
+
+-- what is looked up in a list
+pub got_there : {X : Type 0} (xs : List X) (n : ℕ) (x : X) → n < length xs → x ≡ get_or xs n x → slice_get xs n ≡ Some x
+got_there xs n x within is = slice_get_read xs (length xs) n x refl within is
+
+pub not_eligible : (r : Replica) → slice_get r.accepted r.dispatched ≡ None → false ≡ is_eligible r
+not_eligible r none =
+    ap (λ (o : Option Record). option_map_or (λ rec. nat_le rec.parent (low_water r)) o false && nat_lt (r.dispatched - length r.commits) r.workers && is_near r) (sym none)
+
+pub stays_false : (b other : Bool) → b ≡ false → b ≡ (b && other)
+stays_false false other is = refl
+stays_false true other is = cc
+
+-- what is told of a result: the tests of a number, as they are made over the line
+pub refusal_seen : (r : Replica) (gno many : ℕ) → r.stopped ≡ None → many ≡ r.dispatched → refusal (nat_le 1 gno && nat_le gno many) (has_gno r.out gno) ≡ told_as (finish_fault r gno)
+refusal_seen r gno many running is =
+    ap (λ (n : ℕ). refusal (nat_le 1 gno && nat_le gno n) (has_gno r.out gno)) is
+    ∙ refusal_is_cause r.stopped (nat_le 1 gno && nat_le gno r.dispatched) (has_gno r.out gno) running

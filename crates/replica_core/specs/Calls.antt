@@ -1,8 +1,10 @@
 -- What each call of a replica answers, and what it leaves.
-use Rattle.std.specs.Prelude.{◌≡◌, ℕ, ◌+◌, ◌-◌, Bool, true, false, not, ◌&&◌, ◌||◌, nat_le, nat_lt, if◌then◌else◌, List, [], ◌∷◌, ◌++◌, length, drop, slice_get, slice_set, slice_index_or, Option, Some, None, Result, Ok, Err}
+use Rattle.std.specs.Prelude.{◌≡◌, ℕ, ◌+◌, ◌-◌, Bool, false, not, ◌&&◌, ◌||◌, ◌==◌, nat_le, nat_lt, if◌then◌else◌, List, [], ◌∷◌, ◌++◌, length, slice_get, Option, Some, None, Result, Ok, Err}
 use Rattle.std.specs.Option.{option_map_or, option_or}
 use Rattle.schema.specs.declared.Table.{Table}
-use Rattle.gtid_set.specs.Ids.{Ids, first_ids}
+use Rattle.gtid_set.specs.Ids.{Ids, IsSet, first_ids}
+use Rattle.gtid_set.specs.Numbers.{has_number}
+use Rattle.scheduler.specs.Gnos.{has_gno, without}
 use Rattle.store_trait.specs.Batch.{Entry}
 use Rattle.record_codec.specs.declared.records.Record.{Record}
 use Rattle.executor.specs.declared.Job.{Job}
@@ -14,19 +16,22 @@ use Rattle.relay.specs.declared.ReplicaFault.TheVariants.{Gap, ForeignSource, Ma
 use Rattle.relay.specs.declared.Received.{Received}
 use Rattle.relay.specs.declared.Received.TheVariants.{Accepted, Skipped}
 use Rattle.relay.specs.Relay as relay
-use Rattle.replica_core.specs.Replica.{Replica, dispatched, job_of}
+use Rattle.replica_core.specs.Replica.{Replica, low_water, job_of}
 
 -- new: nothing is accepted yet
 
-abbrev pub new_over : List Table → List ℕ → List Entry → ℕ → Replica
-new_over ts source base workers = record {
+abbrev pub new_over : List Table → List ℕ → List Entry → ℕ → Bool → Replica
+new_over ts source base workers preserve = record {
   tables = ts;
   source = source;
   base = base;
   accepted = [];
-  committed = 0;
+  preserve = preserve;
+  commits = [];
   published = 0;
-  under_way = [];
+  dispatched = 0;
+  out = [];
+  finished = [];
   workers = workers;
   stopped = None;
 }
@@ -55,30 +60,30 @@ abbrev pub left_by_receive : Replica → Record → Received → Replica
 left_by_receive r new Accepted = with_accepted r new
 left_by_receive r new Skipped = r
 
--- dispatch: the next record in log order, once its parent is committed and a worker is free
+-- dispatch: the next record in log order, once all up to its parent are committed and a worker is free; where the order of the log is
+-- not kept, also only as far ahead of the low-water mark as there are places
+
+abbrev pub is_near : Replica → Bool
+is_near r = r.preserve || nat_le (r.dispatched + 1) (low_water r + 4096)
 
 abbrev pub is_eligible : Replica → Bool
 is_eligible r =
-    option_map_or (λ next. nat_le next.parent r.committed) (slice_get r.accepted (dispatched r)) false
-    && nat_lt (length r.under_way) r.workers
+    option_map_or (λ next. nat_le next.parent (low_water r)) (slice_get r.accepted r.dispatched) false
+    && nat_lt (r.dispatched - length r.commits) r.workers && is_near r
 
 abbrev pub next_job : Replica → Option Job
-next_job r = if is_eligible r then job_of r (dispatched r + 1) else None
+next_job r = if is_eligible r then job_of r (r.dispatched + 1) else None
 
 abbrev pub dispatched_next : Replica → Replica
-dispatched_next r = record r { under_way = r.under_way ++ false ∷ [] }
+dispatched_next r = record r { dispatched = r.dispatched + 1; out = r.out ++ (r.dispatched + 1) ∷ [] }
 
 -- finish: the result of a job that was handed out, and of which none was taken
-
--- among those committed, or among those whose results were taken
-abbrev pub was_finished : Replica → ℕ → Bool
-was_finished r gno = nat_le gno r.committed || slice_index_or r.under_way (gno - r.committed - 1) false
 
 abbrev pub finish_fault : Replica → ℕ → Option ReplicaFault
 finish_fault r gno =
     option_or (stop_fault r)
-    (if not (nat_le 1 gno && nat_le gno (dispatched r)) then Some Stranger
-    else if was_finished r gno then Some Double
+    (if not (nat_le 1 gno && nat_le gno r.dispatched) then Some Stranger
+    else if not (has_gno r.out gno) then Some Double
     else None)
 
 -- the result is of the job that was handed out: the record, the rows, the holders and the schema
@@ -94,7 +99,7 @@ taken_as result outcomes.WrongRefs = Err (Stopped result.job.gno, result)
 taken_as result outcomes.Memory = Err (Memory, result)
 
 abbrev pub with_finished : Replica → ℕ → Replica
-with_finished r gno = record r { under_way = slice_set r.under_way (gno - r.committed - 1) true }
+with_finished r gno = record r { out = without gno r.out; finished = r.finished ++ gno ∷ [] }
 
 abbrev pub stopped_at : Replica → ℕ → Replica
 stopped_at r gno = record r { stopped = Some gno }
@@ -111,13 +116,14 @@ left_by_fault r Double = r
 left_by_fault r WrongInput = r
 left_by_fault r Memory = r
 
--- commit_next: the next record in log order, once its result was taken
+-- commit_next: in the order of the log the next record, once its result was taken; else the record whose result was taken first
 
 abbrev pub next_commit : Replica → Option ℕ
-next_commit r = if slice_index_or r.under_way 0 false then Some (r.committed + 1) else None
+next_commit r =
+    if r.preserve then (if has_gno r.finished (length r.commits + 1) then Some (length r.commits + 1) else None) else slice_get r.finished 0
 
-abbrev pub committed_next : Replica → Replica
-committed_next r = record r { committed = r.committed + 1; under_way = drop 1 r.under_way }
+abbrev pub with_commit : Replica → ℕ → Replica
+with_commit r gno = record r { commits = r.commits ++ gno ∷ []; finished = without gno r.finished }
 
 -- publish
 
@@ -126,5 +132,14 @@ with_published r upto = record r { published = upto }
 
 -- executed: the ids of the committed records
 
+abbrev pub executed_source : Replica → Option (List ℕ)
+executed_source r = if length r.commits == 0 then None else Some r.source
+
+pub record AreExecuted (r : Replica) (ids : Ids) : Type 0 where
+  pub is_set : IsSet ids
+  pub source : ids.source ≡ executed_source r
+  pub numbers : (n : ℕ) → has_number ids.numbers n ≡ has_gno r.commits n
+
+-- in the order of the log those from 1 to their number
 abbrev pub executed_ids : Replica → Ids
-executed_ids r = first_ids r.source r.committed
+executed_ids r = first_ids r.source (length r.commits)

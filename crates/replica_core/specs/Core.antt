@@ -1,5 +1,6 @@
 -- What the parts of a replica keep.
-use Rattle.std.specs.Prelude.{◌≡◌, ◌⊎◌, ℕ, ◌+◌, ◌-◌, ◌≤◌, Bool, true, false, List, [], ◌∷◌, ◌++◌, map, length, take, drop, slice_get, Option, Some, None, is_some, option_and_then, Result, Ok, Err}
+use Rattle.std.specs.Prelude.{◌≡◌, ◌⊎◌, ℕ, ◌+◌, ◌≤◌, ◌&&◌, ◌==◌, nat_le, Bool, true, false, if◌then◌else◌, List, [], ◌∷◌, ◌++◌, map, length, Option, Some, None, is_some, option_and_then, Result, Ok, Err, IfSome}
+use Rattle.std.specs.List.{AllByRecursion, position_or_len}
 use Rattle.std.specs.Option.{option_map}
 use Rattle.std.specs.Map.{keys_of}
 use Rattle.std.specs.FinMap.{get}
@@ -11,8 +12,6 @@ use Rattle.store_trait.specs.Batch.{Entry, put_batch}
 use Rattle.store_trait.specs.Operation.{loaded}
 use Rattle.store_trait.specs.declared.Op.TheVariants.{Commit}
 use Rattle.store_trait.specs.declared.Op.{Op}
-use Rattle.record_codec.specs.declared.records.Record.{Record}
-use Rattle.record_codec.specs.Log.{after, StateMarks}
 use Rattle.executor.specs.declared.Job.{Job}
 use Rattle.executor.specs.declared.Outcome.TheVariants.{Output}
 use Rattle.executor.specs.Held.{Holder}
@@ -21,24 +20,35 @@ use Rattle.relay.specs.declared.ReplicaFault.{ReplicaFault}
 use Rattle.relay.specs.declared.ReplicaFault.TheVariants.{WrongInput}
 use Rattle.relay.specs.Relay as relay
 use Rattle.relay.specs.Relay.{AreAcceptable}
+use Rattle.gtid_set.specs.Ids.{Ids, IsSet}
+use Rattle.gtid_set.specs.Numbers.{has_number}
 use Rattle.row_index.specs.Keys.{Keys, Indexes, marks_at, moved}
-use Rattle.scheduler.specs.CommittedSet.{CommittedSet, all_up_to}
-use Rattle.commit_order.specs.Turns.{Line, result_at, turn, passed}
+use Rattle.scheduler.specs.Gnos.{has_gno, first_gnos, AreDistinct}
+use Rattle.scheduler.specs.Marks.{Marks, is_committed}
+use Rattle.gapped.specs.Gapped.{AreCommits}
+use Rattle.commit_order.specs.Turns.{Line, turn, passed}
 use Rattle.replica_core.specs.declared.dispatching.HandedOut.{HandedOut}
-use Rattle.replica_core.specs.Replica.{Replica, dispatched, commits, job_of}
-use Rattle.replica_core.specs.Sound.{IsUnderWay, AreEligible}
+use Rattle.replica_core.specs.Replica.{Replica, low_water, working_rows, waiting, job_of}
+use Rattle.replica_core.specs.Sound.{AreEligible}
 use Rattle.replica_core.specs.Calls.{finish_fault, IsHandedOut}
 
+-- the gnos of the commits: in the order of the log those up to the mark, else as they are kept
+abbrev pub commits_seen : Bool → ℕ → List ℕ → List ℕ
+commits_seen preserve low order = if preserve then first_gnos low else order
+
 -- a replica of these parts
-abbrev pub seen_as : relay.Relay → List Entry → CommittedSet → ℕ → Line → ℕ → Option ℕ → Replica
-seen_as received base set published line workers stopped = record {
+abbrev pub seen_as : relay.Relay → List Entry → Marks → List ℕ → ℕ → Line → ℕ → Option ℕ → Replica
+seen_as received base marks order published line workers stopped = record {
   tables = received.tables;
   source = received.source;
   base = base;
   accepted = received.accepted;
-  committed = set.low;
+  preserve = line.preserve;
+  commits = commits_seen line.preserve marks.low order;
   published = published;
-  under_way = map is_some line.places;
+  dispatched = length (commits_seen line.preserve marks.low order) + (length line.out + length line.done);
+  out = line.out;
+  finished = map (λ (result : Finished). result.job.gno) line.done;
   workers = workers;
   stopped = stopped;
 }
@@ -55,74 +65,118 @@ pub record IsSetUp (workers : ℕ) : Type 0 where
   pub some : 1 ≤ workers
   pub few : workers ≤ 64
 
--- What only records and commits change: the rows are those after the committed records, which state their true marks, the keys say
--- who has each mark among them, and the operations are the commits that are not published; and the base has no value twice in a
--- unique column.
-pub record IsLogKept (ts : List Table) (base : List Entry) (accepted : List Record) (committed shown : ℕ) (rows : Database) (keys : Keys) (ops : List Op) : Type 0 where
-  pub acceptable : AreAcceptable ts accepted
-  pub rows_are : after ts (loaded base) (take committed accepted) ≡ Some rows
-  pub stated : StateMarks ts (loaded base) (take committed accepted)
-  pub apart : NoValueTwice ts (loaded base)
-  pub indexed : Indexes ts rows keys
-  pub published : shown ≤ committed
-  pub ops_are : ops ≡ drop shown (commits ts (loaded base) accepted committed)
+-- What only records and commits change: the commits may come one behind another, the rows are what they leave, the keys say who has
+-- each mark among them, and the operations are the commits that are not published; and the base has no value twice in a unique column.
+pub record IsLogKept (r : Replica) (rows : Database) (keys : Keys) (ops : List Op) : Type 0 where
+  pub acceptable : AreAcceptable r.tables r.accepted
+  pub commits : AreCommits r.tables (loaded r.base) r.accepted r.commits
+  pub rows_are : working_rows r ≡ Some rows
+  pub apart : NoValueTwice r.tables (loaded r.base)
+  pub indexed : Indexes r.tables rows keys
+  pub published : r.published ≤ length r.commits
+  pub ops_are : ops ≡ waiting r
 
 -- what is kept of a job: its rows, and the holders of its marks
 abbrev pub kept_of : Job → HandedOut
-kept_of job = record { input = job.input; holders = job.holders }
+kept_of job = record { gno = job.gno; input = job.input; holders = job.holders }
 
 -- these marks, each with the key of the row that has it
 abbrev pub looked_up : Keys → List Mark → List Holder
 looked_up keys marks = map (λ mark. (mark, get keys mark)) marks
 
--- The parts of a replica stand at its low-water mark: the store contains the rows after the committed records, the index has the
--- keys of those that have a mark, and the operations are the commits that are not published. What is kept is of the jobs between dispatch and commit, in order, and each
--- result that was taken is of its record's job.
-pub record StandAtLowWater (r : Replica) (set : CommittedSet) (line : Line) (handed : List HandedOut) (rows : Database) (keys : Keys) (ops : List Op) : Type 0 where
-  pub set_up : IsSetUp r.workers
-  pub log : IsLogKept r.tables r.base r.accepted r.committed r.published rows keys ops
-  pub set_is : set ≡ all_up_to r.committed
-  pub dispatched : dispatched r ≤ length r.accepted
-  pub busy : length r.under_way ≤ r.workers
-  pub eligible : AreEligible r
-  pub first : line.first ≡ r.committed + 1
-  pub places : r.under_way ≡ map is_some line.places
-  pub count : length handed ≡ length r.under_way
-  pub kept : (gno : ℕ) → IsUnderWay r gno → slice_get handed (gno - r.committed - 1) ≡ option_map kept_of (job_of r gno)
-  pub results : (gno : ℕ) (result : Finished) → IsUnderWay r gno → result_at line gno ≡ Some result → IsTaken (job_of r gno) result
+-- The line has those that are out, and the results of those that are finished; in the order of the log its turn is that of the record
+-- behind the commits.
+pub record IsTurned (r : Replica) (line : Line) : Type 0 where
+  pub preserve : line.preserve ≡ r.preserve
+  pub next : r.preserve ≡ true → line.next ≡ length r.commits + 1
+  pub out : line.out ≡ r.out
+  pub done : map (λ (result : Finished). result.job.gno) line.done ≡ r.finished
 
--- the rows of the result whose turn has come, where it has any
+-- The records dispatched are each committed, out or finished. The scheduler has the commits marked. In the order of the log they are
+-- those from 1 to their number.
+pub record IsCounted (r : Replica) (marks : Marks) : Type 0 where
+  pub dispatched : r.dispatched ≤ length r.accepted
+  pub counted : r.dispatched ≡ length r.commits + (length r.out + length r.finished)
+  pub busy : length r.out + length r.finished ≤ r.workers
+  pub distinct : AreDistinct (r.commits ++ (r.out ++ r.finished))
+  pub each : (gno : ℕ) → has_gno (r.commits ++ (r.out ++ r.finished)) gno ≡ (nat_le 1 gno && nat_le gno r.dispatched)
+  pub marked : (gno : ℕ) → 1 ≤ gno → is_committed marks gno ≡ has_gno r.commits gno
+  pub low : marks.low ≡ low_water r
+  pub in_turn : r.preserve ≡ true → r.commits ≡ first_gnos (length r.commits)
+
+-- The parts of a replica stand together. What is kept is of the jobs that have no result, in log order, and each result that was taken is
+-- of its record's job.
+pub record ArePartsOf (r : Replica) (marks : Marks) (line : Line) (handed : List HandedOut) (rows : Database) (keys : Keys) (ops : List Op) : Type 0 where
+  pub set_up : IsSetUp r.workers
+  pub log : IsLogKept r rows keys ops
+  pub turned : IsTurned r line
+  pub counted : IsCounted r marks
+  pub eligible : AreEligible r
+  pub kept : map Some handed ≡ map (λ gno. option_map kept_of (job_of r gno)) r.out
+  pub results : AllByRecursion (λ (result : Finished). IsTaken (job_of r result.job.gno) result) line.done
+
+-- ---- the next commit
+
+-- the rows of the result whose turn has come, where it has any; and with them its record's number
 abbrev pub turn_output : Line → Option (List Entry)
 turn_output line = option_and_then (λ (result : Finished). output_of result.outcome) (turn line)
 
--- the rows of the result whose turn had come were put, the keys followed them, and they are kept as the commit of this number
-pub record CommitsTurn (ts : List Table) (gno : ℕ) (line : Line) (rows : Database) (keys : Keys) (ops : List Op) (line_then : Line) (rows_then : Database) (keys_then : Keys) (ops_then : List Op) : Type 0 where
+abbrev pub turn_rows : Line → Option (ℕ × List Entry)
+turn_rows line = option_and_then (λ (result : Finished). option_map (λ rows. (result.job.gno, rows)) (output_of result.outcome)) (turn line)
+
+-- the parts that a commit changes: the line, the working rows, who has each value there, the operations that wait, and the gnos of the
+-- commits, where these are kept
+pub record Parts : Type 0 where
+  pub line : Line
+  pub rows : Database
+  pub keys : Keys
+  pub ops : List Op
+  pub order : List ℕ
+
+-- the rows of the result whose turn had come were put, the keys followed them, and they are kept as the commit of its record
+pub record CommitsTurn (ts : List Table) (gno : ℕ) (old new : Parts) : Type 0 where
   pub left : List Entry
-  pub output : turn_output line ≡ Some left
-  pub line_is : line_then ≡ passed line
-  pub rows_are : rows_then ≡ put_batch left rows
-  pub keys_are : keys_then ≡ moved ts (marks_at ts (keys_of left) rows) left keys
-  pub ops_are : ops_then ≡ ops ++ Commit gno left ∷ []
+  pub output : turn_rows old.line ≡ Some (gno, left)
+  pub line_is : new.line ≡ passed old.line
+  pub rows_are : new.rows ≡ put_batch left old.rows
+  pub keys_are : new.keys ≡ moved ts (marks_at ts (keys_of left) old.rows) left old.keys
+  pub ops_are : new.ops ≡ old.ops ++ Commit gno left ∷ []
+  pub order_is : new.order ≡ (if old.line.preserve then old.order else old.order ++ gno ∷ [])
 
 -- no result has its turn, or memory ran out, and nothing changed
-pub record LeavesTurn (output : Option (List Entry)) (is_there : Bool) (line : Line) (rows : Database) (keys : Keys) (ops : List Op) (line_then : Line) (rows_then : Database) (keys_then : Keys) (ops_then : List Op) : Type 0 where
-  pub there : is_some output ≡ is_there
-  pub line_is : line_then ≡ line
-  pub rows_are : rows_then ≡ rows
-  pub keys_are : keys_then ≡ keys
-  pub ops_are : ops_then ≡ ops
+pub record LeavesTurn (is_there : Bool) (old new : Parts) : Type 0 where
+  pub there : is_some (turn_rows old.line) ≡ is_there
+  pub same : new ≡ old
 
-abbrev pub TakesTurn : List Table → ℕ → Line → Database → Keys → List Op → Result Bool Memory → Line → Database → Keys → List Op → Type 0
-TakesTurn ts gno line rows keys ops (Ok true) line_then rows_then keys_then ops_then =
-    CommitsTurn ts gno line rows keys ops line_then rows_then keys_then ops_then
-TakesTurn ts gno line rows keys ops (Ok false) line_then rows_then keys_then ops_then =
-    LeavesTurn (turn_output line) false line rows keys ops line_then rows_then keys_then ops_then
-TakesTurn ts gno line rows keys ops (Err memory) line_then rows_then keys_then ops_then =
-    LeavesTurn (turn_output line) true line rows keys ops line_then rows_then keys_then ops_then
+abbrev pub TakesTurn : List Table → Result (Option ℕ) Memory → Parts → Parts → Type 0
+TakesTurn ts (Ok (Some gno)) old new = CommitsTurn ts gno old new
+TakesTurn ts (Ok None) old new = LeavesTurn false old new
+TakesTurn ts (Err memory) old new = LeavesTurn true old new
 
--- what is told of a result: it is of a job that was handed out and of which none was taken, or this refuses it
-abbrev pub IsJudged : Replica → Finished → Result (Unit {0}) ReplicaFault → Type 0
-IsJudged r result (Ok done) = (finish_fault r result.job.gno ≡ None) × IsHandedOut r result
+-- ---- results
+
+-- the place of a number among these; past all of them where it is not there
+abbrev pub place_in : List ℕ → ℕ → ℕ
+place_in gnos gno = position_or_len (λ (n : ℕ). n == gno) gnos
+
+-- what is told of a result: it is of a job that was handed out and of which none was taken, and this is the place where what was handed
+-- out is kept; or this refuses it
+abbrev pub IsJudged : Replica → Finished → Result ℕ ReplicaFault → Type 0
+IsJudged r result (Ok place) = (finish_fault r result.job.gno ≡ None) × IsHandedOut r result × (place ≡ place_in r.out result.job.gno)
 IsJudged r result (Err fault) =
     (finish_fault r result.job.gno ≡ Some fault)
     ⊎ ((finish_fault r result.job.gno ≡ None) × (IsHandedOut r result → ⊥) × (fault ≡ WrongInput))
+
+-- ---- ids
+
+-- the numbers of these ids are those from 1 to the last one that are marked, and their source is this one
+pub record AreMarked (source : List ℕ) (marks : Marks) (last : ℕ) (ids : Ids) : Type 0 where
+  pub is_set : IsSet ids
+  pub source_is : IfSome ids.source (λ own. own ≡ source)
+  pub numbers : (gno : ℕ) → has_number ids.numbers gno ≡ (nat_le 1 gno && nat_le gno last && is_committed marks gno)
+
+-- some number is marked
+pub record IsMarked (marks : Marks) : Type 0 where
+  pub gno : ℕ
+  pub from_one : 1 ≤ gno
+  pub marked : is_committed marks gno ≡ true

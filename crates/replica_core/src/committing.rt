@@ -1,8 +1,9 @@
 //! The next commit, and what is taken off behind it.
 
-ghost use Rattle.std.specs.Prelude.{◌≡◌, ◌≤◌, length, drop, is_some, if◌then◌else◌, option_copied};
+ghost use Rattle.std.specs.Prelude.{◌≡◌, ◌≤◌, length, drop, is_some, if◌then◌else◌};
+ghost use Rattle.std.specs.Option.{option_map};
 ghost use Rattle.commit_order.specs.Turns.{turn, passed};
-ghost use Rattle.replica_core.specs.Core.{turn_output, TakesTurn};
+ghost use Rattle.replica_core.specs.Core.{turn_output, turn_rows, TakesTurn};
 
 use crate::stored::Stored;
 use commit_order::Turns;
@@ -10,37 +11,47 @@ use executor::Outcome;
 use schema::{Memory, Schema};
 use store_trait::{Batch, Op, RowStore};
 
-/// Puts the rows of the result whose turn has come, where there is one, and keeps them as the commit of this number.
-/// Answers whether it did. Where memory runs out nothing changes.
+/// Puts the rows of the result whose turn has come, where there is one, keeps them as the commit of its record, and answers the
+/// record's number; where the order of the log is not kept the number goes behind those of the earlier commits. Where memory runs out
+/// nothing changes.
 pub fn commit_turn<S: RowStore>(
     schema: &Schema,
     stored: &mut Stored<S>,
     waiting: &mut Vec<Op>,
+    order: &mut Vec<u64>,
     turns: &mut Turns,
-    gno: u64,
-) -> Result<bool, Memory>
-    ensures { TakesTurn schema.now gno turns.old (S.contents stored.old.store) stored.old.index.keys waiting.old.items result
-        turns.new (S.contents stored.new.store) stored.new.index.keys waiting.new.items }
+) -> Result<Option<u64>, Memory>
+    ensures { TakesTurn schema.now result
+        (record { line = turns.old; rows = S.contents stored.old.store; keys = stored.old.index.keys; ops = waiting.old.items; order = order.old.items })
+        (record { line = turns.new; rows = S.contents stored.new.store; keys = stored.new.index.keys; ops = waiting.new.items; order = order.new.items }) }
 {
-    let Some(batch) = ready_rows(turns) else {
-        return Ok(false);
+    let Some((gno, batch)) = ready_rows(turns) else {
+        return Ok(None);
     };
     // Room first: behind the put nothing may fail.
     waiting.reserve(1)?;
+    let noted = !turns.preserve();
+    if noted {
+        order.reserve(1)?;
+    }
     stored.put(*waiting.allocator(), schema, batch)?;
     let Some(batch) = take_rows(turns) else {
         unreachable!();
     };
     waiting.push(Op::Commit { gno, batch }).unwrap();
-    Ok(true)
+    if noted {
+        order.push(gno).unwrap();
+    }
+    Ok(Some(gno))
 }
 
-/// The rows of the result whose turn has come.
-fn ready_rows(turns: &Turns) -> Option<&Batch>
-    ensures { option_copied result ≡ turn_output turns.now }
+/// The number and the rows of the result whose turn has come.
+fn ready_rows(turns: &Turns) -> Option<(u64, &Batch)>
+    ensures { option_map (λ ready. (ready.0, ready.1.now)) result ≡ turn_rows turns.now }
 {
-    match turns.ready()?.outcome() {
-        Outcome::Output(batch) => Some(batch),
+    let done = turns.ready()?;
+    match done.outcome() {
+        Outcome::Output(batch) => Some((done.gno(), batch)),
         Outcome::Undefined | Outcome::WrongRefs | Outcome::Memory => None,
     }
 }

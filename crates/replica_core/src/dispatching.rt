@@ -1,12 +1,13 @@
 //! What is handed out, what is kept of it, and what is refused.
 
-ghost use Rattle.std.specs.Prelude.{◌≡◌, ◌+◌, ◌&&◌, ◌||◌, nat_le, not, is_some, map, Ok, Err, IfOk, if◌then◌else◌};
-ghost use Rattle.commit_order.specs.Turns.{result_at};
+ghost use Rattle.std.specs.Prelude.{◌≡◌, ◌&&◌, ◌==◌, nat_le, not, map, Ok, Err, IfOk, if◌then◌else◌};
+ghost use Rattle.std.specs.List.{position_or_len};
 ghost use Rattle.std.specs.Option.{option_map_or};
 ghost use Rattle.std.specs.FinMap.{get as row_of};
 ghost use Rattle.rows.specs.Database.{Database, writes};
 ghost use Rattle.store_trait.specs.Batch.{rows_in};
 ghost use Rattle.executor.specs.Job.{rows_of};
+ghost use Rattle.scheduler.specs.Gnos.{has_gno};
 ghost use Rattle.replica_core.specs.Replica.{job_over};
 ghost use Rattle.row_index.specs.Keys.{Indexes};
 ghost use Rattle.replica_core.specs.Core.{kept_of, looked_up};
@@ -25,6 +26,7 @@ use store_trait::{Batch, RowStore};
 /// What is kept of a job that was handed out: its record stands among those accepted, and its schema is the relay's.
 #[derive(Debug, Drop)]
 pub struct HandedOut {
+    pub gno: u64,
     pub input: Batch,
     pub holders: Holders,
 }
@@ -35,6 +37,7 @@ impl HandedOut {
         ensures { IfOk result (λ kept. kept ≡ kept_of job.now) }
     {
         Ok(HandedOut {
+            gno: job.gno,
             input: job.input.copy()?,
             holders: job.holders.copy()?,
         })
@@ -51,26 +54,29 @@ pub fn refuse_stopped(stopped: Option<u64>) -> Result<(), ReplicaFault>
     }
 }
 
-/// Refuses a record that was not dispatched, or of which a result was taken, where so many records are committed and
-/// so many dispatched.
-pub fn refuse_finish(
-    turns: &Turns,
-    committed: u64,
-    dispatched: u64,
-    gno: u64,
-) -> Result<(), ReplicaFault>
-    requires { turns.now.first ≡ committed + 1 }
+/// Refuses a record that was not dispatched, or of which a result was taken, where so many are dispatched.
+pub fn refuse_finish(turns: &Turns, dispatched: u64, gno: u64) -> Result<(), ReplicaFault>
     ensures { result ≡ (if not (nat_le 1 gno && nat_le gno dispatched) then Err ReplicaFault.Stranger
-        else if nat_le gno committed || is_some (result_at turns.now gno) then Err ReplicaFault.Double
+        else if not (has_gno turns.now.out gno) then Err ReplicaFault.Double
         else Ok tt) }
 {
     if gno == 0 || gno > dispatched {
         return Err(ReplicaFault::Stranger);
     }
-    if gno <= committed || turns.is_finished(gno) {
+    if !turns.is_out(gno) {
         return Err(ReplicaFault::Double);
     }
     Ok(())
+}
+
+/// The place of the first that is kept of this number; past all where none is.
+pub fn place_kept(handed: &[HandedOut], gno: u64) -> usize
+    ensures { result ≡ position_or_len (λ kept. kept.gno == gno) handed.now }
+{
+    handed
+        .iter()
+        .position(|kept| kept.gno == gno)
+        .unwrap_or(handed.len())
 }
 
 /// The job of this record over the rows of the store.

@@ -1,40 +1,44 @@
-//! The replica: it accepts the records of a log in order, hands them out to many workers, commits what comes back in log
-//! order, and hands out what is to be published.
+//! The replica: it accepts the records of a log in order, hands them out to many workers, commits what comes back, and hands out what is
+//! to be published. Commits are in the order of the log, or in that in which the results came, as the replica was made.
 //!
 //! A `ReplicaCore` is a plain machine that is stepped by calls; it has no handle and no thread. Contracts see it
 //! as the record `Replica` of `specs/Replica.antt`. It keeps true that its store contains the database after the
 //! committed records, that its index tells who has each value of a unique column there, and that its waiting operations are the
 //! commits past the published ones. So no call walks a table: a job's holders are looked up. What each call
 //! answers and leaves is defined in `specs/Calls.antt`, and what is true of every replica in `specs/Sound.antt`. Nothing
-//! that is received is trusted: the parent of each accepted record covers those before it (`relay`), so the rows of a job
-//! are those of every database up to its record's place, and so are the holders of its marks where the records that lead there
-//! state their true marks; that a record applies, and states these, is known once it was executed. A `Wire` takes
+//! that is received is trusted: the parent of each accepted record covers those before it (`relay`), and a record is handed out once
+//! all up to its parent are committed. So no two records under way conflict: the commit of one leaves the rows of the job of the other,
+//! and the holders of its marks, and the working rows are what the committed records leave in log order, whatever the order of their
+//! commits. That a record applies, and states its true refs and marks, is known once it was executed. A `Wire` takes
 //! the bytes of a log in pieces and hands on their records (`specs/Wire.antt`). It stands on `relay`, `scheduler`, `executor`
-//! and `commit_order`, on `store_trait` for the rows, on `row_index` for who has which value, on `record_codec` and `record_stream`
-//! for records, and on `gtid_set` for ids.
+//! and `commit_order`, on `gapped` for what commits in any order leave, on `store_trait` for the rows, on `row_index` for who has which
+//! value, on `record_codec` and `record_stream` for records, and on `gtid_set` for ids.
 #![tactic(auto)]
 
-ghost use Rattle.std.specs.Prelude.{◌≡◌, ◌≤◌, ◌<◌, ◌⊎◌, ◌↔◌, IsTrue, IfOk, IfSome, OnOk, OnErr, IfErr, IsErrOf, IsSome, None, Err, Ok, is_some, true, false, ◌+◌, if◌then◌else◌};
+ghost use Rattle.std.specs.Prelude.{◌≡◌, ◌+◌, ◌≤◌, ◌<◌, ◌⊎◌, ◌↔◌, IsTrue, length, IfOk, IfSome, OnOk, OnErr, IfErr, IsErrOf, IsSome, None, Some, Err, Ok, is_some, true, false, if◌then◌else◌};
 ghost use Rattle.std.specs.Option.{option_map_or};
 ghost use Rattle.store_trait.specs.Batch.{all_rows};
 ghost use Rattle.store_trait.specs.Fits.{Fits};
 ghost use Rattle.store_trait.specs.Operation.{loaded};
-ghost use Rattle.replica_core.specs.Replica.{working_rows, waiting, dispatched, job_of};
-ghost use Rattle.replica_core.specs.Sound.{IsSound, IsUnderWay};
-ghost use Rattle.replica_core.specs.Core.{IsJudged};
-ghost use Rattle.replica_core.specs.Calls.{new_over, unless_stopped, received, left_by_receive, is_eligible, next_job, dispatched_next, finish_fault, IsHandedOut, taken_as, with_finished, left_by_fault, next_commit, committed_next, with_published, executed_ids};
+ghost use Rattle.scheduler.specs.Gnos.{has_gno};
+ghost use Rattle.replica_core.specs.Replica.{low_water, working_rows, waiting, job_of};
+ghost use Rattle.replica_core.specs.Sound.{IsSound, ShowsGapped};
+ghost use Rattle.replica_core.specs.Core.{IsJudged, place_in};
+ghost use Rattle.replica_core.specs.Calls.{new_over, unless_stopped, received, left_by_receive, is_eligible, next_job, dispatched_next, finish_fault, IsHandedOut, taken_as, with_finished, left_by_fault, next_commit, with_commit, with_published, stop_fault, AreExecuted, executed_ids};
 
 mod committing;
 mod dispatching;
+mod ids;
 pub mod laws;
 mod stored;
 mod wire;
 
 use commit_order::{PLACES, Turns};
 use committing::{commit_turn, drop_first};
-use dispatching::{HandedOut, job_over, refuse_finish, refuse_stopped};
+use dispatching::{HandedOut, job_over, place_kept, refuse_finish, refuse_stopped};
 use executor::{Job, JobResult, Outcome};
 use gtid_set::GtidSet;
+use ids::committed_ids;
 use record_codec::Record;
 use relay::{Received, Relay, ReplicaFault};
 use row_index::Index;
@@ -55,8 +59,10 @@ pub struct ReplicaCore<S: RowStore> {
     stored: Stored<S>,
     scheduler: Scheduler,
     turns: Turns,
-    /// What is kept of each job that was handed out and is not committed, in order.
+    /// What is kept of each job that was handed out and of which no result was taken, in log order.
     handed: Vec<HandedOut>,
+    /// The gnos of the commits, in their order, where the order of the log is not kept; else none.
+    order: Vec<u64>,
     workers: usize,
     published: u64,
     waiting: Vec<Op>,
@@ -65,41 +71,44 @@ pub struct ReplicaCore<S: RowStore> {
 
 impl<S: RowStore> Model for ReplicaCore<S> {
     ghost use Rattle.replica_core.specs.Replica.{Replica};
-    ghost use Rattle.replica_core.specs.Core.{seen_as, StandAtLowWater};
+    ghost use Rattle.replica_core.specs.Core.{seen_as, ArePartsOf};
 
     ghost Value = { Replica };
 
     ghost view = { λ c.
-        seen_as c.relay c.base c.scheduler c.published c.turns c.workers c.stopped };
+        seen_as c.relay c.base c.scheduler c.order.items c.published c.turns c.workers c.stopped };
 
     ghost invariant = { λ c.
-        StandAtLowWater (seen_as c.relay c.base c.scheduler c.published c.turns c.workers c.stopped)
+        ArePartsOf (seen_as c.relay c.base c.scheduler c.order.items c.published c.turns c.workers c.stopped)
         c.scheduler c.turns c.handed.items (S.contents c.stored.store) c.stored.index.keys c.waiting.items };
 }
 
 impl<S: RowStore> ReplicaCore<S> {
     /// A replica that has accepted nothing, over the rows of the store, which takes the records of this source. Each row has its
     /// table's columns and its parent, and no two rows of a table may have one value in its unique column: `store_trait::fits`
-    /// tells. The time is that of a walk over the rows. The memory is that of a copy of the rows, of the places of 64 jobs, and of who
-    /// has each value of a unique column: none for that where no table has such a column.
+    /// tells. Where `preserve` is set commits are in the order of the source's log, as with MySQL's `replica_preserve_commit_order`; else
+    /// a record may be committed once its result was taken, though earlier ones are not. The time is that of a walk over the rows. The
+    /// memory is that of a copy of the rows, of the places of 64 jobs, and of who has each value of a unique column: none for that where
+    /// no table has such a column.
     pub fn new(
         alloc: Global,
         schema: Schema,
         source: Uuid,
         store: S,
         workers: usize,
+        preserve: bool,
     ) -> Result<ReplicaCore<S>, Memory>
     where
         S: Drop,
         requires fits { Fits schema (S.contents store) }
         requires some { 1 ≤ workers }
         requires few { workers ≤ 64 }
-        ensures fresh { IfOk result (λ core. core ≡ new_over schema source (all_rows (S.contents store)) workers) }
+        ensures fresh { IfOk result (λ core. core ≡ new_over schema source (all_rows (S.contents store)) workers preserve) }
         ensures rows { IfOk result (λ core. loaded core.base ≡ S.contents store) }
     {
         let base = snapshot(alloc, &store, &schema)?;
         let index = Index::of(alloc, &schema, &base)?;
-        let turns = Turns::new(alloc)?;
+        let turns = Turns::new(alloc, preserve)?;
         let handed = Vec::with_capacity(alloc, PLACES)?;
         Ok(ReplicaCore {
             relay: Relay::new(alloc, schema, source),
@@ -108,6 +117,7 @@ impl<S: RowStore> ReplicaCore<S> {
             scheduler: Scheduler::new(),
             turns,
             handed,
+            order: Vec::new(alloc),
             workers,
             published: 0,
             waiting: Vec::new(alloc),
@@ -131,8 +141,9 @@ impl<S: RowStore> ReplicaCore<S> {
         self.relay.receive(from, new)
     }
 
-    /// Hands out the job of the next record in log order, once its parent is committed (as MySQL's `LOGICAL_CLOCK` has
-    /// it) and a worker is free: fewer are dispatched and not committed than there are workers. The job has copies of the
+    /// Hands out the job of the next record in log order, once all up to its parent are committed (as MySQL's `LOGICAL_CLOCK` has
+    /// it) and a worker is free: fewer are dispatched and not committed than there are workers. Where the order of the log is not kept
+    /// it also waits until its number is one of the 4096 behind the low-water mark. The job has copies of the
     /// record, of the schema and of the rows that the record writes and refers to, and the holder of each of its marks; the core
     /// keeps one more copy of these rows and holders. Time and memory are those of the job, and of its rows and holders once more. Each
     /// holder is looked up, in expected constant time however many rows there are.
@@ -161,7 +172,7 @@ impl<S: RowStore> ReplicaCore<S> {
     /// its rows, its holders or its schema are not those handed out; `P5` where the changes do not apply to the rows, or look at
     /// other parent rows than the refs, or have other marks than those stated, which stops the replica; and `P9` where the result
     /// itself tells of memory that ran out, so that its job may be executed and finished again. It takes no memory. The time is that
-    /// of comparing the jobs.
+    /// of comparing the jobs, and of a look at each job that has no result; what was kept of this one is let go with an output.
     ///
     /// A record that states too few marks is never committed. Its own result stops the replica, or, where it comes first, that of a
     /// later record with a mark that was left out: its job has the holder from before, so its changes may not apply.
@@ -176,11 +187,14 @@ impl<S: RowStore> ReplicaCore<S> {
         ensures err { IfErr result (λ e. self.new ≡ left_by_fault self.old e.0) }
         ensures sound { IsSound self.old }
     {
-        if let Err(fault) = self.judge(&done) {
-            return Err((fault, done));
-        }
+        let place = match self.judge(&done) {
+            Ok(place) => place,
+            Err(fault) => return Err((fault, done)),
+        };
         match done.outcome() {
             Outcome::Output(_) => {
+                // From here on the result has it.
+                self.handed.remove(place);
                 self.turns.finish(done);
                 Ok(())
             }
@@ -192,12 +206,13 @@ impl<S: RowStore> ReplicaCore<S> {
         }
     }
 
-    /// Commits the next record in log order, once its result was taken, and answers its number: puts what it leaves
-    /// into the store, and keeps that as an operation that waits for `publish`. So commits come in the order of the source's log, as
-    /// with MySQL's `replica_preserve_commit_order`. The time is that of putting the rows that the record writes; where these have a
-    /// value in a unique column it is also that of looking up each of them in the store, and the values that they had and then have in
-    /// expected constant time each. The memory is that of putting the rows, of one more operation, and of these values: none for them
-    /// where no table has such a column. All of it is taken before a row changes.
+    /// Commits a record whose result was taken, and answers its number: in the order of the log the next record, as with MySQL's
+    /// `replica_preserve_commit_order`; else the one whose result was taken first. It puts what the record leaves into the store, and
+    /// keeps that as an operation that waits for `publish`. The time is that of putting the rows that the record writes; where these
+    /// have a value in a unique column it is also that of looking up each of them in the store, and the values that they had and then
+    /// have in expected constant time each. The memory is that of putting the rows, of one more operation, of eight bytes more where the
+    /// order of the log is not kept, and of these values: none for them where no table has such a column. All of it is taken before a
+    /// row changes.
     pub fn commit_next(&mut self) -> Result<Option<u64>, ReplicaFault>
         ensures answer { IsErrOf result ReplicaFault.Memory
             ⊎ (result ≡ unless_stopped self.old (next_commit self.old)) }
@@ -206,22 +221,21 @@ impl<S: RowStore> ReplicaCore<S> {
         ensures memory { IsErrOf result ReplicaFault.Memory
             → (self.old.stopped ≡ None) × IsSome (next_commit self.old) }
         ensures sound { IsSound self.old }
-        ensures ok { IfOk result (λ gno.
-            self.new ≡ (if is_some gno then committed_next self.old else self.old)) }
+        ensures ok { IfOk result (λ gno. self.new ≡ option_map_or (λ committed. with_commit self.old committed) gno self.old) }
+        ensures gapped { OnOk result (ShowsGapped self.new (length self.new.commits)) }
         ensures err { OnErr result (self.new ≡ self.old) }
     {
         refuse_stopped(self.stopped)?;
-        let gno = self.scheduler.low_water() + 1;
-        if !commit_turn(
+        let Some(gno) = commit_turn(
             self.relay.schema(),
             &mut self.stored,
             &mut self.waiting,
+            &mut self.order,
             &mut self.turns,
-            gno,
-        )? {
+        )?
+        else {
             return Ok(None);
-        }
-        drop_first(&mut self.handed, 1);
+        };
         self.scheduler.committed(gno);
         Ok(Some(gno))
     }
@@ -237,9 +251,10 @@ impl<S: RowStore> ReplicaCore<S> {
     /// that of a walk over the waiting operations.
     pub fn publish(&mut self, upto: u64) -> Result<u64, ReplicaFault>
         requires later { self.old.published ≤ upto }
-        requires done { upto ≤ self.old.committed }
+        requires done { upto ≤ length self.old.commits }
         ensures answer { result ≡ unless_stopped self.old upto }
         ensures ok { OnOk result (self.new ≡ with_published self.old upto) }
+        ensures gapped { OnOk result (ShowsGapped self.new upto) }
         ensures err { OnErr result (self.new ≡ self.old) }
     {
         refuse_stopped(self.stopped)?;
@@ -262,25 +277,72 @@ impl<S: RowStore> ReplicaCore<S> {
         self.relay.accepted()
     }
 
-    /// The number of records committed: the first so many of those accepted.
+    /// The number of records committed. It takes no memory, and constant time.
     pub fn committed(&self) -> u64
-        ensures value { result ≡ self.now.committed }
+        ensures value { result ≡ length self.now.commits }
         ensures sound { IsSound self.now }
+    {
+        if self.turns.preserve() {
+            self.scheduler.low_water()
+        } else {
+            self.order.len() as u64
+        }
+    }
+
+    /// The low-water mark: the greatest number such that all records from 1 up to it are committed. Where the order of the log is kept
+    /// that is the number of records committed. It takes no memory, and constant time.
+    pub fn low_water(&self) -> u64
+        ensures value { result ≡ low_water self.now }
+        ensures in_order { self.now.preserve ≡ true → result ≡ length self.now.commits }
     {
         self.scheduler.low_water()
     }
 
-    /// The ids of the committed records, those of the source from 1 to their number, as MySQL's `gtid_executed`; the empty set
-    /// where none is committed, which takes no memory. The time is constant. A stop comes before want of memory.
+    /// Whether the record of this number, counted from 1, is committed. It takes no memory, and constant time.
+    pub fn has_committed(&self, gno: u64) -> bool
+        requires { 1 ≤ gno }
+        ensures { result ≡ has_gno self.now.commits gno }
+    {
+        self.scheduler.is_committed(gno)
+    }
+
+    /// Whether the record of this number was handed out and no result of it was taken. It takes no memory. The time is that of a look
+    /// at each such record, of which there are at most as many as workers.
+    pub fn is_out(&self, gno: u64) -> bool
+        ensures { result ≡ has_gno self.now.out gno }
+    {
+        self.turns.is_out(gno)
+    }
+
+    /// Whether commits are in the order of the log.
+    pub fn preserve(&self) -> bool
+        ensures { result ≡ self.now.preserve }
+    {
+        self.turns.preserve()
+    }
+
+    /// The ids of the committed records, as MySQL's `gtid_executed`: where the order of the log is kept those of the source from 1 to
+    /// their number, in constant time; else with the gaps that there are, in the time of a look at each record from the low-water mark
+    /// up to the last one dispatched, of which there are at most 4096. The empty set where none is committed, which takes no memory. A
+    /// stop comes before want of memory.
     pub fn executed(&self) -> Result<GtidSet, ReplicaFault>
-        ensures answer { IsErrOf result ReplicaFault.Memory ⊎ (result ≡ unless_stopped self.now (executed_ids self.now)) }
+        ensures stopped { IfSome self.now.stopped (λ gno. result ≡ Err (ReplicaFault.Stopped gno)) }
+        ensures ok { IfOk result (AreExecuted self.now) }
+        ensures running { OnOk result (self.now.stopped ≡ None) }
+        ensures in_order { self.now.preserve ≡ true
+            → IsErrOf result ReplicaFault.Memory ⊎ (result ≡ unless_stopped self.now (executed_ids self.now)) }
 
         // Memory runs out only in the place of an interval.
-        ensures memory { IsErrOf result ReplicaFault.Memory → (self.now.stopped ≡ None) × (0 < self.now.committed) }
+        ensures memory { IsErrOf result ReplicaFault.Memory → (self.now.stopped ≡ None) × (0 < length self.now.commits) }
+        ensures err { IfErr result (λ fault. (fault ≡ ReplicaFault.Memory) ⊎ (Some fault ≡ stop_fault self.now)) }
     {
         refuse_stopped(self.stopped)?;
         let alloc = *self.waiting.allocator();
-        Ok(GtidSet::first(alloc, self.source(), self.committed())?)
+        let source = self.source();
+        if self.turns.preserve() {
+            return Ok(GtidSet::first(alloc, source, self.committed())?);
+        }
+        Ok(committed_ids(alloc, source, &self.scheduler, self.dispatched())?)
     }
 
     /// The number of commits published: the first so many of those committed.
@@ -299,7 +361,7 @@ impl<S: RowStore> ReplicaCore<S> {
         self.stopped
     }
 
-    /// The working rows: those after the committed records.
+    /// The working rows: what the committed records leave, one after another in log order.
     pub fn store(&self) -> &S
         ensures rows { working_rows self.now ≡ Some (S.contents result.now) }
         ensures sound { IsSound self.now }
@@ -326,23 +388,27 @@ impl<S: RowStore> ReplicaCore<S> {
     pub fn is_eligible(&self) -> bool
         ensures { result ≡ is_eligible self.now }
     {
-        match self.relay.accepted().get(self.dispatched() as usize) {
-            Some(next) => self.scheduler.eligible(next.parent) && self.turns.len() < self.workers,
+        let dispatched = self.dispatched();
+        match self.relay.accepted().get(dispatched as usize) {
+            Some(next) => {
+                self.scheduler.eligible(dispatched + 1, next.parent)
+                    && self.turns.len() < self.workers
+            }
             None => false,
         }
     }
 
     /// The number of records dispatched: the first so many of those accepted.
     fn dispatched(&self) -> u64
-        ensures { result ≡ dispatched self.now }
+        ensures { result ≡ self.now.dispatched }
     {
-        self.scheduler.low_water() + self.turns.len() as u64
+        self.committed() + self.turns.len() as u64
     }
 
     /// The job of the next record in log order.
     fn next_job(&self) -> Result<Job, Memory>
         requires { is_eligible self.now ≡ true }
-        ensures { IfOk result (λ job. job_of self.now (dispatched self.now + 1) ≡ Some job) }
+        ensures { IfOk result (λ job. job_of self.now (self.now.dispatched + 1) ≡ Some job) }
     {
         let dispatched = self.dispatched();
         let next = &self.relay.accepted()[dispatched as usize];
@@ -356,25 +422,28 @@ impl<S: RowStore> ReplicaCore<S> {
         )
     }
 
-    /// Refuses a result that is not of a job that was handed out, or of which one was taken.
-    fn judge(&self, done: &JobResult) -> Result<(), ReplicaFault>
+    /// The place at which the job of a result is kept; or refuses it, where it is not of a job that was handed out, or one of it
+    /// was taken.
+    fn judge(&self, done: &JobResult) -> Result<usize, ReplicaFault>
         ensures { IsJudged self.now done.now result }
     {
         self.refuse(done.gno())?;
-        if self.is_handed_out(done.job()) {
-            Ok(())
+        let place = place_kept(&self.handed, done.gno());
+        if self.is_handed_out(done.job(), place) {
+            Ok(place)
         } else {
             Err(ReplicaFault::WrongInput)
         }
     }
 
-    /// Whether the job is the one that was handed out of its number.
-    fn is_handed_out(&self, job: &Job) -> bool
-        requires { IsUnderWay self.now job.now.gno }
+    /// Whether the job is the one that was handed out of its number, which is kept at this place.
+    fn is_handed_out(&self, job: &Job, place: usize) -> bool
+        requires out { has_gno self.now.out job.now.gno ≡ true }
+        requires at { place ≡ place_in self.now.out job.now.gno }
         ensures { IsTrue result ↔ (job_of self.now job.now.gno ≡ Some job.now) }
     {
         let rec = &self.relay.accepted()[(job.gno - 1) as usize];
-        let kept = &self.handed[(job.gno - self.scheduler.low_water() - 1) as usize];
+        let kept = &self.handed[place];
         job.is_of(rec, &kept.input, &kept.holders, self.relay.schema())
     }
 
@@ -383,11 +452,6 @@ impl<S: RowStore> ReplicaCore<S> {
         ensures { result ≡ option_map_or (λ fault. Err fault) (finish_fault self.now gno) (Ok tt) }
     {
         refuse_stopped(self.stopped)?;
-        refuse_finish(
-            &self.turns,
-            self.scheduler.low_water(),
-            self.dispatched(),
-            gno,
-        )
+        refuse_finish(&self.turns, self.dispatched(), gno)
     }
 }

@@ -1,7 +1,7 @@
--- The operations of accepted records: how many they are, and how they grow.
-use Rattle.std.proofs.Common.{◌≡◌, ◌∙◌, sym, ap, subst, refl, ℕ, zero, suc, ◌+◌, ◌<◌, ◌≤◌, List, [], ◌∷◌, ◌++◌, length, take, drop, Some, None, arith, slice_get, get_or, length-append}
+-- The operations of commits: how many they are, and how they grow.
+use Rattle.std.proofs.Common.{◌≡◌, ◌∙◌, sym, ap, subst, refl, ℕ, zero, suc, ◌+◌, ◌<◌, ◌≤◌, List, [], ◌∷◌, ◌++◌, length, take, drop, Some, None, arith, slice_get, get_or, length-append, append_assoc}
 use Rattle.std.specs.Option.{option_map_or}
-use Rattle.std.proofs.lemmas.List.{take-append-drop, take-take, take-append-le, length-take-le}
+use Rattle.std.proofs.lemmas.List.{take-append-drop, take-take, take-append-le, take_all}
 use mathlib.Core.List.{IsPrefix}
 use Rattle.schema.specs.declared.Table.{Table}
 use Rattle.rows.specs.Database.{Database, effect, writes}
@@ -9,11 +9,10 @@ use Rattle.store_trait.specs.Batch.{Entry, rows_in}
 use Rattle.store_trait.specs.Operation.{loaded}
 use Rattle.store_trait.specs.declared.Op.{Op}
 use Rattle.store_trait.specs.declared.Op.TheVariants.{Load, Commit}
-use Rattle.published.specs.History.{CommitsFrom}
+use Rattle.published.specs.History.{gnos_of}
 use Rattle.record_codec.specs.declared.records.Record.{Record}
-use Rattle.replica_core.specs.Replica.{commits_from, commits, operations}
-use Rattle.record_codec.specs.Log.{after}
-use Rattle.replica_core.proofs.Commits.{length-commits_from, take-commits_from}
+use Rattle.replica_core.specs.Replica.{commits_from, operations}
+use Rattle.replica_core.proofs.Commits.{first_commits}
 
 -- ---- lists
 
@@ -38,6 +37,17 @@ prefix_is (x ∷ xs) [] p = absurd (cc (p.1))
 prefix_is (x ∷ xs) (y ∷ ys) p =
     let rest = prefix_is xs ys (p.0, cc (p.1)) in cc (p.1, rest)
 
+-- so of two of one list the shorter is as much of the longer
+pub prefix_of_longer : (xs ys whole : List Op) → IsPrefix xs whole → IsPrefix ys whole → length xs ≤ length ys → xs ≡ take (length xs) ys
+prefix_of_longer [] ys whole p q le = refl
+prefix_of_longer (x ∷ xs) [] whole p q le = absurd (omega arith)
+prefix_of_longer (x ∷ xs) (y ∷ ys) [] p q le = absurd (cc (p.1))
+prefix_of_longer (x ∷ xs) (y ∷ ys) (z ∷ whole) p q le =
+    let rest = prefix_of_longer xs ys whole (p.0, cc (p.1)) (q.0, cc (q.1)) (omega arith) in cc (p.1, q.1, rest)
+
+pub front : (xs ys zs : List Op) → IsPrefix (xs ++ ys) zs → IsPrefix xs zs
+front xs ys zs p = (ys ++ p.0, sym (append_assoc xs ys p.0) ∙ p.1)
+
 pub slice_get-drop : (n k : ℕ) (xs : List Op) → slice_get (drop n xs) k ≡ slice_get xs (n + k)
 slice_get-drop zero k xs = ap (slice_get xs) (omega arith)
 slice_get-drop (suc n) k [] = refl
@@ -53,49 +63,66 @@ looked_up (y ∷ xs) (suc i) x within is = looked_up xs i x (omega arith) is
 
 -- ---- commits
 
--- they are numbered
-pub numbered : (ts : List Table) (db : Database) (gno : ℕ) (xs : List Record) → CommitsFrom gno (commits_from ts db gno xs)
-numbered ts db gno [] = tt
-numbered ts db gno (x ∷ xs) =
-    elim (effect ts x.changes db) as (λ o. CommitsFrom gno (option_map_or (λ left. Commit gno (rows_in (writes x.changes) left) ∷ commits_from ts left (gno + 1) xs) o [])) [
-      | None ↦ tt
-      | Some left ↦ (refl, numbered ts left (gno + 1) xs)
-    ]
-
--- and no more than the records
-pub few_commits : (ts : List Table) (db : Database) (gno : ℕ) (xs : List Record) → length (commits_from ts db gno xs) ≤ length xs
-few_commits ts db gno [] = omega arith
-few_commits ts db gno (x ∷ xs) =
-    elim (effect ts x.changes db) as (λ o. length (option_map_or (λ left. Commit gno (rows_in (writes x.changes) left) ∷ commits_from ts left (gno + 1) xs) o []) ≤ suc (length xs)) [
+-- they are no more than the records
+pub few_commits : (ts : List Table) (db : Database) (xs : List Record) → length (commits_from ts db xs) ≤ length xs
+few_commits ts db [] = omega arith
+few_commits ts db (x ∷ xs) =
+    elim (effect ts x.changes db) as (λ o. length (option_map_or (λ left. Commit x.gno (rows_in (writes x.changes) left) ∷ commits_from ts left xs) o []) ≤ suc (length xs)) [
       | None ↦ omega arith
-      | Some left ↦ (let rest = few_commits ts left (gno + 1) xs in omega arith)
+      | Some left ↦ (let rest = few_commits ts left xs in omega arith)
     ]
 
--- records that apply have a commit each
-pub each_commit : (ts : List Table) (base : Database) (accepted : List Record) (n : ℕ) (rows : Database) → n ≤ length accepted → after ts base (take n accepted) ≡ Some rows
-    → length (commits ts base accepted n) ≡ n
-each_commit ts base accepted n rows within is = length-commits_from ts base 1 (take n accepted) rows is ∙ length-take-le n accepted within
+-- none of them is a load
+abbrev AreCommits : List Op → Type 0
+AreCommits [] = Unit {0}
+AreCommits (Load base ∷ ops) = ⊥
+AreCommits (Commit gno batch ∷ ops) = AreCommits ops
+
+pub commits_alone : (ts : List Table) (db : Database) (xs : List Record) → AreCommits (commits_from ts db xs)
+commits_alone ts db [] = tt
+commits_alone ts db (x ∷ xs) =
+    elim (effect ts x.changes db) as (λ o. AreCommits (option_map_or (λ left. Commit x.gno (rows_in (writes x.changes) left) ∷ commits_from ts left xs) o [])) [
+      | None ↦ tt
+      | Some left ↦ commits_alone ts left xs
+    ]
+
+-- so each has its gno
+pub gnos_of-drop : (n : ℕ) (ops : List Op) → AreCommits ops → gnos_of (drop n ops) ≡ drop n (gnos_of ops)
+gnos_of-drop zero ops are = refl
+gnos_of-drop (suc n) [] are = refl
+gnos_of-drop (suc n) (Load base ∷ ops) are = absurd are
+gnos_of-drop (suc n) (Commit gno batch ∷ ops) are = gnos_of-drop n ops are
 
 -- ---- operations
 
-pub length_operations : (ts : List Table) (base : List Entry) (accepted : List Record) (n : ℕ) → n ≤ length accepted → length (operations ts base accepted n) ≤ n + 1
-length_operations ts base accepted n within =
-    let few = few_commits ts (loaded base) 1 (take n accepted) in
-    let size = length-take-le n accepted within in
+few_taken : (n : ℕ) (xs : List Record) → length (take n xs) ≤ n
+few_taken zero xs = omega arith
+few_taken (suc n) [] = omega arith
+few_taken (suc n) (x ∷ xs) = let rest = few_taken n xs in omega arith
+
+-- no more than the load and as many commits
+pub few_operations : (ts : List Table) (base : List Entry) (records : List Record) (n : ℕ) → length (operations ts base records n) ≤ n + 1
+few_operations ts base records n =
+    let few = few_commits ts (loaded base) (take n records) in
+    let size = few_taken n records in
     omega arith
 
 -- those of fewer records are the first of them
-pub first_operations : (ts : List Table) (base : List Entry) (accepted : List Record) (n m : ℕ) → n ≤ m → operations ts base accepted n ≡ take (n + 1) (operations ts base accepted m)
-first_operations ts base accepted n m le =
-    let same : commits ts (loaded base) accepted n ≡ take n (commits ts (loaded base) accepted m) =
-    ap (commits_from ts (loaded base) 1) (sym (take-take n m accepted le)) ∙ sym (take-commits_from ts (loaded base) 1 n (take m accepted)) in
+pub first_operations : (ts : List Table) (base : List Entry) (records : List Record) (n m : ℕ) → n ≤ m → operations ts base records n ≡ take (n + 1) (operations ts base records m)
+first_operations ts base records n m le =
+    let same : commits_from ts (loaded base) (take n records) ≡ take n (commits_from ts (loaded base) (take m records)) =
+    ap (commits_from ts (loaded base)) (sym (take-take n m records le)) ∙ sym (first_commits ts (loaded base) n (take m records)) in
     let number : suc n ≡ n + 1 = omega arith in
-    ap (λ l. Load base ∷ l) same ∙ ap (λ k. take k (operations ts base accepted m)) number
+    ap (λ l. Load base ∷ l) same ∙ ap (λ k. take k (operations ts base records m)) number
 
-pub prefix_operations : (ts : List Table) (base : List Entry) (accepted : List Record) (n m : ℕ) → n ≤ m → IsPrefix (operations ts base accepted n) (operations ts base accepted m)
-prefix_operations ts base accepted n m le =
-    subst (λ l. IsPrefix l (operations ts base accepted m)) (sym (first_operations ts base accepted n m le)) (prefix_take (n + 1) (operations ts base accepted m))
+pub prefix_operations : (ts : List Table) (base : List Entry) (records : List Record) (n m : ℕ) → n ≤ m → IsPrefix (operations ts base records n) (operations ts base records m)
+prefix_operations ts base records n m le =
+    subst (λ l. IsPrefix l (operations ts base records m)) (sym (first_operations ts base records n m le)) (prefix_take (n + 1) (operations ts base records m))
 
--- more accepted records leave them
-pub same_operations : (ts : List Table) (base : List Entry) (accepted more : List Record) (n : ℕ) → n ≤ length accepted → operations ts base (accepted ++ more) n ≡ operations ts base accepted n
-same_operations ts base accepted more n within = ap (λ l. Load base ∷ commits_from ts (loaded base) 1 l) (take-append-le n accepted more within)
+-- more records behind them leave them
+pub same_operations : (ts : List Table) (base : List Entry) (records more : List Record) (n : ℕ) → n ≤ length records → operations ts base (records ++ more) n ≡ operations ts base records n
+same_operations ts base records more n within = ap (λ l. Load base ∷ commits_from ts (loaded base) l) (take-append-le n records more within)
+
+-- those of all records
+pub all_operations : (ts : List Table) (base : List Entry) (records : List Record) (n : ℕ) → length records ≡ n → operations ts base records n ≡ Load base ∷ commits_from ts (loaded base) records
+all_operations ts base records n size = ap (λ l. Load base ∷ commits_from ts (loaded base) l) (take_all n records (omega (arith, size)))

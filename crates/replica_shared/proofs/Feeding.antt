@@ -15,15 +15,17 @@ use Rattle.relay.specs.declared.ReplicaFault.{ReplicaFault}
 use Rattle.relay.specs.declared.ReplicaFault.TheVariants as faults
 use Rattle.relay.specs.declared.Received.{Received}
 use Rattle.relay.specs.declared.Received.TheVariants.{Accepted, Skipped}
-use Rattle.replica_core.specs.Replica.{Replica}
+use Rattle.gapped.proofs.Choosing.{records_at_longer}
+use Rattle.replica_core.specs.Replica.{Replica, ran, operations}
 use Rattle.replica_core.specs.Calls.{new_over, left_by_receive}
+use Rattle.replica_core.specs.Sound.{IsSound}
 use Rattle.replica_core.specs.Wire.{Wire, HandsAll, Gathers, IsCodecCause, Takes}
 use Rattle.replica_core.specs.declared.wire.WireFault.{WireFault}
 use Rattle.replica_core.specs.declared.wire.WireFault.TheVariants as wire
 use Rattle.replica_core.proofs.Handing.{Grows, takes_grow, hands_on_grow, takes_first, takes_nothing, grows_none}
 use Rattle.replica_shared.specs.Together.{State, IsWhole, words_of}
 use Rattle.replica_shared.specs.Feeding.{left_by_take, SettlesOrLacks, told_behind, TakesAndSettles, HandsAs, Feeds}
-use Rattle.replica_shared.proofs.Commits.{same_operations}
+use Rattle.replica_core.proofs.Showing.{sound_stands, commits_within}
 use Rattle.replica_shared.proofs.Stops.{stops_grown}
 use Rattle.replica_shared.proofs.Whole.{unsettled}
 
@@ -92,35 +94,36 @@ words_rise r then stored g words =
 
 -- ---- what is true under the lock
 
-module _ (tables : List Table) (source : List ℕ) (base : List Entry) where
+module _ (tables : List Table) (source : List ℕ) (base : List Entry) (preserve : Bool) where
   -- more records are accepted, and the words are stored
-  pub whole_grown : (s : State) (r : Replica) (appended : ℕ) (before after : List Counts) → Grows s.core r → latest after ≡ words_of r → IsWhole tables source base s appended before → IsWhole tables source base (record s { core = r; behind = true }) appended after
-  whole_grown s r appended before after g words h =
+  pub whole_grown : (s : State) (r : Replica) (appended : ℕ) (before after : List Counts) → Grows s.core r → IsSound r → latest after ≡ words_of r → IsWhole tables source base preserve s appended before → IsWhole tables source base preserve (record s { core = r; behind = true }) appended after
+  whole_grown s r appended before after g sound words h =
       let more : Replica = record s.core { accepted = s.core.accepted ++ g.more } in
       let t = h.stand in
       let p = s.publication in
-      subst (λ (x : Replica). IsWhole tables source base (record s { core = x; behind = true }) appended after) (sym g.is) (record {
+      let whole : IsSound more = subst IsSound g.is sound in
+      let same : ran more ≡ ran s.core = records_at_longer s.core.accepted g.more s.core.commits t.within in
+      subst (λ (x : Replica). IsWhole tables source base preserve (record s { core = x; behind = true }) appended after) (sym g.is) (record {
         stand = record {
-          tables_are = t.tables_are;
-          source_is = t.source_is;
-          base_is = t.base_is;
-          within = (let few = t.within in omega (arith, length-append s.core.accepted g.more));
+          named = t.named;
+          within = commits_within more (sound_stands more whole);
           history = t.history;
-          begins = subst (IsPrefix (p.published ++ p.waiting)) (sym (same_operations s.core.tables s.core.base s.core.accepted g.more s.core.committed t.within)) t.begins;
+          begins = subst (λ l. IsPrefix (p.published ++ p.waiting) (operations s.core.tables s.core.base l (length s.core.commits))) (sym same) t.begins;
           shown = t.shown;
           words = words ∙ ap words_of g.is;
           number = t.number;
+          in_order = λ kept. (whole.in_order (t.named.3 ∙ kept)).ops;
         };
         kept = h.kept;
         line = h.line;
         claims = h.claims;
-        stops = stops_grown s.core more (record { more = g.more; is = refl }) t.within h.stops;
+        stops = stops_grown s.core more (record { more = g.more; is = refl }) whole t.within h.stops;
         rest = unsettled (record s { core = more; behind = true }) refl;
       })
 
   -- the core is as it was
-  pub whole_same : (s : State) (r : Replica) (appended : ℕ) (stored : List Counts) → r ≡ s.core → IsWhole tables source base s appended stored → IsWhole tables source base (record s { core = r }) appended stored
-  whole_same s r appended stored is h = subst (λ (x : Replica). IsWhole tables source base (record s { core = x }) appended stored) (sym is) h
+  pub whole_same : (s : State) (r : Replica) (appended : ℕ) (stored : List Counts) → r ≡ s.core → IsWhole tables source base preserve s appended stored → IsWhole tables source base preserve (record s { core = r }) appended stored
+  whole_same s r appended stored is h = subst (λ (x : Replica). IsWhole tables source base preserve (record s { core = x }) appended stored) (sym is) h
 
 -- ---- what a call is told
 
@@ -160,10 +163,10 @@ takes_and_settles s mid then old new piece taken answer takes past = record {
 -- ---- without the lock
 
 -- what needs no replica is as over any one
-pub feeds_without : (tables : List Table) (source : List ℕ) (base : List Entry) (old new : Wire) (piece : List ℕ) (answer : Result ℕ WireFault) → ((r : Replica) → Takes old r piece answer new r) → Feeds tables source base old piece answer new
-feeds_without tables source base old new piece answer takes =
-    let any : Replica = new_over tables source base 1 in
-    record { before = any; named = (refl, refl, refl); core = any; taken = answer; takes = takes any; told = inl refl; bytes = refl }
+pub feeds_without : (tables : List Table) (source : List ℕ) (base : List Entry) (preserve : Bool) (old new : Wire) (piece : List ℕ) (answer : Result ℕ WireFault) → ((r : Replica) → Takes old r piece answer new r) → Feeds tables source base preserve old piece answer new
+feeds_without tables source base preserve old new piece answer takes =
+    let any : Replica = new_over tables source base 1 preserve in
+    record { before = any; named = (refl, refl, refl, refl); core = any; taken = answer; takes = takes any; told = inl refl; bytes = refl }
 
 -- a list that is told to be empty
 pub is_none : (told list : List Record) (b : Bool) → told ≡ list → b ≡ nat_eq (length told) 0 → b ≡ true → list ≡ []

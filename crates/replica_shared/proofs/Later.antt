@@ -1,23 +1,21 @@
 -- Later states of a coordinator.
-use Rattle.std.proofs.Common.{◌≡◌, ◌∙◌, sym, ap, subst, Bool, arith}
+use Rattle.std.proofs.Common.{◌∙◌, sym, ap, subst, Bool}
 use mathlib.Core.List.{IsPrefix}
 use base.Growing.{prefix_refl, prefix_trans}
 use Rattle.replica_core.specs.Replica.{Replica}
 use Rattle.replica_shared.specs.Together.{State, IsLater, Settles, DispatchesMore}
 
 pub later_then : (s t u : State) → IsLater s t → IsLater t u → IsLater s u
-later_then s t u a b =
-    let first = a.committed in
-    let second = b.committed in
-    record {
-      tables = b.tables ∙ a.tables;
-      source = b.source ∙ a.source;
-      base = b.base ∙ a.base;
-      accepted = b.accepted ∙ a.accepted;
-      committed = omega arith;
-      published = prefix_trans s.publication.published t.publication.published u.publication.published a.published b.published;
-      closed = b.closed ∙ a.closed;
-    }
+later_then s t u a b = record {
+  tables = b.tables ∙ a.tables;
+  source = b.source ∙ a.source;
+  base = b.base ∙ a.base;
+  order = b.order ∙ a.order;
+  accepted = b.accepted ∙ a.accepted;
+  commits = prefix_trans s.core.commits t.core.commits u.core.commits a.commits b.commits;
+  published = prefix_trans s.publication.published t.publication.published u.publication.published a.published b.published;
+  closed = b.closed ∙ a.closed;
+}
 
 -- ---- what settles
 
@@ -33,7 +31,7 @@ settles_then s t u a b = record {
 -- whether something is left to do does not count
 settles_beside : (s t : State) (before after : Bool) → Settles (record s { behind = before }) t → Settles s (record t { behind = after })
 settles_beside s t before after h = record {
-  later = record { tables = h.later.tables; source = h.later.source; base = h.later.base; accepted = h.later.accepted; committed = h.later.committed; published = h.later.published; closed = h.later.closed };
+  later = record { tables = h.later.tables; source = h.later.source; base = h.later.base; order = h.later.order; accepted = h.later.accepted; commits = h.later.commits; published = h.later.published; closed = h.later.closed };
   stopped = h.stopped;
   kept = h.kept;
   claimed = h.claimed;
@@ -52,8 +50,9 @@ dispatching_settles s t h = record {
     tables = ap (λ (r : Replica). r.tables) h.core;
     source = ap (λ (r : Replica). r.source) h.core;
     base = ap (λ (r : Replica). r.base) h.core;
+    order = ap (λ (r : Replica). r.preserve) h.core;
     accepted = ap (λ (r : Replica). r.accepted) h.core;
-    committed = (let same : t.core.committed ≡ s.core.committed = ap (λ (r : Replica). r.committed) h.core in omega arith);
+    commits = subst (λ (r : Replica). IsPrefix s.core.commits r.commits) (sym h.core) (prefix_refl s.core.commits);
     published = subst (λ (x : State). IsPrefix s.publication.published x.publication.published) (sym h.same) (prefix_refl s.publication.published);
     closed = ap (λ (x : State). x.closed) h.same;
   };

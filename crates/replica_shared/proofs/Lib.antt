@@ -1,9 +1,12 @@
 pub mod Commits
 pub mod Standing
-pub mod Places
+pub mod Keeping
+pub mod Awaiting
 pub mod Later
 pub mod Queues
 pub mod Stops
+pub mod Told
 pub mod Whole
 pub mod Feeding
 pub mod Receiving
+pub mod Seeing

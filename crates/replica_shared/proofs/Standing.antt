@@ -1,67 +1,149 @@
 -- What each step does to the publisher and the words that stand with a core.
-use Rattle.std.proofs.Common.{◌≡◌, ◌∙◌, sym, ap, subst, refl, ℕ, suc, true, is_some, if◌then◌else◌, ◌+◌, ◌-◌, ◌<◌, ◌≤◌, List, [], ◌∷◌, ◌++◌, length, take, drop, Option, Some, arith, slice_get, get_or, length-append, append_assoc}
-use Rattle.std.proofs.lemmas.List.{length-drop}
+use Rattle.std.proofs.Common.{◌≡◌, ◌∙◌, sym, ap, subst, refl, ℕ, zero, suc, Bool, true, false, true≢false, not, ◌&&◌, ◌||◌, nat_le, is_some, ◌+◌, ◌-◌, ◌<◌, ◌≤◌, List, [], ◌∷◌, ◌++◌, length, take, drop, Option, Some, None, arith, slice_get, get_or, length-append, append_assoc, append-nil}
+use Rattle.std.specs.List.{list_any}
+use Rattle.std.specs.Option.{option_map_or}
+use Rattle.std.proofs.lemmas.List.{length-drop, length-take-le, same_from_push, take_all}
 use mathlib.Core.List.{IsPrefix}
 use base.Growing.{prefix_trans}
 use Rattle.schema.specs.declared.Table.{Table}
 use Rattle.store_trait.specs.Batch.{Entry}
 use Rattle.store_trait.specs.Operation.{loaded}
 use Rattle.store_trait.specs.declared.Op.{Op}
+use Rattle.store_trait.specs.declared.Op.TheVariants.{Load, Commit}
+use Rattle.record_codec.specs.declared.records.Record.{Record}
+use Rattle.gtid_set.specs.Numbers.{is_within}
+use Rattle.gtid_set.specs.declared.intervals.Interval.{Interval}
+use Rattle.scheduler.specs.Gnos.{has_gno, low_of, first_gnos, AreDistinct}
+use Rattle.scheduler.proofs.Gnos.{has_gno_last, has_gno-take, AreDistinct-take, distinct_between, take-first_gnos, first_gnos-next}
+use Rattle.gapped.specs.Gapped.{records_at}
+use Rattle.gapped.proofs.Choosing.{records_at_joined, length_records_at, commits_are_distinct, AreWithin}
 use Rattle.published.specs.declared.counts.Counts.{Counts}
-use Rattle.published.specs.History.{IsCommit, commits_in}
+use Rattle.published.specs.History.{IsHistory, MayAppend, gnos_of, commits_in}
 use Rattle.published.specs.Publication.{Publishing}
-use Rattle.published.specs.Status.{latest}
-use Rattle.published.proofs.Histories.{prefix_whole, history_length, commit_at}
-use Rattle.replica_core.specs.Replica.{Replica, operations, commits, waiting}
-use Rattle.replica_core.specs.Calls.{new_over, committed_next}
+use Rattle.published.specs.Status.{NoneFalls, latest}
+use Rattle.published.proofs.Histories.{prefix_whole, history_length, history_load, gnos_of-append}
+use Rattle.replica_core.specs.Replica.{Replica, ran, commits_from, operations, operations_in_order, waiting}
+use Rattle.replica_core.specs.Calls.{new_over, with_commit}
 use Rattle.replica_core.specs.Sound.{IsSound}
-use Rattle.replica_shared.specs.Together.{State, StandTogether, IsAppended, words_of}
-use Rattle.replica_shared.proofs.Commits.{prefix_length, prefix_is, prefix_next, prefix_operations, first_operations, length_operations, numbered, slice_get-drop, looked_up, each_commit}
+use Rattle.replica_core.proofs.Showing.{sound_stands, commits_within, gnos_of_operations, length_operations, TellsGnos}
+use Rattle.replica_shared.specs.Together.{State, IsNamed, StandTogether, IsAppended, words_of}
+use Rattle.replica_shared.specs.Awaited.{has_each, is_commit_in}
+use Rattle.replica_shared.proofs.Awaiting.{any_commit_in, front_has}
+use Rattle.replica_shared.proofs.Commits.{prefix_length, prefix_is, prefix_next, prefix_operations, first_operations, same_operations, all_operations, few_operations, commits_alone, gnos_of-drop, front, slice_get-drop, looked_up}
 
 -- what is left where a number was answered
-pub left_committed : (r next : Replica) (gno : Option ℕ) → true ≡ is_some gno → next ≡ (if is_some gno then committed_next r else r) → next ≡ committed_next r
-left_committed r next gno some is = is ∙ ap (λ b. if b then committed_next r else r) (sym some)
+pub left_committed : (r next : Replica) (gno : Option ℕ) → true ≡ is_some gno → next ≡ option_map_or (λ committed. with_commit r committed) gno r → (committed : ℕ) × (next ≡ with_commit r committed)
+left_committed r next None some is = absurd (cc (some))
+left_committed r next (Some committed) some is = (committed, is)
 
-pub front : (xs ys zs : List Op) → IsPrefix (xs ++ ys) zs → IsPrefix xs zs
-front xs ys zs p = (ys ++ p.0, sym (append_assoc xs ys p.0) ∙ p.1)
+-- no word falls
+pub words_committed : (r then : Replica) (gno : ℕ) (stored : List Counts) → then ≡ with_commit r gno → latest stored ≡ words_of r → NoneFalls (latest stored) (words_of then)
+words_committed r then gno stored is words =
+    subst (λ (w : Counts). NoneFalls w (words_of then)) (sym words)
+    (subst (λ (q : Replica). NoneFalls (words_of r) (words_of q)) (sym is) (omega arith, omega (arith, length-append r.commits (gno ∷ [])), omega arith))
 
-module _ (tables : List Table) (source : List ℕ) (base : List Entry) (r : Replica) (p : Publishing) (appended : ℕ) (stored : List Counts) where
+-- the gnos of operations
+pub tells_gnos : TellsGnos gnos_of
+tells_gnos = record { none = refl; load = λ base ops. refl; commit = λ gno batch ops. refl }
+
+-- as many records as commits
+pub length_ran : (r : Replica) → AreWithin r.commits r.accepted → length (ran r) ≡ length r.commits
+length_ran r within = length_records_at r.accepted r.commits within
+
+-- ---- what may be appended
+
+new_commit : (ops : List Op) (commits : List ℕ) (k gno : ℕ) → gnos_of ops ++ gno ∷ [] ≡ take (k + 1) commits → AreDistinct commits → has_gno (gnos_of ops) gno ≡ false
+new_commit ops commits k gno more distinct =
+    distinct_between (gnos_of ops) gno [] (subst AreDistinct (sym more) (AreDistinct-take (k + 1) commits distinct))
+
+-- one more operation, whose gno is the next of the commits
+pub may_append : (preserve : Bool) (ops : List Op) (op : Op) (r : Replica) (k : ℕ) → IsSound r → r.preserve ≡ preserve → k < length r.commits → length ops ≡ k + 1 → gnos_of ops ≡ take k r.commits → gnos_of (ops ++ op ∷ []) ≡ take (k + 1) r.commits
+    → MayAppend preserve ops op
+may_append preserve ops (Load base) r k sound order less size were are =
+    let same : take k r.commits ≡ take (k + 1) r.commits = sym were ∙ sym (append-nil (gnos_of ops)) ∙ sym (gnos_of-append ops (Load base ∷ [])) ∙ are in
+    absurd (omega (arith, ap (λ (l : List ℕ). length l) same, length-take-le k r.commits (omega arith), length-take-le (k + 1) r.commits (omega arith)))
+may_append preserve ops (Commit gno batch) r k sound order less size were are = by_order preserve order
+  where
+    more : gnos_of ops ++ gno ∷ [] ≡ take (k + 1) r.commits
+    more = sym (gnos_of-append ops (Commit gno batch ∷ [])) ∙ are
+
+    among : has_gno r.commits gno ≡ true
+    among = has_gno-take (k + 1) r.commits gno (subst (λ l. has_gno l gno ≡ true) more (has_gno_last (gnos_of ops) gno))
+
+    next : r.preserve ≡ true → gno ≡ length ops
+    next kept =
+        let is = (sound.in_order kept).commits in
+        let longer : take (k + 1) r.commits ≡ first_gnos k ++ (k + 1) ∷ [] = ap (take (k + 1)) is ∙ take-first_gnos (k + 1) (length r.commits) (omega arith) ∙ first_gnos-next k in
+        (same_from_push (gnos_of ops) (first_gnos k) gno (k + 1) (more ∙ longer)).1 ∙ sym size
+
+    by_order : (b : Bool) → r.preserve ≡ b → MayAppend b ops (Commit gno batch)
+    by_order true kept = next kept
+    by_order false free = ((commits_within r (sound_stands r sound) gno among).0, new_commit ops r.commits k gno more (commits_are_distinct r.tables (loaded r.base) r.accepted r.commits sound.commits))
+
+module _ (tables : List Table) (source : List ℕ) (base : List Entry) (preserve : Bool) (r : Replica) (p : Publishing) (appended : ℕ) (stored : List Counts) where
+  abbrev Stands : Type 0
+  Stands = StandTogether tables source base preserve r p appended stored
+
+  abbrev all : List Op
+  all = commits_from r.tables (loaded r.base) (ran r)
+
+  whole_is : Stands → operations r.tables r.base (ran r) (length r.commits) ≡ Load r.base ∷ all
+  whole_is t = all_operations r.tables r.base (ran r) (length r.commits) (length_ran r t.within)
+
   -- one more record is committed, and the words are stored
-  pub stand_committed : (after : List Counts) → IsSound (committed_next r) → StandTogether tables source base r p appended stored → latest after ≡ words_of (committed_next r) → StandTogether tables source base (committed_next r) p appended after
-  stand_committed after sound t words = record {
-    tables_are = t.tables_are;
-    source_is = t.source_is;
-    base_is = t.base_is;
-    within = (let all = sound.dispatched in omega arith);
+  pub stand_committed : (gno : ℕ) (after : List Counts) → IsSound (with_commit r gno) → Stands → latest after ≡ words_of (with_commit r gno) → StandTogether tables source base preserve (with_commit r gno) p appended after
+  stand_committed gno after sound t words = record {
+    named = t.named;
+    within = commits_within (with_commit r gno) (sound_stands (with_commit r gno) sound);
     history = t.history;
-    begins = prefix_trans (p.published ++ p.waiting) (operations r.tables r.base r.accepted r.committed) (operations r.tables r.base r.accepted (r.committed + 1)) t.begins (prefix_operations r.tables r.base r.accepted r.committed (r.committed + 1) (omega arith));
+    begins = prefix_trans (p.published ++ p.waiting) (operations r.tables r.base (ran r) (length r.commits)) (operations r.tables r.base (ran (with_commit r gno)) (length (r.commits ++ gno ∷ []))) t.begins longer;
     shown = t.shown;
     words = words;
     number = t.number;
+    in_order = λ kept. (sound.in_order (t.named.3 ∙ kept)).ops;
   }
+    where
+      one : List Record
+      one = records_at r.accepted (gno ∷ [])
+
+      longer : IsPrefix (operations r.tables r.base (ran r) (length r.commits)) (operations r.tables r.base (ran (with_commit r gno)) (length (r.commits ++ gno ∷ [])))
+      longer =
+          let more = prefix_operations r.tables r.base (ran r ++ one) (length r.commits) (length (r.commits ++ gno ∷ [])) (omega (arith, length-append r.commits (gno ∷ []))) in
+          let same = same_operations r.tables r.base (ran r) one (length r.commits) (omega (arith, length_ran r t.within)) in
+          subst (λ l. IsPrefix (operations r.tables r.base (ran r) (length r.commits)) (operations r.tables r.base l (length (r.commits ++ gno ∷ [])))) (sym (records_at_joined r.accepted r.commits (gno ∷ [])))
+          (subst (λ l. IsPrefix l (operations r.tables r.base (ran r ++ one) (length (r.commits ++ gno ∷ [])))) same more)
 
   -- no more is appended than committed
-  pub appended_within : StandTogether tables source base r p appended stored → appended ≤ r.committed
+  pub appended_within : Stands → appended ≤ length r.commits
   appended_within t =
-      let sizes = prefix_length (p.published ++ p.waiting) (operations r.tables r.base r.accepted r.committed) t.begins in
-      let all = length_operations r.tables r.base r.accepted r.committed t.within in
-      let some = history_length p.published t.history in
+      let sizes = prefix_length (p.published ++ p.waiting) (operations r.tables r.base (ran r) (length r.commits)) t.begins in
+      let few = few_operations r.tables r.base (ran r) (length r.commits) in
+      let some = history_length preserve p.published t.history in
       let number = t.number in
       omega (arith, length-append p.published p.waiting)
 
+  -- so many operations are published and appended
+  size_of : Stands → length (p.published ++ p.waiting) ≡ appended + 1
+  size_of t =
+      let some = history_length preserve p.published t.history in
+      let number = t.number in
+      omega (arith, length-append p.published p.waiting)
+
+  size_all : IsSound r → Stands → length all ≡ length r.commits
+  size_all sound t =
+      let size = length_operations r (length r.commits) (sound_stands r sound) (omega arith) in
+      omega (arith, size, ap (λ (l : List Op). length l) (whole_is t))
+
   -- where less is appended than committed, the next of the waiting operations is there
-  pub next_within : IsSound r → appended < r.committed → StandTogether tables source base r p appended stored → appended - r.published < length (waiting r)
+  pub next_within : IsSound r → appended < length r.commits → Stands → appended - r.published < length (waiting r)
   next_within sound more t =
-      let all = commits r.tables (loaded r.base) r.accepted r.committed in
-      let size = each_commit r.tables (loaded r.base) r.accepted r.committed sound.rows t.within sound.rows_are in
+      let size = size_all sound t in
       let shown = t.shown in
       let number = t.number in
       omega (arith, length-drop r.published all, size)
 
-  pub next_operation : (pending : List Op) (op : Op) → IsSound r → appended < r.committed → StandTogether tables source base r p appended stored
-      → pending ≡ waiting r → op ≡ get_or pending (appended - r.published) op → slice_get (commits r.tables (loaded r.base) r.accepted r.committed) appended ≡ Some op
+  pub next_operation : (pending : List Op) (op : Op) → IsSound r → appended < length r.commits → Stands → pending ≡ waiting r → op ≡ get_or pending (appended - r.published) op → slice_get all appended ≡ Some op
   next_operation pending op sound more t are is =
-      let all = commits r.tables (loaded r.base) r.accepted r.committed in
       let shown = t.shown in
       let number = t.number in
       let place : r.published + (appended - r.published) ≡ appended = omega arith in
@@ -69,65 +151,116 @@ module _ (tables : List Table) (source : List ℕ) (base : List Entry) (r : Repl
       let at : op ≡ get_or (drop r.published all) (appended - r.published) op = is ∙ ap (λ l. get_or l (appended - r.published) op) are in
       sym (slice_get-drop r.published (appended - r.published) all ∙ ap (slice_get all) place) ∙ looked_up (drop r.published all) (appended - r.published) op within at
 
-  -- it is the commit that is to be appended next
-  pub next_commit_of : (op : Op) → StandTogether tables source base r p appended stored
-      → slice_get (commits r.tables (loaded r.base) r.accepted r.committed) appended ≡ Some op → IsCommit op (commits_in p.published + length p.waiting + 1)
-  next_commit_of op t is =
-      let number : 1 + appended ≡ commits_in p.published + length p.waiting + 1 = (let n = t.number in omega arith) in
-      subst (IsCommit op) number (commit_at 1 (commits r.tables (loaded r.base) r.accepted r.committed) appended op (numbered r.tables (loaded r.base) 1 (take r.committed r.accepted)) is)
+  next_begins : (op : Op) → Stands → slice_get all appended ≡ Some op → IsPrefix ((p.published ++ p.waiting) ++ op ∷ []) (operations r.tables r.base (ran r) (length r.commits))
+  next_begins op t is =
+      let place : length (p.published ++ p.waiting) ≡ suc appended = omega (arith, size_of t) in
+      prefix_next (p.published ++ p.waiting) (operations r.tables r.base (ran r) (length r.commits)) op t.begins
+      (ap (λ l. slice_get l (length (p.published ++ p.waiting))) (whole_is t) ∙ ap (slice_get (Load r.base ∷ all)) place ∙ is)
+
+  -- the gnos of a beginning are the first of those of the commits
+  gnos_of_prefix : (ops : List Op) (k : ℕ) → IsSound r → k ≤ length r.commits → length ops ≡ k + 1 → IsPrefix ops (operations r.tables r.base (ran r) (length r.commits)) → gnos_of ops ≡ take k r.commits
+  gnos_of_prefix ops k sound le size begins =
+      let whole = operations r.tables r.base (ran r) (length r.commits) in
+      ap gnos_of (prefix_is ops whole begins ∙ ap (λ n. take n whole) size ∙ sym (first_operations r.tables r.base (ran r) k (length r.commits) le))
+      ∙ gnos_of_operations gnos_of r k tells_gnos (sound_stands r sound)
+
+  -- it is one that may be appended
+  pub next_may : (op : Op) → IsSound r → appended < length r.commits → Stands → slice_get all appended ≡ Some op → MayAppend preserve (p.published ++ p.waiting) op
+  next_may op sound more t is =
+      let ops = p.published ++ p.waiting in
+      let size = size_of t in
+      may_append preserve ops op r appended sound t.named.3 more size (gnos_of_prefix ops appended sound (omega arith) size t.begins)
+      (gnos_of_prefix (ops ++ op ∷ []) (appended + 1) sound (omega arith) (omega (arith, length-append ops (op ∷ []))) (next_begins op t is))
 
   -- and then it is appended
-  pub stand_appended : (op : Op) → StandTogether tables source base r p appended stored
-      → slice_get (commits r.tables (loaded r.base) r.accepted r.committed) appended ≡ Some op → StandTogether tables source base r (record p { waiting = p.waiting ++ op ∷ [] }) (appended + 1) stored
-  stand_appended op t is =
-      let all = operations r.tables r.base r.accepted r.committed in
-      let some = history_length p.published t.history in
-      let number = t.number in
-      let place : suc appended ≡ length (p.published ++ p.waiting) = omega (arith, length-append p.published p.waiting) in
-      let at : slice_get all (length (p.published ++ p.waiting)) ≡ Some op = ap (slice_get all) (sym place) ∙ is in
-      record {
-        tables_are = t.tables_are;
-        source_is = t.source_is;
-        base_is = t.base_is;
-        within = t.within;
-        history = t.history;
-        begins = subst (λ l. IsPrefix l all) (append_assoc p.published p.waiting (op ∷ [])) (prefix_next (p.published ++ p.waiting) all op t.begins at);
-        shown = t.shown;
-        words = t.words;
-        number = omega (arith, length-append p.waiting (op ∷ []));
-      }
+  pub stand_appended : (op : Op) → Stands → slice_get all appended ≡ Some op → StandTogether tables source base preserve r (record p { waiting = p.waiting ++ op ∷ [] }) (appended + 1) stored
+  stand_appended op t is = record {
+    named = t.named;
+    within = t.within;
+    history = t.history;
+    begins = subst (λ l. IsPrefix l (operations r.tables r.base (ran r) (length r.commits))) (append_assoc p.published p.waiting (op ∷ [])) (next_begins op t is);
+    shown = t.shown;
+    words = t.words;
+    number = (let number = t.number in omega (arith, length-append p.waiting (op ∷ [])));
+    in_order = t.in_order;
+  }
 
-  -- ---- the end
+  -- ---- what is published
 
-  pub published_within : StandTogether tables source base r p appended stored → commits_in p.published ≤ r.committed
+  pub published_within : Stands → commits_in p.published ≤ length r.commits
   published_within t =
-      let all = appended_within t in
+      let most = appended_within t in
       let number = t.number in
       omega arith
 
-  -- what is published are the operations of the first records
-  pub published_is : StandTogether tables source base r p appended stored → p.published ≡ operations r.tables r.base r.accepted (commits_in p.published)
+  -- what is published are the operations of the first commits
+  pub published_is : Stands → p.published ≡ operations r.tables r.base (ran r) (commits_in p.published)
   published_is t =
-      let all = operations r.tables r.base r.accepted r.committed in
-      let size = history_length p.published t.history in
-      prefix_is p.published all (front p.published p.waiting all t.begins)
-      ∙ ap (λ n. take n all) size
-      ∙ sym (first_operations r.tables r.base r.accepted (commits_in p.published) r.committed (published_within t))
+      let whole = operations r.tables r.base (ran r) (length r.commits) in
+      let size = history_length preserve p.published t.history in
+      prefix_is p.published whole (front p.published p.waiting whole t.begins)
+      ∙ ap (λ n. take n whole) size
+      ∙ sym (first_operations r.tables r.base (ran r) (commits_in p.published) (length r.commits) (published_within t))
+
+  -- in the order of the log they are those of the first accepted records
+  pub published_in_order : Stands → preserve ≡ true → p.published ≡ operations_in_order r.tables r.base r.accepted (commits_in p.published)
+  published_in_order t kept = published_is t ∙ t.in_order kept (commits_in p.published) (published_within t)
+
+  -- the gnos of the published operations are the first of the commits, and those that are to be published the others
+  pub gnos_published : IsSound r → Stands → gnos_of p.published ≡ take r.published r.commits
+  gnos_published sound t =
+      gnos_of_prefix p.published (commits_in p.published) sound (published_within t) (history_length preserve p.published t.history) (front p.published p.waiting (operations r.tables r.base (ran r) (length r.commits)) t.begins)
+      ∙ ap (λ n. take n r.commits) (sym t.shown)
+
+  gnos_all : IsSound r → Stands → gnos_of all ≡ r.commits
+  gnos_all sound t =
+      sym (ap gnos_of (whole_is t)) ∙ gnos_of_operations gnos_of r (length r.commits) tells_gnos (sound_stands r sound) ∙ take_all (length r.commits) r.commits (omega arith)
+
+  pub gnos_waiting : IsSound r → Stands → gnos_of (waiting r) ≡ drop r.published r.commits
+  gnos_waiting sound t = gnos_of-drop r.published all (commits_alone r.tables (loaded r.base) (ran r)) ∙ ap (drop r.published) (gnos_all sound t)
+
+  -- which commits of an interval are published
+  pub shown_are : (i : Interval) → IsSound r → Stands → 1 ≤ i.first →
+      has_each (gnos_of p.published) i ≡ (nat_le i.last (low_of (gnos_of p.published)) || (has_each r.commits i && not (list_any (is_commit_in i) (waiting r))))
+  shown_are i sound t one =
+      let distinct = commits_are_distinct r.tables (loaded r.base) r.accepted r.commits sound.commits in
+      let behind : list_any (is_commit_in i) (waiting r) ≡ list_any (is_within i) (drop r.published r.commits) = any_commit_in i (waiting r) ∙ ap (list_any (is_within i)) (gnos_waiting sound t) in
+      subst (λ gnos. has_each gnos i ≡ (nat_le i.last (low_of gnos) || (has_each r.commits i && not (list_any (is_commit_in i) (waiting r))))) (sym (gnos_published sound t))
+      (subst (λ b. has_each (take r.published r.commits) i ≡ (nat_le i.last (low_of (take r.published r.commits)) || (has_each r.commits i && not b))) (sym behind) (front_has r.commits r.published i distinct one))
+
+-- a new replica, of which the load is published
+pub new_stands : (tables : List Table) (source : List ℕ) (base : List Entry) (preserve : Bool) (r : Replica) (p : Publishing) (stored : List Counts) → r ≡ new_over r.tables r.source r.base r.workers r.preserve → IsNamed tables source base preserve r
+    → p ≡ record { published = Load r.base ∷ []; waiting = []; history = Load r.base ∷ [] } → stored ≡ [] → StandTogether tables source base preserve r p 0 stored
+new_stands tables source base preserve r p stored fresh named is none = record {
+  named = named;
+  within = λ gno has. absurd (true≢false (sym has ∙ ap (λ (x : Replica). has_gno x.commits gno) fresh));
+  history = subst (λ (q : Publishing). IsHistory preserve q.published) (sym is) (history_load preserve r.base);
+  begins = subst (λ (q : Publishing). IsPrefix (q.published ++ q.waiting) (operations r.tables r.base (ran r) (length r.commits))) (sym is) (commits_from r.tables (loaded r.base) (take (length r.commits) (ran r)), refl);
+  shown = ap (λ (x : Replica). x.published) fresh ∙ sym (ap (λ (q : Publishing). commits_in q.published) is);
+  words = ap latest none ∙ sym (ap words_of fresh);
+  number = sym (ap (λ (q : Publishing). commits_in q.published + length q.waiting) is);
+  in_order = λ kept n le. first n (subst (λ (x : Replica). n ≤ length x.commits) fresh le);
+}
+  where
+    first : (n : ℕ) → n ≤ 0 → operations r.tables r.base (ran r) n ≡ operations_in_order r.tables r.base r.accepted n
+    first zero le = refl
+    first (suc n) le = absurd (omega arith)
 
 -- where as much is appended as committed, all is
-pub all_appended : (tables : List Table) (source : List ℕ) (base : List Entry) (s : State) (appended : ℕ) (stored : List Counts) → s.core.committed ≤ appended → StandTogether tables source base s.core s.publication appended stored → IsAppended s
-all_appended tables source base s appended stored enough t =
+pub all_appended : (tables : List Table) (source : List ℕ) (base : List Entry) (preserve : Bool) (s : State) (appended : ℕ) (stored : List Counts) → length s.core.commits ≤ appended → StandTogether tables source base preserve s.core s.publication appended stored → IsAppended s
+all_appended tables source base preserve s appended stored enough t =
     let r = s.core in
     let p = s.publication in
-    let sizes = length_operations r.tables r.base r.accepted r.committed t.within in
-    let some = history_length p.published t.history in
+    let whole = operations r.tables r.base (ran r) (length r.commits) in
+    let sizes = few_operations r.tables r.base (ran r) (length r.commits) in
+    let some = history_length preserve p.published t.history in
     let number = t.number in
-    let least = appended_within tables source base r p appended stored t in
+    let least = appended_within tables source base preserve r p appended stored t in
     record {
-      all = prefix_whole (p.published ++ p.waiting) (operations r.tables r.base r.accepted r.committed) t.begins (omega (arith, length-append p.published p.waiting));
+      all = prefix_whole (p.published ++ p.waiting) whole t.begins (omega (arith, length-append p.published p.waiting));
       number = omega arith;
     }
 
 -- a new replica is new over what it shows
-pub new_is_new : (r : Replica) (ts : List Table) (source : List ℕ) (base : List Entry) (workers : ℕ) → r ≡ new_over ts source base workers → r ≡ new_over r.tables r.source r.base r.workers
-new_is_new r ts source base workers is = subst (λ (x : Replica). x ≡ new_over x.tables x.source x.base x.workers) (sym is) refl
+pub new_is_new : (r : Replica) (ts : List Table) (source : List ℕ) (base : List Entry) (workers : ℕ) (preserve : Bool) → r ≡ new_over ts source base workers preserve → r ≡ new_over r.tables r.source r.base r.workers r.preserve
+new_is_new r ts source base workers preserve is = subst (λ (x : Replica). x ≡ new_over x.tables x.source x.base x.workers x.preserve) (sym is) refl

@@ -1,29 +1,32 @@
 -- Why a replica stopped stays true at each step.
-use Rattle.std.proofs.Common.{◌≡◌, ◌∙◌, sym, ap, subst, refl, ℕ, ◌-◌, ◌≤◌, ◌⊎◌, inl, inr, Bool, true, false, ◌&&◌, nat_le, List, length, Option, Some, None, Result, Ok, Err, IfSome, IfErr, IsErrOf, arith, slice_get, get_or}
+use Rattle.std.proofs.Common.{◌≡◌, ◌∙◌, sym, ap, subst, refl, ℕ, ◌-◌, ◌⊎◌, inl, inr, Bool, true, false, ◌&&◌, nat_le, List, ◌++◌, Option, Some, None, Result, Ok, Err, IfSome, IsErrOf, arith, slice_get}
 use Rattle.std.specs.Option.{option_map_or}
-use Rattle.std.proofs.lemmas.Bool.{cases_eq, and_parts, or_parts, leb-true, leb-false}
+use Rattle.std.proofs.lemmas.Bool.{cases_eq, and_parts, leb-true}
 use Rattle.std.proofs.lemmas.Option.{same_Some, slice_get_within}
-use Rattle.std.proofs.lemmas.List.{take-append-le}
 use Rattle.schema.proofs.Lists.{get_front, get_within}
-use Rattle.schema.specs.declared.Table.{Table}
 use Rattle.rows.specs.Database.{Database}
 use Rattle.store_trait.specs.Batch.{Entry}
 use Rattle.store_trait.specs.Operation.{loaded}
 use Rattle.record_codec.specs.declared.records.Record.{Record}
-use Rattle.record_codec.specs.Log.{after}
 use Rattle.executor.specs.declared.Job.{Job}
 use Rattle.executor.specs.declared.Outcome.{Outcome}
 use Rattle.executor.specs.declared.Outcome.TheVariants as outcomes
 use Rattle.executor.specs.Job.{Finished, IsResult, outcome_over}
 use Rattle.relay.specs.declared.ReplicaFault.{ReplicaFault}
 use Rattle.relay.specs.declared.ReplicaFault.TheVariants as faults
-use Rattle.replica_core.specs.Replica.{Replica, dispatched, working_rows, job_over}
-use Rattle.replica_core.specs.Calls.{finish_fault, was_finished, IsHandedOut, taken_as, left_by_fault, unless_stopped}
+use Rattle.scheduler.specs.Gnos.{has_gno}
+use Rattle.scheduler.proofs.Gnos.{has_gno_front, distinct_apart_behind}
+use Rattle.record_codec.specs.Group.{AreNumbered}
+use Rattle.record_codec.specs.Log.{after}
+use Rattle.gapped.proofs.Choosing.{longer_log, AreWithin}
+use Rattle.replica_core.specs.Replica.{Replica, working_rows, job_over}
+use Rattle.replica_core.specs.Calls.{finish_fault, IsHandedOut, taken_as, left_by_fault, unless_stopped}
 use Rattle.replica_core.specs.Sound.{IsSound, IsUnderWay}
 use Rattle.replica_core.proofs.Handing.{Grows}
 use Rattle.replica_core.proofs.Jobs.{job_at, job_agrees_now}
-use Rattle.replica_core.proofs.Steps.{cause, no_cause}
-use Rattle.replica_shared.specs.Together.{State, HasNoOutput, MayStopAt, StopsRightly, IsNamed, IsStopBehind, TellsStop}
+use Rattle.replica_core.proofs.Showing.{numbered_of}
+use Rattle.replica_shared.specs.Together.{HasNoOutput, MayStopAt, StopsRightly}
+use Rattle.replica_shared.proofs.Keeping.{cause, no_cause}
 
 -- one that runs has not stopped anywhere
 pub runs_rightly : (r : Replica) → r.stopped ≡ None → StopsRightly r
@@ -40,30 +43,31 @@ runs_where_ok r answer told (inr is) = running r.stopped is
 
 -- ---- more is accepted
 
-may_grown : (r then : Replica) (at : ℕ) → Grows r then → r.committed ≤ length r.accepted → MayStopAt r at → MayStopAt then at
-may_grown r then at grows within may =
+may_grown : (r then : Replica) (at : ℕ) → Grows r then → IsSound then → AreWithin r.commits r.accepted → MayStopAt r at → MayStopAt then at
+may_grown r then at grows sound within may =
     let none = may.1 in
     let got = get_front r.accepted grows.more (at - 1) (slice_get_within r.accepted (at - 1) none.rec none.got) ∙ none.got in
-    let rows = ap (after r.tables (loaded r.base)) (take-append-le r.committed r.accepted grows.more within) ∙ none.rows_are in
+    let numbered : AreNumbered 1 (r.accepted ++ grows.more) = subst (λ (x : Replica). AreNumbered 1 x.accepted) grows.is (numbered_of then.tables then.accepted sound.accepted) in
+    let rows = ap (after r.tables (loaded r.base)) (longer_log r.accepted grows.more r.commits numbered (λ gno has. (within gno has).1)) ∙ none.rows_are in
     subst (λ (x : Replica). MayStopAt x at) (sym grows.is) (may.0, record { rec = none.rec; got = got; rows = none.rows; rows_are = rows; none = none.none })
 
-pub stops_grown : (r then : Replica) → Grows r then → r.committed ≤ length r.accepted → StopsRightly r → StopsRightly then
-stops_grown r then grows within h =
+pub stops_grown : (r then : Replica) → Grows r then → IsSound then → AreWithin r.commits r.accepted → StopsRightly r → StopsRightly then
+stops_grown r then grows sound within h =
     subst (λ (stopped : Option ℕ). IfSome stopped (MayStopAt then)) (sym (ap (λ (x : Replica). x.stopped) grows.is)) (each r.stopped h)
   where
     each : (stopped : Option ℕ) → IfSome stopped (MayStopAt r) → IfSome stopped (MayStopAt then)
     each None may = tt
-    each (Some at) may = may_grown r then at grows within may
+    each (Some at) may = may_grown r then at grows sound within may
 
 -- ---- a result
 
 -- where nothing refuses it, the replica runs, and its record is under way
-pub free_runs : (r : Replica) (gno : ℕ) → finish_fault r gno ≡ None → (r.stopped ≡ None) × IsUnderWay r gno
-free_runs r gno free =
-    let so = no_cause r.stopped (nat_le 1 gno && nat_le gno (dispatched r)) (was_finished r gno) free in
-    let within = and_parts (nat_le 1 gno) (nat_le gno (dispatched r)) so.1 in
-    let behind = or_parts (nat_le gno r.committed) (get_or r.under_way (gno - r.committed - 1) false) so.2 in
-    (so.0, (leb-false gno r.committed behind.0, leb-true gno (dispatched r) within.1))
+pub free_runs : (r : Replica) (gno : ℕ) → IsSound r → finish_fault r gno ≡ None → (r.stopped ≡ None) × IsUnderWay r gno
+free_runs r gno sound free =
+    let so = no_cause r.stopped (nat_le 1 gno && nat_le gno r.dispatched) (has_gno r.out gno) free in
+    let within = and_parts (nat_le 1 gno) (nat_le gno r.dispatched) so.1 in
+    let behind = distinct_apart_behind r.commits (r.out ++ r.finished) sound.distinct gno (has_gno_front r.out r.finished gno so.2) in
+    (so.0, (leb-true 1 gno within.0, leb-true gno r.dispatched within.1, behind))
 
 -- two answers of one fault
 same_fault : (a b : ReplicaFault) (x y : Finished) → ◌≡◌ {A = Result (Unit {0}) (ReplicaFault × Finished)} (Err (a, x)) (Err (b, y)) → a ≡ b
@@ -120,11 +124,11 @@ pub record Finishes (r : Replica) (done : Finished) (result : Result (Unit {0}) 
   pub taken : finish_fault r done.job.gno ≡ None → IsHandedOut r done → result ≡ taken_as done done.outcome
 
 -- a stop that was there before
-stopped_from : (stopped : Option ℕ) (known taken : Bool) (at : ℕ) → cause stopped known taken ≡ Some (faults.Stopped at) → stopped ≡ Some at
+stopped_from : (stopped : Option ℕ) (known out : Bool) (at : ℕ) → cause stopped known out ≡ Some (faults.Stopped at) → stopped ≡ Some at
 stopped_from None true true at is = cc
 stopped_from None true false at is = cc
-stopped_from None false taken at is = cc
-stopped_from (Some gno) known taken at is =
+stopped_from None false out at is = cc
+stopped_from (Some gno) known out at is =
     let same : faults.Stopped gno ≡ faults.Stopped at = same_Some (faults.Stopped gno) (faults.Stopped at) is in
     let number : gno ≡ at = cc same in
     ap Some number
@@ -150,7 +154,7 @@ may_stop r done back at result is f h = each (finish_fault r gno) refl f.refused
         let handed : (IsHandedOut r done → ⊥) → ⊥ = λ not. wrong (told_so (faults.Stopped at) faults.WrongInput done back result is (f.other free not)) in
         let told : IsHandedOut r done → ((done.outcome ≡ outcomes.Undefined) ⊎ (done.outcome ≡ outcomes.WrongRefs)) × (gno ≡ at) =
         λ of. taken_stops done back at done.outcome (sym (f.taken free of) ∙ is) in
-        let under = (free_runs r gno free).1 in
+        let under = (free_runs r gno f.sound free).1 in
         let none : HasNoOutput r gno = no_output r done f.sound under f.of_job handed (λ of. (told of).0) in
         elim (cases_eq gno at) [
           | inl here ↦ subst (MayStopAt r) here (under, none)
@@ -162,7 +166,7 @@ may_stop r done back at result is f h = each (finish_fault r gno) refl f.refused
     each (Some fault) cause_is refused =
         let same : fault ≡ faults.Stopped at = told_so (faults.Stopped at) fault done back result is refused in
         stays r.stopped
-        (stopped_from r.stopped (nat_le 1 gno && nat_le gno (dispatched r)) (was_finished r gno) at (cause_is ∙ ap Some same))
+        (stopped_from r.stopped (nat_le 1 gno && nat_le gno r.dispatched) (has_gno r.out gno) at (cause_is ∙ ap Some same))
         h
 
 pub stops_refused : (r : Replica) (done back : Finished) (told : ReplicaFault) (result : Result (Unit {0}) (ReplicaFault × Finished)) → result ≡ Err (told, back) → Finishes r done result → StopsRightly r → StopsRightly (left_by_fault r told)
@@ -178,9 +182,3 @@ stops_refused r done back faults.Stranger result is f h = h
 stops_refused r done back faults.Double result is f h = h
 stops_refused r done back faults.WrongInput result is f h = h
 stops_refused r done back faults.Memory result is f h = h
-
--- ---- what is told
-
-pub tells_stop : {T : Type 0} (tables : List Table) (source : List ℕ) (base : List Entry) (gno : ℕ) (s : State) (result : Result T ReplicaFault) → IsNamed tables source base s.core → StopsRightly s.core → IfErr result (λ fault. IsStopBehind s gno fault) → IfErr result (TellsStop tables source base gno)
-tells_stop tables source base gno s (Ok x) named cause stop = tt
-tells_stop tables source base gno s (Err fault) named cause stop = record { state = s; named = named; stop = stop; cause = cause }

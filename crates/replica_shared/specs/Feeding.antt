@@ -1,9 +1,12 @@
--- What is answered to a record; what a piece of a wire's bytes does to what lies under the lock, and to the wire; and sets of ids.
-use Rattle.std.specs.Prelude.{◌≡◌, ◌⊎◌, ℕ, ◌<◌, ◌≤◌, ◌||◌, nat_lt, true, List, [], length, Result, Ok, Err, IsOk, IsErrOf, MatchResult}
+-- What is answered to a record; what a piece of a wire's bytes does to what lies under the lock, and to the wire; and what is told of a
+-- stop to one who waits for a set of ids.
+use Rattle.std.specs.Prelude.{◌≡◌, ◌⊎◌, ℕ, ◌<◌, ◌≤◌, ◌||◌, nat_lt, Bool, true, false, List, [], length, Result, Ok, Err, IsOk, IsErrOf, MatchResult}
 use Rattle.schema.specs.declared.Table.{Table}
 use Rattle.store_trait.specs.Batch.{Entry}
 use Rattle.gtid_set.specs.Ids.{Ids}
 use Rattle.gtid_set.specs.Numbers.{has_number}
+use Rattle.scheduler.specs.Gnos.{has_gno}
+use Rattle.published.specs.History.{gnos_of, commits_in}
 use Rattle.relay.specs.declared.ReplicaFault.{ReplicaFault}
 use Rattle.relay.specs.declared.ReplicaFault.TheVariants as faults
 use Rattle.relay.specs.declared.Received.{Received}
@@ -14,13 +17,13 @@ use Rattle.replica_core.specs.Calls.{received}
 use Rattle.replica_core.specs.Wire.{Wire, Hands, Gathers, Takes, piece_taken}
 use Rattle.replica_core.specs.declared.wire.WireFault.{WireFault}
 use Rattle.replica_core.specs.declared.wire.WireFault.TheVariants as wire
-use Rattle.replica_shared.specs.Together.{State, Settles, IsCaughtUp, IsNamed, TellsStop}
+use Rattle.replica_shared.specs.Together.{State, Settles, IsCaughtUp, IsNamed, IsStopOf}
 
 -- What is answered to a record: what the core's `receive` answers over a core of this replica, or that memory ran out in the place
 -- of an acceptance.
-pub record Receives (tables : List Table) (source : List ℕ) (base : List Entry) (from : List ℕ) (new : Record) (answer : Result Received ReplicaFault) : Type 0 where
+pub record Receives (tables : List Table) (source : List ℕ) (base : List Entry) (preserve : Bool) (from : List ℕ) (new : Record) (answer : Result Received ReplicaFault) : Type 0 where
   pub before : Replica
-  pub named : IsNamed tables source base before
+  pub named : IsNamed tables source base preserve before
   pub told : IsErrOf answer faults.Memory ⊎ (answer ≡ received before from new)
   pub memory : IsErrOf answer faults.Memory → received before from new ≡ Ok Accepted
 
@@ -63,9 +66,9 @@ HandsAndSettles s full answer new then = (old : Wire) (piece : List ℕ) → old
 
 -- What a piece does to the wire: what the wire's `take` does over a core of this replica. Its own answer is told, or, where that
 -- is Ok, that memory ran out. Either way so much of the piece is taken as the answer says.
-pub record Feeds (tables : List Table) (source : List ℕ) (base : List Entry) (old : Wire) (piece : List ℕ) (answer : Result ℕ WireFault) (new : Wire) : Type 0 where
+pub record Feeds (tables : List Table) (source : List ℕ) (base : List Entry) (preserve : Bool) (old : Wire) (piece : List ℕ) (answer : Result ℕ WireFault) (new : Wire) : Type 0 where
   pub before : Replica
-  pub named : IsNamed tables source base before
+  pub named : IsNamed tables source base preserve before
   pub core : Replica
   pub taken : Result ℕ WireFault
   pub takes : Takes old before piece taken new core
@@ -74,12 +77,11 @@ pub record Feeds (tables : List Table) (source : List ℕ) (base : List Entry) (
 
 -- ---- sets of ids
 
--- all numbers of the set are at most this one
-abbrev pub AreUpTo : ℕ → Ids → Type 0
-AreUpTo n ids = (gno : ℕ) → has_number ids.numbers gno ≡ true → gno ≤ n
-
--- a stop is told, and the commit of an id of the set is not published
-pub record TellsStopOf (tables : List Table) (source : List ℕ) (base : List Entry) (ids : Ids) (fault : ReplicaFault) : Type 0 where
+-- a stop is told, and the commit of an id of the set is not published; in the order of the log fewer are than its number
+pub record TellsStopOf (tables : List Table) (source : List ℕ) (base : List Entry) (preserve : Bool) (ids : Ids) (fault : ReplicaFault) : Type 0 where
+  pub state : State
+  pub stop : IsStopOf tables source base preserve state fault
   pub gno : ℕ
   pub has : has_number ids.numbers gno ≡ true
-  pub tells : TellsStop tables source base gno fault
+  pub behind : has_gno (gnos_of state.publication.published) gno ≡ false
+  pub in_order : preserve ≡ true → commits_in state.publication.published < gno

@@ -1,4 +1,6 @@
 pub mod Queue
 pub mod Outlet
+pub mod Awaited
 pub mod Together
 pub mod Feeding
+pub mod Laws

@@ -1,5 +1,6 @@
 -- What lies under the lock of a shared replica, and what is true of it each time that the lock is taken.
-use Rattle.std.specs.Prelude.{◌≡◌, ◌⊎◌, ℕ, ◌+◌, ◌-◌, ◌%◌, ◌<◌, ◌≤◌, Bool, true, false, not, ◌&&◌, ◌||◌, ◌==◌, nat_le, nat_lt, count_by, replicate, IfErr, IfSome, MatchOption, List, [], ◌∷◌, ◌++◌, length, slice_get, slice_index_or, slice_set, Option, Some, None, is_some, Result, Ok, Err}
+use Rattle.std.specs.Prelude.{◌≡◌, ◌⊎◌, ℕ, ◌+◌, ◌-◌, ◌<◌, ◌≤◌, Bool, true, false, not, ◌&&◌, ◌||◌, ◌==◌, nat_lt, IfErr, IfSome, MatchOption, List, [], ◌∷◌, ◌++◌, map, length, slice_get, Option, Some, None, is_some, Result, Ok, Err}
+use Rattle.std.specs.List.{filter}
 use mathlib.Core.List.{IsPrefix}
 use Rattle.schema.specs.declared.Table.{Table}
 use Rattle.rows.specs.Database.{Database}
@@ -8,7 +9,8 @@ use Rattle.store_trait.specs.declared.Op.{Op}
 use Rattle.store_trait.specs.declared.Op.TheVariants.{Load}
 use Rattle.record_codec.specs.declared.records.Record.{Record}
 use Rattle.published.specs.declared.counts.Counts.{Counts}
-use Rattle.published.specs.History.{IsHistory, commits_in}
+use Rattle.gtid_set.specs.declared.intervals.Interval.{Interval}
+use Rattle.published.specs.History.{IsHistory, gnos_of, commits_in}
 use Rattle.published.specs.Publication.{Publishing}
 use Rattle.published.specs.Status.{counts_of, latest}
 use Rattle.executor.specs.declared.Job.{Job}
@@ -19,9 +21,11 @@ use Rattle.relay.specs.declared.ReplicaFault.{ReplicaFault}
 use Rattle.relay.specs.declared.ReplicaFault.TheVariants as faults
 use Rattle.relay.specs.declared.Received.{Received}
 use Rattle.relay.specs.declared.Received.TheVariants.{Accepted, Skipped}
-use Rattle.replica_core.specs.Replica.{Replica, dispatched, working_rows, operations}
+use Rattle.scheduler.specs.Gnos.{has_gno, low_of, AreDistinct}
+use Rattle.replica_core.specs.Replica.{Replica, working_rows, ran, operations, operations_in_order}
 use Rattle.replica_core.specs.Calls.{next_commit, next_job, is_eligible, dispatched_next, with_finished, left_by_fault, with_published, left_by_receive}
 use Rattle.replica_core.specs.Sound.{IsUnderWay}
+use Rattle.replica_shared.specs.Awaited.{has_all}
 use Rattle.replica_shared.specs.Outlet.{Queued, AreInLine, empty_outlet}
 use Rattle.replica_shared.specs.declared.news.News.{News}
 use Rattle.replica_shared.specs.declared.news.Outlook.{Outlook}
@@ -35,8 +39,8 @@ pub record State : Type 0 where
   pub publication : Publishing
   -- no more records come
   pub closed : Bool
-  -- the places of the jobs for which memory ran out
-  pub kept : List (Option Job)
+  -- the jobs for which memory ran out
+  pub kept : List Job
   -- the coordinator's end of the queue: the first so many jobs were pushed, and the next may wait for memory
   pub outlet : Queued
   -- so many of those pushed were claimed by workers
@@ -47,7 +51,7 @@ pub record State : Type 0 where
   pub told : Outlook
 
 -- a state of these parts
-abbrev pub state_of : Replica → Publishing → Bool → List (Option Job) → Queued → ℕ → Bool → Outlook → State
+abbrev pub state_of : Replica → Publishing → Bool → List Job → Queued → ℕ → Bool → Outlook → State
 state_of core publication closed kept outlet claimed behind told = record {
   core = core;
   publication = publication;
@@ -61,73 +65,76 @@ state_of core publication closed kept outlet claimed behind told = record {
 
 -- how far the replica is
 abbrev pub words_of : Replica → Counts
-words_of r = counts_of (length r.accepted) r.committed r.published
+words_of r = counts_of (length r.accepted) (length r.commits) r.published
 
 -- a core of this replica
-abbrev pub IsNamed : List Table → List ℕ → List Entry → Replica → Type 0
-IsNamed tables source base r = (r.tables ≡ tables) × (r.source ≡ source) × (r.base ≡ base)
+abbrev pub IsNamed : List Table → List ℕ → List Entry → Bool → Replica → Type 0
+IsNamed tables source base preserve r = (r.tables ≡ tables) × (r.source ≡ source) × (r.base ≡ base) × (r.preserve ≡ preserve)
 
 -- What the core keeps is true of itself: its rows are those after the committed records. With it, over one base, stand the
 -- publisher and the words of the status. It takes the records of this source.
-pub record StandTogether (tables : List Table) (source : List ℕ) (base : List Entry) (r : Replica) (p : Publishing) (appended : ℕ) (stored : List Counts) : Type 0 where
-  pub tables_are : r.tables ≡ tables
-  pub source_is : r.source ≡ source
-  pub base_is : r.base ≡ base
-  -- no more are committed than accepted
-  pub within : r.committed ≤ length r.accepted
-  pub history : IsHistory p.published
-  -- the operations that are published, and behind them those that are appended, are the first of those of the committed records
-  pub begins : IsPrefix (p.published ++ p.waiting) (operations r.tables r.base r.accepted r.committed)
-  -- no more count as published than the publisher has published
-  pub shown : r.published ≤ commits_in p.published
+pub record StandTogether (tables : List Table) (source : List ℕ) (base : List Entry) (preserve : Bool) (r : Replica) (p : Publishing) (appended : ℕ) (stored : List Counts) : Type 0 where
+  pub named : IsNamed tables source base preserve r
+  -- each commit is of an accepted record
+  pub within : (gno : ℕ) → has_gno r.commits gno ≡ true → (1 ≤ gno) × (gno ≤ length r.accepted)
+  pub history : IsHistory preserve p.published
+  -- the operations that are published, and behind them those that are appended, are the first of those of the commits
+  pub begins : IsPrefix (p.published ++ p.waiting) (operations r.tables r.base (ran r) (length r.commits))
+  -- as many count as published as the publisher has published
+  pub shown : r.published ≡ commits_in p.published
   -- the words that were stored last
   pub words : latest stored ≡ words_of r
   pub number : appended ≡ commits_in p.published + length p.waiting
+  -- in the order of the log the operations of the commits are those of the first accepted records
+  pub in_order : preserve ≡ true → (n : ℕ) → n ≤ length r.commits → operations r.tables r.base (ran r) n ≡ operations_in_order r.tables r.base r.accepted n
 
 -- whatever the words were, and the number of those appended
-pub record StoodTogether (tables : List Table) (source : List ℕ) (base : List Entry) (r : Replica) (p : Publishing) : Type 0 where
+pub record StoodTogether (tables : List Table) (source : List ℕ) (base : List Entry) (preserve : Bool) (r : Replica) (p : Publishing) : Type 0 where
   pub appended : ℕ
   pub stored : List Counts
-  pub stand : StandTogether tables source base r p appended stored
+  pub stand : StandTogether tables source base preserve r p appended stored
 
--- There are 64 places, and each job that is kept lies in its own, that of its number modulo 64. So many are dispatched, and it
--- is one of these.
-abbrev pub LieInPlace : ℕ → List (Option Job) → Type 0
-LieInPlace dispatched kept = (place : ℕ) (job : Job) → slice_index_or kept place None ≡ Some job
-    → (job.gno % 64 ≡ place) × (job.gno ≤ dispatched)
+-- the numbers of the jobs
+abbrev pub numbers_of : List Job → List ℕ
+numbers_of jobs = map (λ (job : Job). job.gno) jobs
 
-pub record AreKept (dispatched : ℕ) (kept : List (Option Job)) : Type 0 where
-  pub places : length kept ≡ 64
-  pub own : LieInPlace dispatched kept
+-- of each number one job at most is kept, and no more than there are places
+pub record AreKept (kept : List Job) : Type 0 where
+  pub distinct : AreDistinct (numbers_of kept)
+  pub few : length kept ≤ 64
 
--- a place has a job of this number
-abbrev pub HasJob : List (Option Job) → ℕ → Type 0
-HasJob kept gno = (job : Job) × ((slice_index_or kept (gno % 64) None ≡ Some job) × (job.gno ≡ gno))
+-- a job of a record of which no result was taken, and of another number
+abbrev pub is_out_beside : Replica → ℕ → Job → Bool
+is_out_beside r gno job = has_gno r.out job.gno && not (job.gno == gno)
 
--- of each number that had a kept job and is not committed, one is kept still
-abbrev pub NoneLost : Replica → List (Option Job) → List (Option Job) → Type 0
-NoneLost r kept then = (gno : ℕ) → r.committed < gno → HasJob kept gno → HasJob then gno
+-- those of the jobs
+abbrev pub out_beside : Replica → ℕ → List Job → List Job
+out_beside r gno kept = filter (is_out_beside r gno) kept
 
--- the job is laid into its place
-abbrev pub laid : Job → List (Option Job) → List (Option Job)
-laid job kept = slice_set kept (job.gno % 64) (Some job)
+-- the job is kept, in the place of one of its number, and those of records of which a result was taken no longer
+abbrev pub laid : Replica → Job → List Job → List Job
+laid r job kept = out_beside r job.gno kept ++ job ∷ []
+
+-- of each record that had a kept job, and of which no result was taken, one is kept still
+abbrev pub NoneLost : Replica → List Job → List Job → Type 0
+NoneLost r kept then = (gno : ℕ) → has_gno r.out gno ≡ true → has_gno (numbers_of kept) gno ≡ true → has_gno (numbers_of then) gno ≡ true
 
 -- a job whose result is refused so is kept where memory ran out
-abbrev pub taken_back : ReplicaFault → Job → List (Option Job) → List (Option Job)
-taken_back faults.Memory job kept = laid job kept
-taken_back (faults.Stopped gno) job kept = kept
-taken_back faults.Gap job kept = kept
-taken_back faults.ForeignSource job kept = kept
-taken_back faults.Malformed job kept = kept
-taken_back faults.BadParent job kept = kept
-taken_back faults.Stranger job kept = kept
-taken_back faults.Double job kept = kept
-taken_back faults.WrongInput job kept = kept
+abbrev pub taken_back : Replica → ReplicaFault → Job → List Job → List Job
+taken_back r faults.Memory job kept = laid r job kept
+taken_back r (faults.Stopped gno) job kept = kept
+taken_back r faults.Gap job kept = kept
+taken_back r faults.ForeignSource job kept = kept
+taken_back r faults.Malformed job kept = kept
+taken_back r faults.BadParent job kept = kept
+taken_back r faults.Stranger job kept = kept
+taken_back r faults.Double job kept = kept
+taken_back r faults.WrongInput job kept = kept
 
--- one of the jobs is taken out, where any is kept
-abbrev pub TakesOut : List (Option Job) → Option Job → List (Option Job) → Type 0
-TakesOut kept None then = ((place : ℕ) → slice_index_or kept place None ≡ None) × (then ≡ kept)
-TakesOut kept (Some job) then = (slice_index_or kept (job.gno % 64) None ≡ Some job) × (then ≡ slice_set kept (job.gno % 64) None)
+-- the job that was kept first is taken out, where any is kept
+abbrev pub TakesOut : List Job → Option Job → List Job → Type 0
+TakesOut kept None then = (kept ≡ []) × (then ≡ [])
+TakesOut kept (Some job) then = kept ≡ job ∷ then
 
 -- Nothing comes of the record of this number, over the working rows, that it could be committed by: its changes do not apply there,
 -- or look at other parent rows or have other marks than it states.
@@ -150,36 +157,52 @@ StopsRightly r = IfSome r.stopped (MayStopAt r)
 abbrev pub IsStop : ReplicaFault → Type 0
 IsStop fault = (at : ℕ) × (fault ≡ faults.Stopped at)
 
--- it tells of the stop of this state, in which the commit of this number is not published
-abbrev pub IsStopBehind : State → ℕ → ReplicaFault → Type 0
-IsStopBehind s gno fault = (at : ℕ) × (s.core.stopped ≡ Some at) × (fault ≡ faults.Stopped at) × (commits_in s.publication.published < gno)
+-- What is told of the stop of this state: its core, which is one of this replica, has stopped at that record, as it may.
+pub record IsStopOf (tables : List Table) (source : List ℕ) (base : List Entry) (preserve : Bool) (s : State) (fault : ReplicaFault) : Type 0 where
+  pub named : IsNamed tables source base preserve s.core
+  pub at : ℕ
+  pub stopped : s.core.stopped ≡ Some at
+  pub told : fault ≡ faults.Stopped at
+  pub cause : StopsRightly s.core
+  pub history : IsHistory preserve s.publication.published
 
--- What a caller knows who is told of a stop: a core of this replica has stopped at that record, as it may, and the commit of this
--- number is not published.
-pub record TellsStop (tables : List Table) (source : List ℕ) (base : List Entry) (gno : ℕ) (fault : ReplicaFault) : Type 0 where
+-- one of these commits is not published
+abbrev pub IsStopBehind : List Table → List ℕ → List Entry → Bool → List Interval → State → ReplicaFault → Type 0
+IsStopBehind tables source base preserve wanted s fault =
+    IsStopOf tables source base preserve s fault × (has_all (gnos_of s.publication.published) wanted ≡ false)
+
+-- what one knows who waited for these commits, and is told of a stop
+pub record TellsStopBehind (tables : List Table) (source : List ℕ) (base : List Entry) (preserve : Bool) (wanted : List Interval) (fault : ReplicaFault) : Type 0 where
   pub state : State
-  pub named : IsNamed tables source base state.core
-  pub stop : IsStopBehind state gno fault
-  pub cause : StopsRightly state.core
+  pub stop : IsStopBehind tables source base preserve wanted state fault
 
--- neither is the commit of this number published, nor is the replica stopped
-abbrev pub is_awaited : State → ℕ → Bool
-is_awaited s gno = not (nat_le gno (commits_in s.publication.published) || is_some s.core.stopped)
+-- What a caller knows who is told of a stop: one of the commits from 1 to this number is not published; in the order of the log the
+-- commit of this number is not.
+pub record TellsStop (tables : List Table) (source : List ℕ) (base : List Entry) (preserve : Bool) (gno : ℕ) (fault : ReplicaFault) : Type 0 where
+  pub state : State
+  pub stop : IsStopOf tables source base preserve state fault
+  pub behind : low_of (gnos_of state.publication.published) < gno
+  pub in_order : preserve ≡ true → commits_in state.publication.published < gno
 
--- Of the same accepted records as many are committed or more, and what is published goes on from what was.
+-- neither are these commits published, each of them, nor is the replica stopped
+abbrev pub is_awaited : State → List Interval → Bool
+is_awaited s wanted = not (has_all (gnos_of s.publication.published) wanted || is_some s.core.stopped)
+
+-- Of the same accepted records more may be committed, behind those that were, and what is published goes on from what was.
 pub record IsLater (old new : State) : Type 0 where
   pub tables : new.core.tables ≡ old.core.tables
   pub source : new.core.source ≡ old.core.source
   pub base : new.core.base ≡ old.core.base
+  pub order : new.core.preserve ≡ old.core.preserve
   pub accepted : new.core.accepted ≡ old.core.accepted
-  pub committed : old.core.committed ≤ new.core.committed
+  pub commits : IsPrefix old.core.commits new.core.commits
   pub published : IsPrefix old.publication.published new.publication.published
   pub closed : new.closed ≡ old.closed
 
 -- all is committed that can be, published and dispatched
 pub record IsCaughtUp (s : State) : Type 0 where
   pub committed : next_commit s.core ≡ None
-  pub published : s.core.published ≡ s.core.committed
+  pub published : s.core.published ≡ length s.core.commits
   pub dispatched : is_eligible s.core ≡ false
   pub pushed : s.outlet.aside ≡ None
 
@@ -189,13 +212,13 @@ IsBehindOrCaughtUp s = s.core.stopped ≡ None → s.behind ≡ false → IsCaug
 
 -- no more records come, and all that did are committed and published
 abbrev pub is_ended : State → Bool
-is_ended s = s.closed && (s.core.committed == length s.core.accepted) && (s.core.published == s.core.committed)
+is_ended s = s.closed && (length s.core.commits == length s.core.accepted) && (s.core.published == length s.core.commits)
 
 -- all that is true each time that the lock is taken
-pub record IsWhole (tables : List Table) (source : List ℕ) (base : List Entry) (s : State) (appended : ℕ) (stored : List Counts) : Type 0 where
-  pub stand : StandTogether tables source base s.core s.publication appended stored
-  pub kept : AreKept (dispatched s.core) s.kept
-  pub line : AreInLine (dispatched s.core) s.outlet
+pub record IsWhole (tables : List Table) (source : List ℕ) (base : List Entry) (preserve : Bool) (s : State) (appended : ℕ) (stored : List Counts) : Type 0 where
+  pub stand : StandTogether tables source base preserve s.core s.publication appended stored
+  pub kept : AreKept s.kept
+  pub line : AreInLine s.core.dispatched s.outlet
   pub claims : s.claimed ≤ s.outlet.pushed
   pub stops : StopsRightly s.core
   pub rest : IsBehindOrCaughtUp s
@@ -204,7 +227,7 @@ pub record IsWhole (tables : List Table) (source : List ℕ) (base : List Entry)
 
 -- how many jobs there are that no worker has
 abbrev pub offers : State → ℕ
-offers s = (s.outlet.pushed - s.claimed) + count_by is_some s.kept
+offers s = (s.outlet.pushed - s.claimed) + length s.kept
 
 abbrev pub outlook_of : State → Outlook
 outlook_of s = record {
@@ -252,8 +275,8 @@ with_waiting s waiting = record s { publication = record s.publication { waiting
 
 -- the operations of all committed records are published or appended
 pub record IsAppended (s : State) : Type 0 where
-  pub all : s.publication.published ++ s.publication.waiting ≡ operations s.core.tables s.core.base s.core.accepted s.core.committed
-  pub number : commits_in s.publication.published + length s.publication.waiting ≡ s.core.committed
+  pub all : s.publication.published ++ s.publication.waiting ≡ operations s.core.tables s.core.base (ran s.core) (length s.core.commits)
+  pub number : commits_in s.publication.published + length s.publication.waiting ≡ length s.core.commits
 
 -- all that was appended is published
 abbrev pub published_all : Publishing → Publishing
@@ -267,7 +290,7 @@ shown s = record s {
 
 -- over a new core, whose rows are published
 abbrev pub new_state : Replica → State
-new_state core = state_of core (record { published = Load core.base ∷ []; waiting = []; history = Load core.base ∷ [] }) false (replicate 64 None) empty_outlet 0 false
+new_state core = state_of core (record { published = Load core.base ∷ []; waiting = []; history = Load core.base ∷ [] }) false [] empty_outlet 0 false
     (record { offers = 0; behind = false; published = 0; over = false })
 
 -- A later state, in which all was done that could be. What is kept, what was claimed and what was told stays.
@@ -295,7 +318,7 @@ abbrev pub left_by_finish : State → ℕ → State
 left_by_finish s gno = record s { core = with_finished s.core gno; behind = true }
 
 abbrev pub refused_so : State → ReplicaFault → Job → State
-refused_so s fault job = record s { core = left_by_fault s.core fault; kept = taken_back fault job s.kept }
+refused_so s fault job = record s { core = left_by_fault s.core fault; kept = taken_back s.core fault job s.kept }
 
 -- A result of the job that was handed out: where it is taken all is done that then can be. Where its record does not apply, or
 -- states other refs than its changes look at, the replica stops at that record, and where memory ran out the job is kept.
@@ -313,7 +336,7 @@ pub record DispatchesOne (old new : State) : Type 0 where
 
 -- records are dispatched and their jobs are pushed, and else nothing changes
 pub record DispatchesMore (old new : State) : Type 0 where
-  pub core : new.core ≡ record old.core { under_way = new.core.under_way }
+  pub core : new.core ≡ record old.core { dispatched = new.core.dispatched; out = new.core.out }
   pub commit : next_commit new.core ≡ next_commit old.core
   pub same : new ≡ record old { core = new.core; outlet = new.outlet }
 
@@ -322,8 +345,8 @@ abbrev pub with_claim : State → State
 with_claim s = record s { claimed = s.claimed + 1 }
 
 -- no job is kept
-abbrev pub NoneIsKept : List (Option Job) → Type 0
-NoneIsKept kept = (place : ℕ) → slice_index_or kept place None ≡ None
+abbrev pub NoneIsKept : List Job → Type 0
+NoneIsKept kept = kept ≡ []
 
 -- no job is kept, and each that was pushed was claimed
 abbrev pub NoneIsLeft : State → Type 0

@@ -1,17 +1,21 @@
 //! What lies under the lock: the core, its publisher, the words of the status, the coordinator's end of the queue, and the jobs
 //! for which memory ran out. Each call of the shared replica is one call here.
-ghost use Rattle.std.specs.Prelude.{◌≡◌, ◌⊎◌, ◌≤◌, ◌<◌, ◌+◌, ◌++◌, ◌∷◌, [], true, false, replicate, count_by, length, None, Ok, Err, IfOk, IfErr, IfSome, OnOk, OnErr, IsErrOf, IsOk, IsSome, is_some, if◌then◌else◌};
+ghost use Rattle.std.specs.Prelude.{◌≡◌, ◌⊎◌, ◌≤◌, ◌<◌, ◌+◌, ◌-◌, ◌∷◌, [], true, false, length, None, Ok, Err, IfOk, IfErr, IfSome, OnOk, OnErr, IsErrOf, is_some};
+ghost use Rattle.std.specs.List.{AllByRecursion, list_any};
+ghost use Rattle.std.specs.Option.{option_map_or};
 ghost use mathlib.Core.List.{IsPrefix};
 ghost use Rattle.store_trait.specs.declared.Op.TheVariants.{Load};
 ghost use Rattle.executor.specs.Job.{IsResult};
-ghost use Rattle.published.specs.History.{IsHistory, commits_in};
+ghost use Rattle.published.specs.History.{IsHistory, gnos_of};
 ghost use Rattle.published.specs.Status.{NoneFalls, latest};
-ghost use Rattle.replica_core.specs.Calls.{new_over, received, left_by_receive, is_eligible, finish_fault, IsHandedOut, with_finished, left_by_fault, next_commit, committed_next, unless_stopped, with_published};
-ghost use Rattle.replica_core.specs.Sound.{IsSound, IsUnderWay};
+ghost use Rattle.replica_core.specs.Calls.{new_over, received, is_eligible, finish_fault, IsHandedOut, next_commit, with_commit, unless_stopped, with_published};
+ghost use Rattle.replica_core.specs.Sound.{IsSound};
+ghost use Rattle.scheduler.specs.Gnos.{has_gno};
 ghost use Rattle.replica_core.specs.Wire.{Takes};
+ghost use Rattle.replica_shared.specs.Awaited.{has_each, has_all, is_commit_in};
 ghost use Rattle.replica_shared.specs.Feeding.{left_by_take, SettlesOrLacks, told_behind, TakesAndSettles, HandsAs, HandsAndSettles};
 ghost use Rattle.replica_shared.specs.Outlet.{empty_outlet, pushed_aside};
-ghost use Rattle.replica_shared.specs.Together.{State, IsNamed, StopsRightly, StoodTogether, words_of, is_awaited, IsStopBehind, IsLater, IsCaughtUp, Settles, IsFaultOf, new_state, left_by_accept, AcceptsAndSettles, left_by_finish, refused_so, HandsIn, NoneIsKept, Finds, FindsBehind, DispatchesOne, DispatchesMore, is_ended, is_idle, offers, outlook_of, news_between, answered, with_waiting, IsAppended, shown, NoneLost, laid, taken_back, TakesOut};
+ghost use Rattle.replica_shared.specs.Together.{State, IsNamed, StoodTogether, words_of, is_awaited, IsStopBehind, IsCaughtUp, Settles, IsFaultOf, new_state, left_by_accept, AcceptsAndSettles, left_by_finish, refused_so, HandsIn, NoneIsKept, Finds, FindsBehind, DispatchesOne, DispatchesMore, is_ended, is_idle, offers, outlook_of, news_between, answered, with_waiting, IsAppended, shown, NoneLost, laid, taken_back, TakesOut};
 
 use crate::kept::Kept;
 use crate::naming::ReplicaNaming;
@@ -19,6 +23,7 @@ use crate::news::{Looks, News, Next, Outlook, Sleepers};
 use crate::outlet::Outlet;
 use crate::queue::Claim;
 use executor::{Job, JobResult};
+use gtid_set::Interval;
 use left_right::Absorb;
 use published::{Common, Counts, Notice, Publisher, Status, Step, Version, Watch};
 use record_codec::Record;
@@ -28,7 +33,7 @@ use schema::Memory;
 use std::alloc::Global;
 use std::marker::Model;
 use std::sync::Wait;
-use store_trait::RowStore;
+use store_trait::{Op, RowStore};
 use uuid::Uuid;
 
 /// Contracts see it as `State` of `specs/Together.antt`.
@@ -64,7 +69,7 @@ where
 
     ghost view = { λ c. state_of c.core c.publisher c.closed c.kept c.outlet c.claimed c.behind c.told };
 
-    ghost invariant = { λ c. IsWhole J.tables J.source J.base (state_of c.core c.publisher c.closed c.kept c.outlet c.claimed c.behind c.told) c.appended c.status.stored };
+    ghost invariant = { λ c. IsWhole J.tables J.source J.base J.preserve (state_of c.core c.publisher c.closed c.kept c.outlet c.claimed c.behind c.told) c.appended c.status.stored };
 }
 
 impl<S: RowStore + Drop, J: ReplicaNaming> Coordinator<S, J> {
@@ -76,13 +81,14 @@ impl<S: RowStore + Drop, J: ReplicaNaming> Coordinator<S, J> {
         kept: Kept,
         outlet: Outlet,
     ) -> Coordinator<S, J>
-        requires core { core ≡ new_over core.tables core.source core.base core.workers }
+        requires core { core ≡ new_over core.tables core.source core.base core.workers core.preserve }
         requires tables { core.tables ≡ J.tables }
         requires source { core.source ≡ J.source }
         requires base { core.base ≡ J.base }
+        requires order { core.preserve ≡ J.preserve }
         requires publisher { publisher ≡ record { published = Load core.base ∷ []; waiting = []; history = Load core.base ∷ [] } }
         requires status { status.stored ≡ [] }
-        requires kept { kept ≡ replicate 64 None }
+        requires kept { kept ≡ [] }
         requires outlet { outlet ≡ empty_outlet }
         ensures { result ≡ new_state core }
     {
@@ -127,7 +133,7 @@ impl<S: RowStore + Drop, J: ReplicaNaming> Coordinator<S, J> {
         ensures skipped { result ≡ Ok Received.Skipped → self.new ≡ self.old }
         ensures lacking { IsErrOf result ReplicaFault.Memory → (self.new ≡ self.old) ⊎ AcceptsAndSettles self.old new.now self.new }
         ensures refused { IfErr result (λ fault. (fault ≡ ReplicaFault.Memory → ⊥) → self.new ≡ self.old) }
-        ensures named { IsNamed J.tables J.source J.base self.old.core }
+        ensures named { IsNamed J.tables J.source J.base J.preserve self.old.core }
     {
         let answer = self.accept(rt, from, new)?;
         if answer == Received::Accepted {
@@ -143,7 +149,7 @@ impl<S: RowStore + Drop, J: ReplicaNaming> Coordinator<S, J> {
             → received self.old.core from new.now ≡ Ok Received.Accepted }
         ensures ok { IfOk result (λ answer. self.new ≡ left_by_accept self.old new.now answer) }
         ensures err { OnErr result (self.new ≡ self.old) }
-        ensures named { IsNamed J.tables J.source J.base self.old.core }
+        ensures named { IsNamed J.tables J.source J.base J.preserve self.old.core }
     {
         let answer = self.core.receive(from, new)?;
         if answer == Received::Accepted {
@@ -163,7 +169,7 @@ impl<S: RowStore + Drop, J: ReplicaNaming> Coordinator<S, J> {
         piece: &[u8],
     ) -> Result<u64, WireFault>
         ensures takes { TakesAndSettles self.old wire.old piece.now result wire.new self.new }
-        ensures named { IsNamed J.tables J.source J.base self.old.core }
+        ensures named { IsNamed J.tables J.source J.base J.preserve self.old.core }
     {
         let before = self.accepted();
         let taken = self.take_piece(rt, wire, piece);
@@ -174,7 +180,7 @@ impl<S: RowStore + Drop, J: ReplicaNaming> Coordinator<S, J> {
     // The same of a piece that was gathered already, where no record waited before.
     pub(crate) fn hand(&mut self, rt: &impl Wait, wire: &mut Wire) -> Result<u64, WireFault>
         ensures takes { HandsAndSettles self.old wire.old result wire.new self.new }
-        ensures named { IsNamed J.tables J.source J.base self.old.core }
+        ensures named { IsNamed J.tables J.source J.base J.preserve self.old.core }
     {
         let before = self.accepted();
         let taken = self.hand_waiting(rt, wire);
@@ -191,7 +197,7 @@ impl<S: RowStore + Drop, J: ReplicaNaming> Coordinator<S, J> {
     ) -> Result<u64, WireFault>
         ensures takes { Takes wire.old self.old.core piece.now result wire.new self.new.core }
         ensures left { self.new ≡ left_by_take self.old self.new.core }
-        ensures named { IsNamed J.tables J.source J.base self.old.core }
+        ensures named { IsNamed J.tables J.source J.base J.preserve self.old.core }
     {
         let before = self.core.accepted().len();
         let taken = wire.take(&mut self.core, piece);
@@ -206,7 +212,7 @@ impl<S: RowStore + Drop, J: ReplicaNaming> Coordinator<S, J> {
     fn hand_waiting(&mut self, rt: &impl Wait, wire: &mut Wire) -> Result<u64, WireFault>
         ensures hands { HandsAs wire.old self.old.core result wire.new self.new.core }
         ensures left { self.new ≡ left_by_take self.old self.new.core }
-        ensures named { IsNamed J.tables J.source J.base self.old.core }
+        ensures named { IsNamed J.tables J.source J.base J.preserve self.old.core }
     {
         let before = self.core.accepted().len();
         let handed = wire.hand(&mut self.core);
@@ -238,6 +244,13 @@ impl<S: RowStore + Drop, J: ReplicaNaming> Coordinator<S, J> {
         ensures { result ≡ J.source }
     {
         self.core.source()
+    }
+
+    // Whether it commits in the order of the log.
+    pub(crate) fn preserve(&self) -> bool
+        ensures { result ≡ J.preserve }
+    {
+        self.core.preserve()
     }
 
     // How many records were accepted.
@@ -332,8 +345,8 @@ impl<S: RowStore + Drop, J: ReplicaNaming> Coordinator<S, J> {
 
     // Keeps the job of a refused result where memory ran out.
     fn take_back(&mut self, fault: ReplicaFault, done: JobResult)
-        requires { fault ≡ ReplicaFault.Memory → IsSound self.old.core × IsUnderWay self.old.core done.job.gno }
-        ensures kept { self.new ≡ record self.old { kept = taken_back fault done.job self.old.kept } }
+        requires { fault ≡ ReplicaFault.Memory → IsSound self.old.core × (has_gno self.old.core.out done.job.gno ≡ true) }
+        ensures kept { self.new ≡ record self.old { kept = taken_back self.old.core fault done.job self.old.kept } }
         ensures none_lost { NoneLost self.old.core self.old.kept self.new.kept }
     {
         if fault == ReplicaFault::Memory {
@@ -341,13 +354,14 @@ impl<S: RowStore + Drop, J: ReplicaNaming> Coordinator<S, J> {
         }
     }
 
-    // Lays a job into its place. What lay there has its number, or is committed: those between are fewer than the places.
+    // Keeps a job, in the place of one of its number. Those of which a result was taken go: the others are fewer than the places.
     fn keep(&mut self, job: Job)
         requires sound { IsSound self.old.core }
-        requires under { IsUnderWay self.old.core job.gno }
-        ensures kept { self.new ≡ record self.old { kept = laid job self.old.kept } }
+        requires out { has_gno self.old.core.out job.gno ≡ true }
+        ensures kept { self.new ≡ record self.old { kept = laid self.old.core job self.old.kept } }
         ensures none_lost { NoneLost self.old.core self.old.kept self.new.kept }
     {
+        self.kept.keep_out_beside(&self.core, job.gno);
         self.kept.lay(job);
     }
 
@@ -396,7 +410,7 @@ impl<S: RowStore + Drop, J: ReplicaNaming> Coordinator<S, J> {
             ⊎ (result ≡ unless_stopped self.old.core (next_commit self.old.core)) }
         ensures memory { IsErrOf result ReplicaFault.Memory → self.old.core.stopped ≡ None }
         ensures ok { IfOk result (λ gno.
-            self.new ≡ record self.old { core = if is_some gno then committed_next self.old.core else self.old.core }) }
+            self.new ≡ record self.old { core = option_map_or (λ committed. with_commit self.old.core committed) gno self.old.core }) }
         ensures err { OnErr result (self.new ≡ self.old) }
     {
         let next = self.core.commit_next()?;
@@ -412,7 +426,7 @@ impl<S: RowStore + Drop, J: ReplicaNaming> Coordinator<S, J> {
         requires runs { self.old.core.stopped ≡ None }
         ensures settles { Settles self.old self.new × (self.new.behind ≡ true) }
         ensures core { self.new.core ≡ with_published self.old.core self.new.core.published }
-        ensures ok { OnOk result (self.new.core.published ≡ self.new.core.committed) }
+        ensures ok { OnOk result (self.new.core.published ≡ length self.new.core.commits) }
         ensures err { IfErr result (λ fault. fault ≡ ReplicaFault.Memory) }
     {
         if self.core.published() == self.core.committed() {
@@ -510,29 +524,68 @@ impl<S: RowStore + Drop, J: ReplicaNaming> Coordinator<S, J> {
         }
     }
 
-    // Whether neither the commit of this gno is published nor the replica stopped.
-    fn is_awaited(&self, gno: u64) -> bool
-        ensures { result ≡ is_awaited self.now gno }
+    // Whether neither are these commits published, each of them, nor is the replica stopped.
+    fn is_awaited(&self, wanted: &[Interval]) -> bool
+        requires { AllByRecursion (λ i. 1 ≤ i.first) wanted.now }
+        ensures { result ≡ is_awaited self.now wanted.now }
     {
-        !(gno <= self.publisher.tell().upto() || self.core.stopped().is_some())
+        !(self.core.stopped().is_some() || self.shows_all(wanted))
     }
 
-    // What is published, where the commit of this gno is. `P5` where the replica is stopped and it is not.
-    pub(crate) fn notice(&self, gno: u64) -> Result<Notice<J>, ReplicaFault>
-        requires { is_awaited self.now gno ≡ false }
-        ensures upto { IfOk result (λ notice. gno ≤ commits_in notice) }
-        ensures history { IfOk result (λ notice. IsHistory notice) }
+    // Whether each of these commits is published.
+    fn shows_all(&self, wanted: &[Interval]) -> bool
+        requires sound { IsSound self.now.core }
+        requires wanted { AllByRecursion (λ i. 1 ≤ i.first) wanted.now }
+        ensures { result ≡ has_all (gnos_of self.now.publication.published) wanted.now }
+    {
+        for interval in wanted {
+            if !self.shows(*interval) {
+                return false;
+            }
+        }
+        true
+    }
+
+    // Whether those of the interval are: up to the mark they are, and behind it those that are committed and do not wait for `publish`.
+    fn shows(&self, interval: Interval) -> bool
+        requires sound { IsSound self.now.core }
+        requires first { 1 ≤ interval.first }
+        ensures { result ≡ has_each (gnos_of self.now.publication.published) interval }
+    {
+        interval.last <= self.publisher.tell().upto()
+            || (self.has_committed(interval) && !has_commit_in(self.core.pending(), interval))
+    }
+
+    // Whether the records of the interval are committed. Up to the core's mark they are, and the one behind it is not, so it looks at as
+    // many as there are places behind the mark, at most. The last may be the greatest number that there is.
+    fn has_committed(&self, interval: Interval) -> bool
+        requires { 1 ≤ interval.first }
+        ensures { result ≡ has_each self.now.core.commits interval }
+    {
+        let from = interval.first.max(self.core.low_water());
+        for gno in from..interval.last {
+            if !self.core.has_committed(gno) {
+                return false;
+            }
+        }
+        interval.last < from || self.core.has_committed(interval.last)
+    }
+
+    // What is published, where these commits are. `P5` where the replica is stopped and one of them is not.
+    pub(crate) fn notice(&self, wanted: &[Interval]) -> Result<Notice<J>, ReplicaFault>
+        requires wanted { AllByRecursion (λ i. 1 ≤ i.first) wanted.now }
+        requires answered { is_awaited self.now wanted.now ≡ false }
+        ensures all { IfOk result (λ notice. has_all (gnos_of notice) wanted.now ≡ true) }
+        ensures history { IfOk result (λ notice. IsHistory J.preserve notice) }
         ensures begins { IfOk result (λ notice. IsPrefix (Load J.base ∷ []) notice) }
         ensures published { IfOk result (λ notice. notice ≡ self.now.publication.published) }
-        ensures stopped { IfErr result (λ fault. IsStopBehind self.now gno fault) }
-        ensures named { IsNamed J.tables J.source J.base self.now.core }
-        ensures cause { StopsRightly self.now.core }
+        ensures stopped { IfErr result (IsStopBehind J.tables J.source J.base J.preserve wanted.now self.now) }
     {
-        let notice = self.publisher.tell();
-        if gno <= notice.upto() {
-            return Ok(notice);
+        let stopped = self.core.stopped();
+        if self.shows_all(wanted) {
+            return Ok(self.publisher.tell());
         }
-        match self.core.stopped() {
+        match stopped {
             Some(at) => Err(ReplicaFault::Stopped(at)),
             None => unreachable!(),
         }
@@ -541,7 +594,7 @@ impl<S: RowStore + Drop, J: ReplicaNaming> Coordinator<S, J> {
     // The core and the publisher.
     pub(crate) fn end(self) -> (ReplicaCore<S>, Publisher<S, J>)
         ensures state { (result.0 ≡ self.core) × (result.1 ≡ self.publication) }
-        ensures together { StoodTogether J.tables J.source J.base result.0 result.1 }
+        ensures together { StoodTogether J.tables J.source J.base J.preserve result.0 result.1 }
     {
         let Coordinator {
             core,
@@ -583,7 +636,7 @@ impl<S: RowStore + Drop, J: ReplicaNaming> Coordinator<S, J> {
         Outlook {
             offers: self.offers(),
             behind: self.behind,
-            published: self.publisher.tell().upto(),
+            published: self.publisher.tell().count(),
             over: stopped || self.is_ended(),
         }
     }
@@ -593,7 +646,7 @@ impl<S: RowStore + Drop, J: ReplicaNaming> Coordinator<S, J> {
         requires { IsSound self.now.core }
         ensures { result ≡ offers self.now }
     {
-        (self.outlet.pushed() - self.claimed) + self.kept.count()
+        (self.outlet.pushed() - self.claimed) + self.kept.len()
     }
 
     // Who is to be told of what was done since this was asked last.
@@ -649,13 +702,14 @@ impl<S: RowStore + Drop, J: ReplicaNaming> Coordinator<S, J> {
         self.is_idle()
     }
 
-    // A call of `wait_for` that waits for this gno looks. Whether it has to wait still.
-    pub(crate) fn reader_looks(&mut self, gno: u64) -> bool
-        ensures awaited { result ≡ is_awaited self.old gno }
+    // A call of `wait_for` that waits for these commits looks. Whether it has to wait still.
+    pub(crate) fn reader_looks(&mut self, wanted: &[Interval]) -> bool
+        requires { AllByRecursion (λ i. 1 ≤ i.first) wanted.now }
+        ensures awaited { result ≡ is_awaited self.old wanted.now }
         ensures same { self.new ≡ self.old }
     {
         self.looks.readers = self.looks.readers.saturating_add(1);
-        self.is_awaited(gno)
+        self.is_awaited(wanted)
     }
 
     // How often those who wait looked.
@@ -676,6 +730,22 @@ fn told_of(
     Ok(count)
 }
 
+// Whether one of these operations is a commit of the interval.
+fn has_commit_in(ops: &[Op], interval: Interval) -> bool
+    ensures { result ≡ list_any (is_commit_in interval) ops.now }
+{
+    ops.iter().any(|op| is_commit_in(op, interval))
+}
+
+fn is_commit_in(op: &Op, interval: Interval) -> bool
+    ensures { result ≡ is_commit_in interval op.now }
+{
+    match op {
+        Op::Load(_) => false,
+        Op::Commit { gno, .. } => interval.first <= *gno && *gno <= interval.last,
+    }
+}
+
 // Stores how far the core is.
 fn store_words<S: RowStore>(rt: &impl Wait, core: &ReplicaCore<S>, status: &mut Status)
     requires { NoneFalls (latest status.old.stored) (words_of core.now) }
@@ -692,7 +762,7 @@ fn store_words<S: RowStore>(rt: &impl Wait, core: &ReplicaCore<S>, status: &mut 
 
 /// The memory of a coordinator: the places for jobs, and the words of the status.
 pub(crate) fn parts(alloc: Global) -> Result<(Kept, Status, Watch), Memory>
-    ensures { IfOk result (λ parts. (parts.0 ≡ replicate 64 None) × (parts.1.stored ≡ [])) }
+    ensures { IfOk result (λ parts. (parts.0 ≡ []) × (parts.1.stored ≡ [])) }
 {
     let places = Kept::new(alloc)?;
     let mut status = Status::new(alloc)?;

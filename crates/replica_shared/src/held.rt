@@ -3,7 +3,8 @@
 //! Who has the lock has a `Held`, which is not `Drop`: neither an end of a scope nor a `?` can let it go. It ends in `let_go`, or in a
 //! wait, and both tell first whom it concerns what was done. Only this module takes it apart, and the mutex in it (`Locked`) goes free
 //! only where that was asked for.
-ghost use Rattle.std.specs.Prelude.{◌≡◌, false};
+ghost use Rattle.std.specs.Prelude.{◌≡◌, ◌≤◌, false};
+ghost use Rattle.std.specs.List.{AllByRecursion};
 ghost use Rattle.std.specs.Sync.Mutex.{mutex_guard_value};
 ghost use Rattle.replica_shared.specs.Together.{is_awaited, is_idle};
 
@@ -11,6 +12,7 @@ use crate::coordinator::Coordinator;
 use crate::locked::Locked;
 use crate::naming::ReplicaNaming;
 use crate::news::News;
+use gtid_set::Interval;
 use left_right::Absorb;
 use published::{Common, Step, Version};
 use std::sync::{Condvar, Mutex, Wait};
@@ -112,13 +114,14 @@ impl<'a, S: RowStore + Drop, J: ReplicaNaming> Held<'a, S, J> {
         Held { lock, locked }
     }
 
-    /// Tells what was done, and lets go of the lock until the commit of this gno is published, or the replica is stopped.
-    pub(crate) fn wait_for_commit(self, rt: &impl Wait, gno: u64) -> Held<'a, S, J>
-        ensures { is_awaited (mutex_guard_value result.locked.guard) gno ≡ false }
+    /// Tells what was done, and lets go of the lock until each of these commits is published, or the replica is stopped.
+    pub(crate) fn wait_for_commits(self, rt: &impl Wait, wanted: &[Interval]) -> Held<'a, S, J>
+        requires { AllByRecursion (λ i. 1 ≤ i.first) wanted.now }
+        ensures { is_awaited (mutex_guard_value result.locked.guard) wanted.now ≡ false }
     {
         let Held { lock, mut locked } = self;
         lock.tell(locked.news());
-        let locked = locked.free_while_awaited(rt, &lock.shown, gno);
+        let locked = locked.free_while_awaited(rt, &lock.shown, wanted);
         Held { lock, locked }
     }
 }

@@ -1,95 +1,79 @@
 //! The jobs for which memory ran out.
-ghost use Rattle.std.specs.Prelude.{◌≡◌, ◌≤◌, ◌<◌, ◌+◌, length, replicate, None, is_some, count_by, position, slice_set, slice_index_or, IfOk};
-ghost use Rattle.std.specs.List.{position_or_len};
-ghost use Rattle.replica_shared.specs.Together.{laid};
+ghost use Rattle.std.specs.Prelude.{◌≡◌, ◌≤◌, ◌<◌, ◌++◌, ◌∷◌, [], length, IfOk};
+ghost use Rattle.replica_shared.specs.Together.{out_beside, TakesOut};
 
 use executor::Job;
+use replica_core::ReplicaCore;
 use schema::Memory;
 use std::alloc::Global;
 use std::marker::Model;
+use store_trait::RowStore;
 
 /// How many jobs can be out, and so how many can be kept.
 const PLACES: usize = 64;
 
-/// The jobs for which memory ran out, each at its gno modulo the places: those that are out lie within so many numbers, so
-/// none takes another's place. Contracts see it as the list of the places.
+/// The jobs for which memory ran out, in the order in which they were kept. There is a place for as many as can be out. Contracts see it
+/// as these jobs.
 #[derive(Drop)]
 pub(crate) struct Kept {
-    places: Vec<Option<Job>>,
-    /// How many places have a job.
-    count: u64,
+    jobs: Vec<Job>,
 }
 
 impl Model for Kept {
-    ghost use Rattle.std.specs.Prelude.{◌≡◌, List, Option, is_some, count_by};
+    ghost use Rattle.std.specs.Prelude.{◌≤◌, List, vec_capacity};
     ghost use Rattle.executor.specs.declared.Job.{Job};
 
-    ghost Value = { List (Option Job) };
+    ghost Value = { List Job };
 
-    ghost view = { λ k. k.places.items };
+    ghost view = { λ k. k.jobs.items };
 
-    ghost invariant = { λ k. k.count ≡ count_by is_some k.places.items };
+    ghost invariant = { λ k. 64 ≤ vec_capacity k.jobs };
 }
 
 impl Kept {
-    // No job is kept.
+    // No job is kept. It takes the memory of all places.
     pub(crate) fn new(alloc: Global) -> Result<Kept, Memory>
-        ensures { IfOk result (λ kept. kept ≡ replicate 64 None) }
+        ensures { IfOk result (λ kept. kept ≡ []) }
     {
         Ok(Kept {
-            places: empty_places(alloc)?,
-            count: 0,
+            jobs: Vec::with_capacity(alloc, PLACES)?,
         })
     }
 
     // How many jobs are kept.
-    pub(crate) fn count(&self) -> u64
-        ensures value { result ≡ count_by is_some self.now }
-        ensures few { result ≤ length self.now }
+    pub(crate) fn len(&self) -> u64
+        ensures { result ≡ length self.now }
     {
-        self.count
+        self.jobs.len() as u64
     }
 
-    // Lays a job into its place.
+    // Keeps those alone of which no result was taken, and which have another number.
+    pub(crate) fn keep_out_beside<S: RowStore>(&mut self, core: &ReplicaCore<S>, gno: u64)
+        ensures { self.new ≡ out_beside core.now gno self.old }
+    {
+        self.jobs
+            .retain(|job| core.is_out(job.gno) && job.gno != gno);
+    }
+
+    // Keeps a job, behind the others. It takes no memory.
     pub(crate) fn lay(&mut self, job: Job)
-        requires { length self.old ≡ 64 }
-        ensures { self.new ≡ laid job self.old }
+        requires { length self.old < 64 }
+        ensures { self.new ≡ self.old ++ job ∷ [] }
     {
-        let place = (job.gno % 64) as usize;
-        if self.places[place].is_none() {
-            self.count += 1;
+        match self.jobs.push(job) {
+            Ok(()) => {}
+            Err(_) => unreachable!(),
         }
-        self.places[place] = Some(job);
     }
 
-    // Takes out the job of the first place that has one, if any has.
+    // Takes out the job that was kept first, if any is. So one for which memory runs out each time keeps back none of the others.
     pub(crate) fn take(&mut self) -> Option<Job>
-        ensures value { result ≡ slice_index_or self.old (position_or_len is_some self.old) None }
-        ensures left { self.new ≡ slice_set self.old (position_or_len is_some self.old) None }
+        ensures { TakesOut self.old result self.new }
     {
-        if self.count == 0 {
-            return None;
+        if self.jobs.is_empty() {
+            None
+        } else {
+            Some(self.jobs.remove(0))
         }
-        let place = first_kept(&self.places)?;
-        self.count -= 1;
-        self.places[place].take()
     }
-}
-
-// The first place that has a job.
-fn first_kept(kept: &[Option<Job>]) -> Option<usize>
-    ensures { result ≡ position is_some kept.now }
-{
-    kept.iter().position(|place| place.is_some())
-}
-
-// A place for each job that can be out.
-fn empty_places(alloc: Global) -> Result<Vec<Option<Job>>, Memory>
-    ensures { IfOk result (λ places. places.items ≡ replicate 64 None) }
-{
-    let mut places = Vec::with_capacity(alloc, PLACES)?;
-    for _place in 0..PLACES {
-        places.push(None)?;
-    }
-    Ok(places)
 }

@@ -2,13 +2,15 @@
 //!
 //! Who has it has a `Locked`, which is not `Drop`, and only this module takes that apart. Each way out of it, for good or for a while, asks
 //! that all was told: so none is there that leaves a change untold.
-ghost use Rattle.std.specs.Prelude.{◌≡◌, false};
+ghost use Rattle.std.specs.Prelude.{◌≡◌, ◌≤◌, false};
+ghost use Rattle.std.specs.List.{AllByRecursion};
 ghost use Rattle.std.specs.Sync.Mutex.{mutex_guard_value};
 ghost use Rattle.replica_shared.specs.Together.{IsTold, is_awaited, is_idle};
 
 use crate::coordinator::Coordinator;
 use crate::naming::ReplicaNaming;
 use crate::news::News;
+use gtid_set::Interval;
 use left_right::Absorb;
 use published::{Common, Step, Version};
 use std::sync::{Condvar, Mutex, MutexGuard, Wait};
@@ -70,19 +72,20 @@ impl<'a, S: RowStore + Drop, J: ReplicaNaming> Locked<'a, S, J> {
         Locked { guard }
     }
 
-    /// Frees the mutex until the commit of this gno is published, or the replica is stopped. All that there is was told.
+    /// Frees the mutex until each of these commits is published, or the replica is stopped. All that there is was told.
     pub(crate) fn free_while_awaited(
         self,
         rt: &impl Wait,
         bell: &Condvar,
-        gno: u64,
+        wanted: &[Interval],
     ) -> Locked<'a, S, J>
-        requires { IsTold (mutex_guard_value self.guard) }
-        ensures { is_awaited (mutex_guard_value result.guard) gno ≡ false }
+        requires told { IsTold (mutex_guard_value self.guard) }
+        requires wanted { AllByRecursion (λ i. 1 ≤ i.first) wanted.now }
+        ensures { is_awaited (mutex_guard_value result.guard) wanted.now ≡ false }
     {
         let Locked { mut guard } = self;
         guard.reader_sleeps();
-        let mut guard = bell.wait_while(rt, guard, |held| held.reader_looks(gno));
+        let mut guard = bell.wait_while(rt, guard, |held| held.reader_looks(wanted));
         guard.reader_wakes();
         Locked { guard }
     }

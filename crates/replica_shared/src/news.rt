@@ -77,7 +77,7 @@ impl Call {
 pub struct Sleepers {
     /// Calls of `worker` that have no job.
     pub workers: u64,
-    /// Calls of `wait_for`.
+    /// Calls of `wait_for` and `wait_for_set`.
     pub readers: u64,
 }
 
@@ -86,7 +86,7 @@ pub struct Sleepers {
 pub struct Looks {
     /// Calls of `worker`.
     pub workers: u64,
-    /// Calls of `wait_for`.
+    /// Calls of `wait_for` and `wait_for_set`.
     pub readers: u64,
 }
 

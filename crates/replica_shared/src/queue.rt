@@ -3,7 +3,7 @@
 //! One pass pushes, and any may steal. The rule: the gnos in the queue rise, and are above every gno that any pass stole; none
 //! of either is above the greatest that was pushed. So no job is pushed twice and none is given twice, whatever the threads do.
 //! What a job has in it the core says, which keeps a copy of its rows.
-ghost use Rattle.std.specs.Prelude.{◌≡◌, ◌<◌, ◌∷◌, IfOk, IfErr, IfSome, OnOk, OnErr, IfNone};
+ghost use Rattle.std.specs.Prelude.{◌≡◌, ◌<◌, IfOk, IfErr, IfSome, OnOk, OnErr, IfNone};
 ghost use Rattle.replica_shared.specs.Queue.{IsPassOf, hand_of, empty_hand, with_pushed, with_stolen, AllBelow};
 
 use crate::hand::Hand;

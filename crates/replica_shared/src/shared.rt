@@ -1,18 +1,21 @@
 //! The replica that threads share.
-ghost use Rattle.std.specs.Prelude.{◌≡◌, ◌⊎◌, ◌≤◌, ◌++◌, ◌∷◌, [], true, false, All, Err, IfOk, IfErr, IfSome, IsErrAnd};
+ghost use Rattle.std.specs.Prelude.{◌≡◌, ◌⊎◌, ◌≤◌, ◌++◌, ◌∷◌, [], length, true, false, All, Err, IfOk, IfErr, IfSome, IsErrAnd};
+ghost use Rattle.std.specs.List.{AllByRecursion};
 ghost use Rattle.std.specs.Str.{bytes_eq};
 ghost use Rattle.std.specs.Arc.{arc_value};
 ghost use mathlib.Core.List.{IsPrefix};
 ghost use Rattle.store_trait.specs.declared.Op.TheVariants.{Load};
 ghost use Rattle.executor.specs.Job.{IsResult};
 ghost use Rattle.gtid_set.specs.Ids.{takes_source};
-ghost use Rattle.published.specs.History.{IsHistory, commits_in};
+ghost use Rattle.scheduler.specs.Gnos.{low_of};
+ghost use Rattle.published.specs.History.{IsHistory, gnos_of, commits_in};
 ghost use Rattle.published.specs.Status.{InOrder};
-ghost use Rattle.replica_core.specs.Replica.{operations};
+ghost use Rattle.replica_core.specs.Replica.{ran, operations, operations_in_order};
 ghost use Rattle.replica_core.specs.Calls.{new_over};
 ghost use Rattle.replica_shared.specs.Queue.{IsPassOf};
-ghost use Rattle.replica_shared.specs.Together.{IsStop, TellsStop};
-ghost use Rattle.replica_shared.specs.Feeding.{Receives, Feeds, AreUpTo, TellsStopOf};
+ghost use Rattle.replica_shared.specs.Awaited.{has_all, AreAmong, AreUpTo};
+ghost use Rattle.replica_shared.specs.Together.{IsStop, TellsStop, TellsStopBehind};
+ghost use Rattle.replica_shared.specs.Feeding.{Receives, Feeds, TellsStopOf};
 
 use crate::coordinator::{Coordinator, parts};
 use crate::gate::WorkerGate;
@@ -24,7 +27,7 @@ use crate::queue::{Claim, Jobs, Pass};
 use crate::seats::Seats;
 use crossbeam_utils::Backoff;
 use executor::{Job, JobResult, execute};
-use gtid_set::GtidSet;
+use gtid_set::{GtidSet, Interval};
 use left_right::Absorb;
 use published::{Common, Counts, Notice, Publisher, ReadSeat, Step, Version, Watch};
 use record_codec::Record;
@@ -46,7 +49,7 @@ use uuid::Uuid;
 ///
 /// Who waits sleeps, until there is what it waits for. For a worker that is a job, or something that another left undone for
 /// want of memory: one is woken, which wakes the next where more is left. Those in `wait_for` are woken by each publication. A
-/// stop and the end wake all. A record that may not run yet wakes nobody, nor does a result that is not the next.
+/// stop and the end wake all. A record that may not run yet wakes nobody, nor does a result by which nothing is committed.
 pub struct SharedReplica<S: RowStore + Drop, J: ReplicaNaming>
 where
     Version<S, J>: Absorb<Step<J>, State = Common>,
@@ -58,7 +61,8 @@ where
 }
 
 impl<S: RowStore + Drop, J: ReplicaNaming> SharedReplica<S, J> {
-    /// Over a new core, and a publisher that has published the load of the same rows alone, with the seats that it has.
+    /// Over a new core, and a publisher that has published the load of the same rows alone, with the seats that it has. Both keep the
+    /// order of the log, or neither does.
     /// It takes the memory of 64 places for jobs, of the queue, and of the status. Where that is refused the publisher is closed,
     /// and it waits for the readers.
     pub fn new(
@@ -68,7 +72,7 @@ impl<S: RowStore + Drop, J: ReplicaNaming> SharedReplica<S, J> {
         publisher: Publisher<S, J>,
         seats: Vec<ReadSeat<S, J>>,
     ) -> Result<SharedReplica<S, J>, Memory>
-        requires core { core ≡ new_over core.tables core.source core.base core.workers }
+        requires core { core ≡ new_over core.tables core.source core.base core.workers core.preserve }
         requires publisher { publisher ≡ record { published = Load core.base ∷ []; waiting = []; history = Load core.base ∷ [] } }
         requires seats { All (λ seat. seat ≡ Load core.base ∷ []) seats.items }
 
@@ -76,6 +80,7 @@ impl<S: RowStore + Drop, J: ReplicaNaming> SharedReplica<S, J> {
         requires tables { core.tables ≡ J.tables }
         requires source { core.source ≡ J.source }
         requires base { core.base ≡ J.base }
+        requires order { core.preserve ≡ J.preserve }
     {
         let (places, status, watch) = match parts(alloc) {
             Ok(parts) => parts,
@@ -107,7 +112,7 @@ impl<S: RowStore + Drop, J: ReplicaNaming> SharedReplica<S, J> {
         from: Uuid,
         new: &Record,
     ) -> Result<Received, ReplicaFault>
-        ensures answer { Receives J.tables J.source J.base from new.now result }
+        ensures answer { Receives J.tables J.source J.base J.preserve from new.now result }
         ensures foreign { bytes_eq from J.source ≡ false → IsErrAnd result (λ fault. (fault ≡ ReplicaFault.ForeignSource) ⊎ IsStop fault) }
         ensures own { result ≡ Err ReplicaFault.ForeignSource → bytes_eq from J.source ≡ false }
     {
@@ -126,7 +131,7 @@ impl<S: RowStore + Drop, J: ReplicaNaming> SharedReplica<S, J> {
     /// `Replica` it is taken, and may not. Where all records were taken and memory ran out for what comes behind them, `Replica` tells
     /// `P9`: no record waits then, and what is left is done by the next call that accepts a record, or by a worker.
     pub fn feed(&self, rt: &impl Wait, wire: &mut Wire, piece: &[u8]) -> Result<u64, WireFault>
-        ensures { Feeds J.tables J.source J.base wire.old piece.now result wire.new }
+        ensures { Feeds J.tables J.source J.base J.preserve wire.old piece.now result wire.new }
     {
         if wire.waiting().is_empty() {
             self.feed_first(rt, wire, piece)
@@ -141,7 +146,7 @@ impl<S: RowStore + Drop, J: ReplicaNaming> SharedReplica<S, J> {
     // The same where no record waits: the piece is gathered without the lock.
     fn feed_first(&self, rt: &impl Wait, wire: &mut Wire, piece: &[u8]) -> Result<u64, WireFault>
         requires { wire.old.waiting ≡ [] }
-        ensures { Feeds J.tables J.source J.base wire.old piece.now result wire.new }
+        ensures { Feeds J.tables J.source J.base J.preserve wire.old piece.now result wire.new }
     {
         if let Err(fault) = wire.gather(piece) {
             return Err(WireFault::Codec(fault));
@@ -157,10 +162,10 @@ impl<S: RowStore + Drop, J: ReplicaNaming> SharedReplica<S, J> {
 
     /// Executes jobs until `close` was called and all accepted records are committed and published. It claims a job under the
     /// lock, takes it from the queue and executes it without, and hands in what came of it; in the same holding it commits what it
-    /// can, in log order, publishes that at once, and dispatches what then may run. It ends with `P5` once the replica is stopped,
-    /// also by this worker's own job, and with `P9` where memory ran out. A job for which it ran out in its execution is kept in one
-    /// of 64 places, and the next worker takes it first; a job whose push was refused waits in a place of its own, and is pushed
-    /// first. What was committed stays, and is published by the next one.
+    /// can, in log order where that is kept and else in the order of the results, publishes that at once, and dispatches what then may
+    /// run. It ends with `P5` once the replica is stopped, also by this worker's own job, and with `P9` where memory ran out. A job for
+    /// which it ran out in its execution is kept in one of 64 places, and the next worker takes it before those of the queue; a job
+    /// whose push was refused waits in a place of its own, and is pushed first. What was committed stays, and is published by the next one.
     ///
     /// A worker that ends with `P9` wakes one more that waits, to do what is left. That one may end so too, and in the end all of them.
     /// Nothing is done then, and who waits in `wait_for` waits on, until `worker` is called again: it goes on where they ended. Where
@@ -241,46 +246,89 @@ impl<S: RowStore + Drop, J: ReplicaNaming> SharedReplica<S, J> {
         handed
     }
 
-    /// Waits until the commit of this gno is published, and answers what is published then. `P5` where the replica is
-    /// stopped and that commit is not published, with the number of the record that did not apply. It waits for ever where the
-    /// record of this gno never comes, or no worker runs, also where all ended with `P9`. It takes no memory.
+    /// Waits until each commit from 1 to this gno is published, and answers what is published then: where the order of the log is kept,
+    /// until the commit of this gno is. `P5` where the replica is stopped and one of these is not published, with the number of the
+    /// record that did not apply; so also where the commit of this gno itself is published behind one that is not. It waits for ever
+    /// where the record of this gno never comes, or no worker runs, also where all ended with `P9`. It takes no memory.
     pub fn wait_for(&self, rt: &impl Wait, gno: u64) -> Result<Notice<J>, ReplicaFault>
-        ensures upto { IfOk result (λ notice. gno ≤ commits_in notice) }
-        ensures history { IfOk result (λ notice. IsHistory notice) }
+        ensures upto { IfOk result (λ notice. gno ≤ low_of (gnos_of notice)) }
+        ensures in_order { J.preserve ≡ true → IfOk result (λ notice. gno ≤ commits_in notice) }
+        ensures history { IfOk result (λ notice. IsHistory J.preserve notice) }
         ensures begins { IfOk result (λ notice. IsPrefix (Load J.base ∷ []) notice) }
-        ensures stop { IfErr result (TellsStop J.tables J.source J.base gno) }
+        ensures stop { IfErr result (TellsStop J.tables J.source J.base J.preserve gno) }
     {
-        let mut held = self.lock.take(rt).wait_for_commit(rt, gno);
-        let notice = held.coordinator().notice(gno);
+        let all = Interval {
+            first: 1,
+            last: gno,
+        };
+        self.wait_for_each(rt, &[all])
+    }
+
+    /// Waits until the commit of each id of the set is published, as MySQL's `WAIT_FOR_EXECUTED_GTID_SET` without a timeout, and
+    /// answers what is published then. `P2` at once where the set has ids, and these are of another source than the replica's. `P5`
+    /// where the replica is stopped and the commit of one of the ids is not published. Where the order of the log is kept it is
+    /// `wait_for` of the set's greatest number, since no commit is published before those in front of it; else it waits for these
+    /// commits alone, and each time that it wakes looks at the commits that are not published, and at 4096 records at most, an interval.
+    /// The empty set waits for nothing. It takes no memory.
+    pub fn wait_for_set(&self, rt: &impl Wait, set: &GtidSet) -> Result<Notice<J>, ReplicaFault>
+        ensures foreign { takes_source set.now.source J.source ≡ false → result ≡ Err ReplicaFault.ForeignSource }
+        ensures has { IfOk result (λ notice. AreAmong (gnos_of notice) set.now) }
+        ensures in_order { J.preserve ≡ true → IfOk result (λ notice. AreUpTo (commits_in notice) set.now) }
+        ensures history { IfOk result (λ notice. IsHistory J.preserve notice) }
+        ensures begins { IfOk result (λ notice. IsPrefix (Load J.base ∷ []) notice) }
+        ensures stop { takes_source set.now.source J.source ≡ true → IfErr result (TellsStopOf J.tables J.source J.base J.preserve set.now) }
+    {
+        let (own, preserve) = self.named(rt);
+        match set.source() {
+            Some(source) if source != own => Err(ReplicaFault::ForeignSource),
+            _ => self.wait_for_ids(rt, set, preserve),
+        }
+    }
+
+    // The same of ids of the replica's own source.
+    fn wait_for_ids(
+        &self,
+        rt: &impl Wait,
+        set: &GtidSet,
+        preserve: bool,
+    ) -> Result<Notice<J>, ReplicaFault>
+        requires { preserve ≡ J.preserve }
+        ensures has { IfOk result (λ notice. AreAmong (gnos_of notice) set.now) }
+        ensures history { IfOk result (λ notice. IsHistory J.preserve notice) }
+        ensures begins { IfOk result (λ notice. IsPrefix (Load J.base ∷ []) notice) }
+        ensures stop { IfErr result (TellsStopOf J.tables J.source J.base J.preserve set.now) }
+    {
+        let ids = set.intervals();
+        if !preserve {
+            return self.wait_for_each(rt, ids);
+        }
+        let last = set.greatest().unwrap_or(0);
+        self.wait_for_each(rt, &[Interval { first: 1, last }])
+    }
+
+    // Waits until each of these commits is published, and answers what is published then.
+    fn wait_for_each(&self, rt: &impl Wait, wanted: &[Interval]) -> Result<Notice<J>, ReplicaFault>
+        requires { AllByRecursion (λ i. 1 ≤ i.first) wanted.now }
+        ensures all { IfOk result (λ notice. has_all (gnos_of notice) wanted.now ≡ true) }
+        ensures history { IfOk result (λ notice. IsHistory J.preserve notice) }
+        ensures begins { IfOk result (λ notice. IsPrefix (Load J.base ∷ []) notice) }
+        ensures stop { IfErr result (TellsStopBehind J.tables J.source J.base J.preserve wanted.now) }
+    {
+        let mut held = self.lock.take(rt).wait_for_commits(rt, wanted);
+        let notice = held.coordinator().notice(wanted);
         held.let_go();
         notice
     }
 
-    /// Waits until the commit of each id of the set is published, as MySQL's `WAIT_FOR_EXECUTED_GTID_SET` without a timeout, and
-    /// answers what is published then. `P2` at once where the set has ids, and these are of another source than the replica's. Else
-    /// it is `wait_for` of the set's greatest number, since no commit is published before those in front of it; the empty set waits
-    /// for nothing. It takes no memory.
-    pub fn wait_for_set(&self, rt: &impl Wait, set: &GtidSet) -> Result<Notice<J>, ReplicaFault>
-        ensures foreign { takes_source set.now.source J.source ≡ false → result ≡ Err ReplicaFault.ForeignSource }
-        ensures upto { IfOk result (λ notice. AreUpTo (commits_in notice) set.now) }
-        ensures history { IfOk result (λ notice. IsHistory notice) }
-        ensures begins { IfOk result (λ notice. IsPrefix (Load J.base ∷ []) notice) }
-        ensures stop { takes_source set.now.source J.source ≡ true → IfErr result (TellsStopOf J.tables J.source J.base set.now) }
-    {
-        match set.source() {
-            Some(source) if source != self.source(rt) => Err(ReplicaFault::ForeignSource),
-            _ => self.wait_for(rt, set.greatest().unwrap_or(0)),
-        }
-    }
-
-    // Whose records it takes.
-    fn source(&self, rt: &impl Wait) -> Uuid
-        ensures { result ≡ J.source }
+    // Whose records it takes, and whether it commits in the order of the log.
+    fn named(&self, rt: &impl Wait) -> (Uuid, bool)
+        ensures { (result.0 ≡ J.source) × (result.1 ≡ J.preserve) }
     {
         let mut held = self.lock.take(rt);
-        let source = held.coordinator().source();
+        let coordinator = held.coordinator();
+        let named = (coordinator.source(), coordinator.preserve());
         held.let_go();
-        source
+        named
     }
 
     /// One of the seats: it has seen the rows before the first commit. `None` exactly where all are out. It takes no memory.
@@ -290,7 +338,7 @@ impl<S: RowStore + Drop, J: ReplicaNaming> SharedReplica<S, J> {
         self.seats.lock(rt).take()
     }
 
-    /// How many calls wait now: those of `worker` that have no job, and those of `wait_for`. It takes the lock.
+    /// How many calls wait now: those of `worker` that have no job, and those of `wait_for` and `wait_for_set`. It takes the lock.
     pub fn sleepers(&self, rt: &impl Wait) -> Sleepers {
         let mut held = self.lock.take(rt);
         let sleepers = held.coordinator().sleepers();
@@ -307,7 +355,7 @@ impl<S: RowStore + Drop, J: ReplicaNaming> SharedReplica<S, J> {
         looks
     }
 
-    /// How many records were accepted, and how many of these are committed and published. It does not wait for a worker that
+    /// How many records were accepted, and how many of these are committed and published, in whatever order. It does not wait for a worker that
     /// holds the coordinator's lock.
     pub fn status(&self, rt: &impl Wait) -> Counts
         ensures { InOrder result }
@@ -323,16 +371,19 @@ impl<S: RowStore + Drop, J: ReplicaNaming> SharedReplica<S, J> {
     }
 
     /// The core and the publisher, over the tables and the rows that they were made with. What is published are the operations of
-    /// the first records that the core committed; what was committed and not published, as behind want of memory, may wait in
-    /// the publisher. The seats that are not out are dropped. It takes no memory, and waits for nobody.
+    /// the first commits of the core, in their order; where the order of the log is kept they are those of the first records that it
+    /// accepted. What was committed and not published, as behind want of memory, may wait in the publisher. The seats that are not out are dropped. It takes no memory, and waits for nobody.
     pub fn end(self) -> (ReplicaCore<S>, Publisher<S, J>)
         ensures tables { result.0.tables ≡ J.tables }
         ensures source { result.0.source ≡ J.source }
         ensures base { result.0.base ≡ J.base }
-        ensures published { result.1.published ≡ operations result.0.tables result.0.base result.0.accepted (commits_in result.1.published) }
-        ensures within { commits_in result.1.published ≤ result.0.committed }
-        ensures begins { IsPrefix (result.1.published ++ result.1.waiting) (operations result.0.tables result.0.base result.0.accepted result.0.committed) }
-        ensures shown { result.0.published ≤ commits_in result.1.published }
+        ensures order { result.0.preserve ≡ J.preserve }
+        ensures published { result.1.published ≡ operations result.0.tables result.0.base (ran result.0) (commits_in result.1.published) }
+        ensures in_order { J.preserve ≡ true
+            → result.1.published ≡ operations_in_order result.0.tables result.0.base result.0.accepted (commits_in result.1.published) }
+        ensures within { commits_in result.1.published ≤ length result.0.commits }
+        ensures begins { IsPrefix (result.1.published ++ result.1.waiting) (operations result.0.tables result.0.base (ran result.0) (length result.0.commits)) }
+        ensures shown { result.0.published ≡ commits_in result.1.published }
     {
         let SharedReplica {
             lock,

@@ -1,37 +1,63 @@
-use Rattle.replica_core.proofs.Kept.{sound_as_seen}
-use Rattle.std.proofs.Common.{◌∙◌, ◌+◌, sym, ap, inr, Ok, Err, arith}
+use Rattle.std.proofs.Common.{◌∙◌, sym, ap, refl, inr, Ok, Err, is_some}
 use Rattle.std.specs.Option.{option_map_or}
 use Rattle.relay.specs.declared.ReplicaFault.TheVariants.{Stopped}
 use Rattle.replica_core.specs.Replica.{Replica}
-use Rattle.replica_core.specs.Calls.{next_commit, unless_stopped}
-use Rattle.replica_core.proofs.Steps.{few_dispatched, not_stopped, committed_kept, none_committed}
+use Rattle.replica_core.specs.Calls.{next_commit, unless_stopped, with_commit}
+use Rattle.replica_core.proofs.Kept.{sound_as_seen}
+use Rattle.replica_core.proofs.Steps.{not_stopped, commits_of, leaves_of, none_next, next_some, still_gapped, turn_next, turn_later, turn_near, committed_kept, committed_seen, committed_gapped}
 use Rattle.replica_core.proofs.ReplicaCore.commit_next.Goals as goal
-
-pub overflow_add-gno : goal.overflow_add-gno
-overflow_add-gno g c =
-    let few = few_dispatched _ _ _ _ _ _ _ c.self.invariant in
-    record { fits = omega arith }
-
-pub returns-then-not-branch-clause-answer : goal.returns-then-not-branch-clause-answer
-returns-then-not-branch-clause-answer g c =
-    let none = none_committed _ _ _ _ _ _ _ _ _ c.in_ok-commit_turn.field-0 _ _ _ _ c.self.invariant c.if-not-branch.true c.in_ok-commit_turn.ensures in
-    inr (sym (ap (λ (r : Replica). unless_stopped r (next_commit r)) (sym c.self.view_is)
-    ∙ (λ i. option_map_or (λ gno. Err (Stopped gno)) (not_stopped c.self.inside.stopped _ c.in_ok-refuse_stopped.ensures i) (Ok (none i)))))
-
-pub invariant_of-self-2 : goal.invariant_of-self-2
-invariant_of-self-2 g c =
-    let number = ap (λ n. n + 1) c.low_water-gno.ensures.value in
-    committed_kept _ _ _ _ _ _ _ _ _ c.in_ok-commit_turn.field-0 c.committed.new.self c.commit_turn.new.turns c.drop_first.new.list.items _ _ c.commit_turn.new.waiting.items c.self.invariant
-    c.schema.ensures number c.if-not-branch.false c.in_ok-commit_turn.ensures (c.committed.ensures.in_turn c.self.invariant.set_is number) c.drop_first.ensures
 
 pub returns-in_err-refuse_stopped-clause-sound : goal.returns-in_err-refuse_stopped-clause-sound
 returns-in_err-refuse_stopped-clause-sound g c = sound_as_seen _ _ _ _ _ _ _ _ c.self.invariant c.self.view_is
 
-pub returns-in_err-commit_turn-clause-sound : goal.returns-in_err-commit_turn-clause-sound
-returns-in_err-commit_turn-clause-sound g c = sound_as_seen _ _ _ _ _ _ _ _ c.self.invariant c.self.view_is
+pub returns-in_err-gno-clause-sound : goal.returns-in_err-gno-clause-sound
+returns-in_err-gno-clause-sound g c = sound_as_seen _ _ _ _ _ _ _ _ c.self.invariant c.self.view_is
 
-pub returns-then-not-branch-clause-sound : goal.returns-then-not-branch-clause-sound
-returns-then-not-branch-clause-sound g c = sound_as_seen _ _ _ _ _ _ _ _ c.self.invariant c.self.view_is
+pub returns-in_default-clause-sound : goal.returns-in_default-clause-sound
+returns-in_default-clause-sound g c = sound_as_seen _ _ _ _ _ _ _ _ c.self.invariant c.self.view_is
 
 pub returns-clause-sound : goal.returns-clause-sound
 returns-clause-sound g c = sound_as_seen _ _ _ _ _ _ _ _ c.self.invariant c.self.view_is
+
+pub returns-in_err-gno-clause-memory : goal.returns-in_err-gno-clause-memory
+returns-in_err-gno-clause-memory g c = λ _. (
+  sym (ap (λ (r : Replica). r.stopped) c.self.view_is) ∙ not_stopped c.self.inside.stopped _ c.in_ok-refuse_stopped.ensures,
+  ap (λ (r : Replica). is_some (next_commit r)) (sym c.self.view_is) ∙ sym (next_some _ _ _ _ _ _ _ c.self.invariant) ∙ c.in_err-gno.ensures.there,
+)
+
+pub returns-in_default-clause-answer : goal.returns-in_default-clause-answer
+returns-in_default-clause-answer g c =
+    let none = none_next _ _ _ _ _ c.self.invariant (leaves_of _ _ _ _ c.in_default.is c.in_ok-gno.ensures) in
+    inr (sym (ap (λ (r : Replica). unless_stopped r (next_commit r)) (sym c.self.view_is)
+    ∙ (λ i. option_map_or (λ gno. Err (Stopped gno)) (not_stopped c.self.inside.stopped _ c.in_ok-refuse_stopped.ensures i) (Ok (none i)))))
+
+pub returns-in_default-clause-gapped : goal.returns-in_default-clause-gapped
+returns-in_default-clause-gapped g c = still_gapped _ _ _ _ _ c.self.invariant (leaves_of _ _ _ _ c.in_default.is c.in_ok-gno.ensures) refl
+
+pub committed-requires-clause-later : goal.committed-requires-clause-later
+committed-requires-clause-later g c = turn_later _ _ _ c.in-Some.gno _ _ c.self.invariant (commits_of _ _ _ _ _ _ c.schema.ensures c.in-Some.is c.in_ok-gno.ensures)
+
+pub committed-requires-clause-near : goal.committed-requires-clause-near
+committed-requires-clause-near g c = turn_near _ _ _ c.in-Some.gno _ _ c.self.invariant (commits_of _ _ _ _ _ _ c.schema.ensures c.in-Some.is c.in_ok-gno.ensures)
+
+pub invariant_of-self-2 : goal.invariant_of-self-2
+invariant_of-self-2 g c =
+    committed_kept _ _ _ c.in-Some.gno _ _ c.committed.new.self c.self.invariant (commits_of _ _ _ _ _ _ c.schema.ensures c.in-Some.is c.in_ok-gno.ensures)
+    c.committed.ensures.exact c.committed.ensures.greatest refl
+
+pub returns-clause-answer : goal.returns-clause-answer
+returns-clause-answer g c =
+    let next = turn_next _ _ _ c.in-Some.gno _ _ c.self.invariant (commits_of _ _ _ _ _ _ c.schema.ensures c.in-Some.is c.in_ok-gno.ensures) in
+    inr (sym (ap (λ (r : Replica). unless_stopped r (next_commit r)) (sym c.self.view_is)
+    ∙ (λ i. option_map_or (λ gno. Err (Stopped gno)) (not_stopped c.self.inside.stopped _ c.in_ok-refuse_stopped.ensures i) (Ok (sym next i)))))
+
+pub returns-clause-ok : goal.returns-clause-ok
+returns-clause-ok g c =
+    committed_seen _ _ _ c.in-Some.gno _ _ c.committed.new.self c.self.invariant (commits_of _ _ _ _ _ _ c.schema.ensures c.in-Some.is c.in_ok-gno.ensures)
+    c.committed.ensures.exact c.committed.ensures.greatest refl
+    ∙ ap (λ (r : Replica). with_commit r c.in-Some.gno) c.self.view_is
+
+pub returns-clause-gapped : goal.returns-clause-gapped
+returns-clause-gapped g c =
+    committed_gapped _ _ _ c.in-Some.gno _ _ c.committed.new.self c.self.invariant (commits_of _ _ _ _ _ _ c.schema.ensures c.in-Some.is c.in_ok-gno.ensures)
+    c.committed.ensures.exact c.committed.ensures.greatest refl

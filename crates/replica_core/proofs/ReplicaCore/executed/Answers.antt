@@ -1,5 +1,11 @@
-use Rattle.std.proofs.Common.{arith}
-use Rattle.replica_core.proofs.Steps.{few_accepted}
+use Rattle.std.proofs.Common.{◌∙◌, ◌<◌, sym, ap, subst, length, ℕ, List, true, arith}
+use Rattle.scheduler.specs.Gnos.{first_gnos}
+use Rattle.gtid_set.specs.Ids.{Ids, first_ids}
+use Rattle.replica_core.specs.Replica.{Replica}
+use Rattle.replica_core.specs.Calls.{AreExecuted}
+use Rattle.replica_core.specs.Core.{AreMarked}
+use Rattle.replica_core.proofs.Marked.{executed_is, executed_in_order, some_commit}
+use Rattle.replica_core.proofs.Steps.{not_stopped, few_accepted, few_dispatched, low_dispatched}
 use Rattle.replica_core.proofs.ReplicaCore.executed.Goals as goal
 
 pub first-requires : goal.first-requires
@@ -7,5 +13,45 @@ first-requires g c =
     let sound = c.committed.ensures.sound in
     let few = few_accepted _ _ sound.accepted in
     let all = sound.dispatched in
+    let counted = sound.counted in
     let is = c.committed.ensures.value in
     omega arith
+
+pub returns-then-preserve-clause-ok : goal.returns-then-preserve-clause-ok
+returns-then-preserve-clause-ok g c =
+    let sound = c.committed.ensures.sound in
+    let count = c.committed.ensures.value in
+    let preserve = ap (λ (r : Replica). r.preserve) (sym c.self.view_is) ∙ sym c.preserve.ensures ∙ c.if-preserve.true in
+    let source = c.source-source.ensures in
+    subst (λ (ids : Ids). AreExecuted c.args.self.now ids) (sym (c.in_ok-first.ensures.value ∙ ap (λ (s : List ℕ). first_ids s c.committed.result) source))
+    (executed_in_order c.args.self.now c.committed.result ((sound.in_order preserve).commits ∙ ap first_gnos (sym count)) (sym count)
+    (let few = few_accepted _ _ sound.accepted in
+    let all = sound.dispatched in
+    let counted = sound.counted in
+    omega arith))
+
+pub committed_ids-requires-clause-low : goal.committed_ids-requires-clause-low
+committed_ids-requires-clause-low g c =
+    let low = low_dispatched _ _ _ _ _ _ _ c.self.invariant in
+    let count = c.dispatched.ensures ∙ ap (λ (r : Replica). r.dispatched) (sym c.self.view_is) in
+    omega arith
+
+pub committed_ids-requires-clause-few : goal.committed_ids-requires-clause-few
+committed_ids-requires-clause-few g c =
+    let few = few_dispatched _ _ _ _ _ _ _ c.self.invariant in
+    let count = c.dispatched.ensures ∙ ap (λ (r : Replica). r.dispatched) (sym c.self.view_is) in
+    omega arith
+
+pub returns-in_err-committed_ids-clause-memory : goal.returns-in_err-committed_ids-clause-memory
+returns-in_err-committed_ids-clause-memory g c = λ _. (
+  sym (ap (λ (r : Replica). r.stopped) c.self.view_is) ∙ not_stopped c.self.inside.stopped _ c.in_ok-refuse_stopped.ensures,
+  subst (λ (r : Replica). 0 < length r.commits) c.self.view_is (some_commit _ _ c.self.invariant.counted c.in_err-committed_ids.ensures.memory),
+)
+
+pub returns-clause-ok : goal.returns-clause-ok
+returns-clause-ok g c =
+    let count = c.dispatched.ensures ∙ ap (λ (r : Replica). r.dispatched) (sym c.self.view_is) in
+    let source = c.source-source.ensures ∙ ap (λ (r : Replica). r.source) (sym c.self.view_is) in
+    subst (λ (r : Replica). AreExecuted r c.in_ok-committed_ids.field-0) c.self.view_is
+    (executed_is _ c.self.inside.scheduler c.in_ok-committed_ids.field-0 c.self.invariant.counted
+    (subst (λ (p : List ℕ × ℕ). AreMarked p.0 c.self.inside.scheduler p.1 c.in_ok-committed_ids.field-0) (λ i. (source i, count i)) c.in_ok-committed_ids.ensures.ok))

@@ -1,21 +1,25 @@
 use Rattle.std.proofs.Common.{◌≡◌, ◌-◌, ◌≤◌, length, ap, arith}
 use Rattle.replica_core.specs.Replica.{Replica}
-use Rattle.replica_core.proofs.Kept.{length_ops}
+use Rattle.replica_core.proofs.Kept.{length_ops, shows_gapped}
 use Rattle.replica_core.proofs.Steps.{published_kept}
 use Rattle.replica_core.proofs.ReplicaCore.publish.Goals as goal
 
 pub drop_first-requires : goal.drop_first-requires
 drop_first-requires g c =
     let was = c.self.inside in
-    let count : length was.waiting.items ≡ was.scheduler.low - was.published = length_ops _ _ _ _ _ _ _ c.self.invariant in
-    let committed : was.scheduler.low ≡ c.args.self.now.committed = ap (λ (r : Replica). r.committed) c.self.view_is in
-    omega arith
+    let count = length_ops _ _ _ _ _ _ _ c.self.invariant in
+    let committed = ap (λ (r : Replica). length r.commits) c.self.view_is in
+    omega (arith, c.requires.done)
 
 pub invariant_of-self : goal.invariant_of-self
 invariant_of-self g c =
     let was = c.self.inside in
-    let committed : was.scheduler.low ≡ c.args.self.now.committed = ap (λ (r : Replica). r.committed) c.self.view_is in
+    let committed = ap (λ (r : Replica). length r.commits) c.self.view_is in
     let published : was.published ≡ c.args.self.now.published = ap (λ (r : Replica). r.published) c.self.view_is in
     let later : was.published ≤ c.args.upto = omega (arith, c.requires.later) in
-    let done : c.args.upto ≤ was.scheduler.low = omega (arith, c.requires.done) in
-    published_kept _ _ _ _ _ _ _ c.args.upto c.drop_first.new.list.items c.self.invariant later done c.drop_first.ensures
+    published_kept _ _ _ _ _ _ _ c.args.upto c.drop_first.new.list.items c.self.invariant later (omega (arith, c.requires.done)) c.drop_first.ensures
+
+pub returns-clause-gapped : goal.returns-clause-gapped
+returns-clause-gapped g c =
+    let committed = ap (λ (r : Replica). length r.commits) c.self.view_is in
+    shows_gapped _ _ _ c.self.inside.handed.items _ _ c.drop_first.new.list.items c.args.upto (invariant_of-self g c) (omega (arith, c.requires.done))

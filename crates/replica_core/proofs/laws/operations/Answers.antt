@@ -1,5 +1,5 @@
-use Rattle.replica_core.proofs.Commits.{left_by-operations}
+use Rattle.replica_core.proofs.Commits.{operations_leave_rows}
 use Rattle.replica_core.proofs.laws.operations.Goals as goal
 
 pub returns : goal.returns
-returns c = left_by-operations
+returns c = operations_leave_rows
