@@ -1,17 +1,26 @@
 -- What a run began with and its events fix its replies.
 use Rattle.std.proofs.Common.{◌≡◌, ◌∙◌, sym, ap, subst, refl, ℕ, zero, suc, ◌+◌, ◌-◌, ◌<◌, ◌≤◌, Bool, true, false, ◌&&◌, ◌||◌, nat_le, List, [], ◌∷◌, ◌++◌, length, map, take, drop, Option, slice_get, inl, inr, if◌then◌else◌, arith}
-use Rattle.std.specs.Prelude.{Ok, option_and_then, nat_lt, ◌⊎◌}
+use Rattle.std.specs.Prelude.{ℤ, Ok, option_and_then, nat_lt, ◌⊎◌}
 use Rattle.std.specs.List.{AllByRecursion, list_any, flat_map}
 use Rattle.std.specs.Option.{option_map_or}
 use Rattle.std.specs.FinMap.{get}
-use Rattle.std.proofs.lemmas.Bool.{false≢true, and_parts, or_parts, or_cases, ltb-true}
-use Rattle.std.proofs.lemmas.List.{length-map, take-append-drop, take-take}
+use Rattle.std.proofs.lemmas.Bool.{false≢true, and_parts, or_parts, or_cases, leb-true, ltb-true}
+use Rattle.std.proofs.lemmas.List.{length-map, length-take-le, take-append-drop, take-take}
 use Rattle.std.proofs.Math.Seq.{take-add}
 use Rattle.schema.proofs.Lists.{AllByRecursion-push, AllByRecursion-weaker}
+use Rattle.schema.specs.declared.RowId.{RowId}
+use Rattle.gtid_set.specs.Ids.{Ids}
+use Rattle.gtid_set.proofs.OneForm.{one_set}
 use Rattle.rows.specs.Database.{Database}
 use Rattle.store_trait.specs.Operation.{loaded}
 use Rattle.record_codec.specs.declared.records.Record.{Record}
+use Rattle.record_codec.specs.Group.{AreNumbered}
 use Rattle.record_codec.specs.Log.{after}
+use Rattle.record_codec.proofs.Logs.{part_is_numbered}
+use Rattle.scheduler.specs.Gnos.{has_gno, low_of}
+use Rattle.scheduler.proofs.Gnos.{has_gno_front, has_gno-take}
+use Rattle.gapped.specs.Gapped.{chosen, gapped}
+use Rattle.gapped.proofs.Choosing.{longer_log}
 use Rattle.record_codec.specs.Version.{current}
 use Rattle.record_codec.specs.Spelling.{spelling}
 use Rattle.source_core.specs.declared.fault.SourceFault.TheVariants as source
@@ -25,11 +34,12 @@ use Rattle.world.specs.declared.events.Event.TheVariants as events
 use Rattle.world.specs.declared.events.Reply.{Reply}
 use Rattle.world.specs.declared.events.Reply.TheVariants as replies
 use Rattle.world.specs.Replies.{prepared_reply}
-use Rattle.world.specs.Past.{Past, flushed, unsynced, synced, synced_groups, is_failure, halted, queue, accepted, dispatched, replica_committed, published}
-use Rattle.world.specs.Legal.{Setup, rows_after, source_at, refused_or, stamp_of, next_records, FlushAnswers, SyncAnswers, commit_reply, group_between, log_text, may_dispatch, Answers, is_source_memory, is_replica_memory, is_codec_memory, is_log_memory, asks_memory, tells_memory, Allowed, AreAllowed, AreLegal}
+use Rattle.world.specs.Past.{Past, flushed, unsynced, synced, synced_groups, is_failure, halted, queue, accepted, dispatched, commits, replica_committed, low_water, out, finished, published, published_gnos}
+use Rattle.world.specs.Legal.{Setup, rows_after, source_at, refused_or, stamp_of, next_records, FlushAnswers, SyncAnswers, commit_reply, group_between, log_text, is_due, may_dispatch, ExecutedAnswers, read_reply, Answers, is_source_memory, is_replica_memory, is_codec_memory, is_log_memory, asks_memory, tells_memory, Allowed, AreAllowed, AreLegal}
 use Rattle.world.specs.Laws.{pairs_after, is_memory, FailAlike, OneAnswer, OneLog}
 use Rattle.world.proofs.LawsReplies.{Says, says}
 use Rattle.world.proofs.LawsSteps.{Follow, Follow-le, Holds, at_first, step, in_order}
+use Rattle.world.proofs.LawsCommits.{Committed, committed_first, committed_step}
 use Rattle.world.proofs.LawsRecords.{MayStand, one_group}
 
 -- ---- lists that begin alike
@@ -71,6 +81,7 @@ pub record Agree (setup : Setup) (log other : List Record) (past : Past) : Type 
   pub holds : Holds log past
   pub same : FlushedAlike log other past
   pub groups : AreWithin (flushed past) (synced_groups past)
+  pub committed : Committed setup log past
 
 module _ (setup : Setup) (log other : List Record) (past : Past) (agree : Agree setup log other past) where
   same_source : source_at setup log past ≡ source_at setup other past
@@ -97,15 +108,16 @@ module _ (setup : Setup) (log other : List Record) (past : Past) (agree : Agree 
       let now = in_order log past agree.holds in
       omega (arith, now.published_within, now.replica_committed_within, now.dispatched_within, now.accepted_within, now.synced_within)
 
-  same_dispatch : may_dispatch setup log past ≡ may_dispatch setup other past
-  same_dispatch =
+  -- what is due, up to whatever mark
+  same_due : (mark : ℕ) → is_due setup log past mark ≡ is_due setup other past mark
+  same_due mark =
       let now = in_order log past agree.holds in
       let next : nat_lt (dispatched past) (accepted past) ≡ true → slice_get log (dispatched past) ≡ slice_get other (dispatched past) =
       λ is. get_below (dispatched past) (flushed past) log other (omega (arith, ltb-true _ _ is, now.accepted_within, now.synced_within)) agree.same in
       when (nat_lt (dispatched past) (accepted past)) (may log) (may other) (nat_lt (dispatched past - replica_committed past) setup.workers) (λ is. ap may_at (next is))
     where
       may_at : Option Record → Bool
-      may_at found = option_map_or (λ (r : Record). nat_le r.parent (replica_committed past)) found false
+      may_at found = option_map_or (λ (r : Record). nat_le r.parent mark) found false
 
       may : List Record → Bool
       may l = may_at (slice_get l (dispatched past))
@@ -113,6 +125,50 @@ module _ (setup : Setup) (log other : List Record) (past : Past) (agree : Agree 
       when : (first here there last : Bool) → (first ≡ true → here ≡ there) → (first && here && last) ≡ (first && there && last)
       when true here there last same = ap (λ b. b && last) (same refl)
       when false here there last same = refl
+
+  same_dispatch : may_dispatch setup log past ≡ may_dispatch setup other past
+  same_dispatch = (λ i. if setup.preserve then same_due (replica_committed past) i else same_due (low_water past) i && nat_le (dispatched past + 1) (low_water past + 4096))
+
+  -- ---- a read
+
+  -- the published commits are of flushed records
+  shown_flushed : (gno : ℕ) → has_gno (published_gnos past) gno ≡ true → gno ≤ flushed past
+  shown_flushed gno is =
+      let now = in_order log past agree.holds in
+      let all = has_gno_front (commits past) (out past ++ finished past) gno (has_gno-take (published past) (commits past) gno is) in
+      let within : gno ≤ dispatched past = leb-true gno (dispatched past) (and_parts (nat_le 1 gno) (nat_le gno (dispatched past)) (sym (agree.committed.each gno) ∙ all)).1 in
+      omega (arith, within, now.dispatched_within, now.accepted_within, now.synced_within)
+
+  -- so they are chosen among these
+  chosen_front : (l : List Record) → AreNumbered 1 l → length (take (flushed past) l) ≡ flushed past → chosen (published_gnos past) l ≡ chosen (published_gnos past) (take (flushed past) l)
+  chosen_front l numbered long =
+      let f = flushed past in
+      let parts = sym (take-append-drop f l) in
+      ap (chosen (published_gnos past)) parts ∙ longer_log (take f l) (drop f l) (published_gnos past) (subst (λ (x : List Record). AreNumbered 1 x) parts numbered) (λ gno is. omega (arith, shown_flushed gno is, long))
+
+  same_gapped : gapped setup.tables (loaded setup.base) log (published_gnos past) ≡ gapped setup.tables (loaded setup.base) other (published_gnos past)
+  same_gapped =
+      let f = flushed past in
+      let long : length (take f log) ≡ f = length-take-le f log (in_order log past agree.holds).flushed_within in
+      let here = chosen_front log (part_is_numbered setup.tables (loaded setup.base) [] log agree.stands.legal) long in
+      let there = chosen_front other (part_is_numbered setup.tables (loaded setup.base) [] other agree.other_stands.legal) (sym (ap (λ (l : List Record). length l) agree.same) ∙ long) in
+      ap (after setup.tables (loaded setup.base)) (here ∙ ap (chosen (published_gnos past)) agree.same ∙ sym there)
+
+  same_read : (id : RowId) → read_reply setup log past id ≡ read_reply setup other past id
+  same_read id = (λ i. if setup.preserve then replies.Read (published past) 0 (row_of (same_rows (published past) read_below i)) else replies.Read (low_of gnos) (published past - low_of gnos) (row_of (same_gapped i))) where
+    gnos : List ℕ
+    gnos = published_gnos past
+
+    row_of : Option Database → Option (List ℤ)
+    row_of rows = option_and_then (λ db. get db id) rows
+
+  -- ---- the ids that are executed
+
+  one_executed : (b : Bool) (reply answer : Reply) → ExecutedAnswers b setup past reply → ExecutedAnswers b setup past answer → reply ≡ answer
+  one_executed true reply answer a b = a ∙ sym b
+  one_executed false reply answer a b =
+      let same = one_set a.0 b.0 a.2.is_set b.2.is_set (a.2.source ∙ sym b.2.source) (λ n. a.2.numbers n ∙ sym (b.2.numbers n)) in
+      a.1 ∙ ap (λ (ids : Ids). replies.Executed ids) same ∙ sym b.1
 
   -- ---- a flush
 
@@ -172,9 +228,8 @@ module _ (setup : Setup) (log other : List Record) (past : Past) (agree : Agree 
   one_answer (events.Finish gno) reply answer a b alike = a ∙ sym b
   one_answer events.Next reply answer a b alike = a ∙ sym b
   one_answer events.Publish reply answer a b alike = a ∙ sym b
-  one_answer events.Executed reply answer a b alike = a ∙ sym b
-  one_answer (events.Read id) reply answer a b alike =
-      a ∙ ap (λ (rows : Option Database). replies.Read (published past) (option_and_then (λ db. get db id) rows)) (same_rows (published past) read_below) ∙ sym b
+  one_answer events.Executed reply answer a b alike = one_executed setup.preserve reply answer a b
+  one_answer (events.Read id) reply answer a b alike = a ∙ same_read id ∙ sym b
   one_answer events.Log reply answer a b alike = a ∙ ap (λ (bytes : List ℕ). replies.Text bytes) same_text ∙ sym b
 
   -- ---- one more pair
@@ -205,6 +260,7 @@ module _ (setup : Setup) (log other : List Record) (past : Past) (agree : Agree 
         holds = step setup log past event reply s agree.holds;
         same = still_alike event reply answer s a b;
         groups = still_within event reply s;
+        committed = committed_step setup log agree.stands.legal past event reply s agree.holds agree.committed;
       }
 
 -- ---- enough memory
@@ -272,6 +328,7 @@ at_start setup log other es rs os left right = record {
   holds = at_first log;
   same = refl;
   groups = tt;
+  committed = committed_first setup log;
 }
 
 pub only_answer : OneAnswer

@@ -1,9 +1,15 @@
 -- What a reply that the pairs so far allow says of them.
-use Rattle.std.proofs.Common.{◌≡◌, sym, subst, refl, ℕ, ◌+◌, ◌<◌, ◌≤◌, Bool, true, false, not, ◌&&◌, ◌==◌, nat_le, List, [], ◌∷◌, map, length, Option, Some, None, Ok, ◌⊎◌, inl, inr, if◌then◌else◌}
-use Rattle.std.specs.Prelude.{ℤ, option_and_then, slice_index_or}
+use Rattle.std.proofs.Common.{◌≡◌, ◌∙◌, sym, ap, subst, refl, ℕ, ◌+◌, ◌<◌, ◌≤◌, Bool, true, false, not, ◌&&◌, ◌==◌, nat_le, List, [], ◌∷◌, map, Option, Some, None, Ok, ◌⊎◌, inl, inr, if◌then◌else◌}
+use Rattle.std.specs.Prelude.{option_and_then, slice_get, ◌-◌}
+use Rattle.std.specs.Option.{option_map_or}
 use Rattle.std.specs.FinMap.{get}
 use Rattle.std.proofs.lemmas.Bool.{false≢true, or_cases, and_parts, leb-true, eqb-true, ltb-true}
+use Rattle.schema.specs.declared.RowId.{RowId}
 use Rattle.gtid_set.specs.Ids.{first_ids}
+use Rattle.store_trait.specs.Operation.{loaded}
+use Rattle.scheduler.specs.Gnos.{low_of}
+use Rattle.gapped.specs.Gapped.{gapped}
+use Rattle.replica_core.specs.Calls.{next_commit}
 use Rattle.record_codec.specs.declared.records.Record.{Record}
 use Rattle.source_core.specs.declared.fault.SourceFault.{SourceFault}
 use Rattle.source_core.specs.declared.fault.SourceFault.TheVariants as source
@@ -18,14 +24,17 @@ use Rattle.world.specs.declared.events.Event.TheVariants as events
 use Rattle.world.specs.declared.events.Reply.{Reply}
 use Rattle.world.specs.declared.events.Reply.TheVariants as replies
 use Rattle.world.specs.Replies.{prepared_reply}
-use Rattle.world.specs.Past.{Past, flushed, unsynced, synced, halted, source_committed, queue, accepted, dispatched, under_way, replica_committed, published}
-use Rattle.world.proofs.ReplicaEvents.{some_under}
-use Rattle.world.specs.Legal.{Setup, rows_after, source_at, refused_or, stamp_of, next_records, FlushAnswers, SyncAnswers, commit_reply, log_text, may_dispatch, is_out, Answers, is_source_memory, is_replica_memory, is_codec_memory, is_log_memory, asks_memory, tells_memory, Allowed}
+use Rattle.world.specs.Past.{Past, flushed, unsynced, synced, halted, source_committed, queue, accepted, dispatched, commits, replica_committed, low_water, out, published, published_gnos}
+use Rattle.world.proofs.Next.{IsNext, is_next, next_at}
+use Rattle.world.specs.Legal.{Setup, rows_after, source_at, replica_at, refused_or, stamp_of, next_records, FlushAnswers, SyncAnswers, commit_reply, log_text, is_due, may_dispatch, is_out, next_reply, ExecutedAnswers, read_reply, Answers, is_source_memory, is_replica_memory, is_codec_memory, is_log_memory, asks_memory, tells_memory, Allowed}
 
--- the row of a read, after the first so many records
-abbrev pub ReadSays : Setup → List Record → ℕ → Event → Option (List ℤ) → Type 0
-ReadSays setup log upto (events.Read id) row = row ≡ option_and_then (λ db. get db id) (rows_after setup log upto)
-ReadSays setup log upto event row = Unit {0}
+-- a job that is handed out is the next, of a record that is accepted, and its parent is committed: in the order of the log it is one
+-- of the commits so far, in any order all up to it are committed
+pub record IsJob (setup : Setup) (log : List Record) (past : Past) (gno : ℕ) : Type 0 where
+  pub number : gno ≡ dispatched past + 1
+  pub within : dispatched past < accepted past
+  pub in_order : setup.preserve ≡ true → (rec : Record) → slice_get log (dispatched past) ≡ Some rec → rec.parent ≤ replica_committed past
+  pub in_any : setup.preserve ≡ false → (rec : Record) → slice_get log (dispatched past) ≡ Some rec → rec.parent ≤ low_water past
 
 -- what a reply says of the pairs before it
 abbrev pub Says : Setup → List Record → Past → Event → Reply → Type 0
@@ -33,10 +42,11 @@ Says setup log past event (replies.Flushed first stamps) = (first ≡ flushed pa
 Says setup log past event (replies.Synced first last) = (groups : List (ℕ × ℕ)) × (unsynced past ≡ (first, last) ∷ groups)
 Says setup log past event (replies.Committed first last) = (first ≡ source_committed past + 1) × (last ≡ synced past)
 Says setup log past event replies.Accepted = (gno : ℕ) × (event ≡ events.Deliver gno) × (gno ≤ synced past) × (gno ≡ accepted past + 1)
-Says setup log past event (replies.Job gno) = dispatched past < accepted past
-Says setup log past event (replies.Commit gno) = (gno ≡ replica_committed past + 1) × (1 ≤ length (under_way past))
+Says setup log past event (replies.Job gno) = IsJob setup log past gno
+Says setup log past event (replies.Finished gno) = is_out past gno ≡ true
+Says setup log past event (replies.Commit gno) = IsNext (replica_at setup log past) gno
 Says setup log past event (replies.Published upto) = upto ≡ replica_committed past
-Says setup log past event (replies.Read upto row) = (upto ≡ published past) × ReadSays setup log upto event row
+Says setup log past event (replies.Read upto more row) = (id : RowId) × (event ≡ events.Read id) × (replies.Read upto more row ≡ read_reply setup log past id)
 Says setup log past event (replies.Replica fault) = (fault ≡ replica.Memory) ⊎ ((fault ≡ replica.Gap) × (gno : ℕ) × (event ≡ events.Deliver gno))
 Says setup log past event reply = Unit {0}
 
@@ -116,17 +126,56 @@ deliver_says setup log past gno true true next within is = tt
 deliver_says setup log past gno true false true within is = (gno, refl, within refl, is refl)
 deliver_says setup log past gno true false false within is = inr (refl, gno, refl)
 
-dispatch_says : (setup : Setup) (log : List Record) (past : Past) (may : Bool) → (may ≡ true → dispatched past < accepted past) → Says setup log past events.Dispatch (if may then replies.Job (dispatched past + 1) else replies.Nothing)
-dispatch_says setup log past false h = tt
-dispatch_says setup log past true h = h refl
+-- a record that is due is accepted, and its parent is at most the mark
+due_tells : (setup : Setup) (log : List Record) (past : Past) (mark : ℕ) → is_due setup log past mark ≡ true → (dispatched past < accepted past) × ((rec : Record) → slice_get log (dispatched past) ≡ Some rec → rec.parent ≤ mark)
+due_tells setup log past mark t =
+    let parts = and_parts _ _ (and_parts _ _ t).0 in (
+      ltb-true (dispatched past) (accepted past) parts.0,
+      λ rec got. leb-true rec.parent mark (sym (ap (λ (o : Option Record). option_map_or (λ next. nat_le next.parent mark) o false) got) ∙ parts.1),
+    )
 
-finish_says : (setup : Setup) (log : List Record) (past : Past) (gno : ℕ) (out : Bool) → Says setup log past (events.Finish gno) (if out then replies.Finished gno else replies.Nothing)
-finish_says setup log past gno false = tt
-finish_says setup log past gno true = tt
+is_job : (setup : Setup) (log : List Record) (past : Past) → may_dispatch setup log past ≡ true → IsJob setup log past (dispatched past + 1)
+is_job setup log past t = by setup.preserve refl t where
+  by : (b : Bool) → setup.preserve ≡ b → (if b then is_due setup log past (replica_committed past) else is_due setup log past (low_water past) && nat_le (dispatched past + 1) (low_water past + 4096)) ≡ true → IsJob setup log past (dispatched past + 1)
+  by true e due =
+      let tells = due_tells setup log past (replica_committed past) due in
+      record { number = refl; within = tells.0; in_order = λ _. tells.1; in_any = λ other. absurd (false≢true (sym other ∙ e)) }
+  by false e due =
+      let tells = due_tells setup log past (low_water past) (and_parts _ _ due).0 in
+      record { number = refl; within = tells.0; in_order = λ other. absurd (false≢true (sym e ∙ other)); in_any = λ _. tells.1 }
 
-next_says : (setup : Setup) (log : List Record) (past : Past) (done : Bool) → (done ≡ true → 1 ≤ length (under_way past)) → Says setup log past events.Next (if done then replies.Commit (replica_committed past + 1) else replies.Nothing)
-next_says setup log past false h = tt
-next_says setup log past true h = (refl, h refl)
+dispatch_says : (setup : Setup) (log : List Record) (past : Past) (may : Bool) → may_dispatch setup log past ≡ may → Says setup log past events.Dispatch (if may then replies.Job (dispatched past + 1) else replies.Nothing)
+dispatch_says setup log past false e = tt
+dispatch_says setup log past true e = is_job setup log past e
+
+finish_says : (setup : Setup) (log : List Record) (past : Past) (gno : ℕ) (out_ : Bool) → is_out past gno ≡ out_ → Says setup log past (events.Finish gno) (if out_ then replies.Finished gno else replies.Nothing)
+finish_says setup log past gno false e = tt
+finish_says setup log past gno true e = e
+
+next_says : (setup : Setup) (log : List Record) (past : Past) (reply : Reply) → reply ≡ next_reply setup past → Says setup log past events.Next reply
+next_says setup log past reply h = of_next (next_commit (replica_at setup log past)) refl (h ∙ next_at setup log past) where
+  of_next : (o : Option ℕ) → next_commit (replica_at setup log past) ≡ o → reply ≡ option_map_or replies.Commit (next_commit (replica_at setup log past)) replies.Nothing → Says setup log past events.Next reply
+  of_next None e k = by setup log past events.Next reply replies.Nothing (k ∙ ap (λ (o : Option ℕ). option_map_or replies.Commit o replies.Nothing) e) tt
+  of_next (Some gno) e k = by setup log past events.Next reply (replies.Commit gno) (k ∙ ap (λ (o : Option ℕ). option_map_or replies.Commit o replies.Nothing) e) (is_next (replica_at setup log past) gno e)
+
+executed_says : (setup : Setup) (log : List Record) (past : Past) (b : Bool) (reply : Reply) → ExecutedAnswers b setup past reply → Says setup log past events.Executed reply
+executed_says setup log past true reply h = by setup log past events.Executed reply (replies.Executed (first_ids setup.identifier (replica_committed past))) h tt
+executed_says setup log past false reply h = by setup log past events.Executed reply (replies.Executed h.0) h.1 tt
+
+read_says : (setup : Setup) (log : List Record) (past : Past) (id : RowId) (reply : Reply) → reply ≡ read_reply setup log past id → Says setup log past (events.Read id) reply
+read_says setup log past id reply h = by setup log past (events.Read id) reply (read_reply setup log past id) h (told setup.preserve refl) where
+  gnos : List ℕ
+  gnos = published_gnos past
+
+  first : Reply
+  first = replies.Read (published past) 0 (option_and_then (λ db. get db id) (rows_after setup log (published past)))
+
+  any : Reply
+  any = replies.Read (low_of gnos) (published past - low_of gnos) (option_and_then (λ db. get db id) (gapped setup.tables (loaded setup.base) log gnos))
+
+  told : (b : Bool) → setup.preserve ≡ b → Says setup log past (events.Read id) (if b then first else any)
+  told true e = (id, refl, sym (ap (λ (b : Bool). if b then first else any) e))
+  told false e = (id, refl, sym (ap (λ (b : Bool). if b then first else any) e))
 
 answers_say : (setup : Setup) (log : List Record) (past : Past) (event : Event) (reply : Reply) → Answers setup log past event reply → Says setup log past event reply
 answers_say setup log past (events.Begin session) reply h =
@@ -148,12 +197,12 @@ answers_say setup log past (events.Deliver gno) reply h =
     by setup log past _ reply _ h (deliver_says setup log past gno (nat_le 1 gno && nat_le gno (synced past)) (nat_le gno (accepted past)) (gno == accepted past + 1)
     (λ t. leb-true gno (synced past) (and_parts _ _ t).1) (eqb-true gno (accepted past + 1)))
 answers_say setup log past events.Dispatch reply h =
-    by setup log past _ reply _ h (dispatch_says setup log past (may_dispatch setup log past) (λ t. ltb-true (dispatched past) (accepted past) (and_parts _ _ (and_parts _ _ t).0).0))
-answers_say setup log past (events.Finish gno) reply h = by setup log past _ reply _ h (finish_says setup log past gno (is_out past gno))
-answers_say setup log past events.Next reply h = by setup log past _ reply _ h (next_says setup log past (slice_index_or (under_way past) 0 false) (some_under (under_way past)))
+    by setup log past _ reply _ h (dispatch_says setup log past (may_dispatch setup log past) refl)
+answers_say setup log past (events.Finish gno) reply h = by setup log past _ reply _ h (finish_says setup log past gno (is_out past gno) refl)
+answers_say setup log past events.Next reply h = next_says setup log past reply h
 answers_say setup log past events.Publish reply h = by setup log past _ reply _ h refl
-answers_say setup log past events.Executed reply h = by setup log past _ reply (replies.Executed (first_ids setup.identifier (replica_committed past))) h tt
-answers_say setup log past (events.Read id) reply h = by setup log past _ reply _ h (refl, refl)
+answers_say setup log past events.Executed reply h = executed_says setup log past setup.preserve reply h
+answers_say setup log past (events.Read id) reply h = read_says setup log past id reply h
 answers_say setup log past events.Log reply h = by setup log past _ reply (replies.Text (log_text setup log past)) h tt
 
 pub says : (setup : Setup) (log : List Record) (past : Past) (event : Event) (reply : Reply) → Allowed setup log past event reply → Says setup log past event reply

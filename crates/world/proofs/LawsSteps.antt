@@ -1,12 +1,13 @@
 -- The numbers of a run stay in order.
-use Rattle.std.proofs.Common.{◌≡◌, sym, ap, subst, refl, ℕ, ◌+◌, ◌-◌, ◌≤◌, Bool, true, false, List, [], ◌∷◌, ◌++◌, length, length-append, map, drop, arith}
-use Rattle.std.specs.Prelude.{slice_set}
-use Rattle.std.proofs.lemmas.List.{length-set, length-take, length-drop, length-map}
+use Rattle.std.proofs.Common.{◌≡◌, sym, ap, subst, refl, ℕ, ◌+◌, ◌-◌, ◌≤◌, List, [], ◌∷◌, ◌++◌, length, length-append, map, drop, arith}
+use Rattle.std.proofs.lemmas.List.{length-take, length-drop, length-map}
 use Rattle.record_codec.specs.declared.records.Record.{Record}
+use Rattle.scheduler.specs.Gnos.{without}
+use Rattle.scheduler.proofs.Gnos.{length-without}
 use Rattle.world.specs.declared.events.Event.{Event}
 use Rattle.world.specs.declared.events.Reply.{Reply}
 use Rattle.world.specs.declared.events.Reply.TheVariants as replies
-use Rattle.world.specs.Past.{Past, flushed, unsynced, synced, source_committed, queue, accepted, dispatched, under_way, replica_committed, published}
+use Rattle.world.specs.Past.{Past, flushed, unsynced, synced, source_committed, queue, accepted, dispatched, commits, replica_committed, out, finished, published}
 use Rattle.world.specs.Legal.{Setup, stamp_of, next_records}
 use Rattle.world.specs.Laws.{AreInOrder, NoneFalls}
 use Rattle.world.proofs.LawsReplies.{Says}
@@ -34,19 +35,19 @@ pub record SourceInOrder (log : List Record) (flushed_ : ℕ) (groups : List (�
   pub in_log : flushed_ ≤ length log
   pub committed_within : source_committed_ ≤ synced_
 
--- And of the jobs: what is dispatched was accepted, and is committed or under way.
-pub record JobsInOrder (accepted_ dispatched_ : ℕ) (under : List Bool) (replica_committed_ : ℕ) : Type 0 where
+-- And of the jobs: what is dispatched was accepted, and is committed, out or finished.
+pub record JobsInOrder (accepted_ dispatched_ : ℕ) (commits_ out_ finished_ : List ℕ) : Type 0 where
   pub dispatched_within : dispatched_ ≤ accepted_
-  pub counted : dispatched_ ≡ replica_committed_ + length under
+  pub counted : dispatched_ ≡ length commits_ + (length out_ + length finished_)
 
-pub record InOrder (log : List Record) (flushed_ : ℕ) (groups : List (ℕ × ℕ)) (synced_ source_committed_ accepted_ dispatched_ : ℕ) (under : List Bool) (replica_committed_ published_ : ℕ) : Type 0 where
+pub record InOrder (log : List Record) (flushed_ : ℕ) (groups : List (ℕ × ℕ)) (synced_ source_committed_ accepted_ dispatched_ : ℕ) (commits_ out_ finished_ : List ℕ) (published_ : ℕ) : Type 0 where
   pub source : SourceInOrder log flushed_ groups synced_ source_committed_
   pub delivered : accepted_ ≤ synced_
-  pub jobs : JobsInOrder accepted_ dispatched_ under replica_committed_
-  pub shown : published_ ≤ replica_committed_
+  pub jobs : JobsInOrder accepted_ dispatched_ commits_ out_ finished_
+  pub shown : published_ ≤ length commits_
 
 abbrev pub Holds : List Record → Past → Type 0
-Holds log past = InOrder log (flushed past) (unsynced past) (synced past) (source_committed past) (accepted past) (dispatched past) (under_way past) (replica_committed past) (published past)
+Holds log past = InOrder log (flushed past) (unsynced past) (synced past) (source_committed past) (accepted past) (dispatched past) (commits past) (out past) (finished past) (published past)
 
 pub at_first : (log : List Record) → Holds log []
 at_first log = record {
@@ -83,21 +84,21 @@ step setup log past event (replies.Synced first last) s h =
 step setup log past event (replies.Committed first last) s h =
     record { source = record { follow = h.source.follow; in_log = h.source.in_log; committed_within = omega (arith, s.1) }; delivered = h.delivered; jobs = h.jobs; shown = h.shown }
 step setup log past event replies.Accepted s h =
-    let jobs : JobsInOrder (accepted past + 1) (dispatched past) (under_way past) (replica_committed past) = record { dispatched_within = omega (arith, h.jobs.dispatched_within); counted = h.jobs.counted } in
+    let jobs : JobsInOrder (accepted past + 1) (dispatched past) (commits past) (out past) (finished past) = record { dispatched_within = omega (arith, h.jobs.dispatched_within); counted = h.jobs.counted } in
     record { source = h.source; delivered = omega (arith, s.2, s.3); jobs = jobs; shown = h.shown }
 step setup log past event (replies.Job gno) s h =
-    let jobs : JobsInOrder (accepted past) (dispatched past + 1) (under_way past ++ false ∷ []) (replica_committed past) =
-    record { dispatched_within = omega (arith, s); counted = omega (arith, h.jobs.counted, length-append (under_way past) (false ∷ [])) } in
+    let jobs : JobsInOrder (accepted past) (dispatched past + 1) (commits past) (out past ++ gno ∷ []) (finished past) =
+    record { dispatched_within = omega (arith, s.within); counted = omega (arith, h.jobs.counted, length-append (out past) (gno ∷ [])) } in
     record { source = h.source; delivered = h.delivered; jobs = jobs; shown = h.shown }
 step setup log past event (replies.Finished gno) s h =
-    let place = gno - replica_committed past - 1 in
-    let jobs : JobsInOrder (accepted past) (dispatched past) (slice_set (under_way past) place true) (replica_committed past) =
-    record { dispatched_within = h.jobs.dispatched_within; counted = omega (arith, h.jobs.counted, length-set (under_way past) place true) } in
+    let jobs : JobsInOrder (accepted past) (dispatched past) (commits past) (without gno (out past)) (finished past ++ gno ∷ []) =
+    record { dispatched_within = h.jobs.dispatched_within; counted = omega (arith, h.jobs.counted, length-without gno (out past) s, length-append (finished past) (gno ∷ [])) } in
     record { source = h.source; delivered = h.delivered; jobs = jobs; shown = h.shown }
 step setup log past event (replies.Commit gno) s h =
-    let jobs : JobsInOrder (accepted past) (dispatched past) (drop 1 (under_way past)) (replica_committed past + 1) =
-    record { dispatched_within = h.jobs.dispatched_within; counted = omega (arith, h.jobs.counted, s.1, length-drop 1 (under_way past)) } in
-    record { source = h.source; delivered = h.delivered; jobs = jobs; shown = omega (arith, h.shown) }
+    let more = length-append (commits past) (gno ∷ []) in
+    let jobs : JobsInOrder (accepted past) (dispatched past) (commits past ++ gno ∷ []) (out past) (without gno (finished past)) =
+    record { dispatched_within = h.jobs.dispatched_within; counted = omega (arith, h.jobs.counted, length-without gno (finished past) s.done, more) } in
+    record { source = h.source; delivered = h.delivered; jobs = jobs; shown = omega (arith, h.shown, more) }
 step setup log past event (replies.Published upto) s h = record { source = h.source; delivered = h.delivered; jobs = h.jobs; shown = omega (arith, s) }
 step setup log past event reply s h = h
 
@@ -152,7 +153,7 @@ rise setup log past event (replies.Synced first last) s h o =
 rise setup log past event (replies.Committed first last) s h o = (o.0, o.1, o.2, o.3, omega (arith, s.1, h.source.committed_within), o.5, o.6)
 rise setup log past event replies.Accepted s h o = (o.0, o.1, o.2, omega arith, o.4, o.5, o.6)
 rise setup log past event (replies.Job gno) s h o = (o.0, o.1, omega arith, o.3, o.4, o.5, o.6)
-rise setup log past event (replies.Commit gno) s h o = (o.0, omega arith, o.2, o.3, o.4, o.5, o.6)
+rise setup log past event (replies.Commit gno) s h o = (o.0, omega (arith, length-append (commits past) (gno ∷ [])), o.2, o.3, o.4, o.5, o.6)
 rise setup log past event (replies.Published upto) s h o = (omega (arith, s, h.shown), o.1, o.2, o.3, o.4, o.5, o.6)
 rise setup log past event reply s h o = o
 

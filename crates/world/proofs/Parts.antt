@@ -5,6 +5,7 @@ use Rattle.std.proofs.Common.{◌≡◌, ◌∙◌, sym, ap, refl, ℕ, ◌≤�
 use Rattle.std.proofs.lemmas.List.{take-append-le}
 use Rattle.rows.specs.Database.{Database}
 use Rattle.record_codec.specs.declared.records.Record.{Record}
+use Rattle.record_codec.specs.Group.{AreNumbered}
 use Rattle.source_core.specs.Source.{Source, Open}
 use Rattle.source_core.specs.Calls.{cause}
 use Rattle.source_core.specs.declared.fault.SourceFault.{SourceFault}
@@ -15,7 +16,7 @@ use Rattle.world.specs.declared.events.Reply.{Reply}
 use Rattle.log_file.specs.Log.{Log}
 use Rattle.std.specs.Result.{result_err, IsErrOf}
 use Rattle.std.proofs.lemmas.Bool.{false≢true, and_from}
-use Rattle.world.specs.Past.{Past, flushed, unsynced, synced_groups, halted, is_failure, accepted, dispatched, transaction_of, transaction_after, transactions}
+use Rattle.world.specs.Past.{Past, flushed, unsynced, synced_groups, halted, is_failure, accepted, transaction_of, transaction_after, transactions}
 use Rattle.world.specs.Legal.{Setup, source_at, replica_at, Allowed}
 use Rattle.world.specs.State.{World, SourceIs, SidesAre, IsWorld, Stands, TellsFailure, Goes}
 use Rattle.world.proofs.Sessions.{none_told}
@@ -46,7 +47,7 @@ unfailed reply log none = record {
 -- an event that changes nothing
 pub stays : {D R : Type 0} (contents : R → Database) (w : World D R) (event : Event) (reply : Reply) → IsWorld contents w → is_failure reply ≡ false →
     ((setup : Setup) (past : Past) → Stands setup past w → Stands setup ((event, reply) ∷ past) w) →
-    ((setup : Setup) (past : Past) (log : List Record) → Stands setup past w → IsPrefix w.source.log log → Allowed setup log past event reply) → Goes contents w event reply w
+    ((setup : Setup) (past : Past) (log : List Record) → Stands setup past w → IsPrefix w.source.log log → AreNumbered 1 log → Allowed setup log past event reply) → Goes contents w event reply w
 stays contents w event reply h none stands allowed = record { world = h; grows = prefix_refl w.source.log; device = unfailed reply w.wire.log none; still = λ _. refl; stands = stands; allowed = allowed }
 
 -- the pairs say that the source runs where it does, and that it is halted where it is
@@ -89,7 +90,7 @@ source_untold setup past log s event reply says is = record {
 
 -- a pair of which no side has anything
 pub untold : {D R : Type 0} (setup : Setup) (past : Past) (w : World D R) (event : Event) (reply : Reply) → ((k : ℕ) → transaction_after past k event reply (transaction_of past k) ≡ transaction_of past k) → Stands setup past w →
-    SidesAre (with_transactions setup w.source.log past (transactions ((event, reply) ∷ past))) (flushed past) setup.identifier (unsynced past) (synced_groups past) (replica_at setup w.source.log past) (accepted past) (dispatched past) w.source w.wire w.replica
+    SidesAre (with_transactions setup w.source.log past (transactions ((event, reply) ∷ past))) (flushed past) setup.identifier (unsynced past) (synced_groups past) (replica_at setup w.source.log past) (accepted past) w.source w.wire w.replica
 untold setup past w event reply says st = record {
   source = source_untold setup past w.source.log w.source event reply says st.source;
   wire = st.wire;

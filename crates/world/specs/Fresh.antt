@@ -10,15 +10,18 @@ use Rattle.store_trait.specs.Operation.{loaded}
 
 -- what the world began with
 abbrev pub setup_of : {D R : Type 0} → World D R → Setup
-setup_of w = record { identifier = w.wire.log.head.source; tables = w.source.tables; base = w.source.base; limit = w.source.limit; kind = w.source.kind; workers = w.replica.workers }
+setup_of w = record { identifier = w.wire.log.head.source; tables = w.source.tables; base = w.source.base; limit = w.source.limit; kind = w.source.kind; workers = w.replica.workers; preserve = w.replica.preserve }
 
 -- a new log file, and a new source and a new replica over one schema and equal rows, which readers see
 pub record IsFresh {D R : Type 0} (contents : R → Database) (w : World D R) : Type 0 where
   pub source : w.source ≡ new_source w.source.tables w.source.base w.source.limit w.source.kind
-  pub replica : w.replica ≡ new_over w.source.tables w.wire.log.head.source w.source.base w.replica.workers
+  pub replica : w.replica ≡ new_over w.source.tables w.wire.log.head.source w.source.base w.replica.workers w.replica.preserve
   pub jobs : w.jobs ≡ []
   pub log : IsNew w.wire.log
   pub unsynced : w.wire.unsynced ≡ []
+  pub order : w.shown.preserve ≡ w.replica.preserve
   pub upto : w.shown.upto ≡ 0
+  pub more : w.shown.more ≡ 0
+  pub gnos : w.shown.gnos ≡ []
   pub waiting : w.shown.waiting ≡ []
   pub rows : contents w.shown.store ≡ loaded w.source.base

@@ -1,7 +1,7 @@
 -- What an operator may rely on in each run with legal replies. A place is the index of an event and of its reply, from
 -- 0 on; a moment n is when the first n events are answered.
 use mathlib.Core.List.{IsPrefix}
-use Rattle.std.specs.Prelude.{◌≡◌, ℕ, ℤ, ◌+◌, ◌<◌, ◌≤◌, Bool, true, false, ◌||◌, List, [], ◌∷◌, length, map, take, slice_get, count_by, Option, Some, option_and_then, ◌⊎◌}
+use Rattle.std.specs.Prelude.{◌≡◌, ℕ, ℤ, ◌+◌, ◌-◌, ◌<◌, ◌≤◌, Bool, true, false, not, ◌&&◌, ◌||◌, nat_lt, List, [], ◌∷◌, length, map, take, slice_get, slice_index_or, count_by, Option, Some, option_and_then, ◌⊎◌}
 use Rattle.std.specs.List.{list_any}
 use Rattle.std.specs.FinMap.{get}
 use Rattle.schema.specs.declared.RowId.{RowId}
@@ -14,14 +14,16 @@ use Rattle.source_core.specs.declared.fault.SourceFault.TheVariants as source
 use Rattle.source_core.specs.Source.{Source, IsSound}
 use Rattle.relay.specs.declared.ReplicaFault.{ReplicaFault}
 use Rattle.relay.specs.declared.ReplicaFault.TheVariants as replica
-use Rattle.replica_core.specs.Replica.{Replica, rows_at, operations}
+use Rattle.scheduler.specs.Gnos.{has_gno, low_of, AreDistinct}
+use Rattle.gapped.specs.Gapped.{gapped, IsClosed}
+use Rattle.replica_core.specs.Replica.{Replica, rows_at, operations_in_order}
 use Rattle.published.specs.History.{IsHistory, commits_in}
 use Rattle.world.specs.declared.events.Event.{Event}
 use Rattle.world.specs.declared.events.Event.TheVariants as events
 use Rattle.world.specs.declared.events.Reply.{Reply}
 use Rattle.world.specs.declared.events.Reply.TheVariants as replies
-use Rattle.world.specs.Past.{Past, is_failure, flushed, synced, source_committed, accepted, dispatched, replica_committed, published}
-use Rattle.world.specs.Legal.{Setup, rows_after, is_source_memory, is_replica_memory, is_codec_memory, is_log_memory, AreLegal}
+use Rattle.world.specs.Past.{Past, is_failure, flushed, synced, source_committed, accepted, dispatched, commits, replica_committed, finished, under_way, published}
+use Rattle.world.specs.Legal.{Setup, rows_after, is_out, is_commit, is_source_memory, is_replica_memory, is_codec_memory, is_log_memory, AreLegal}
 
 -- these pairs, and behind them those of the events and their replies, the newest first
 abbrev pub pairs_after : Past → List Event → List Reply → Past
@@ -33,30 +35,59 @@ pairs_after past (event ∷ events_) (reply ∷ replies_) = pairs_after ((event,
 abbrev pub past_at : List Event → List Reply → ℕ → Past
 past_at events_ replies_ n = pairs_after [] (take n events_) (take n replies_)
 
--- Each read at the replica shows the row as it is at the source after the first so many records of the log, and says
--- how many.
+-- In the order of the log each read at the replica shows the row as it is at the source after the first so many records of the log, and
+-- says how many.
 abbrev pub ReadsArePrefixes : Type 0
 ReadsArePrefixes = (setup : Setup) (log : List Record) (events_ : List Event) (replies_ : List Reply) → AreLegal setup log events_ replies_ →
-    (place : ℕ) (id : RowId) (upto : ℕ) (row : Option (List ℤ)) →
-    slice_get events_ place ≡ Some (events.Read id) → slice_get replies_ place ≡ Some (replies.Read upto row) →
+    setup.preserve ≡ true →
+    (place : ℕ) (id : RowId) (upto more : ℕ) (row : Option (List ℤ)) →
+    slice_get events_ place ≡ Some (events.Read id) → slice_get replies_ place ≡ Some (replies.Read upto more row) →
     row ≡ option_and_then (λ db. get db id) (rows_after setup log upto)
+
+-- A read of this row, in whatever order: some commits are all from 1 to the one number and so many others, with each of them each earlier
+-- record is among them that conflicts with it, and the row is as they leave it, in log order.
+pub record ShowsClosed (setup : Setup) (log : List Record) (id : RowId) (upto more : ℕ) (row : Option (List ℤ)) : Type 0 where
+  pub gnos : List ℕ
+  pub once : AreDistinct gnos
+  pub within : (gno : ℕ) → has_gno gnos gno ≡ true → (1 ≤ gno) × (gno ≤ length log)
+  pub closed : IsClosed gnos log
+  pub mark : upto ≡ low_of gnos
+  pub count : upto + more ≡ length gnos
+  pub row_is : row ≡ option_and_then (λ db. get db id) (gapped setup.tables (loaded setup.base) log gnos)
+
+-- Each read shows so.
+abbrev pub ReadsAreGapped : Type 0
+ReadsAreGapped = (setup : Setup) (log : List Record) (events_ : List Event) (replies_ : List Reply) → AreLegal setup log events_ replies_ →
+    (place : ℕ) (id : RowId) (upto more : ℕ) (row : Option (List ℤ)) →
+    slice_get events_ place ≡ Some (events.Read id) → slice_get replies_ place ≡ Some (replies.Read upto more row) →
+    ShowsClosed setup log id upto more row
+
+-- what a read tells of how many are published at its moment: so many in all, and in the order of the log no others than the first
+pub record TellsPublished (setup : Setup) (past : Past) (upto more : ℕ) : Type 0 where
+  pub all : upto + more ≡ published past
+  pub in_order : setup.preserve ≡ true → (upto ≡ published past) × (more ≡ 0)
 
 -- No read is refused: each says the number that is published at its moment.
 abbrev pub ReadsAreAnswered : Type 0
 ReadsAreAnswered = (setup : Setup) (log : List Record) (events_ : List Event) (replies_ : List Reply) → AreLegal setup log events_ replies_ →
     (place : ℕ) (id : RowId) → slice_get events_ place ≡ Some (events.Read id) →
-    (row : Option (List ℤ)) × (slice_get replies_ place ≡ Some (replies.Read (published (past_at events_ replies_ place)) row))
+    (upto : ℕ) × (more : ℕ) × (row : Option (List ℤ)) × (slice_get replies_ place ≡ Some (replies.Read upto more row))
+    × TellsPublished setup (past_at events_ replies_ place) upto more
 
--- No read shows a record that is not synced at the source by then.
+-- No read shows a record that is not synced at the source by then: neither the first of the log, as many as it says, nor any of the
+-- commits that it counts.
 abbrev pub ReadsAreSynced : Type 0
 ReadsAreSynced = (setup : Setup) (log : List Record) (events_ : List Event) (replies_ : List Reply) → AreLegal setup log events_ replies_ →
-    (place upto : ℕ) (row : Option (List ℤ)) → slice_get replies_ place ≡ Some (replies.Read upto row) → upto ≤ synced (past_at events_ replies_ place)
+    (place upto more : ℕ) (row : Option (List ℤ)) → slice_get replies_ place ≡ Some (replies.Read upto more row) →
+    let past = past_at events_ replies_ place in
+    (upto ≤ synced past) × ((gno : ℕ) → has_gno (take (upto + more) (commits past)) gno ≡ true → gno ≤ synced past)
 
--- A later read never shows fewer records than an earlier one.
+-- A later read never shows fewer records than an earlier one, neither the first of the log nor all together.
 abbrev pub ReadsNeverGoBack : Type 0
 ReadsNeverGoBack = (setup : Setup) (log : List Record) (events_ : List Event) (replies_ : List Reply) → AreLegal setup log events_ replies_ →
-    (before later m n : ℕ) (row seen : Option (List ℤ)) → before < later →
-    slice_get replies_ before ≡ Some (replies.Read m row) → slice_get replies_ later ≡ Some (replies.Read n seen) → m ≤ n
+    (before later m more n others : ℕ) (row seen : Option (List ℤ)) → before < later →
+    slice_get replies_ before ≡ Some (replies.Read m more row) → slice_get replies_ later ≡ Some (replies.Read n others seen) →
+    (m ≤ n) × (m + more ≤ n + others)
 
 -- The numbers of records, in order: no more are published than committed at the replica, no more committed there than
 -- dispatched, no more dispatched than accepted, no more accepted than synced at the source, no more synced than
@@ -96,14 +127,30 @@ abbrev pub NumbersNeverFall : Type 0
 NumbersNeverFall = (setup : Setup) (log : List Record) (events_ : List Event) (replies_ : List Reply) → AreLegal setup log events_ replies_ →
     (before later : ℕ) → before ≤ later → NoneFalls (past_at events_ replies_ before) (past_at events_ replies_ later)
 
-abbrev pub is_commit : Reply → Bool
-is_commit reply = elim reply [ replies.Commit gno ↦ true | _ ↦ false ]
-
--- The commits at the replica come once each, in the order of the log: the first is of record 1, and each further one of
+-- In the order of the log the commits at the replica come once each, in that order: the first is of record 1, and each further one of
 -- the record behind the last.
 abbrev pub EachCommitOnceInOrder : Type 0
 EachCommitOnceInOrder = (setup : Setup) (log : List Record) (events_ : List Event) (replies_ : List Reply) → AreLegal setup log events_ replies_ →
+    setup.preserve ≡ true →
     (place gno : ℕ) → slice_get replies_ place ≡ Some (replies.Commit gno) → gno ≡ count_by is_commit (take place replies_) + 1
+
+-- In whatever order, no record is committed twice.
+abbrev pub EachCommitOnce : Type 0
+EachCommitOnce = (setup : Setup) (log : List Record) (events_ : List Event) (replies_ : List Reply) → AreLegal setup log events_ replies_ →
+    (before later gno : ℕ) → before < later → slice_get replies_ before ≡ Some (replies.Commit gno) →
+    slice_get replies_ later ≡ Some (replies.Commit gno) → ⊥
+
+-- So many records are dispatched and not committed as there are flags. A job is out exactly where its record is one of these and its flag
+-- is not set, and the next record's job is finished exactly where the first flag is set.
+pub record GoesByFlags (past : Past) : Type 0 where
+  pub each : replica_committed past + length (under_way past) ≡ dispatched past
+  pub out : (gno : ℕ) → is_out past gno ≡ (nat_lt (replica_committed past) gno && not (slice_index_or (under_way past) (gno - replica_committed past - 1) true))
+  pub next : has_gno (finished past) (replica_committed past + 1) ≡ slice_index_or (under_way past) 0 false
+
+-- In the order of the log the replica's jobs are finished, and its records committed, as one flag for each of them tells.
+abbrev pub OrderGoesByFlags : Type 0
+OrderGoesByFlags = (setup : Setup) (log : List Record) (events_ : List Event) (replies_ : List Reply) → AreLegal setup log events_ replies_ →
+    setup.preserve ≡ true → (moment : ℕ) → GoesByFlags (past_at events_ replies_ moment)
 
 -- No call of the replica is refused but for a gap, at a delivery, or for want of memory: it never stops.
 abbrev pub RefusesOnlyGaps : Type 0
@@ -133,11 +180,13 @@ HaltsForGood = (setup : Setup) (log : List Record) (events_ : List Event) (repli
     (before later : ℕ) (event : Event) → before < later → slice_get replies_ before ≡ Some (replies.Log log_file.Device) →
     slice_get events_ later ≡ Some event → asks_source event ≡ true → slice_get replies_ later ≡ Some (replies.Source source.Halted)
 
--- At each moment the operations of the published records, put in order into an empty store, leave the rows that readers
--- have: those of the source after as many records.
+-- In the order of the log, at each moment the operations of the published records, put in order into an empty store, leave the rows that
+-- readers have: those of the source after as many records.
 abbrev pub OperationsLeaveRows : Type 0
 OperationsLeaveRows = (setup : Setup) (log : List Record) (events_ : List Event) (replies_ : List Reply) → AreLegal setup log events_ replies_ →
-    (moment : ℕ) → let upto = published (past_at events_ replies_ moment) in rows_after setup log upto ≡ Some (left_by (operations setup.tables setup.base log upto))
+    setup.preserve ≡ true →
+    (moment : ℕ) → let upto = published (past_at events_ replies_ moment) in
+    rows_after setup log upto ≡ Some (left_by (operations_in_order setup.tables setup.base log upto))
 
 -- What the replica accepts is synced at the source before, and is the next record behind those that it has.
 abbrev pub NothingUnsyncedIsAccepted : Type 0
@@ -178,11 +227,12 @@ abbrev pub BeginningHasRows : Type 0
 BeginningHasRows = (s : Source) (r : Replica) → r.tables ≡ s.tables → loaded s.base ≡ loaded r.base → IsPrefix r.accepted s.log →
     (n : ℕ) → n ≤ length r.accepted → rows_at r n ≡ after s.tables (loaded s.base) (take n s.log)
 
--- Where moreover these are the operations of the first records that the replica committed, as `end` says of what it published:
--- whoever saw no more commits than those saw the source's database after as many records. `known` is what its seat knew in the
--- end, once it learnt what was published: both lists are beginnings of it.
+-- Where moreover commits are in the order of the log, and these are the operations of the first records that the replica committed, as
+-- `end` says of what it published: whoever saw no more commits than those saw the source's database after as many records. `known` is
+-- what its seat knew in the end, once it learnt what was published: both lists are beginnings of it.
 abbrev pub SeatsSeeTheSource : Type 0
-SeatsSeeTheSource = (s : Source) (r : Replica) (published seen known : List Op) → IsSound s → r.tables ≡ s.tables → loaded s.base ≡ loaded r.base → IsPrefix r.accepted s.log →
-    published ≡ operations r.tables r.base r.accepted (commits_in published) → commits_in published ≤ length r.accepted →
-    IsPrefix published known → IsPrefix seen known → IsHistory seen → commits_in seen ≤ commits_in published →
+SeatsSeeTheSource = (s : Source) (r : Replica) (published seen known : List Op) → IsSound s → r.preserve ≡ true →
+    r.tables ≡ s.tables → loaded s.base ≡ loaded r.base → IsPrefix r.accepted s.log →
+    published ≡ operations_in_order r.tables r.base r.accepted (commits_in published) → commits_in published ≤ length r.accepted →
+    IsPrefix published known → IsPrefix seen known → IsHistory true seen → commits_in seen ≤ commits_in published →
     after s.tables (loaded s.base) (take (commits_in seen) s.log) ≡ Some (left_by seen)

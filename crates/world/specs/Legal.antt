@@ -1,10 +1,12 @@
 -- Legal replies: each reply is the one that the pairs before it and one legal log allow.
-use Rattle.std.specs.Prelude.{◌≡◌, ℕ, ◌+◌, ◌-◌, Bool, true, false, not, ◌&&◌, ◌||◌, ◌==◌, nat_le, nat_lt, if◌then◌else◌, List, [], ◌∷◌, length, map, take, drop, slice_get, slice_index_or, Option, Some, None, Ok, option_and_then, ◌⊎◌}
+use Rattle.std.specs.Prelude.{◌≡◌, ℕ, ◌+◌, ◌-◌, Bool, true, false, not, ◌&&◌, ◌||◌, ◌==◌, nat_le, nat_lt, if◌then◌else◌, List, [], ◌∷◌, length, map, take, drop, slice_get, Option, Some, None, Ok, option_and_then, ◌⊎◌}
 use Rattle.std.specs.List.{flat_map, AllByRecursion}
 use Rattle.std.specs.Option.{option_map_or, is_none}
 use Rattle.std.specs.FinMap.{get}
 use Rattle.schema.specs.declared.Table.{Table}
-use Rattle.gtid_set.specs.Ids.{first_ids}
+use Rattle.schema.specs.declared.RowId.{RowId}
+use Rattle.gtid_set.specs.Ids.{Ids, IsSet, first_ids}
+use Rattle.gtid_set.specs.Numbers.{has_number}
 use Rattle.rows.specs.Database.{Database}
 use Rattle.store_trait.specs.Batch.{Entry}
 use Rattle.record_codec.specs.declared.records.Record.{Record}
@@ -21,6 +23,8 @@ use Rattle.log_file.specs.Text.{text}
 use Rattle.source_core.specs.Source.{Source, seen_row}
 use Rattle.source_core.specs.Calls.{begin_fault, write_fault, read_fault, prepare_fault, prepare_answer, queue_fault, abort_fault, halted_fault, AreNextRecords, seen_log}
 use Rattle.tracker_trait.specs.Kind.{Kind}
+use Rattle.scheduler.specs.Gnos.{has_gno, low_of}
+use Rattle.gapped.specs.Gapped.{gapped}
 use Rattle.relay.specs.declared.ReplicaFault.TheVariants as replica
 use Rattle.replica_core.specs.Replica.{Replica}
 use Rattle.world.specs.declared.events.Event.{Event}
@@ -28,11 +32,11 @@ use Rattle.world.specs.declared.events.Event.TheVariants as events
 use Rattle.world.specs.declared.events.Reply.{Reply}
 use Rattle.world.specs.declared.events.Reply.TheVariants as replies
 use Rattle.world.specs.Replies.{prepared_reply}
-use Rattle.world.specs.Past.{Past, flushed, unsynced, synced_groups, synced, halted, source_committed, queue, owners, transactions, accepted, dispatched, under_way, replica_committed, published}
+use Rattle.world.specs.Past.{Past, flushed, unsynced, synced_groups, synced, halted, source_committed, queue, owners, transactions, accepted, dispatched, commits, replica_committed, low_water, out, finished, published, published_gnos}
 use Rattle.store_trait.specs.Operation.{loaded}
 
 -- what a run begins with: the source's identifier, the schema, the rows that both sides hold, the greatest number of
--- records, how the source finds parents, and the number of workers
+-- records, how the source finds parents, the number of workers, and whether the replica commits in the order of the log
 pub record Setup : Type 0 where
   pub identifier : List ℕ
   pub tables : List Table
@@ -40,6 +44,7 @@ pub record Setup : Type 0 where
   pub limit : ℕ
   pub kind : Kind
   pub workers : ℕ
+  pub preserve : Bool
 
 -- the source's database after the first n records of the log
 abbrev pub rows_after : Setup → List Record → ℕ → Option Database
@@ -73,9 +78,12 @@ replica_at setup log past = record {
   source = setup.identifier;
   base = setup.base;
   accepted = take (accepted past) log;
-  committed = replica_committed past;
+  preserve = setup.preserve;
+  commits = commits past;
   published = published past;
-  under_way = under_way past;
+  dispatched = dispatched past;
+  out = out past;
+  finished = finished past;
   workers = setup.workers;
   stopped = None;
 }
@@ -135,28 +143,60 @@ deliver_reply past gno =
     else if gno == accepted past + 1 then replies.Accepted
     else replies.Replica replica.Gap
 
--- The next record may be dispatched where it is accepted, its parent is committed at the replica, and a worker is free:
--- fewer records are dispatched and not committed than there are workers.
+-- The next record is accepted, its parent is at most this number, and a worker is free: fewer records are dispatched and not
+-- committed than there are workers.
+abbrev pub is_due : Setup → List Record → Past → ℕ → Bool
+is_due setup log past mark =
+    nat_lt (dispatched past) (accepted past)
+    && option_map_or (λ next. nat_le next.parent mark) (slice_get log (dispatched past)) false
+    && nat_lt (dispatched past - replica_committed past) setup.workers
+
+-- In the order of the log the next record may be dispatched once its parent is committed at the replica. In any order once all up to its
+-- parent are, and only so far ahead of the low-water mark.
 abbrev pub may_dispatch : Setup → List Record → Past → Bool
 may_dispatch setup log past =
-    nat_lt (dispatched past) (accepted past)
-    && option_map_or (λ next. nat_le next.parent (replica_committed past)) (slice_get log (dispatched past)) false
-    && nat_lt (dispatched past - replica_committed past) setup.workers
+    if setup.preserve then is_due setup log past (replica_committed past)
+    else is_due setup log past (low_water past) && nat_le (dispatched past + 1) (low_water past + 4096)
 
 abbrev pub dispatch_reply : Setup → List Record → Past → Reply
 dispatch_reply setup log past = if may_dispatch setup log past then replies.Job (dispatched past + 1) else replies.Nothing
 
 -- whether the job of this number was handed out and is not finished
 abbrev pub is_out : Past → ℕ → Bool
-is_out past gno = nat_lt (replica_committed past) gno && not (slice_index_or (under_way past) (gno - replica_committed past - 1) true)
+is_out past gno = has_gno (out past) gno
 
 -- each such job is finished, since the changes of a legal log apply
 abbrev pub finish_reply : Past → ℕ → Reply
 finish_reply past gno = if is_out past gno then replies.Finished gno else replies.Nothing
 
--- the next record is committed once its job is finished
-abbrev pub next_reply : Past → Reply
-next_reply past = if slice_index_or (under_way past) 0 false then replies.Commit (replica_committed past + 1) else replies.Nothing
+-- in the order of the log the next record is committed once its job is finished; in any order the record whose job was finished first
+abbrev pub next_reply : Setup → Past → Reply
+next_reply setup past =
+    if setup.preserve then (let next = replica_committed past + 1 in if has_gno (finished past) next then replies.Commit next else replies.Nothing)
+    else option_map_or replies.Commit (slice_get (finished past) 0) replies.Nothing
+
+abbrev pub is_commit : Reply → Bool
+is_commit reply = elim reply [ replies.Commit gno ↦ true | _ ↦ false ]
+
+-- a set of the ids of these records, of the source of this identifier; the empty set where there are none
+pub record AreIdsOf (identifier : List ℕ) (gnos : List ℕ) (ids : Ids) : Type 0 where
+  pub is_set : IsSet ids
+  pub source : ids.source ≡ (if length gnos == 0 then None else Some identifier)
+  pub numbers : (n : ℕ) → has_number ids.numbers n ≡ has_gno gnos n
+
+-- the ids of all that is committed: in the order of the log those from 1 to their number
+abbrev pub ExecutedAnswers : Bool → Setup → Past → Reply → Type 0
+ExecutedAnswers true setup past reply = reply ≡ replies.Executed (first_ids setup.identifier (replica_committed past))
+ExecutedAnswers false setup past reply = (ids : Ids) × (reply ≡ replies.Executed ids) × AreIdsOf setup.identifier (commits past) ids
+
+-- A read shows the row as the published commits leave it. In the order of the log these are the first records of the log. In any order
+-- it tells up to which record all are among them, how many others are, and the row that they leave in log order.
+abbrev pub read_reply : Setup → List Record → Past → RowId → Reply
+read_reply setup log past id =
+    if setup.preserve then replies.Read (published past) 0 (option_and_then (λ db. get db id) (rows_after setup log (published past)))
+    else (let gnos = published_gnos past in
+    let rows = gapped setup.tables (loaded setup.base) log gnos in
+    replies.Read (low_of gnos) (published past - low_of gnos) (option_and_then (λ db. get db id) rows))
 
 -- The reply that an event has after these pairs; no other is legal. Only a sync that has a group to write may have one of
 -- two.
@@ -179,11 +219,10 @@ Answers setup log past events.Commit reply = reply ≡ refused_or (halted_fault 
 Answers setup log past (events.Deliver gno) reply = reply ≡ deliver_reply past gno
 Answers setup log past events.Dispatch reply = reply ≡ dispatch_reply setup log past
 Answers setup log past (events.Finish gno) reply = reply ≡ finish_reply past gno
-Answers setup log past events.Next reply = reply ≡ next_reply past
+Answers setup log past events.Next reply = reply ≡ next_reply setup past
 Answers setup log past events.Publish reply = reply ≡ replies.Published (replica_committed past)
-Answers setup log past events.Executed reply = reply ≡ replies.Executed (first_ids setup.identifier (replica_committed past))
-Answers setup log past (events.Read id) reply =
-    reply ≡ replies.Read (published past) (option_and_then (λ db. get db id) (rows_after setup log (published past)))
+Answers setup log past events.Executed reply = ExecutedAnswers setup.preserve setup past reply
+Answers setup log past (events.Read id) reply = reply ≡ read_reply setup log past id
 Answers setup log past events.Log reply = reply ≡ replies.Text (log_text setup log past)
 
 abbrev pub is_source_memory : Reply → Bool
@@ -210,7 +249,7 @@ asks_memory setup log past event = elim event [
   | events.Deliver gno ↦ nat_le 1 gno && nat_le gno (synced past)
   | events.Dispatch ↦ may_dispatch setup log past
   | events.Finish gno ↦ is_out past gno
-  | events.Next ↦ slice_index_or (under_way past) 0 false
+  | events.Next ↦ is_commit (next_reply setup past)
   | events.Publish ↦ nat_lt (published past) (replica_committed past)
   | events.Executed ↦ nat_lt 0 (replica_committed past)
   | events.Log ↦ true

@@ -1,6 +1,7 @@
 pub mod Past
 pub mod Legal
 pub mod Replies
+pub mod Waiting
 pub mod State
 pub mod Seen
 pub mod Appended

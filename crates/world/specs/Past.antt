@@ -1,7 +1,8 @@
 -- What the pairs of event and reply so far say. They are listed with the newest first.
-use Rattle.std.specs.Prelude.{ℕ, ◌+◌, ◌-◌, Bool, true, false, ◌&&◌, ◌||◌, ◌==◌, if◌then◌else◌, List, [], ◌∷◌, ◌++◌, length, map, drop, slice_set, Option, Some, None}
+use Rattle.std.specs.Prelude.{ℕ, ◌+◌, ◌-◌, Bool, true, false, ◌&&◌, ◌||◌, ◌==◌, if◌then◌else◌, List, [], ◌∷◌, ◌++◌, length, map, take, drop, slice_set, Option, Some, None}
 use Rattle.std.specs.List.{range_with_len}
 use Rattle.std.specs.Option.{option_map}
+use Rattle.scheduler.specs.Gnos.{low_of, without}
 use Rattle.source_core.specs.declared.transaction.Phase.TheVariants.{Active, Prepared}
 use Rattle.source_core.specs.Source.{Open}
 use Rattle.source_core.specs.Calls.{flushed_open, queued_phase, is_flushed_by}
@@ -102,17 +103,44 @@ abbrev pub accepted : Past → ℕ
 accepted [] = 0
 accepted (pair ∷ past) = elim pair.1 [ replies.Accepted ↦ accepted past + 1 | _ ↦ accepted past ]
 
+-- the gnos of the records committed at the replica, in the order of the commits
+abbrev pub commits : Past → List ℕ
+commits [] = []
+commits (pair ∷ past) = elim pair.1 [ replies.Commit gno ↦ commits past ++ gno ∷ [] | _ ↦ commits past ]
+
 -- the number of records committed at the replica
 abbrev pub replica_committed : Past → ℕ
-replica_committed [] = 0
-replica_committed (pair ∷ past) = elim pair.1 [ replies.Commit gno ↦ replica_committed past + 1 | _ ↦ replica_committed past ]
+replica_committed past = length (commits past)
+
+-- the low-water mark at the replica: all records up to it are committed there, and the next is not
+abbrev pub low_water : Past → ℕ
+low_water past = low_of (commits past)
 
 -- the number of records dispatched to workers
 abbrev pub dispatched : Past → ℕ
 dispatched [] = 0
 dispatched (pair ∷ past) = elim pair.1 [ replies.Job gno ↦ dispatched past + 1 | _ ↦ dispatched past ]
 
--- for each record dispatched and not committed at the replica, in order, whether its result was taken
+-- the gnos of the jobs that were handed out and are not finished, in the order in which they were handed out
+abbrev pub out : Past → List ℕ
+out [] = []
+out (pair ∷ past) = elim pair.1 [
+  | replies.Job gno ↦ out past ++ gno ∷ []
+  | replies.Finished gno ↦ without gno (out past)
+  | _ ↦ out past
+]
+
+-- the gnos of the jobs that are finished and not committed, in the order in which they were finished
+abbrev pub finished : Past → List ℕ
+finished [] = []
+finished (pair ∷ past) = elim pair.1 [
+  | replies.Finished gno ↦ finished past ++ gno ∷ []
+  | replies.Commit gno ↦ without gno (finished past)
+  | _ ↦ finished past
+]
+
+-- for each record dispatched and not committed at the replica, in log order, whether its result was taken, where commits are in the order
+-- of the log
 abbrev pub under_way : Past → List Bool
 under_way [] = []
 under_way (pair ∷ past) = elim pair.1 [
@@ -126,3 +154,7 @@ under_way (pair ∷ past) = elim pair.1 [
 abbrev pub published : Past → ℕ
 published [] = 0
 published (pair ∷ past) = elim pair.1 [ replies.Published upto ↦ upto | _ ↦ published past ]
+
+-- the gnos of the published commits: of all commits the first so many
+abbrev pub published_gnos : Past → List ℕ
+published_gnos past = take (published past) (commits past)

@@ -1,6 +1,6 @@
 -- How a world came to be.
 use mathlib.Core.List.{IsPrefix}
-use Rattle.std.specs.Prelude.{◌≡◌, ℕ, true, false, List, [], ◌∷◌, length}
+use Rattle.std.specs.Prelude.{◌≡◌, ℕ, ◌+◌, true, false, List, [], ◌∷◌, length}
 use Rattle.std.specs.List.{AllByRecursion}
 use Rattle.rows.specs.Database.{Database}
 use Rattle.store_trait.specs.Operation.{loaded, left_by}
@@ -8,7 +8,7 @@ use Rattle.record_codec.specs.declared.records.Record.{Record}
 use Rattle.record_codec.specs.Log.{IsLegalLog}
 use Rattle.record_codec.specs.Version.{current}
 use Rattle.record_codec.specs.Spelling.{HasSpelling}
-use Rattle.replica_core.specs.Replica.{operations}
+use Rattle.replica_core.specs.Replica.{operations, operations_in_order, ran}
 use Rattle.world.specs.declared.events.Event.{Event}
 use Rattle.world.specs.declared.events.Reply.{Reply}
 use Rattle.log_file.specs.Log.{Log}
@@ -39,7 +39,9 @@ pub record TellFailures (replies_ : List Reply) (old new : Log) : Type 0 where
   pub counted : AreCounted old.faults replies_ new.faults
   pub seen : old.failed ≡ false → new.failed ≡ true → DeviceFailed old new
 
--- Readers have the rows that the operations of the published records leave of an empty store: as many of the source's
--- log as they are told.
-abbrev pub ShowsOperations : {D R : Type 0} → (R → Database) → World D R → Type 0
-ShowsOperations contents w = contents w.shown.store ≡ left_by (operations w.source.tables w.source.base w.source.log w.shown.upto)
+-- Readers have the rows that the operations of the published commits leave of an empty store. In the order of the log these are the
+-- first records of the source's log, as many as readers are told.
+pub record ShowsOperations {D R : Type 0} (contents : R → Database) (w : World D R) : Type 0 where
+  pub all : contents w.shown.store ≡ left_by (operations w.replica.tables w.replica.base (ran w.replica) (w.shown.upto + w.shown.more))
+  pub in_order : w.replica.preserve ≡ true →
+      contents w.shown.store ≡ left_by (operations_in_order w.source.tables w.source.base w.source.log w.shown.upto)

@@ -38,7 +38,7 @@ pub enum Event {
     Dispatch,
     /// The job of this record is executed, where it waits, and its result handed in.
     Finish { gno: u64 },
-    /// The replica commits the next record.
+    /// The replica commits a record: the next in log order, or, where that order is not kept, the one whose job was finished first.
     Next,
     /// The replica publishes all that it committed.
     Publish,
@@ -116,17 +116,30 @@ pub enum Reply {
     /// The call was taken, and answers nothing.
     Done,
     /// What the session sees of the row.
-    Seen { row: Option<Row> },
+    Seen {
+        row: Option<Row>,
+    },
     /// The transaction is prepared, with this parent.
-    Prepared { parent: u64 },
+    Prepared {
+        parent: u64,
+    },
     /// The transaction had no changes, and has ended.
     Empty,
     /// The queued transactions are the records from this number on, with these stamps.
-    Flushed { first: u64, stamps: Stamps },
+    Flushed {
+        first: u64,
+        stamps: Stamps,
+    },
     /// The records of these numbers are on the log.
-    Synced { first: u64, last: u64 },
+    Synced {
+        first: u64,
+        last: u64,
+    },
     /// The transactions of these numbers are committed.
-    Committed { first: u64, last: u64 },
+    Committed {
+        first: u64,
+        last: u64,
+    },
     /// There was nothing to do.
     Nothing,
     /// The replica took the record.
@@ -136,17 +149,31 @@ pub enum Reply {
     /// The record is not on the log.
     Unsynced,
     /// The job of this record was handed out.
-    Job { gno: u64 },
+    Job {
+        gno: u64,
+    },
     /// The result of this record's job was taken.
-    Finished { gno: u64 },
+    Finished {
+        gno: u64,
+    },
     /// The record of this number is committed at the replica.
-    Commit { gno: u64 },
+    Commit {
+        gno: u64,
+    },
     /// As many commits are published.
-    Published { upto: u64 },
+    Published {
+        upto: u64,
+    },
     /// The ids of the transactions committed at the replica, published or not; the empty set where there are none.
     Executed(GtidSet),
-    /// The row after as many published commits.
-    Read { upto: u64, row: Option<Row> },
+    /// The row as the published commits leave it: those of all records from 1 to this gno, and so many of greater gnos. In the
+    /// order of the log there are none of these; else the next record's is missing, while all that conflict with what is there and come
+    /// before it are there too.
+    Read {
+        upto: u64,
+        more: u64,
+        row: Option<Row>,
+    },
     /// The source refused the call.
     Source(SourceFault),
     /// The replica refused the call.

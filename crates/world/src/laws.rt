@@ -3,6 +3,7 @@
 
 ghost use Rattle.world.specs.Laws.{
   ReadsArePrefixes,
+  ReadsAreGapped,
   ReadsAreAnswered,
   ReadsAreSynced,
   ReadsNeverGoBack,
@@ -10,6 +11,8 @@ ghost use Rattle.world.specs.Laws.{
   NumbersNeverFall,
   CommittedAreSynced,
   EachCommitOnceInOrder,
+  EachCommitOnce,
+  OrderGoesByFlags,
   NothingUnsyncedIsAccepted,
   RefusesOnlyGaps,
   OperationsLeaveRows,
@@ -24,11 +27,18 @@ ghost use Rattle.world.specs.Crash.{SyncedOutlives};
 use log_device::Device;
 use store_trait::RowStore;
 
-/// Each read at the replica is answered, with the row as the source had it after a beginning of its log that is synced.
+/// Each read at the replica is answered, with records that are synced; in the order of the log with the row as the source had it after a
+/// beginning of its log.
 pub fn reads_are_prefixes()
     ensures prefixes { ReadsArePrefixes }
     ensures answered { ReadsAreAnswered }
     ensures synced { ReadsAreSynced }
+{}
+
+/// In whatever order, each read shows the row as some records of the log leave it, in log order: with each of them each earlier one that
+/// conflicts with it.
+pub fn reads_are_gapped()
+    ensures { ReadsAreGapped }
 {}
 
 /// A read never shows fewer records than a read before it did.
@@ -59,6 +69,17 @@ pub fn each_commit_once_in_order()
     ensures { EachCommitOnceInOrder }
 {}
 
+/// In whatever order, it commits no record twice.
+pub fn each_commit_once()
+    ensures { EachCommitOnce }
+{}
+
+/// In the order of the log, which job is out and whether the next record may be committed are told by one flag for each record that is
+/// dispatched and not committed.
+pub fn order_goes_by_flags()
+    ensures { OrderGoesByFlags }
+{}
+
 /// The replica accepts a record only once it is synced at the source, and only the next one.
 pub fn nothing_unsynced_is_accepted()
     ensures { NothingUnsyncedIsAccepted }
@@ -75,7 +96,7 @@ pub fn halts_for_good()
     ensures { HaltsForGood }
 {}
 
-/// The rows that readers have are what the load of the base and the published commits leave of an empty store.
+/// In the order of the log the rows that readers have are what the load of the base and the published commits leave of an empty store.
 pub fn operations_leave_rows()
     ensures { OperationsLeaveRows }
 {}

@@ -1,54 +1,66 @@
 //! What the events of the replica need: the jobs that wait, and the operations that are appended.
 
-ghost use Rattle.std.specs.Prelude.{◌≡◌, ◌≤◌, ◌<◌, ◌+◌, [], ◌∷◌, ◌++◌, length, drop, slice_set, slice_index_or, Some, None, IsOk, OnOk};
-ghost use Rattle.std.specs.VecDeque.{deque_len, deque_capacity};
-ghost use Rattle.published.specs.History.{CommitsFrom};
-ghost use Rattle.world.specs.Appended.{Appends, appended_to};
+ghost use Rattle.std.specs.Prelude.{◌≡◌, ◌≤◌, ◌<◌, ◌==◌, false, [], ◌∷◌, ◌++◌, length, drop, vec_len, vec_capacity, IsOk, OnOk, IfSome, IfNone};
+ghost use Rattle.std.specs.List.{position, insert};
+ghost use Rattle.executor.specs.declared.Job.{Job as AJob};
+ghost use Rattle.scheduler.specs.Gnos.{has_gno};
+ghost use Rattle.replica_core.specs.Sound.{IsSound};
+ghost use Rattle.world.specs.Appended.{Appends, AppendsAll, MayAppendAll};
+ghost use Rattle.world.specs.Waiting.{TakesOut, numbers_of};
 
 use executor::Job;
 use published::plain::Plain;
+use replica_core::ReplicaCore;
 use schema::Memory;
-use std::collections::VecDeque;
 use store_trait::{Op, RowStore};
 
+/// What is known of every replica.
+pub(crate) fn sound_replica<S: RowStore>(replica: &ReplicaCore<S>)
+    ensures { IsSound replica.now }
+{
+    let _published = replica.published();
+}
+
 /// Room for one more job.
-pub(crate) fn room_for_job(jobs: &mut VecDeque<Option<Job>>) -> Result<(), Memory>
+pub(crate) fn room_for_job(jobs: &mut Vec<Job>) -> Result<(), Memory>
     ensures items { jobs.new.items ≡ jobs.old.items }
-    ensures room { OnOk result (deque_len jobs.new < deque_capacity jobs.new) }
+    ensures room { OnOk result (vec_len jobs.new < vec_capacity jobs.new) }
 {
     Ok(jobs.reserve(1)?)
 }
 
 /// Keeps a job for which there is room.
-pub(crate) fn keep_job(jobs: &mut VecDeque<Option<Job>>, job: Job)
-    requires { deque_len jobs.old < deque_capacity jobs.old }
-    ensures { jobs.new.items ≡ jobs.old.items ++ Some job ∷ [] }
+pub(crate) fn keep_job(jobs: &mut Vec<Job>, job: Job)
+    requires { vec_len jobs.old < vec_capacity jobs.old }
+    ensures { jobs.new.items ≡ jobs.old.items ++ job ∷ [] }
 {
-    jobs.push_back(Some(job)).unwrap();
+    jobs.push(job).unwrap();
 }
 
-/// The job at this place, where one waits there.
-pub(crate) fn take_job(jobs: &mut VecDeque<Option<Job>>, place: usize) -> Option<Job>
-    ensures value { result ≡ slice_index_or jobs.old.items place None }
-    ensures items { jobs.new.items ≡ slice_set jobs.old.items place None }
+/// Takes out the job of this record, where one waits, and tells its place. The time is that of a look at each job that waits.
+pub(crate) fn take_job(jobs: &mut Vec<Job>, gno: u64) -> Option<(usize, Job)>
+    ensures some { IfSome result (λ taken. TakesOut gno jobs.old.items taken.0 taken.1 jobs.new.items) }
+    ensures room { IfSome result (λ _. vec_len jobs.new < vec_capacity jobs.new) }
+    ensures none { IfNone result ((jobs.new.items ≡ jobs.old.items) × (has_gno (numbers_of jobs.old.items) gno ≡ false)) }
 {
-    jobs.get_mut(place)?.take()
+    let place = place_of(jobs, gno)?;
+    Some((place, jobs.remove(place)))
 }
 
-/// The job at this place waits again.
-pub(crate) fn put_job(jobs: &mut VecDeque<Option<Job>>, place: usize, job: Job)
-    ensures { jobs.new.items ≡ slice_set jobs.old.items place (Some job) }
+/// The place of the first job of this record.
+fn place_of(jobs: &[Job], gno: u64) -> Option<usize>
+    ensures { result ≡ position (λ (job : AJob). job.gno == gno) jobs.now }
 {
-    if let Some(waits) = jobs.get_mut(place) {
-        *waits = Some(job);
-    }
+    jobs.iter().position(|job| job.gno == gno)
 }
 
-/// Drops the first place, whose record is committed.
-pub(crate) fn pass_first(jobs: &mut VecDeque<Option<Job>>)
-    ensures { jobs.new.items ≡ drop 1 jobs.old.items }
+/// The job waits again at its place, for which there is room.
+pub(crate) fn put_job(jobs: &mut Vec<Job>, place: usize, job: Job)
+    requires within { place ≤ vec_len jobs.old }
+    requires room { vec_len jobs.old < vec_capacity jobs.old }
+    ensures { jobs.new.items ≡ insert jobs.old.items place job }
 {
-    drop(jobs.pop_front());
+    jobs.insert(place, job).unwrap();
 }
 
 /// The operations behind as many.
@@ -61,9 +73,9 @@ pub(crate) fn rest_of(ops: &[Op], done: u64) -> &[Op]
 
 /// Appends operations in order, up to the first that is refused.
 pub(crate) fn append_each<R: RowStore>(shown: &mut Plain<R>, ops: &[Op]) -> Result<(), Memory>
-    requires { CommitsFrom (shown.old.upto + length shown.old.waiting + 1) ops.now }
+    requires { MayAppendAll shown.old.preserve shown.old ops.now }
     ensures some { Appends shown.old shown.new ops.now }
-    ensures all { OnOk result (shown.new ≡ appended_to shown.old ops.now) }
+    ensures all { OnOk result (AppendsAll shown.old shown.new ops.now) }
     ensures idle { ops.now ≡ [] → IsOk result }
 {
     for op in ops {
