@@ -1,6 +1,6 @@
 //! The replica's opening, and the way of the log to it.
 
-ghost use Rattle.std.specs.Prelude.{◌≡◌};
+ghost use Rattle.std.specs.Prelude.{◌≡◌, true};
 ghost use Rattle.replica_core.specs.Calls.{new_over};
 
 use crate::trouble::Trouble;
@@ -34,10 +34,11 @@ pub fn new_replica<K: ReplicaNaming>(
     core: ReplicaCore<BTreeStore>,
     publication: published::Beginning,
 ) -> Result<Replica<K>, Trouble>
-    requires core { core ≡ new_over core.tables core.source core.base core.workers }
+    requires core { core ≡ new_over core.tables core.source core.base core.workers true }
     requires tables { core.tables ≡ K.tables }
     requires source { core.source ≡ K.source }
     requires base { core.base ≡ K.base }
+    requires order { K.preserve ≡ true }
     requires publication { publication.book ≡ K.book }
     requires published { publication.base ≡ core.base }
 {
@@ -46,6 +47,7 @@ pub fn new_replica<K: ReplicaNaming>(
         rt,
         alloc,
         publication,
+        true,
         first,
         second,
         1,

@@ -5,7 +5,7 @@
 //! `docs/EMBEDDING.md` goes through it.
 #![tactic(auto)]
 
-ghost use Rattle.std.specs.Prelude.{◌≡◌};
+ghost use Rattle.std.specs.Prelude.{◌≡◌, true};
 ghost use Rattle.source_core.specs.Source.{new_source};
 ghost use Rattle.replica_core.specs.Calls.{new_over};
 ghost use Rattle.log_file.specs.Log.{IsNew};
@@ -89,7 +89,9 @@ fn open<R: Threads + Wait + Sync>(rt: &R, alloc: Global) -> Result<Told, Trouble
     };
     let schema = Schema::new(tables)?;
     let source = Uuid::from_bytes(SOURCE);
-    let pair = pair_of(alloc, schema, source, &Batch::new(alloc), 1000, 2, parts)?;
+    // 1000 records at most, two workers, and commits in the order of the log.
+    let none = Batch::new(alloc);
+    let pair = pair_of(alloc, schema, source, &none, 1000, 2, true, parts)?;
     let pair = pair.ok_or(Trouble::Misfit)?;
     let base = pair.replica.base().copy()?;
     run::<Brand, Brand, R>(
@@ -111,13 +113,14 @@ fn run<J: SourceNaming + Send + Sync, K: ReplicaNaming + Send + Sync, R: Threads
 ) -> Result<Told, Trouble>
     requires source { pair.source ≡ new_source pair.source.tables pair.source.base pair.source.limit pair.source.kind }
     requires log { IsNew pair.log.log }
-    requires replica { pair.replica ≡ new_over pair.replica.tables pair.replica.source pair.replica.base pair.replica.workers }
+    requires replica { pair.replica ≡ new_over pair.replica.tables pair.replica.source pair.replica.base pair.replica.workers true }
     requires source_base { pair.source.base ≡ J.base }
     requires source_tables { pair.source.tables ≡ J.tables }
     requires receipts { receipts ≡ J.book }
     requires replica_tables { pair.replica.tables ≡ K.tables }
     requires replica_source { pair.replica.source ≡ K.source }
     requires replica_base { pair.replica.base ≡ K.base }
+    requires order { K.preserve ≡ true }
     requires publication { publication.book ≡ K.book }
     requires published { publication.base ≡ pair.replica.base }
 {

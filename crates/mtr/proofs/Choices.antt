@@ -50,17 +50,22 @@ three_there P a b c choices are there = go choices.now are
     go (first ∷ second ∷ []) e = absurd (cc)
     go (first ∷ second ∷ third ∷ fourth ∷ more) e = absurd (cc)
 
--- the words of both options at these places
-abbrev pub at : Place → Place → Place → Place → Place → Place → Place → Names
-at p q r s t u v = record {
+-- the words of the options at these places
+abbrev pub at : Place → Place → Place → Place → Place → Place → Place → Place → Place → Place → Names
+at p q r s t u v w x y = record {
   trackers = three (codes "commit-order") (codes "writeset") (codes "writeset-session") p q r s;
   stores = two (codes "btree") (codes "vector") t u v;
+  orders = two (codes "on") (codes "off") w x y;
 }
 
-pub lies_there : (P : Names → Type 0) (names : Names) → AreNames names → ((p q r s t u v : Place) → P (at p q r s t u v)) → P names
+pub lies_there : (P : Names → Type 0) (names : Names) → AreNames names → ((p q r s t u v w x y : Place) → P (at p q r s t u v w x y)) → P names
 lies_there P names are there =
-    three_there (λ trackers. P (record { trackers = trackers; stores = names.stores })) (codes "commit-order") (codes "writeset") (codes "writeset-session") names.trackers are.0 (λ p q r s.
-    two_there (λ stores. P (record { trackers = three (codes "commit-order") (codes "writeset") (codes "writeset-session") p q r s; stores = stores })) (codes "btree") (codes "vector") names.stores are.1 (there p q r s))
+    three_there (λ trackers. P (record { trackers = trackers; stores = names.stores; orders = names.orders }))
+    (codes "commit-order") (codes "writeset") (codes "writeset-session") names.trackers are.0 (λ p q r s.
+    let by : Choices = three (codes "commit-order") (codes "writeset") (codes "writeset-session") p q r s in
+    two_there (λ stores. P (record { trackers = by; stores = stores; orders = names.orders })) (codes "btree") (codes "vector") names.stores are.1 (λ t u v.
+    let kept : Choices = two (codes "btree") (codes "vector") t u v in
+    two_there (λ orders. P (record { trackers = by; stores = kept; orders = orders })) (codes "on") (codes "off") names.orders are.2 (there p q r s t u v)))
 
 -- ---- what is named by the word that was found
 

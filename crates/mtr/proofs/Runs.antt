@@ -1,5 +1,5 @@
 -- Runs that go on from one another.
-use Rattle.std.proofs.Common.{◌≡◌, ◌∙◌, sym, ap, ℕ, List, [], ◌++◌, Result, Ok, Err, Option, append_assoc, append-nil, subst, inl}
+use Rattle.std.proofs.Common.{◌≡◌, ◌∙◌, sym, ap, ℕ, Bool, List, [], ◌++◌, Result, Ok, Err, Option, append_assoc, append-nil, subst, inl}
 use Rattle.std.proofs.KnownBytes.{Appends-trans, Appends-nil}
 use Rattle.std.proofs.lemmas.Grind.{flat_map-append}
 use Rattle.rows.specs.Database.{Database}
@@ -48,9 +48,9 @@ pub behind_piece : (events rest piece behind all : List Event) → events ++ res
 behind_piece events rest piece behind all e cut = append_assoc events piece behind ∙ ap (λ r. events ++ r) (sym cut) ∙ e
 
 -- what a new world prints that goes on by the events of a script
-pub prints : {D R : Type 0} (contents : R → Database) (script : Said) (kind : Kind) (workers : ℕ) (old new : World D R) (before after : Option (List ℕ)) → BeginsWith contents kind workers script.tables script.base old → GoesOn contents old new script.events before after → Prints kind workers script before after
-prints contents script kind workers old new before after begins goes =
-    let setup = setup_of kind script.tables begins.base workers in
+pub prints : {D R : Type 0} (contents : R → Database) (script : Said) (kind : Kind) (workers : ℕ) (preserve : Bool) (old new : World D R) (before after : Option (List ℕ)) → BeginsWith contents kind workers preserve script.tables script.base old → GoesOn contents old new script.events before after → Prints kind workers preserve script before after
+prints contents script kind workers preserve old new before after begins goes =
+    let setup = setup_of kind script.tables begins.base workers preserve in
     let legal = (goes.goes_on setup [] [] begins.starts).legal in
     record {
       base = begins.base;

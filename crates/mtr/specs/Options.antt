@@ -27,10 +27,11 @@ use Rattle.mtr.specs.declared.options.Store.TheVariants as stores
 abbrev pub Choices : Type 0
 Choices = Bor (List (Bor Text))
 
--- these are the words of `--tracker` and of `--store`
+-- these are the words of `--tracker`, of `--store` and of `--commit-order`
 abbrev pub AreNames : Names → Type 0
 AreNames names = (map (λ w. w.now) names.trackers.now ≡ codes "commit-order" ∷ codes "writeset" ∷ codes "writeset-session" ∷ [])
     × (map (λ w. w.now) names.stores.now ≡ codes "btree" ∷ codes "vector" ∷ [])
+    × (map (λ w. w.now) names.orders.now ≡ codes "on" ∷ codes "off" ∷ [])
 
 -- the option `--NAME WORD` of one of these words, with this default
 abbrev pub choice_rule : Text → Choices → Text → Rule
@@ -50,13 +51,18 @@ number_rule name least greatest default = record (new_rule name) {
   defaults = default ∷ [];
 }
 
--- a subcommand of this name over both sides, with what these are made of
-abbrev pub sides_app : Text → Names → App
-sides_app name names = with_rule (with_rule (with_rule (with_rule (new_app name)
+-- a subcommand of this name over both sides, with how the source finds parents and where rows are kept
+abbrev pub source_app : Text → Names → App
+source_app name names = with_rule (with_rule (with_rule (new_app name)
     (choice_rule (codes "tracker") names.trackers (codes "commit-order")))
     (choice_rule (codes "store") names.stores (codes "btree")))
-    (number_rule (codes "history") 1 1000000 (codes "25000")))
-    (number_rule (codes "workers") 1 64 (codes "4"))
+    (number_rule (codes "history") 1 1000000 (codes "25000"))
+
+-- the same, with how the replica applies
+abbrev pub sides_app : Text → Names → App
+sides_app name names = with_rule (with_rule (source_app name names)
+    (number_rule (codes "workers") 1 64 (codes "4")))
+    (choice_rule (codes "commit-order") names.orders (codes "on"))
 
 -- the greatest number of a call of the log's device
 abbrev pub most_calls : ℕ
@@ -114,6 +120,17 @@ store_named name =
 abbrev pub store_of : List Row → Option Store
 store_of rows = option_and_then store_named (first_of (codes "store") rows)
 
+-- whether the replica commits in the order of the log, by this name
+abbrev pub preserve_named : Text → Option Bool
+preserve_named name =
+    if bytes_eq name (codes "on") then Some true
+    else if bytes_eq name (codes "off") then Some false
+    else None
+
+-- whether it does by the words, or by default
+abbrev pub preserve_of : List Row → Option Bool
+preserve_of rows = option_and_then preserve_named (first_of (codes "commit-order") rows)
+
 -- what both sides are made of
 abbrev pub sides_of : List Row → Option Sides
 sides_of rows = do
@@ -121,7 +138,8 @@ sides_of rows = do
   store ← store_of rows
   history ← number_of (codes "history") 1 1000000 rows
   workers ← number_of (codes "workers") 1 64 rows
-  Some (record { tracker = tracker; store = store; history = history; workers = workers })
+  preserve ← preserve_of rows
+  Some (record { tracker = tracker; store = store; history = history; workers = workers; preserve = preserve })
 
 abbrev pub run_options : List Row → Option Options
 run_options rows = do
@@ -174,7 +192,7 @@ IsInRange Decode = Unit {0}
 
 -- what both sides are made of by default
 abbrev pub default_sides : Sides
-default_sides = record { tracker = modes.CommitOrder; store = stores.BTree; history = 25000; workers = 4 }
+default_sides = record { tracker = modes.CommitOrder; store = stores.BTree; history = 25000; workers = 4; preserve = true }
 
 -- the name of a subcommand, and what it asks for where nothing stands behind it
 abbrev pub IsByDefault : Text → Options → Type 0

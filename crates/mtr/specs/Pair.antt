@@ -1,5 +1,5 @@
 -- What the pair of a source and a replica answers, and what is printed of it.
-use Rattle.std.specs.Prelude.{◌≡◌, ℕ, ℤ, List, [], ◌∷◌, ◌++◌, map, Option, Some, Ok, IsPermutation}
+use Rattle.std.specs.Prelude.{◌≡◌, ℕ, ℤ, Bool, List, [], ◌∷◌, ◌++◌, map, Option, Some, Ok, IsPermutation}
 use Rattle.std.specs.FinMap.{empty}
 use Rattle.std.specs.Io.KnownBytes.{Appends}
 use Rattle.rows.specs.Database.{Database}
@@ -30,16 +30,25 @@ source = 109 ∷ 116 ∷ 114 ∷ 0 ∷ 0 ∷ 0 ∷ 64 ∷ 0 ∷ 128 ∷ 0 ∷ 0 
 abbrev pub IsNewTracker : {T : Type 0} → (T → List Table → List Seen → Type 0) → T → Type 0
 IsNewTracker agrees tracker = (ts : List Table) → agrees tracker ts []
 
--- what the pair begins with: this source, these tables, the rows that the batch loads, parents by a tracker of this kind, and
--- so many workers
-abbrev pub setup_of : Kind → List Table → List Entry → ℕ → Setup
-setup_of kind ts base workers = record { identifier = source; tables = ts; base = all_rows (put_batch base empty); limit = 9223372036854775807; kind = kind; workers = workers }
+-- what the pair begins with: this source, these tables, the rows that the batch loads, parents by a tracker of this kind, so many
+-- workers, and whether the replica commits in the order of the log
+abbrev pub setup_of : Kind → List Table → List Entry → ℕ → Bool → Setup
+setup_of kind ts base workers preserve = record {
+  identifier = source;
+  tables = ts;
+  base = all_rows (put_batch base empty);
+  limit = 9223372036854775807;
+  kind = kind;
+  workers = workers;
+  preserve = preserve;
+}
 
--- The world is new: it has a tracker of this kind, so many workers, these tables, and these rows at the start, in some order.
-pub record BeginsWith {D R : Type 0} (contents : R → Database) (kind : Kind) (workers : ℕ) (tables : List Table) (rows : List (RowId × List ℤ)) (w : World D R) : Type 0 where
+-- The world is new: it has a tracker of this kind, so many workers, this order of commits, these tables, and these rows at the start, in
+-- some order.
+pub record BeginsWith {D R : Type 0} (contents : R → Database) (kind : Kind) (workers : ℕ) (preserve : Bool) (tables : List Table) (rows : List (RowId × List ℤ)) (w : World D R) : Type 0 where
   pub base : List Entry
   pub given : IsPermutation (map present rows) base
-  pub starts : HasRun contents (setup_of kind tables base workers) [] [] w
+  pub starts : HasRun contents (setup_of kind tables base workers preserve) [] [] w
 
 -- The world goes on by these events from whatever runs it came by, by the source's own log, and the lines of
 -- the replies are appended, in order.
@@ -48,22 +57,22 @@ pub record GoesOn {D R : Type 0} (contents : R → Database) (old new : World D 
   pub goes_on : (setup : Setup) (es : List Event) (rs : List Reply) → HasRun contents setup es rs old → HasRun contents setup (es ++ events) (rs ++ replies) new
   pub lines : Appends before printed (lines_of replies)
 
--- What a script prints: over a pair of this tracker and of so many workers, which begins with its tables and its rows, one reply
--- to each of its events.
+-- What a script prints: over a pair of this tracker, of so many workers and of this order of commits, which begins with its tables and
+-- its rows, one reply to each of its events.
 -- They are legal over one log that is legal over the rows: each read at the replica answers as the source's
 -- database after one beginning of that log. Their lines are appended, in order.
-pub record Prints (kind : Kind) (workers : ℕ) (script : Said) (before printed : Option (List ℕ)) : Type 0 where
+pub record Prints (kind : Kind) (workers : ℕ) (preserve : Bool) (script : Said) (before printed : Option (List ℕ)) : Type 0 where
   pub base : List Entry
   pub given : IsPermutation (map present script.base) base
   pub replies : List Reply
   pub log : List Record
-  pub legal : AreLegal (setup_of kind script.tables base workers) log script.events replies
+  pub legal : AreLegal (setup_of kind script.tables base workers preserve) log script.events replies
   -- and no other replies are legal, but for want of memory and for the choice of a sync that fails, whatever stores keep the rows
-  pub only : IsOnlyAnswer (setup_of kind script.tables base workers) script.events replies
+  pub only : IsOnlyAnswer (setup_of kind script.tables base workers preserve) script.events replies
   pub lines : Appends before printed (lines_of replies)
 
 -- what a text prints that is a script
-pub record PrintsText (kind : Kind) (workers : ℕ) (text : List ℕ) (before printed : Option (List ℕ)) : Type 0 where
+pub record PrintsText (kind : Kind) (workers : ℕ) (preserve : Bool) (text : List ℕ) (before printed : Option (List ℕ)) : Type 0 where
   pub script : Said
   pub says : script_of text ≡ Ok script
-  pub prints : Prints kind workers script before printed
+  pub prints : Prints kind workers preserve script before printed

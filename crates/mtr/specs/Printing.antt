@@ -34,6 +34,10 @@ range_text first last = decimal first ++ codes "-" ++ decimal last
 abbrev pub ids_text : Ids → List ℕ
 ids_text ids = if length ids.numbers == 0 then codes "none" else text_of_set ids
 
+-- the commits that a read is of: all up to a number, and so many above it where there are any
+abbrev pub upto_text : ℕ → ℕ → List ℕ
+upto_text upto more = if more == 0 then decimal upto else decimal upto ++ (codes "+" ++ decimal more)
+
 -- what an event prints
 abbrev pub text_of : Reply → List ℕ
 text_of replies.Done = codes "ok"
@@ -53,8 +57,8 @@ text_of (replies.Finished gno) = codes "finished " ++ decimal gno
 text_of (replies.Commit gno) = codes "commit " ++ decimal gno
 text_of (replies.Published upto) = codes "published " ++ decimal upto
 text_of (replies.Executed ids) = ids_text ids
-text_of (replies.Read upto (Some columns)) = decimal upto ++ codes ":" ++ columns_text columns
-text_of (replies.Read upto None) = decimal upto ++ codes ": none"
+text_of (replies.Read upto more (Some columns)) = upto_text upto more ++ codes ":" ++ columns_text columns
+text_of (replies.Read upto more None) = upto_text upto more ++ codes ": none"
 text_of (replies.Source fault) = source_text fault
 text_of (replies.Replica fault) = replica_text fault
 text_of (replies.Codec fault) = codec_text fault

@@ -11,7 +11,9 @@ use Rattle.record_codec.specs.Log.{after}
 use Rattle.source_core.specs.declared.transaction.Receipt.{Receipt}
 use Rattle.source_core.specs.Source.{Source, IsSound as IsSoundSource}
 use Rattle.source_shared.specs.Engine.{IsCommitted}
-use Rattle.replica_core.specs.Replica.{operations}
+use Rattle.scheduler.specs.Gnos.{low_of}
+use Rattle.gapped.specs.Gapped.{gapped, IsClosed}
+use Rattle.replica_core.specs.Replica.{Replica, ran, operations, operations_in_order}
 use Rattle.replica_core.specs.Sound.{IsSound as IsSoundReplica}
 use Rattle.published.specs.History.{commits_in}
 use Rattle.schema.specs.declared.RowId.{RowId}
@@ -50,18 +52,21 @@ pub record IsLast (receipts : List Receipt) (last : ℕ) : Type 0 where
 
 -- no answer is of more commits
 abbrev pub are_within : ℕ → List Shown → Bool
-are_within most shown = list_all (λ (s : Shown). nat_le s.answer.upto most) shown
+are_within most shown = list_all (λ (s : Shown). nat_le (s.answer.upto + s.answer.more) most) shown
 
--- What holds of both sides however they ended. The sessions' receipts are those of committed records of the source, and what
--- readers saw are beginnings of what the replica published: the operations of the first records that it committed.
-pub record IsEnded {S T : Type 0} (e : Ended S T) : Type 0 where
+-- What holds of both sides however they ended. The replica kept the order of the log or did not, as planned. The sessions' receipts are
+-- those of committed records of the source, and what readers saw are beginnings of what the replica published: the operations of the
+-- first records that it committed.
+pub record IsEnded {S T : Type 0} (plan : Plan) (e : Ended S T) : Type 0 where
+  pub order : e.replica.preserve ≡ plan.sides.preserve
   pub tables : e.replica.tables ≡ e.source.tables
   pub given : All (IsCommitted e.source) e.receipts.items
   pub shown : List Op
-  pub are : shown ≡ operations e.replica.tables e.replica.base e.replica.accepted (commits_in shown)
-  pub within : commits_in shown ≤ e.replica.committed
-  pub counted : e.replica.published ≤ commits_in shown
-  pub told : All (λ v. AreTold shown v.items) e.readings.items
+  pub are : shown ≡ operations e.replica.tables e.replica.base (ran e.replica) (commits_in shown)
+  pub in_order : e.replica.preserve ≡ true → shown ≡ operations_in_order e.replica.tables e.replica.base e.replica.accepted (commits_in shown)
+  pub within : commits_in shown ≤ length e.replica.commits
+  pub counted : e.replica.published ≡ commits_in shown
+  pub told : All (λ v. AreTold e.replica.preserve shown v.items) e.readings.items
 
 -- as many workers did all that there was, and as many readers read, as planned
 pub record TookPart {S T : Type 0} (plan : Plan) (e : Ended S T) : Type 0 where
@@ -77,22 +82,29 @@ pub record Agree {S T : Type 0} (plan : Plan) (e : Ended S T) : Type 0 where
   pub begins : IsPrefix e.replica.accepted e.source.log
   pub within : list_all (λ v. are_within e.published v.items) e.readings.items ≡ true
 
--- the answer is the row as it is in the source's database after the first so many records of its log, no more than these
-pub record IsOfSource (s : Source) (most : ℕ) (a : Shown) : Type 0 where
-  pub within : a.answer.upto ≤ most
-  pub row : a.answer.row ≡ option_and_then (λ db. get db a.id) (after s.tables (loaded s.base) (take a.answer.upto s.log))
+-- The answer is of so many commits, no more than these. In the order of the log it is the row as it is in the source's database after the
+-- first so many records of its log. In any order it is the row as the records of these commits leave it, one after another in the order of
+-- the source's log, and with each of them each earlier one is among them that conflicts with it.
+pub record IsOfSource (s : Source) (r : Replica) (most : ℕ) (a : Shown) : Type 0 where
+  pub within : a.answer.upto + a.answer.more ≤ most
+  pub in_order : r.preserve ≡ true → (a.answer.more ≡ 0) × (a.answer.row ≡ option_and_then (λ db. get db a.id) (after s.tables (loaded s.base) (take a.answer.upto s.log)))
+  pub mark : a.answer.upto ≡ low_of (take (a.answer.upto + a.answer.more) r.commits)
+  pub closed : IsClosed (take (a.answer.upto + a.answer.more) r.commits) s.log
+  pub row : a.answer.row ≡ option_and_then (λ db. get db a.id) (gapped s.tables (loaded s.base) s.log (take (a.answer.upto + a.answer.more) r.commits))
 
 -- and so is each that a reader saw, and none shows fewer commits than one before it
-pub record AreOfSource (s : Source) (most : ℕ) (shown : List Shown) : Type 0 where
-  pub each : All (IsOfSource s most) shown
+pub record AreOfSource (s : Source) (r : Replica) (most : ℕ) (shown : List Shown) : Type 0 where
+  pub each : All (IsOfSource s r most) shown
   pub none_falls : NoneFalls shown
 
 -- Both sides came to the same. They are over one schema and began with the same rows, and what the replica accepted is a
 -- beginning of the source's log, which is legal over these. The receipts are those of committed records, the greatest of them
--- this one; so many commits are published at the replica, and whatever its readers saw, the source's database had. All workers
--- and readers that were planned took part.
+-- this one; so many commits are published at the replica, which kept the order of the log or did not, as planned. Whatever its readers
+-- saw, the source's database had: in the order of the log after its first records, in any order as the records of some commits leave it.
+-- All workers and readers that were planned took part.
 pub record AreEqual {S T : Type 0} (log published : ℕ) (plan : Plan) (e : Ended S T) : Type 0 where
   pub took_part : TookPart plan e
+  pub order : e.replica.preserve ≡ plan.sides.preserve
   pub legal : IsSoundSource e.source
   pub sound : IsSoundReplica e.replica
   pub tables : e.replica.tables ≡ e.source.tables
@@ -102,7 +114,7 @@ pub record AreEqual {S T : Type 0} (log published : ℕ) (plan : Plan) (e : Ende
   pub last : IsLast e.receipts.items log
   pub committed : log ≤ e.source.committed
   pub counted : e.replica.published ≡ published
-  pub answers : All (λ v. AreOfSource e.source published v.items) e.readings.items
+  pub answers : All (λ v. AreOfSource e.source e.replica published v.items) e.readings.items
 
 -- a verdict of equal sides is of two that are, and the other of two that do not agree
 abbrev pub Holds : {S T : Type 0} → Verdict → Plan → Ended S T → Type 0
@@ -112,7 +124,7 @@ Holds verdicts.Different plan e = ¬ Agree plan e
 -- the verdict is that of these two sides; where a call was refused before they ended they count as different
 abbrev pub IsVerdictOf : {S T : Type 0} → Verdict → Plan → Option (Ended S T) → Type 0
 IsVerdictOf verdict plan None = verdict ≡ verdicts.Different
-IsVerdictOf verdict plan (Some e) = IsEnded e × Holds verdict plan e
+IsVerdictOf verdict plan (Some e) = IsEnded plan e × Holds verdict plan e
 
 -- what is printed, and the ending with it
 abbrev pub verdict_text : Verdict → List ℕ

@@ -3,9 +3,9 @@
 ghost use Rattle.std.specs.Prelude.{◌≡◌, [], ◌∷◌, false, map, codes, option_map, option_and_then, Some, IfOk, IfErr, IfSome, IfNone, MatchResult};
 ghost use Rattle.clap.specs.Words.{Text, app_of, rule_of, rows_of, found_of, kind_of, fault_of, subcommand_rows_of};
 ghost use Rattle.clap.specs.declared.builder.command.Command.TheViews.{out-Command as fields_of};
-ghost use Rattle.mtr.specs.Options.{program, run_app, sides_app, threads_app, decode_app, choice_rule, number_rule, AreNames, mode_of, store_of, number_of, most_calls, IsWithin, AreSides, sides_of, threads_options, options_for, AsksFor, TellsFaults, IsInRange, IsByDefault, IsOfKind};
+ghost use Rattle.mtr.specs.Options.{program, run_app, source_app, sides_app, threads_app, decode_app, choice_rule, number_rule, AreNames, mode_of, store_of, preserve_of, number_of, most_calls, IsWithin, AreSides, sides_of, threads_options, options_for, AsksFor, TellsFaults, IsInRange, IsByDefault, IsOfKind};
 
-use crate::options::{LineFault, Options, Plan, Sides, Store, mode_named};
+use crate::options::{LineFault, Options, Plan, Sides, Store, mode_named, preserve_named};
 use clap::error::ErrorKind;
 use clap::{Arg, ArgMatches, Command, value_parser};
 use std::alloc::{AllocError, Global};
@@ -83,11 +83,12 @@ Exit status: 0 done, 2 a wrong command line, 3 bad hexadecimal, 4 no log file (i
 
 docs/FORMATS.md has the bytes of a log file, and its faults in their order.";
 
-/// The words that the options `--tracker` and `--store` take.
+/// The words that the options `--tracker`, `--store` and `--commit-order` take.
 #[derive(Clone, Copy)]
 pub struct Names<'a> {
     pub trackers: &'a [&'a str],
     pub stores: &'a [&'a str],
+    pub orders: &'a [&'a str],
 }
 
 /// What the words of a command line ask for, of which the first is the program's name.
@@ -168,6 +169,7 @@ fn sides(found: &ArgMatches) -> Option<Sides>
         store: store(found)?,
         history: number(found, "history", 1, 1_000_000)?,
         workers: number(found, "workers", 1, 64)?,
+        preserve: preserve(found)?,
     })
 }
 
@@ -185,6 +187,13 @@ fn store(found: &ArgMatches) -> Option<Store>
     Store::named(found.get_str("store")?)
 }
 
+/// Whether the replica commits in the order of the log.
+fn preserve(found: &ArgMatches) -> Option<bool>
+    ensures { result ≡ preserve_of (rows_of (found_of found.now)) }
+{
+    preserve_named(found.get_str("commit-order")?)
+}
+
 /// The number of an option.
 fn number(found: &ArgMatches, name: &str, least: usize, greatest: usize) -> Option<usize>
     ensures value { result ≡ number_of name.now least greatest (rows_of (found_of found.now)) }
@@ -198,17 +207,18 @@ fn number(found: &ArgMatches, name: &str, least: usize, greatest: usize) -> Opti
     }
 }
 
-/// The names of the trackers and of the stores.
+/// The names of the trackers, of the stores and of the orders of commits.
 fn choices() -> Names<'static>
     ensures { AreNames result }
 {
     Names {
         trackers: &["commit-order", "writeset", "writeset-session"],
         stores: &["btree", "vector"],
+        orders: &["on", "off"],
     }
 }
 
-/// The command line as `clap` has it, with these names of trackers and stores.
+/// The command line as `clap` has it, with these names of trackers, stores and orders.
 fn command<'a>(alloc: Global, names: Names<'a>) -> Result<Command<'a>, AllocError>
     ensures { IfOk result (λ command. app_of command ≡ program names.entry) }
 {
@@ -287,6 +297,34 @@ fn sides_command<'a>(
     ensures shape { IfOk result (λ command. app_of command ≡ sides_app name.entry.now names.entry) }
     ensures local { IfOk result (λ command. (fields_of command).has_globals ≡ false) }
 {
+    source_command(alloc, name, about, names)?
+        .arg(number_option(
+            alloc,
+            "workers",
+            64,
+            "4",
+            "The workers at the replica, 1 to 64",
+        ))?
+        .arg(choice_option(
+            alloc,
+            "commit-order",
+            "ORDER",
+            names.orders,
+            "on",
+            "Whether the replica commits in the order of the log",
+        ))
+}
+
+/// The same with the options of the source's parents and of the stores alone.
+fn source_command<'a>(
+    alloc: Global,
+    name: &'a str,
+    about: &'a str,
+    names: Names<'a>,
+) -> Result<Command<'a>, AllocError>
+    ensures shape { IfOk result (λ command. app_of command ≡ source_app name.entry.now names.entry) }
+    ensures local { IfOk result (λ command. (fields_of command).has_globals ≡ false) }
+{
     Command::new(alloc, name)
         .about(about)
         .arg(choice_option(
@@ -311,13 +349,6 @@ fn sides_command<'a>(
             1_000_000,
             "25000",
             "The digests of written rows that a tracker keeps, 1 to 1000000",
-        ))?
-        .arg(number_option(
-            alloc,
-            "workers",
-            64,
-            "4",
-            "The workers at the replica, 1 to 64",
         ))
 }
 

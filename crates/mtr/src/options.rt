@@ -1,7 +1,7 @@
 //! What the command line asks for.
 
 ghost use Rattle.std.specs.Prelude.{◌≡◌};
-ghost use Rattle.mtr.specs.Options.{mode_named};
+ghost use Rattle.mtr.specs.Options.{mode_named, preserve_named};
 
 use std::alloc::AllocError;
 use thiserror::Error;
@@ -34,6 +34,8 @@ pub struct Sides {
     pub history: usize,
     /// The workers at the replica, 1 to 64.
     pub workers: usize,
+    /// Whether the replica commits in the order of the log: MySQL's `replica_preserve_commit_order`.
+    pub preserve: bool,
 }
 
 /// How the source finds the parents of transactions, by its name.
@@ -44,6 +46,17 @@ pub fn mode_named(name: &str) -> Option<Tracking>
         "commit-order" => Some(Tracking::CommitOrder),
         "writeset" => Some(Tracking::Writeset),
         "writeset-session" => Some(Tracking::WritesetSession),
+        _ => None,
+    }
+}
+
+/// Whether the replica commits in the order of the log, by the word for it.
+pub fn preserve_named(name: &str) -> Option<bool>
+    ensures { result ≡ preserve_named name.now }
+{
+    match name {
+        "on" => Some(true),
+        "off" => Some(false),
         _ => None,
     }
 }

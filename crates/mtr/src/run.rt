@@ -45,7 +45,7 @@ pub fn run_text<D: Device + Drop, R: Read, W: Write>(
     output: &mut W,
 ) -> Result<(), Stop>
     requires { AreSides sides }
-    ensures prints { OnOk result (IfSome (R.remaining input.old) (λ text. PrintsText (kind_for sides) sides.workers text (W.contents output.old) (W.contents output.new))) }
+    ensures prints { OnOk result (IfSome (R.remaining input.old) (λ text. PrintsText (kind_for sides) sides.workers sides.preserve text (W.contents output.old) (W.contents output.new))) }
     ensures refused { IfErr result (PrintsNoReply (W.contents output.old) (W.contents output.new)) }
 {
     let mut input = BufReader::with_capacity(alloc, CHUNK, input)?;
@@ -67,7 +67,7 @@ fn run_by_mode<D: Device + Drop, W: Write>(
     output: &mut W,
 ) -> Result<(), Stop>
     requires { AreSides sides }
-    ensures prints { OnOk result (Prints (kind_for sides) sides.workers (said script) (W.contents output.old) (W.contents output.new)) }
+    ensures prints { OnOk result (Prints (kind_for sides) sides.workers sides.preserve (said script) (W.contents output.old) (W.contents output.new)) }
     ensures refused { IfErr result (PrintsNoReply (W.contents output.old) (W.contents output.new)) }
 {
     let limit = sides.history as u32;
@@ -95,16 +95,16 @@ fn run_by<T: Tracker + Drop, D: Device + Drop, W: Write>(
 ) -> Result<(), Stop>
     requires tracker { IsNewTracker T.agrees tracker }
     requires sides { AreSides sides }
-    ensures prints { OnOk result (Prints (T.kind tracker) sides.workers (said script) (W.contents output.old) (W.contents output.new)) }
+    ensures prints { OnOk result (Prints (T.kind tracker) sides.workers sides.preserve (said script) (W.contents output.old) (W.contents output.new)) }
     ensures refused { IfErr result (PrintsNoReply (W.contents output.old) (W.contents output.new)) }
 {
-    let workers = sides.workers;
+    let (workers, preserve) = (sides.workers, sides.preserve);
     match sides.store {
         Store::BTree => run_script::<BTreeStore, T, D, W>(
-            alloc, tracker, device, workers, script, output,
+            alloc, tracker, device, workers, preserve, script, output,
         ),
         Store::Vector => run_script::<VectorStore, T, D, W>(
-            alloc, tracker, device, workers, script, output,
+            alloc, tracker, device, workers, preserve, script, output,
         ),
     }
 }
@@ -115,13 +115,14 @@ fn run_script<S: NewStore, T: Tracker + Drop, D: Device + Drop, W: Write>(
     tracker: T,
     device: D,
     workers: usize,
+    preserve: bool,
     script: Script,
     output: &mut W,
 ) -> Result<(), Stop>
     requires tracker { IsNewTracker T.agrees tracker }
     requires some { 1 ≤ workers }
     requires few { workers ≤ 64 }
-    ensures prints { OnOk result (Prints (T.kind tracker) workers (said script) (W.contents output.old) (W.contents output.new)) }
+    ensures prints { OnOk result (Prints (T.kind tracker) workers preserve (said script) (W.contents output.old) (W.contents output.new)) }
     ensures refused { IfErr result (PrintsNoReply (W.contents output.old) (W.contents output.new)) }
 {
     let Script {
@@ -129,24 +130,26 @@ fn run_script<S: NewStore, T: Tracker + Drop, D: Device + Drop, W: Write>(
         base,
         events,
     } = script;
-    let mut world = open::<S, T, D>(alloc, tracker, device, workers, tables, &base)?;
+    let mut world = open::<S, T, D>(alloc, tracker, device, workers, preserve, tables, &base)?;
     drop(base);
     run_pieces(alloc, &mut world, events.into_pieces(), output)
 }
 
-/// A new world over a script's tables and rows at the start, with so many workers.
+/// A new world over a script's tables and rows at the start, with so many workers, which commits in the order of the
+/// log or does not.
 fn open<S: NewStore, T: Tracker + Drop, D: Device + Drop>(
     alloc: Global,
     tracker: T,
     device: D,
     workers: usize,
+    preserve: bool,
     tables: Vec<Table>,
     rows: &[(RowId, Row)],
 ) -> Result<World<S, T, D, S>, Stop>
     requires tracker { IsNewTracker T.agrees tracker }
     requires some { 1 ≤ workers }
     requires few { workers ≤ 64 }
-    ensures { IfOk result (λ world. BeginsWith S.contents (T.kind tracker) workers tables.items rows.now (seen world)) }
+    ensures { IfOk result (λ world. BeginsWith S.contents (T.kind tracker) workers preserve tables.items rows.now (seen world)) }
 {
     let schema = Schema::new(tables)?;
     let Some(base) = base_of(alloc, rows)? else {
@@ -154,7 +157,16 @@ fn open<S: NewStore, T: Tracker + Drop, D: Device + Drop>(
     };
     let from = Uuid::from_bytes(SOURCE);
     let parts = parts_over::<S, T, D>(alloc, tracker, device);
-    match pair_of(alloc, schema, from, &base, MAX_RECORDS, workers, parts)? {
+    match pair_of(
+        alloc,
+        schema,
+        from,
+        &base,
+        MAX_RECORDS,
+        workers,
+        preserve,
+        parts,
+    )? {
         Some(pair) => Ok(pair.into_world(alloc, base, S::without_rows(alloc))?),
         None => Err(Stop::BadBase),
     }

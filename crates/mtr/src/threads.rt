@@ -8,6 +8,9 @@
 //!
 //! No thread waits for one that may never come: the wire is told when the sessions have ended, whatever they came to, and
 //! the workers when the wire has. Where no thread can be made the work is done one after another, in that order.
+//!
+//! The replica commits in the order of the log, or with `--commit-order off` as jobs are finished: then a reader may see commits behind
+//! one that it does not see. Once the last of all commits is published both are the same.
 
 mod changes;
 mod comparing;
@@ -78,7 +81,7 @@ pub fn run_threads<
 
 /// The verdict of two sides; different where a call was refused before they ended.
 fn verdict_of<S: RowStore, T: Tracker>(plan: &Plan, ended: &Option<Ended<S, T>>) -> Verdict
-    requires { IfSome ended.now IsEnded }
+    requires { IfSome ended.now (IsEnded plan.now) }
     ensures { IsVerdictOf result plan.now ended.now }
 {
     match ended {

@@ -35,7 +35,7 @@ impl<S: RowStore, T: Tracker> Ended<S, T> {
     /// commits as it told, what it accepted is a beginning of the source's log, and no reader saw more commits. The time is that
     /// of the records, the receipts and the answers.
     pub fn verdict(&self, plan: &Plan) -> Verdict
-        requires { IsEnded self.now }
+        requires { IsEnded plan.now self.now }
         ensures { Holds result plan.now self.now }
     {
         let published = self.published;
@@ -71,7 +71,7 @@ fn are_all_within(readings: &[Vec<Shown>], most: u64) -> bool
 fn are_within(shown: &[Shown], most: u64) -> bool
     ensures { result ≡ are_within most shown.now }
 {
-    shown.iter().all(|one| one.answer.upto <= most)
+    shown.iter().all(|one| one.commits() <= u128::from(most))
 }
 
 /// The greatest gno of receipts; 0 where there are none.

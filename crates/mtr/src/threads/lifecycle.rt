@@ -58,9 +58,9 @@ pub fn open_and_run<S: NewStore, T: Tracker + Drop + Send + Sync, H: Threads + W
 ) -> Result<Ended<S, T>, Trouble>
     requires tracker { IsNewTracker T.agrees tracker }
     requires plan { IsInRange (Options.Threads plan.now) }
-    ensures { IfOk result IsEnded }
+    ensures { IfOk result (IsEnded plan.now) }
 {
-    let cores = new_cores::<S, T>(alloc, tracker, plan.sides.workers)?;
+    let cores = new_cores::<S, T>(alloc, tracker, plan.sides.workers, plan.sides.preserve)?;
     let base = cores.replica.base().copy()?;
     run_named::<S, T, Brand, Brand, H>(
         rt,
@@ -82,18 +82,20 @@ fn schema(alloc: Global) -> Result<Schema, Trouble> {
     }
 }
 
-/// A new source, a new log file and a new replica of so many workers, over no rows.
+/// A new source, a new log file and a new replica of so many workers, which commits in the order of the log or does not, over no rows.
 fn new_cores<S: NewStore, T: Tracker + Drop>(
     alloc: Global,
     tracker: T,
     workers: usize,
+    preserve: bool,
 ) -> Result<Cores<S, T>, Trouble>
     requires tracker { IsNewTracker T.agrees tracker }
     requires some { 1 ≤ workers }
     requires few { workers ≤ 64 }
     ensures source { IfOk result (λ made. made.source ≡ new_source made.source.tables made.source.base made.source.limit made.source.kind) }
     ensures log { IfOk result (λ made. IsNew made.log.log) }
-    ensures replica { IfOk result (λ made. made.replica ≡ new_over made.replica.tables made.replica.source made.replica.base made.replica.workers) }
+    ensures replica { IfOk result (λ made. made.replica ≡ new_over made.replica.tables made.replica.source made.replica.base made.replica.workers made.replica.preserve) }
+    ensures order { IfOk result (λ made. made.replica.preserve ≡ preserve) }
     ensures tables { IfOk result (λ made. made.replica.tables ≡ made.source.tables) }
 {
     let (schema, from) = (schema(alloc)?, Uuid::from_bytes(SOURCE));
@@ -102,7 +104,16 @@ fn new_cores<S: NewStore, T: Tracker + Drop>(
         Batch::new(alloc),
         parts_over::<S, T, MemoryDevice>(alloc, tracker, device),
     );
-    match pair_of(alloc, schema, from, &base, MAX_RECORDS, workers, parts)? {
+    match pair_of(
+        alloc,
+        schema,
+        from,
+        &base,
+        MAX_RECORDS,
+        workers,
+        preserve,
+        parts,
+    )? {
         Some(cores) => Ok(cores),
         None => Err(Trouble::Different),
     }
@@ -127,7 +138,8 @@ fn run_named<
     requires plan { IsInRange (Options.Threads plan.now) }
     requires source { cores.source ≡ new_source cores.source.tables cores.source.base cores.source.limit cores.source.kind }
     requires log { IsNew cores.log.log }
-    requires replica { cores.replica ≡ new_over cores.replica.tables cores.replica.source cores.replica.base cores.replica.workers }
+    requires replica { cores.replica ≡ new_over cores.replica.tables cores.replica.source cores.replica.base cores.replica.workers cores.replica.preserve }
+    requires order { cores.replica.preserve ≡ plan.now.sides.preserve }
     requires tables { cores.replica.tables ≡ cores.source.tables }
     requires source_base { cores.source.base ≡ J.base }
     requires source_tables { cores.source.tables ≡ J.tables }
@@ -135,9 +147,10 @@ fn run_named<
     requires replica_tables { cores.replica.tables ≡ K.tables }
     requires replica_source { cores.replica.source ≡ K.source }
     requires replica_base { cores.replica.base ≡ K.base }
+    requires replica_order { cores.replica.preserve ≡ K.preserve }
     requires publication { publication.book ≡ K.book }
     requires published { publication.base ≡ cores.replica.base }
-    ensures ended { IfOk result IsEnded }
+    ensures ended { IfOk result (IsEnded plan.now) }
     ensures source { IfOk result (λ ended. (ended.source.tables ≡ J.tables) × (ended.source.base ≡ J.base)) }
     ensures replica { IfOk result (λ ended. (ended.replica.tables ≡ K.tables) × (ended.replica.base ≡ K.base)) }
 {
@@ -170,7 +183,7 @@ fn tell_all<S: NewStore, J: SourceNaming, K: ReplicaNaming>(
     met: Result<Met<S, J, K>, Trouble>,
     publisher: &Publisher<S, K>,
 ) -> Result<Told<J>, Trouble>
-    ensures { IfOk result (λ told. All (λ v. AreTold publisher.now.published v.items) told.1.items) }
+    ensures { IfOk result (λ told. All (λ v. AreTold K.preserve publisher.now.published v.items) told.1.items) }
 {
     let (receipts, readers, workers) = met?;
     let mut readings = Vec::with_capacity(alloc, readers.len())?;
@@ -204,16 +217,18 @@ fn new_replica<S: NewStore, K: ReplicaNaming, H: Wait>(
 ) -> Result<Replica<S, K>, Trouble>
     requires some { 1 ≤ seats }
     requires few { seats ≤ 32 }
-    requires core { core ≡ new_over core.tables core.source core.base core.workers }
+    requires core { core ≡ new_over core.tables core.source core.base core.workers core.preserve }
     requires tables { core.tables ≡ K.tables }
     requires source { core.source ≡ K.source }
     requires base { core.base ≡ K.base }
+    requires order { core.preserve ≡ K.preserve }
     requires publication { publication.book ≡ K.book }
     requires published { publication.base ≡ core.base }
 {
     let first = S::without_rows(alloc);
     let second = S::without_rows(alloc);
-    match open::<S, K, H, LeftRight>(rt, alloc, publication, first, second, seats) {
+    let preserve = core.preserve();
+    match open::<S, K, H, LeftRight>(rt, alloc, publication, preserve, first, second, seats) {
         Ok((publisher, seats)) => Ok(SharedReplica::new(rt, alloc, core, publisher, seats)?),
         Err(OpenError::Memory) => Err(Trouble::Memory),
         Err(OpenError::SeatRefused) => Err(Trouble::Different),

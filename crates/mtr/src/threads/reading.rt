@@ -1,6 +1,6 @@
 //! What one reader of the replica saw.
 
-ghost use Rattle.std.specs.Prelude.{◌≡◌, ◌∷◌, ◌++◌, [], ℕ, IfOk, OnErr};
+ghost use Rattle.std.specs.Prelude.{◌≡◌, ◌+◌, ◌∷◌, ◌++◌, [], ℕ, IfOk, OnErr};
 ghost use mathlib.Core.List.{IsPrefix};
 ghost use Rattle.mtr.specs.Reading.{AreTold};
 
@@ -22,8 +22,17 @@ pub struct Shown {
     pub answer: Answer,
 }
 
+impl Shown {
+    /// How many commits the answer is of.
+    pub fn commits(&self) -> u128
+        ensures { result ≡ self.now.answer.upto + self.now.answer.more }
+    {
+        u128::from(self.answer.upto) + u128::from(self.answer.more)
+    }
+}
+
 /// A reader, with all that its seat answered, in order. Each answer is of a beginning of what the seat knows, and none is
-/// of fewer commits than one before it.
+/// of fewer commits than one before it, be it of all up to a number or in all.
 #[derive(Drop)]
 pub struct Reader<S: RowStore + Drop, K: ReplicaNaming> {
     seat: ReadSeat<S, K>,
@@ -37,7 +46,7 @@ impl<S: RowStore + Drop, K: ReplicaNaming> Model for Reader<S, K> {
 
     ghost view = { λ r. record { known = r.seat; shown = r.shown.items } };
 
-    ghost invariant = { λ r. AreSeen r.seat r.shown.items };
+    ghost invariant = { λ r. AreSeen K.preserve r.seat r.shown.items };
 }
 
 impl<S: RowStore + Drop, K: ReplicaNaming> Reader<S, K> {
@@ -53,7 +62,7 @@ impl<S: RowStore + Drop, K: ReplicaNaming> Reader<S, K> {
 
     /// Reads the row. The answer is kept.
     pub fn read(&mut self, id: RowId) -> Result<Option<Row>, Trouble>
-        ensures kept { IfOk result (λ row. (upto : ℕ) × (self.new.shown ≡ self.old.shown ++ record { id = id; answer = record { row = row; upto = upto } } ∷ [])) }
+        ensures kept { IfOk result (λ row. (upto : ℕ) × (more : ℕ) × (self.new.shown ≡ self.old.shown ++ record { id = id; answer = record { row = row; upto = upto; more = more } } ∷ [])) }
         ensures err { OnErr result (self.new.shown ≡ self.old.shown) }
     {
         match self.seat.read(id) {
@@ -78,7 +87,7 @@ impl<S: RowStore + Drop, K: ReplicaNaming> Reader<S, K> {
     /// All that was answered, once the seat learnt the last of all notices.
     pub fn into_shown(mut self, last: Notice<K>) -> Vec<Shown>
         ensures all { result.items ≡ self.shown }
-        ensures told { AreTold last result.items }
+        ensures told { AreTold K.preserve last result.items }
     {
         self.seat.learn(last);
         let Reader { seat: _, shown } = self;

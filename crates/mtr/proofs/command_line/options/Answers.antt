@@ -2,11 +2,16 @@ use Rattle.std.proofs.Common.{◌≡◌, ◌∙◌, ◌⊎◌, inl, inr, sym, su
 use Rattle.std.specs.Prelude.{option_and_then}
 use Rattle.std.specs.List.{list_any}
 use Rattle.std.proofs.Math.Bool.{or-true}
+use Rattle.std.proofs.lemmas.Bool.{and_parts, and_from}
 use Rattle.clap.specs.declared.error.kind.ErrorKind.{ErrorKind}
 use Rattle.clap.specs.declared.error.kind.ErrorKind.TheVariants as kinds
 use Rattle.mtr.specs.declared.options.LineFault.{LineFault}
 use Rattle.mtr.specs.declared.options.LineFault.TheVariants as faults
 use Rattle.clap.specs.Words.{App, Row, Text, takes, subcommand_of, subcommand_rows_of, is_simple, is_simple_and_free, fault_of, app_of, kind_of, IsAmong}
+use Rattle.clap.specs.Simple.{built, argument_words}
+use Rattle.clap.specs.Walk.{nothing_held}
+use Rattle.clap.specs.Takes.{built_takes}
+use Rattle.clap.specs.Faults.{is_free_app}
 use Rattle.clap.proofs.OnLiterals.{clap_on_literals}
 use Rattle.mtr.specs.declared.options.Options.{Options}
 use Rattle.mtr.specs.declared.options.Options.TheVariants.{Run, Threads, Decode}
@@ -15,59 +20,71 @@ use Rattle.mtr.specs.Options.{AreNames, program, options_for, options_of, is_ask
 use Rattle.mtr.proofs.Choices.{Place, at, lies_there}
 use Rattle.mtr.proofs.command_line.options.Goals as goal
 
-run_taken : (p q r s t u v : Place) → takes (program (at p q r s t u v)) (codes "run" ∷ []) ≡ true
+-- the command line is simple, and no option has a rule on another
+free_at : (p q r s t u v w x y : Place) → is_simple_and_free (program (at p q r s t u v w x y)) ≡ true
 unfolding clap_on_literals
-run_taken p q r s t u v = refl
+free_at p q r s t u v w x y = refl
 
-threads_taken : (p q r s t u v : Place) → takes (program (at p q r s t u v)) (codes "threads" ∷ []) ≡ true
+simple_of_free : (app : App) → is_simple_and_free app ≡ true → is_simple app ≡ true
+simple_of_free app free = (and_parts (is_simple app) (is_free_app (built app)) free).0
+
+takes_where : (app : App) (words : List Text) → is_simple_and_free app ≡ true → built_takes (built app) nothing_held (argument_words app words) ≡ true → takes app words ≡ true
+takes_where app words free passes = and_from (is_simple app) (built_takes (built app) nothing_held (argument_words app words)) (simple_of_free app free) passes
+
+run_passes : (p q r s t u v w x y : Place) → let app = program (at p q r s t u v w x y) in built_takes (built app) nothing_held (argument_words app (codes "run" ∷ [])) ≡ true
 unfolding clap_on_literals
-threads_taken p q r s t u v = refl
+run_passes p q r s t u v w x y = refl
 
-decode_taken : (p q r s t u v : Place) → takes (program (at p q r s t u v)) (codes "decode" ∷ []) ≡ true
+run_taken : (p q r s t u v w x y : Place) → takes (program (at p q r s t u v w x y)) (codes "run" ∷ []) ≡ true
+run_taken p q r s t u v w x y = takes_where (program (at p q r s t u v w x y)) (codes "run" ∷ []) (free_at p q r s t u v w x y) (run_passes p q r s t u v w x y)
+
+threads_passes : (p q r s t u v w x y : Place) → let app = program (at p q r s t u v w x y) in built_takes (built app) nothing_held (argument_words app (codes "threads" ∷ [])) ≡ true
 unfolding clap_on_literals
-decode_taken p q r s t u v = refl
+threads_passes p q r s t u v w x y = refl
 
-is_taken_at : (p q r s t u v : Place) (name : Text) (asked : Options) → IsByDefault name asked → takes (program (at p q r s t u v)) (name ∷ []) ≡ true
-is_taken_at p q r s t u v name (Run sides fail) h = ap (λ n. takes (program (at p q r s t u v)) (n ∷ [])) h.0 ∙ run_taken p q r s t u v
-is_taken_at p q r s t u v name (Threads plan) h = ap (λ n. takes (program (at p q r s t u v)) (n ∷ [])) h.0 ∙ threads_taken p q r s t u v
-is_taken_at p q r s t u v name Decode h = ap (λ n. takes (program (at p q r s t u v)) (n ∷ [])) h ∙ decode_taken p q r s t u v
+threads_taken : (p q r s t u v w x y : Place) → takes (program (at p q r s t u v w x y)) (codes "threads" ∷ []) ≡ true
+threads_taken p q r s t u v w x y = takes_where (program (at p q r s t u v w x y)) (codes "threads" ∷ []) (free_at p q r s t u v w x y) (threads_passes p q r s t u v w x y)
+
+decode_passes : (p q r s t u v w x y : Place) → let app = program (at p q r s t u v w x y) in built_takes (built app) nothing_held (argument_words app (codes "decode" ∷ [])) ≡ true
+unfolding clap_on_literals
+decode_passes p q r s t u v w x y = refl
+
+decode_taken : (p q r s t u v w x y : Place) → takes (program (at p q r s t u v w x y)) (codes "decode" ∷ []) ≡ true
+decode_taken p q r s t u v w x y = takes_where (program (at p q r s t u v w x y)) (codes "decode" ∷ []) (free_at p q r s t u v w x y) (decode_passes p q r s t u v w x y)
+
+is_taken_at : (p q r s t u v w x y : Place) (name : Text) (asked : Options) → IsByDefault name asked → takes (program (at p q r s t u v w x y)) (name ∷ []) ≡ true
+is_taken_at p q r s t u v w x y name (Run sides fail) h = ap (λ n. takes (program (at p q r s t u v w x y)) (n ∷ [])) h.0 ∙ run_taken p q r s t u v w x y
+is_taken_at p q r s t u v w x y name (Threads plan) h = ap (λ n. takes (program (at p q r s t u v w x y)) (n ∷ [])) h.0 ∙ threads_taken p q r s t u v w x y
+is_taken_at p q r s t u v w x y name Decode h = ap (λ n. takes (program (at p q r s t u v w x y)) (n ∷ [])) h ∙ decode_taken p q r s t u v w x y
 
 is_taken : (names : Names) (name : Text) (asked : Options) → AreNames names → IsByDefault name asked → takes (program names) (name ∷ []) ≡ true
-is_taken names name asked are h = lies_there (λ it. takes (program it) (name ∷ []) ≡ true) names are (λ p q r s t u v. is_taken_at p q r s t u v name asked h)
+is_taken names name asked are h = lies_there (λ it. takes (program it) (name ∷ []) ≡ true) names are (λ p q r s t u v w x y. is_taken_at p q r s t u v w x y name asked h)
 
-run_alone : (p q r s t u v : Place) → options_of (at p q r s t u v) (codes "run" ∷ []) ≡ Some (Run default_sides 0)
+run_alone : (p q r s t u v w x y : Place) → options_of (at p q r s t u v w x y) (codes "run" ∷ []) ≡ Some (Run default_sides 0)
 unfolding clap_on_literals
-run_alone p q r s t u v = refl
+run_alone p q r s t u v w x y = refl
 
-threads_alone : (p q r s t u v : Place) → options_of (at p q r s t u v) (codes "threads" ∷ []) ≡ Some (Threads (record { sides = default_sides; sessions = 4; transactions = 10; seats = 2 }))
+threads_alone : (p q r s t u v w x y : Place) → options_of (at p q r s t u v w x y) (codes "threads" ∷ []) ≡ Some (Threads (record { sides = default_sides; sessions = 4; transactions = 10; seats = 2 }))
 unfolding clap_on_literals
-threads_alone p q r s t u v = refl
+threads_alone p q r s t u v w x y = refl
 
-decode_alone : (p q r s t u v : Place) → options_of (at p q r s t u v) (codes "decode" ∷ []) ≡ Some Decode
+decode_alone : (p q r s t u v w x y : Place) → options_of (at p q r s t u v w x y) (codes "decode" ∷ []) ≡ Some Decode
 unfolding clap_on_literals
-decode_alone p q r s t u v = refl
+decode_alone p q r s t u v w x y = refl
 
-by_default_at : (p q r s t u v : Place) (name : Text) (asked : Options) → IsByDefault name asked → options_of (at p q r s t u v) (name ∷ []) ≡ Some asked
-by_default_at p q r s t u v name (Run sides fail) h = ap (λ n. options_of (at p q r s t u v) (n ∷ [])) h.0 ∙ run_alone p q r s t u v ∙ ap₂ (λ sides fail. Some (Run sides fail)) (sym h.1) (sym h.2)
-by_default_at p q r s t u v name (Threads plan) h = ap (λ n. options_of (at p q r s t u v) (n ∷ [])) h.0 ∙ threads_alone p q r s t u v ∙ ap (λ plan. Some (Threads plan)) (sym h.1)
-by_default_at p q r s t u v name Decode h = ap (λ n. options_of (at p q r s t u v) (n ∷ [])) h ∙ decode_alone p q r s t u v
+by_default_at : (p q r s t u v w x y : Place) (name : Text) (asked : Options) → IsByDefault name asked → options_of (at p q r s t u v w x y) (name ∷ []) ≡ Some asked
+by_default_at p q r s t u v w x y name (Run sides fail) h = ap (λ n. options_of (at p q r s t u v w x y) (n ∷ [])) h.0 ∙ run_alone p q r s t u v w x y ∙ ap₂ (λ sides fail. Some (Run sides fail)) (sym h.1) (sym h.2)
+by_default_at p q r s t u v w x y name (Threads plan) h = ap (λ n. options_of (at p q r s t u v w x y) (n ∷ [])) h.0 ∙ threads_alone p q r s t u v w x y ∙ ap (λ plan. Some (Threads plan)) (sym h.1)
+by_default_at p q r s t u v w x y name Decode h = ap (λ n. options_of (at p q r s t u v w x y) (n ∷ [])) h ∙ decode_alone p q r s t u v w x y
 
 by_default : (names : Names) (name : Text) (asked : Options) → AreNames names → IsByDefault name asked → options_of names (name ∷ []) ≡ Some asked
-by_default names name asked are h = lies_there (λ it. options_of it (name ∷ []) ≡ Some asked) names are (λ p q r s t u v. by_default_at p q r s t u v name asked h)
-
-free_at : (p q r s t u v : Place) → is_simple_and_free (program (at p q r s t u v)) ≡ true
-unfolding clap_on_literals
-free_at p q r s t u v = refl
-
-simple_at : (p q r s t u v : Place) → is_simple (program (at p q r s t u v)) ≡ true
-unfolding clap_on_literals
-simple_at p q r s t u v = refl
+by_default names name asked are h = lies_there (λ it. options_of it (name ∷ []) ≡ Some asked) names are (λ p q r s t u v w x y. by_default_at p q r s t u v w x y name asked h)
 
 is_free_program : (names : Names) → AreNames names → is_simple_and_free (program names) ≡ true
 is_free_program names are = lies_there (λ it. is_simple_and_free (program it) ≡ true) names are free_at
 
 is_simple_program : (names : Names) → AreNames names → is_simple (program names) ≡ true
-is_simple_program names are = lies_there (λ it. is_simple (program it) ≡ true) names are simple_at
+is_simple_program names are = simple_of_free (program names) (is_free_program names are)
 
 is_among : (p : ErrorKind → Bool) (kind : ErrorKind) (kinds : List ErrorKind) → IsAmong kind kinds → p kind ≡ true → list_any p kinds ≡ true
 is_among p kind [] h e = absurd h

@@ -8,6 +8,6 @@ ghosts-run_named-J-SourceNaming g a = record { book = a.receipts; base = a.cores
 abbrev pub ghosts-run_named-K-ReplicaNaming : goal.ghosts-run_named-K-ReplicaNaming
 ghosts-run_named-K-ReplicaNaming g a = record { tables = a.cores.replica.tables; source = a.cores.replica.source; base = a.cores.replica.base }
 
--- the publication that just began
+-- the publication that just began, in the order that the replica keeps
 abbrev pub ghosts-run_named-K-Naming : goal.ghosts-run_named-K-Naming
-ghosts-run_named-K-Naming g a = record { book = a.publication.book }
+ghosts-run_named-K-Naming g a = record { book = a.publication.book; preserve = a.cores.replica.preserve }

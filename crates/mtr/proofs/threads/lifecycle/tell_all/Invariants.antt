@@ -7,4 +7,4 @@ abbrev pub invariant-loop-reader : goal.invariant-loop-reader
 invariant-loop-reader g l =
     (goal.iterator-loop-reader g).can_next l.reader-iterator ×
     (goal.iterator-loop-reader g).is_finite l.reader-iterator ×
-    All (λ v. AreTold l.publisher.published v.items) l.readings.items
+    All (λ v. AreTold g.K.Naming.preserve l.publisher.published v.items) l.readings.items
