@@ -1,0 +1,140 @@
+//! Files of the system.
+
+use crate::tests::makers::put_again;
+use file_device::{FileDevice, OpenFault};
+use log_device::Device;
+use log_file::LogFile;
+use std::alloc::AllocError;
+use std::fs::{File, OpenOptions};
+use std::io::Write;
+use std::os::unix::fs::{FileExt, symlink};
+use std::process::Abort;
+use std::rt::Files;
+use std::test::Fail;
+use std::{fs, process};
+use tests_log::common::source;
+
+/// A path for such files, which no other process has.
+fn path_of(rt: &HostRuntime, name: &str) -> Result<String, AllocError> {
+    let process = process::id(rt.process());
+    format!(in rt.alloc(); "/tmp/mtr_{name}_{process}")
+}
+
+/// The log that the file has, or a new one where it has none.
+fn log_on<R: Files<File = File> + AllocGlobal>(
+    rt: &R,
+    path: &str,
+) -> Result<LogFile<FileDevice<File>>, Fail> {
+    let device = FileDevice::open(rt, rt.alloc(), path)?;
+    let opened = if device.len() == 0 {
+        LogFile::create(rt.alloc(), device, source())
+    } else {
+        LogFile::open(rt.alloc(), device)
+    };
+    match opened {
+        Ok(log) => Ok(log),
+        Err((fault, _)) => Err(fault)?,
+    }
+}
+
+/// Opens the log, which has so many records, and puts the next one on it.
+fn put_next<R: Files<File = File> + AllocGlobal + Abort>(
+    rt: &R,
+    path: &str,
+    before: usize,
+) -> Result<(), Fail> {
+    let mut log = log_on(rt, path)?;
+    assert_eq!(rt; log.records().len(), before);
+    put_again(rt.alloc(), &mut log, before as u64 + 1)?;
+    Ok(())
+}
+
+/// Writes bytes behind the file's last, as a write that was torn may leave them.
+fn tear<R: Files<File = File> + AllocGlobal>(rt: &R, path: &str) -> Result<(), Fail> {
+    let mut file = OpenOptions::new().append(true).open(rt, path)?;
+    file.write_all(&[0, 0, 0, 63, 7, 7])?;
+    Ok(())
+}
+
+fn goes_on<R: Files<File = File> + AllocGlobal + Abort>(rt: &R, path: &str) -> Result<(), Fail> {
+    for before in 0..3 {
+        put_next(rt, path, before)?;
+    }
+    let len = fs::metadata(rt, path)?.len();
+    tear(rt, path)?;
+    assert_eq!(rt; log_on(rt, path)?.records().len(), 3);
+    assert_eq!(rt; fs::metadata(rt, path)?.len(), len);
+    put_next(rt, path, 3)?;
+    assert_eq!(rt; log_on(rt, path)?.records().len(), 4);
+    Ok(())
+}
+
+/// A log that is not on the file once its process is gone, and bytes behind its closed gate that stay.
+#[test]
+fn a_log_on_a_file_goes_on(rt: HostRuntime) -> Result<(), Fail> {
+    let path = path_of(&rt, "log")?;
+    let _ = fs::remove_file(&rt, path.as_str());
+    let done = goes_on(&rt, path.as_str());
+    let _ = fs::remove_file(&rt, path.as_str());
+    done
+}
+
+fn is_held<R: Files<File = File> + AllocGlobal + Abort>(rt: &R, path: &str) -> Result<(), Fail> {
+    let mut device = FileDevice::open(rt, rt.alloc(), path)?;
+    device.write_at(2, &[1, 2])?;
+    assert!(rt; matches!(FileDevice::open(rt, rt.alloc(), path), Err(OpenFault::Busy)));
+    device.write_at(6, &[])?;
+    device.cut(5)?;
+    device.sync()?;
+    drop(device);
+    let mut room = [9; 7];
+    assert_eq!(rt; File::open(rt, path)?.read_at(&mut room, 0)?, 5);
+    assert_eq!(rt; room, [0, 0, 1, 2, 0, 9, 9]);
+    let device = FileDevice::open(rt, rt.alloc(), path)?;
+    assert_eq!(rt; device.len(), 5);
+    Ok(())
+}
+
+/// A file that two write, and one that holds other bytes than are told.
+#[test]
+fn a_file_is_held_by_one(rt: HostRuntime) -> Result<(), Fail> {
+    let path = path_of(&rt, "held")?;
+    let _ = fs::remove_file(&rt, path.as_str());
+    let done = is_held(&rt, path.as_str());
+    let _ = fs::remove_file(&rt, path.as_str());
+    done
+}
+
+fn are_refused<R: Files<File = File> + AllocGlobal + Abort>(
+    rt: &R,
+    folder: &str,
+    link: &str,
+) -> Result<(), Fail> {
+    fs::create_dir(rt, folder)?;
+    symlink(rt, "log", link)?;
+    for path in [folder, link] {
+        assert!(rt;
+            matches!(
+                FileDevice::open(rt, rt.alloc(), path),
+                Err(OpenFault::NotAFile)
+            )
+        );
+    }
+    assert!(rt;
+        matches!(
+            FileDevice::open(rt, rt.alloc(), "/tmp/mtr_no_folder/log"),
+            Err(OpenFault::System(_))
+        )
+    );
+    Ok(())
+}
+
+/// A folder that is taken for a file, a link that is followed, and a file that is made in a folder that is not there.
+#[test]
+fn what_is_no_file_is_refused(rt: HostRuntime) -> Result<(), Fail> {
+    let (folder, link) = (path_of(&rt, "folder")?, path_of(&rt, "link")?);
+    let done = are_refused(&rt, folder.as_str(), link.as_str());
+    let _ = fs::remove_dir(&rt, folder.as_str());
+    let _ = fs::remove_file(&rt, link.as_str());
+    done
+}
