@@ -7,5 +7,6 @@ mod marks;
 mod parents;
 mod refusals;
 mod steps;
+mod unordered;
 mod values;
 mod wires;

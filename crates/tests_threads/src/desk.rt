@@ -1,5 +1,5 @@
-//! A publisher of commits that set one row to their own numbers. It ends itself, so that it may lie under a lock.
-ghost use Rattle.std.specs.Prelude.{◌≡◌, ◌≤◌};
+//! A publisher of commits in the order of the log that set one row to their own numbers. It ends itself, so that it may lie under a lock.
+ghost use Rattle.std.specs.Prelude.{◌≡◌, ◌≤◌, true};
 
 use crate::makers::commit;
 use btree_store::BTreeStore;
@@ -30,15 +30,14 @@ impl<'r, J: Naming, R: Wait> Model for Desk<'r, J, R>
 where
     Version<BTreeStore, J>: Absorb<Step<J>, State = Common>,
 {
-    ghost use Rattle.std.specs.Prelude.{◌≡◌, ◌+◌, length};
-    ghost use Rattle.published.specs.History.{commits_in};
+    ghost use Rattle.std.specs.Prelude.{◌≡◌, ◌++◌, true, length};
     ghost use Rattle.published.specs.Publication.{Publishing};
 
     ghost Value = { Publishing };
 
     ghost view = { λ d. d.publisher };
 
-    ghost invariant = { λ d. commits_in d.publisher.published + length d.publisher.waiting + 1 ≡ d.next };
+    ghost invariant = { λ d. (J.preserve ≡ true) × (length (d.publisher.published ++ d.publisher.waiting) ≡ d.next) };
 }
 
 impl<'r, J: Naming, R: Wait> Desk<'r, J, R> {
@@ -49,12 +48,14 @@ impl<'r, J: Naming, R: Wait> Desk<'r, J, R> {
         seats: usize,
     ) -> Result<(Desk<'r, J, R>, Vec<ReadSeat<BTreeStore, J>>), OpenError>
         requires book { beginning.book ≡ J.book }
+        requires order { J.preserve ≡ true }
         requires seats { (1 ≤ seats) × (seats ≤ 32) }
     {
         let (publisher, seats) = open::<BTreeStore, J, R, LeftRight>(
             rt,
             alloc,
             beginning,
+            true,
             BTreeStore::new(alloc),
             BTreeStore::new(alloc),
             seats,

@@ -98,8 +98,8 @@ pub fn committed<J: SourceNaming, R: Wait + Clock>(
     Ok(gno)
 }
 
-/// Sixteen sessions commit twelve times each. They share nearly all of their syncs: each that comes back from a group comes to the next one in
-/// time. Where one leads alone and the others behind it that makes two groups for each turn. (So often it is done again at most, with other
+/// Sixteen sessions commit twelve times each. They share nearly all of their syncs: each that comes back from a group comes to the next one
+/// in time. Where one leads alone and the others behind it that makes two groups for each turn. (So often it is done again at most, with other
 /// sessions, where the machine has no time for these threads; or no memory for threads, and the sessions commit one after another.)
 pub fn is_shared<J, R>(
     rt: &R,

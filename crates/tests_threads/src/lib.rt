@@ -8,6 +8,8 @@ mod device;
 #[cfg(test)]
 mod followed;
 #[cfg(test)]
+mod gaps;
+#[cfg(test)]
 mod grouped;
 #[cfg(test)]
 mod held;
@@ -27,6 +29,8 @@ mod sources;
 mod stores;
 #[cfg(test)]
 mod unlocked;
+#[cfg(test)]
+mod unordered;
 #[cfg(test)]
 mod watched;
 #[cfg(test)]

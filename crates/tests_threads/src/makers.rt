@@ -42,15 +42,15 @@ pub fn source(alloc: Global) -> Result<SourceCore<BTreeStore, CommitOrder>, Memo
     Ok(core)
 }
 
-/// A replica of no rows, with three workers.
-pub fn replica(alloc: Global, store: Store) -> Result<ReplicaCore<Store>, Memory>
-    ensures { IfOk result (λ core. core ≡ new_over core.tables core.source core.base core.workers) }
+/// A replica of no rows, with three workers, which keeps the order of the log or does not.
+pub fn replica(alloc: Global, store: Store, preserve: bool) -> Result<ReplicaCore<Store>, Memory>
+    ensures { IfOk result (λ core. core ≡ new_over core.tables core.source core.base core.workers core.preserve) }
 {
     let schema = schema(alloc)?;
     if !fits(&schema, &store) {
         return Err(Memory);
     }
-    let core = ReplicaCore::new(alloc, schema, Uuid::from_u128(SOURCE), store, 3)?;
+    let core = ReplicaCore::new(alloc, schema, Uuid::from_u128(SOURCE), store, 3, preserve)?;
     Ok(core)
 }
 
@@ -80,10 +80,11 @@ pub fn commit(alloc: Global, gno: u64) -> Result<Op, Memory>
     })
 }
 
-/// What is read of the row `ONE` once so many commits are published.
+/// What is read of the row `ONE` once so many commits are published in the order of the log.
 pub fn answer(upto: u64) -> Answer {
     Answer {
         row: Row::new(&[upto.cast_signed()]),
         upto,
+        more: 0,
     }
 }

@@ -1,5 +1,5 @@
 //! Publication: what a seat, a watch and a plain store show, and what those who publish and read side by side see.
-ghost use Rattle.std.specs.Prelude.{◌≡◌, ◌≤◌, [], IfOk};
+ghost use Rattle.std.specs.Prelude.{◌≡◌, ◌≤◌, true, IfOk};
 
 use crate::desk::{Desk, LAST};
 use crate::makers::{ONE, answer, commit, set_to};
@@ -28,10 +28,11 @@ fn plain_publishes_again(rt: HostRuntime) -> Result<(), Fail> {
     Ok(())
 }
 
+/// A plain store of the base alone, which keeps the order of the log.
 fn plain_of_base(alloc: Global) -> Result<Plain<BTreeStore>, Memory>
-    ensures { IfOk result (λ plain. (plain.upto ≡ 0) × (plain.waiting ≡ [])) }
+    ensures { IfOk result (λ plain. (plain.preserve ≡ true) × (plain.more ≡ 0)) }
 {
-    Plain::new(alloc, BTreeStore::new(alloc), set_to(alloc, 0)?)
+    Plain::new(alloc, BTreeStore::new(alloc), set_to(alloc, 0)?, true)
 }
 
 /// Publishes the commits up to this one.
@@ -40,7 +41,10 @@ fn plain_again(
     alloc: Global,
     plain: &mut Plain<BTreeStore>,
     upto: u16,
-) -> Result<(), Memory> {
+) -> Result<(), Memory>
+    requires { (plain.old.preserve ≡ true) × (plain.old.more ≡ 0) }
+    ensures { (plain.new.preserve ≡ true) × (plain.new.more ≡ 0) }
+{
     if append_upto(alloc, plain, upto).is_err() {
         append_upto(alloc, plain, upto)?;
     }
@@ -51,7 +55,10 @@ fn plain_again(
     Ok(())
 }
 
-fn append_upto(alloc: Global, plain: &mut Plain<BTreeStore>, last: u16) -> Result<(), Memory> {
+fn append_upto(alloc: Global, plain: &mut Plain<BTreeStore>, last: u16) -> Result<(), Memory>
+    requires { (plain.old.preserve ≡ true) × (plain.old.more ≡ 0) }
+    ensures { (plain.new.preserve ≡ true) × (plain.new.more ≡ 0) }
+{
     let first = plain.appended().checked_add(1).ok_or(Memory)?;
     for gno in first..last as u64 + 1 {
         plain.append(&commit(alloc, gno)?)?;
@@ -110,7 +117,8 @@ fn seen_by<J: Naming, R: Wait + Abort>(
     alloc: Global,
     beginning: Beginning,
 ) -> Result<bool, Fail>
-    requires { beginning.book ≡ J.book }
+    requires book { beginning.book ≡ J.book }
+    requires order { J.preserve ≡ true }
 {
     let (mut desk, mut seats) = match Desk::<J, R>::open(rt, alloc, beginning, 32) {
         Ok(opened) => opened,
@@ -186,7 +194,8 @@ fn run_beside<J: Naming + Send + Sync, R: Threads + Wait + Abort + Sync>(
     alloc: Global,
     beginning: Beginning,
 ) -> Result<(), Fail>
-    requires { beginning.book ≡ J.book }
+    requires book { beginning.book ≡ J.book }
+    requires order { J.preserve ≡ true }
 {
     let (desk, mut seats) = Desk::<J, R>::open(rt, alloc, beginning, 3)?;
     let (Some(one), Some(two), Some(mut idle)) = (seats.pop(), seats.pop(), seats.pop()) else {

@@ -7,6 +7,7 @@ use crate::device::{PATIENCE, comes_in_turns};
 use crate::makers::{ONE, SOURCE, insert, replica, set};
 use crate::stores::{Notes, Store, copies, is_stored, working};
 use crate::unlocked::is_unlocked;
+use crate::unordered::{come_back, is_gapped, stops_ahead};
 use crate::watched::{
     Order, are_woken_one_by_one, is_crowded, is_empty, is_handed_in_late, is_refused, is_watched,
 };
@@ -77,6 +78,19 @@ pub enum Course {
     Unlocked,
     /// One result commits all three, and the first commit is slow.
     Stored,
+    /// The order of the log is not kept: the second record is committed while the job of the first is held.
+    Gapped,
+    /// The same, where the first does not apply.
+    GappedStop,
+    /// The same with 65 records, where the jobs of the first and the last are out at one time.
+    Far,
+}
+
+impl Course {
+    /// Whether commits are in the order of the log.
+    fn keeps_order(self) -> bool {
+        !matches!(self, Course::Gapped | Course::GappedStop | Course::Far)
+    }
 }
 
 /// Catches a shared call that gives up where memory is there, also once it was refused, and a job that was kept then and is
@@ -199,7 +213,7 @@ fn has_run<R: Threads + Wait + Abort + Clock + Sync>(
     let Ok(copies) = copies(alloc, refused, &notes) else {
         return Ok(false);
     };
-    let Ok((core, beginning)) = parts(alloc, &notes) else {
+    let Ok((core, beginning)) = parts(alloc, &notes, course.keeps_order()) else {
         return Ok(false);
     };
     let plan = Plan {
@@ -218,9 +232,13 @@ struct Plan {
     notes: Arc<Notes>,
 }
 
-/// Three records: a row is inserted, another one is inserted or (where that stops the replica) set, and the first is set, or
-/// (the same) one that is not there, or a third one is inserted.
+/// Three records: a row is inserted or (where that stops the replica) set, another one is inserted or (the same) set, and the first is
+/// set, or (the same) one that is not there, or a third one is inserted.
 fn records(alloc: Global, course: Course) -> Result<[Record; 3], Memory> {
+    let first = match course {
+        Course::GappedStop => set(10, 1)?,
+        _ => insert(10, [5, 6])?,
+    };
     let second = match course {
         Course::Stopping | Course::AsleepAtStop | Course::WatchedStop => set(11, 1)?,
         _ => insert(11, [1, 1])?,
@@ -231,18 +249,18 @@ fn records(alloc: Global, course: Course) -> Result<[Record; 3], Memory> {
         _ => (1, set(10, 7)?),
     };
     Ok([
-        record(alloc, 1, 0, insert(10, [5, 6])?)?,
+        record(alloc, 1, 0, first)?,
         record(alloc, 2, 0, second)?,
         record(alloc, 3, parent, third)?,
     ])
 }
 
 /// The core and a publication of its rows.
-fn parts(alloc: Global, notes: &Arc<Notes>) -> Result<(Core, Beginning), Memory>
-    ensures core { IfOk result (λ parts. parts.0 ≡ new_over parts.0.tables parts.0.source parts.0.base parts.0.workers) }
+fn parts(alloc: Global, notes: &Arc<Notes>, preserve: bool) -> Result<(Core, Beginning), Memory>
+    ensures core { IfOk result (λ parts. parts.0 ≡ new_over parts.0.tables parts.0.source parts.0.base parts.0.workers parts.0.preserve) }
     ensures rows { IfOk result (λ parts. parts.1.base ≡ parts.0.base) }
 {
-    let core = replica(alloc, working(alloc, notes)?)?;
+    let core = replica(alloc, working(alloc, notes)?, preserve)?;
     let beginning = Beginning::of(core.base().copy()?);
     Ok((core, beginning))
 }
@@ -255,11 +273,12 @@ fn run_over<J: ReplicaNaming + Send + Sync, R: Threads + Wait + Abort + Clock + 
     copies: (Store, Store),
     plan: &Plan,
 ) -> Result<bool, Fail>
-    requires core { core ≡ new_over core.tables core.source core.base core.workers }
+    requires core { core ≡ new_over core.tables core.source core.base core.workers core.preserve }
     requires rows { beginning.base ≡ core.base }
     requires tables { core.tables ≡ J.tables }
     requires source { core.source ≡ J.source }
     requires base { core.base ≡ J.base }
+    requires order { core.preserve ≡ J.preserve }
     requires book { beginning.book ≡ J.book }
     requires copies { (copies.0.inner ≡ empty) × (copies.1.inner ≡ empty) }
 {
@@ -292,6 +311,9 @@ fn run_over<J: ReplicaNaming + Send + Sync, R: Threads + Wait + Abort + Clock + 
         Course::Sets => sets_are_shown(rt, alloc, &shared, records),
         Course::Unlocked => is_unlocked(rt, alloc, &shared),
         Course::Stored => is_stored(rt, alloc, &shared, records, &plan.notes),
+        Course::Gapped => is_gapped(rt, alloc, &shared, records),
+        Course::GappedStop => stops_ahead(rt, alloc, &shared, records),
+        Course::Far => come_back(rt, alloc, &shared),
     };
     let ends = ended(rt, shared);
     let published = run?;
@@ -299,7 +321,7 @@ fn run_over<J: ReplicaNaming + Send + Sync, R: Threads + Wait + Abort + Clock + 
     Ok(true)
 }
 
-/// A shared replica with one seat.
+/// A shared replica with one seat, which keeps the order of the log where the core does.
 fn shared<J: ReplicaNaming, R: Wait>(
     rt: &R,
     alloc: Global,
@@ -307,17 +329,19 @@ fn shared<J: ReplicaNaming, R: Wait>(
     beginning: Beginning,
     copies: (Store, Store),
 ) -> Result<Shared<J>, OpenError>
-    requires core { core ≡ new_over core.tables core.source core.base core.workers }
+    requires core { core ≡ new_over core.tables core.source core.base core.workers core.preserve }
     requires rows { beginning.base ≡ core.base }
     requires tables { core.tables ≡ J.tables }
     requires source { core.source ≡ J.source }
     requires base { core.base ≡ J.base }
+    requires order { core.preserve ≡ J.preserve }
     requires book { beginning.book ≡ J.book }
     requires copies { (copies.0.inner ≡ empty) × (copies.1.inner ≡ empty) }
 {
     let (first, second) = copies;
+    let preserve = core.preserve();
     let (publisher, seats) = open::<Store, J, R, LeftRight>(
-        rt, alloc, beginning, first, second, 1,
+        rt, alloc, beginning, preserve, first, second, 1,
     )?;
     Ok(SharedReplica::new(rt, alloc, core, publisher, seats)?)
 }
@@ -325,7 +349,7 @@ fn shared<J: ReplicaNaming, R: Wait>(
 /// Ends the replica, and answers how many records are committed and published, by the core and by the publisher.
 fn ended<J: ReplicaNaming>(rt: &impl Wait, shared: Shared<J>) -> [u64; 3] {
     let (core, publisher) = shared.end();
-    let shown = publisher.tell().upto();
+    let shown = publisher.tell().count();
     drop(publisher.close(rt));
     [core.committed(), core.published(), shown]
 }
@@ -533,6 +557,7 @@ pub fn shows<J: ReplicaNaming>(
     let read = Answer {
         row: Row::new(&columns),
         upto: published,
+        more: 0,
     };
     assert_eq!(rt; seat.read(ONE), Some(read));
     let status = shared.status(rt);
@@ -574,6 +599,11 @@ impl Held {
         self.is_open.store(true, Ordering::SeqCst);
     }
 
+    /// Whether the first has not gone on.
+    pub fn is_held(&self) -> bool {
+        !self.is_over.load(Ordering::SeqCst)
+    }
+
     /// Whether the other was left while the first was held.
     pub fn has_met(&self) -> bool {
         self.has_met.load(Ordering::SeqCst)
@@ -590,8 +620,7 @@ impl WorkerGate for Held {
 
     fn left(&self, gno: u64) {
         if gno == self.other {
-            let is_held = !self.is_over.load(Ordering::SeqCst);
-            self.has_met.store(is_held, Ordering::SeqCst);
+            self.has_met.store(self.is_held(), Ordering::SeqCst);
             self.open();
         }
     }
@@ -637,7 +666,7 @@ fn run_threads<J: ReplicaNaming + Send + Sync, R: Threads + Wait + Clock + Sync>
 }
 
 /// How many commits are published once that of this number is.
-fn shown<J: ReplicaNaming>(
+pub fn shown<J: ReplicaNaming>(
     rt: &impl Wait,
     shared: &Shared<J>,
     gno: u64,

@@ -98,8 +98,8 @@ fn flushes_beside_a_sync(rt: HostRuntime) -> Result<(), Fail> {
     runs(&rt, rt.alloc(), Course::Held)
 }
 
-/// Catches sessions that sync one by one where a sync is slow, leaders who do not wait for those who come back from the group before, or keep
-/// the lock meanwhile, and groups that are flushed beside one that is not slow.
+/// Catches sessions that sync one by one where a sync is slow, leaders who do not wait for those who come back from the group before, or
+/// keep the lock meanwhile, and groups that are flushed beside one that is not slow.
 #[test]
 fn sixteen_sessions_share_syncs(rt: HostRuntime) -> Result<(), Fail> {
     runs(&rt, rt.alloc(), Course::Slow)

@@ -78,7 +78,12 @@ pub fn is_empty<J: ReplicaNaming>(
     work(rt, alloc, shared, &NoGate)?;
     let mut seat = shared.seat(rt).ok_or("a seat")?;
     seat.learn(shared.wait_for(rt, 0)?);
-    assert_eq!(rt; seat.read(ONE), Some(Answer { row: None, upto: 0 }));
+    let read = Answer {
+        row: None,
+        upto: 0,
+        more: 0,
+    };
+    assert_eq!(rt; seat.read(ONE), Some(read));
     let none = Counts {
         received: 0,
         committed: 0,

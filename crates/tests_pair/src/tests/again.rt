@@ -6,10 +6,10 @@ ghost use Rattle.world.specs.Seen.{seen};
 ghost use Rattle.world.specs.State.{IsWorld};
 
 use crate::tests::courses::{
-    Told, kin_at_the_replica, kin_at_the_source, two_at_the_replica, two_at_the_source,
-    values_at_the_replica, values_at_the_source,
+    Told, kin_at_the_replica, kin_at_the_source, three_at_the_source, three_behind_a_gap,
+    two_at_the_replica, two_at_the_source, values_at_the_replica, values_at_the_source,
 };
-use crate::tests::makers::{InOne, world, world_of_kin, world_of_values};
+use crate::tests::makers::{InOne, unordered_world, world, world_of_kin, world_of_values};
 use btree_store::BTreeStore;
 use commit_order_tracker::CommitOrder;
 use log_device::Device;
@@ -38,6 +38,20 @@ fn events_are_sent_again(rt: HostRuntime) -> Result<(), Fail> {
         world,
         &two_at_the_source(),
         &two_at_the_replica(),
+    )
+}
+
+/// Catches what is left half done where commits are not in the order of the log, and commits behind a gap that are not shown, or are
+/// counted as if there were none.
+#[test]
+fn events_out_of_order_are_sent_again(rt: HostRuntime) -> Result<(), Fail> {
+    let world = unordered_world_again(rt.alloc())?;
+    answer_all(
+        &rt,
+        rt.alloc(),
+        world,
+        &three_at_the_source(),
+        &three_behind_a_gap(),
     )
 }
 
@@ -73,6 +87,13 @@ fn world_again(alloc: Global) -> Result<InOne<BTreeStore, CommitOrder>, LogFault
     ensures { IfOk result (λ world. IsWorld (λ rows. rows) (seen world)) }
 {
     again!(world(alloc))
+}
+
+/// The same of one whose replica commits in the order in which jobs are finished.
+fn unordered_world_again(alloc: Global) -> Result<InOne<BTreeStore, CommitOrder>, LogFault>
+    ensures { IfOk result (λ world. IsWorld (λ rows. rows) (seen world)) }
+{
+    again!(unordered_world(alloc))
 }
 
 /// The same of one with kin.
@@ -189,8 +210,14 @@ fn text(alloc: Global, reply: &Reply) -> Result<String, AllocError> {
         Reply::Executed(ids) => format!(in alloc; "executed [{ids}]"),
         Reply::Read {
             upto,
+            more: 0,
             row: Some(row),
         } => format!(in alloc; "{upto}: {:?}", row.columns()),
+        Reply::Read {
+            upto,
+            more,
+            row: Some(row),
+        } => format!(in alloc; "{upto}+{more}: {:?}", row.columns()),
         Reply::Text(log) => hexadecimal(alloc, log.bytes()),
         other => format!(in alloc; "{other:?}"),
     }

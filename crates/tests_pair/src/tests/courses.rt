@@ -83,6 +83,70 @@ pub fn two_at_the_replica() -> [Told; 16] {
     ]
 }
 
+/// Three sessions whose transactions are one group, so that none has a parent.
+pub fn three_at_the_source() -> [Told; 15] {
+    [
+        (Event::Begin { session: 1 }, "Done"),
+        (Event::Begin { session: 2 }, "Done"),
+        (Event::Begin { session: 3 }, "Done"),
+        (write(1, insert(10, 5, 6)), "Done"),
+        (write(2, insert(20, 7, 8)), "Done"),
+        (write(3, insert(30, 9, 0)), "Done"),
+        (Event::Prepare { session: 1 }, "Prepared { parent: 0 }"),
+        (Event::Prepare { session: 2 }, "Prepared { parent: 0 }"),
+        (Event::Prepare { session: 3 }, "Prepared { parent: 0 }"),
+        (Event::Queue { session: 1 }, "Done"),
+        (Event::Queue { session: 2 }, "Done"),
+        (Event::Queue { session: 3 }, "Done"),
+        (Event::Flush, "from 1 [(1, 0), (2, 0), (3, 0)]"),
+        (Event::Sync, "Synced { first: 1, last: 3 }"),
+        (Event::Commit, "Committed { first: 1, last: 3 }"),
+    ]
+}
+
+/// Their records at a replica of two workers that commits in the order in which jobs are finished: the second and then the third are
+/// published while the first is under way.
+pub fn three_behind_a_gap() -> [Told; 24] {
+    [
+        (Event::Deliver { gno: 1 }, "Accepted"),
+        (Event::Deliver { gno: 2 }, "Accepted"),
+        (Event::Deliver { gno: 3 }, "Accepted"),
+        (Event::Dispatch, "Job { gno: 1 }"),
+        (Event::Dispatch, "Job { gno: 2 }"),
+        (Event::Dispatch, "Nothing"),
+        (Event::Finish { gno: 2 }, "Finished { gno: 2 }"),
+        (Event::Next, "Commit { gno: 2 }"),
+        (Event::Dispatch, "Job { gno: 3 }"),
+        (Event::Publish, "Published { upto: 1 }"),
+        (Event::Read { row: row(20) }, "0+1: [7, 8]"),
+        (
+            Event::Read { row: row(10) },
+            "Read { upto: 0, more: 1, row: None }",
+        ),
+        (Event::Finish { gno: 3 }, "Finished { gno: 3 }"),
+        (Event::Next, "Commit { gno: 3 }"),
+        (Event::Next, "Nothing"),
+        (
+            Event::Executed,
+            "executed [01010101-0101-0101-0101-010101010101:2-3]",
+        ),
+        (Event::Publish, "Published { upto: 2 }"),
+        (Event::Read { row: row(30) }, "0+2: [9, 0]"),
+        (Event::Finish { gno: 1 }, "Finished { gno: 1 }"),
+        (Event::Next, "Commit { gno: 1 }"),
+        (
+            Event::Read { row: row(10) },
+            "Read { upto: 0, more: 2, row: None }",
+        ),
+        (Event::Publish, "Published { upto: 3 }"),
+        (Event::Read { row: row(10) }, "3: [5, 6]"),
+        (
+            Event::Executed,
+            "executed [01010101-0101-0101-0101-010101010101:1-3]",
+        ),
+    ]
+}
+
 /// At a source that goes by written rows, over a parent with its child:
 /// - Two transactions share no row, so the second's parent is not the first.
 /// - A parent is locked for its new child until that one's session gives up; it is deleted once its child is. Each transaction on

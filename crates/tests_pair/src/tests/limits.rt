@@ -146,6 +146,7 @@ where
             let want = Answer {
                 row: seen,
                 upto: LIMIT,
+                more: 0,
             };
             assert_eq!(self.rt; reader.read(row), Some(want));
         }

@@ -95,15 +95,17 @@ fn parts(alloc: Global) -> PairParts<BTreeStore, CommitOrder, MemoryDevice>
     }
 }
 
-/// New sides without rows, with two workers.
+/// New sides without rows, with two workers and commits in the order of the log.
 pub fn sides(alloc: Global) -> Result<InMemory, LogFault>
-    ensures source { IfOk result (λ made. made.source ≡ new_source made.source.tables made.source.base made.source.limit made.source.kind) }
+    ensures source { IfOk result (λ made.
+        made.source ≡ new_source made.source.tables made.source.base made.source.limit made.source.kind) }
     ensures log { IfOk result (λ made. IsNew made.log.log) }
-    ensures replica { IfOk result (λ made. made.replica ≡ new_over made.replica.tables made.replica.source made.replica.base made.replica.workers) }
+    ensures replica { IfOk result (λ made.
+        made.replica ≡ new_over made.replica.tables made.replica.source made.replica.base made.replica.workers made.replica.preserve) }
 {
-    let (schema, base) = (schema(alloc)?, Batch::new(alloc));
+    let (schema, base, parts) = (schema(alloc)?, Batch::new(alloc), parts(alloc));
     let identifier = Uuid::from_bytes(SOURCE);
-    match pair_of(alloc, schema, identifier, &base, LIMIT, 2, parts(alloc))? {
+    match pair_of(alloc, schema, identifier, &base, LIMIT, 2, true, parts)? {
         Some(sides) => Ok(sides),
         None => Err(LogFault::OutOfTurn),
     }
@@ -113,8 +115,25 @@ pub fn sides(alloc: Global) -> Result<InMemory, LogFault>
 pub fn world(alloc: Global) -> Result<InOne<BTreeStore, CommitOrder>, LogFault>
     ensures { IfOk result (λ world. IsWorld (λ rows. rows) (seen world)) }
 {
+    world_in_memory(alloc, true)
+}
+
+/// The same, whose replica commits in the order in which jobs are finished.
+pub fn unordered_world(alloc: Global) -> Result<InOne<BTreeStore, CommitOrder>, LogFault>
+    ensures { IfOk result (λ world. IsWorld (λ rows. rows) (seen world)) }
+{
+    world_in_memory(alloc, false)
+}
+
+fn world_in_memory(
+    alloc: Global,
+    preserve: bool,
+) -> Result<InOne<BTreeStore, CommitOrder>, LogFault>
+    ensures { IfOk result (λ world. IsWorld (λ rows. rows) (seen world)) }
+{
     let (schema, base) = (schema(alloc)?, Batch::new(alloc));
-    world_of(alloc, schema, base, 2, parts(alloc), BTreeStore::new(alloc))
+    let (parts, shown) = (parts(alloc), BTreeStore::new(alloc));
+    world_of(alloc, schema, base, 2, preserve, parts, shown)
 }
 
 /// A parent.
@@ -174,7 +193,8 @@ fn world_by_rows(
         tracker: WriteSetTracker::with_limit(alloc, 25_000)?,
         device: MemoryDevice::new(alloc),
     };
-    world_of(alloc, schema, base, workers, parts, VectorStore::new(alloc))
+    let shown = VectorStore::new(alloc);
+    world_of(alloc, schema, base, workers, true, parts, shown)
 }
 
 /// Both sides of these parts as one world, whose readers see the rows in a store of their own.
@@ -183,6 +203,7 @@ fn world_of<S: RowStore + Drop, T: Tracker + Drop>(
     schema: Schema,
     base: Batch,
     workers: usize,
+    preserve: bool,
     parts: PairParts<S, T, MemoryDevice>,
     shown: S,
 ) -> Result<InOne<S, T>, LogFault>
@@ -195,7 +216,9 @@ fn world_of<S: RowStore + Drop, T: Tracker + Drop>(
     ensures { IfOk result (λ world. IsWorld S.contents (seen world)) }
 {
     let identifier = Uuid::from_bytes(SOURCE);
-    match pair_of(alloc, schema, identifier, &base, LIMIT, workers, parts)? {
+    match pair_of(
+        alloc, schema, identifier, &base, LIMIT, workers, preserve, parts,
+    )? {
         Some(sides) => Ok(sides.into_world(alloc, base, shown)?),
         None => Err(LogFault::OutOfTurn),
     }

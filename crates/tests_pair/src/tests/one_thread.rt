@@ -81,7 +81,7 @@ fn over_source<J: SourceNaming + Send + Sync, R: Threads + Wait + Abort + Sync>(
     requires core { core ≡ new_source core.tables core.base core.limit core.kind }
     requires log { IsNew log.log }
     requires named { (core.base ≡ J.base) × (core.tables ≡ J.tables) × (receipts ≡ J.book) }
-    requires replica { replica ≡ new_over replica.tables replica.source replica.base replica.workers }
+    requires replica { replica ≡ new_over replica.tables replica.source replica.base replica.workers replica.preserve }
 {
     let source: Source<J> = SharedSource::new(alloc, core, log, receipts)?;
     let publication = published::Beginning::of(replica.base().copy()?);
@@ -104,12 +104,15 @@ where
     J: SourceNaming + Send + Sync,
     K: ReplicaNaming + Send + Sync,
     R: Threads + Wait + Abort + Sync,
-    requires core { core ≡ new_over core.tables core.source core.base core.workers }
+    requires core { core ≡ new_over core.tables core.source core.base core.workers core.preserve }
     requires named { (core.tables ≡ K.tables) × (core.source ≡ K.source) × (core.base ≡ K.base) }
     requires publication { (publication.base ≡ core.base) × (publication.book ≡ K.book) }
+    requires order { core.preserve ≡ K.preserve }
 {
     let (first, second) = (BTreeStore::new(alloc), BTreeStore::new(alloc));
-    let (publisher, seats) = open::<_, K, R, LeftRight>(rt, alloc, publication, first, second, 1)?;
+    let preserve = core.preserve();
+    let opened = open::<_, K, R, LeftRight>(rt, alloc, publication, preserve, first, second, 1)?;
+    let (publisher, seats) = opened;
     let replica: Replica<K> = SharedReplica::new(rt, alloc, core, publisher, seats)?;
     let met = Rig {
         rt,
@@ -254,6 +257,7 @@ where
         let both = Answer {
             row: Some(columns(7, 6)),
             upto: 2,
+            more: 0,
         };
         assert_eq!(self.rt; reader.read(row(10)), Some(both));
         self.shows_all(2);

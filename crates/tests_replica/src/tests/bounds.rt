@@ -4,7 +4,7 @@ use crate::tests::makers::{
     Entry, Replica, greatest, insert_of, replica, replica_of, row, rows_of_greatest, wide_id,
 };
 use crate::tests::steps::{
-    accepts, commits, dispatch, executed, finishes, job, passes, publishes, runs, stored, waiting,
+    accepts, commits, dispatch, finishes, passes, publishes, results_of, runs, stored, waiting,
 };
 use btree_store::BTreeStore;
 use executor::JobResult;
@@ -16,16 +16,11 @@ use std::test::Fail;
 use store_trait::RowStore;
 
 /// The results of the records 1 to 64, which are received and dispatched; record 65 waits for a worker.
-fn all_busy(
+pub fn all_busy(
     rt: &(impl Abort + AllocGlobal),
     replica: &mut Replica,
 ) -> Result<Vec<JobResult>, Fail> {
-    let mut results = Vec::new(rt.alloc());
-    for gno in 1..65 {
-        accepts(rt, replica, &insert_of(rt.alloc(), gno, gno as i64)?);
-        let done = executed(rt.alloc(), job(rt, replica, gno)?);
-        results.push(done)?;
-    }
+    let results = results_of(rt, replica, 64)?;
     accepts(rt, replica, &insert_of(rt.alloc(), 65, 65)?);
     assert!(rt; dispatch(replica)?.is_none());
     Ok(results)

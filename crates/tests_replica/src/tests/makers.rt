@@ -104,6 +104,24 @@ pub fn rows_of_greatest(alloc: Global, wide: Option<i64>) -> Result<Batch, Memor
 }
 
 /// A new replica of these tables and rows.
+fn new_replica(
+    alloc: Global,
+    schema: Schema,
+    store: BTreeStore,
+    workers: usize,
+    preserve: bool,
+) -> Result<Replica, Memory>
+    requires some { 1 ≤ workers }
+    requires few { workers ≤ 64 }
+{
+    if fits(&schema, &store) {
+        ReplicaCore::new(alloc, schema, source(), store, workers, preserve)
+    } else {
+        Err(Memory)
+    }
+}
+
+/// A new replica of these tables and rows, which commits in the order of the log.
 pub fn replica_over(
     alloc: Global,
     schema: Schema,
@@ -113,14 +131,10 @@ pub fn replica_over(
     requires some { 1 ≤ workers }
     requires few { workers ≤ 64 }
 {
-    if fits(&schema, &store) {
-        ReplicaCore::new(alloc, schema, source(), store, workers)
-    } else {
-        Err(Memory)
-    }
+    new_replica(alloc, schema, store, workers, true)
 }
 
-/// A new replica of these rows.
+/// The same of these rows.
 pub fn replica_of(alloc: Global, store: BTreeStore, workers: usize) -> Result<Replica, Memory>
     requires some { 1 ≤ workers }
     requires few { workers ≤ 64 }
@@ -128,10 +142,26 @@ pub fn replica_of(alloc: Global, store: BTreeStore, workers: usize) -> Result<Re
     replica_over(alloc, schema(alloc)?, store, workers)
 }
 
-/// A new replica of no rows.
+/// The same of no rows.
 pub fn replica(alloc: Global, workers: usize) -> Result<Replica, Memory>
     requires some { 1 ≤ workers }
     requires few { workers ≤ 64 }
 {
     replica_of(alloc, BTreeStore::new(alloc), workers)
+}
+
+/// A new replica of these tables and no rows, which commits in the order in which jobs are finished.
+pub fn unordered_over(alloc: Global, schema: Schema, workers: usize) -> Result<Replica, Memory>
+    requires some { 1 ≤ workers }
+    requires few { workers ≤ 64 }
+{
+    new_replica(alloc, schema, BTreeStore::new(alloc), workers, false)
+}
+
+/// The same of the tables of `schema`.
+pub fn unordered(alloc: Global, workers: usize) -> Result<Replica, Memory>
+    requires some { 1 ≤ workers }
+    requires few { workers ≤ 64 }
+{
+    unordered_over(alloc, schema(alloc)?, workers)
 }

@@ -1,25 +1,76 @@
-//! The low-water mark of transactions that are committed out of turn.
+//! The low-water mark of transactions that are committed out of turn, and the places of those behind it.
 
-use scheduler::Scheduler;
+use scheduler::{AHEAD, Scheduler};
+use std::process::Abort;
+
+/// The transaction of this number is committed: one of those behind the mark for which there is a place.
+fn commit(rt: &impl Abort, scheduler: &mut Scheduler, gno: u64) {
+    let low = scheduler.low_water();
+    let is_near = low < gno && gno - low <= 4096;
+    assert!(rt; is_near, "{gno} behind {low}");
+    scheduler.committed(gno);
+}
+
+/// Commits those from the first number up to the last.
+fn commit_all(rt: &impl Abort, scheduler: &mut Scheduler, first: u64, last: u64) {
+    for gno in first..=last {
+        commit(rt, scheduler, gno);
+    }
+}
+
+/// Whether records of these numbers and parents may be executed.
+fn eligible(scheduler: &Scheduler, records: [(u64, u64); 2]) -> [bool; 2] {
+    records.map(|(gno, parent)| scheduler.eligible(gno, parent))
+}
+
+/// Whether the transactions of these numbers are committed.
+fn committed(scheduler: &Scheduler, gnos: [u64; 2]) -> [bool; 2] {
+    gnos.map(|gno| scheduler.is_committed(gno))
+}
 
 /// A definition by which the mark counts what is committed, or passes over a gap.
 #[test]
 fn a_gap_holds_the_mark(rt: HostRuntime) {
     let mut scheduler = Scheduler::new();
-    assert_eq!(rt;
-        (scheduler.eligible(0), scheduler.eligible(1)),
-        (true, false)
-    );
-    scheduler.committed(2);
-    scheduler.committed(3);
-    scheduler.committed(5);
-    assert_eq!(rt; (scheduler.low_water(), scheduler.eligible(2)), (0, false));
-    scheduler.committed(1);
+    assert_eq!(rt; eligible(&scheduler, [(1, 0), (2, 1)]), [true, false]);
+    commit(&rt, &mut scheduler, 2);
+    commit(&rt, &mut scheduler, 3);
+    commit(&rt, &mut scheduler, 5);
+    assert_eq!(rt; scheduler.low_water(), 0);
+    assert_eq!(rt; eligible(&scheduler, [(6, 0), (6, 2)]), [true, false]);
+    commit(&rt, &mut scheduler, 1);
     assert_eq!(rt; scheduler.low_water(), 3);
-    assert_eq!(rt;
-        (scheduler.eligible(3), scheduler.eligible(4)),
-        (true, false)
-    );
-    scheduler.committed(4);
+    assert_eq!(rt; eligible(&scheduler, [(6, 3), (6, 4)]), [true, false]);
+    commit(&rt, &mut scheduler, 4);
     assert_eq!(rt; scheduler.low_water(), 5);
+}
+
+/// A definition by which there is a place too few or too many, or by which one number is committed with another that has its place.
+#[test]
+fn there_are_4096_places(rt: HostRuntime) {
+    assert_eq!(rt; AHEAD, 4096);
+    let mut scheduler = Scheduler::new();
+    assert_eq!(rt; eligible(&scheduler, [(4096, 0), (4097, 0)]), [true, false]);
+    commit(&rt, &mut scheduler, 4096);
+    assert_eq!(rt; committed(&scheduler, [4096, 8192]), [true, false]);
+    commit(&rt, &mut scheduler, 1);
+    assert_eq!(rt; eligible(&scheduler, [(4097, 1), (4098, 1)]), [true, false]);
+    commit(&rt, &mut scheduler, 4097);
+    assert_eq!(rt; committed(&scheduler, [4097, 2]), [true, false]);
+    assert_eq!(rt; scheduler.low_water(), 1);
+}
+
+/// A mark that stays within a gap that closed, or places that stay taken once it passed them.
+#[test]
+fn the_mark_passes_4095_at_once(rt: HostRuntime) {
+    let mut scheduler = Scheduler::new();
+    commit_all(&rt, &mut scheduler, 2, 4096);
+    assert_eq!(rt; scheduler.low_water(), 0);
+    commit(&rt, &mut scheduler, 1);
+    assert_eq!(rt; scheduler.low_water(), 4096);
+    assert_eq!(rt; committed(&scheduler, [4097, 8192]), [false, false]);
+    assert_eq!(rt;
+        eligible(&scheduler, [(8192, 4096), (8193, 4096)]),
+        [true, false]
+    );
 }

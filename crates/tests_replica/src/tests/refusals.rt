@@ -172,21 +172,23 @@ fn handed_job(
     }
 }
 
-/// Each call but those that only look at the replica is refused for the stop: the record of this job, and a result of a number that
-/// was not dispatched, among them.
-fn is_stopped(
+/// Each call but those that only look at the replica is refused for the stop at this number: the record of this job, and a result of
+/// a number that was not dispatched, among them.
+pub fn refuses_all(
     rt: &(impl Abort + AllocGlobal),
     replica: &mut Replica,
     job: Job,
+    at: u64,
 ) -> Result<(), Memory> {
-    let stopped = ReplicaFault::Stopped(1);
+    let stopped = ReplicaFault::Stopped(at);
     assert_eq!(rt; receive(replica, &job.rec), Err(stopped));
     assert_eq!(rt; dispatch(replica).err(), Some(stopped));
     assert_eq!(rt; commit_next(replica), Err(stopped));
-    publishes(rt, replica, 0, Err(stopped));
+    let committed = replica.committed();
+    publishes(rt, replica, committed, Err(stopped));
     assert_eq!(rt; replica.executed().err(), Some(stopped));
     hands_in(rt, replica, Ok(Job { gno: 5, ..job }), Err(stopped))?;
-    assert_eq!(rt; (replica.stopped(), replica.pending().len()), (Some(1), 0));
+    assert_eq!(rt; replica.stopped(), Some(at));
     Ok(())
 }
 
@@ -204,7 +206,8 @@ fn is_answered(
         let job = handed_job(rt, replica, handed, job)?;
         hands_in(rt, replica, job.copy(), Err(fault))?;
         if replica.stopped().is_some() {
-            is_stopped(rt, replica, job)?;
+            refuses_all(rt, replica, job, 1)?;
+            assert_eq!(rt; replica.pending().len(), 0);
         }
     }
     Ok(())

@@ -1,7 +1,7 @@
 //! The calls of a replica with what they are to answer. Each call stands in a function of its own, and a test lends its
 //! replica to the functions that do the steps: so few ways out of a test drop one.
 
-use crate::tests::makers::{Replica, id};
+use crate::tests::makers::{Replica, id, insert_of};
 use executor::{Job, JobResult, Outcome, execute};
 use record_codec::Record;
 use relay::{Received, ReplicaFault};
@@ -115,6 +115,21 @@ pub fn runs(rt: &(impl Abort + AllocGlobal), replica: &mut Replica, gno: u64) ->
     Ok(())
 }
 
+/// The results of so many inserts, from record 1 on, each of the row whose key is its number; all are received and dispatched.
+pub fn results_of(
+    rt: &(impl Abort + AllocGlobal),
+    replica: &mut Replica,
+    count: u64,
+) -> Result<Vec<JobResult>, Fail> {
+    let mut results = Vec::new(rt.alloc());
+    for gno in 1..=count {
+        accepts(rt, replica, &insert_of(rt.alloc(), gno, gno.cast_signed())?);
+        let done = executed(rt.alloc(), job(rt, replica, gno)?);
+        results.push(done)?;
+    }
+    Ok(results)
+}
+
 /// The record is received, dispatched, finished and committed.
 pub fn passes(
     rt: &(impl Abort + AllocGlobal),
@@ -124,6 +139,13 @@ pub fn passes(
     accepts(rt, replica, next);
     runs(rt, replica, next.gno)?;
     commits(rt, replica, Some(next.gno));
+    Ok(())
+}
+
+/// The ids of what is committed are these.
+pub fn tells(rt: &(impl Abort + AllocGlobal), replica: &Replica, ids: &str) -> Result<(), Fail> {
+    let told = replica.executed()?;
+    assert_eq!(rt; format!(in rt.alloc(); "{told}")?.as_str(), ids);
     Ok(())
 }
 

@@ -4,6 +4,6 @@ use Rattle.tests_threads.proofs.replicas.has_run.Given as goal
 abbrev pub ghosts-run_over-J-ReplicaNaming : goal.ghosts-run_over-J-ReplicaNaming
 ghosts-run_over-J-ReplicaNaming g a = record { tables = a.core.tables; source = a.core.source; base = a.core.base }
 
--- the publication that just began
+-- the publication that just began, and whether the core keeps the order of the log
 abbrev pub ghosts-run_over-J-Naming : goal.ghosts-run_over-J-Naming
-ghosts-run_over-J-Naming g a = record { book = a.beginning.book }
+ghosts-run_over-J-Naming g a = record { book = a.beginning.book; preserve = a.core.preserve }
