@@ -1,5 +1,6 @@
 -- The rows of a table above a key, as a range of an ordered map.
-use Rattle.std.proofs.Common.{◌≡◌, ◌∙◌, sym, ap, refl, subst, ℕ, ◌≤◌, ◌<◌, ℤ, pos, negsuc, ◌<ℤ◌, false, List, [], ◌∷◌, Option, Some, None, is_some, IsSome, IfSome, FitsSigned, w64, BTreeMap, Ordering, Less, Equal, Greater, is_gt, nat_cmp, int_cmp, true≢false, arith, ⊎_elim, slice_get}
+use Rattle.std.proofs.Common.{◌≡◌, ◌∙◌, sym, ap, refl, subst, ℕ, ◌≤◌, ◌<◌, ℤ, pos, negsuc, ◌<ℤ◌, false, List, [], ◌∷◌, Option, Some, None, is_some, IsSome, IfSome, FitsSigned, w64, BTreeMap, Ordering}
+use Rattle.std.proofs.Common.{Less, Equal, Greater, is_gt, nat_cmp, int_cmp, true≢false, arith, ⊎_elim, slice_get}
 use Rattle.std.specs.BTreeMap as tree
 use Rattle.std.specs.BTreeMap.Range.{IsInRange, IsRangeOf, IsEntryInRange, IsLeBy}
 use Rattle.std.specs.declared.ops.Bound.{Bound}
@@ -73,7 +74,8 @@ range_table table (Some bound) id within =
     let high = tables_rise id (row_at table (pos 9223372036854775807)) within.1 in
     ⊎_elim {C = (id.table ≡ table) × (bound <ℤ id.key)} (λ lt. absurd (omega arith)) (λ at. (sym at.0, at.1)) (lesser_row (row_at table bound) id within.0)
 
-module _ (m : BTreeMap RowId (List ℤ)) (table : ℕ) (above : Option ℤ) (r : List (RowId × List ℤ)) (range : IsRangeOf row_cmp (start_of table above) (end_of table) m r) (fit : KeysFit (contents_of m)) where
+module _ (m : BTreeMap RowId (List ℤ)) (table : ℕ) (above : Option ℤ) (r : List (RowId × List ℤ)) (range : IsRangeOf row_cmp (start_of table above) (end_of table) m r)
+    (fit : KeysFit (contents_of m)) where
   -- an empty range leaves no row
   pub none_next : r ≡ [] → NoneAbove (contents_of m) table above
   none_next empty = λ key is. at key is (get (contents_of m) (row_at table key)) refl

@@ -1,5 +1,6 @@
 -- The steps in which a batch is put.
-use Rattle.std.proofs.Common.{◌≡◌, ◌∙◌, sym, ap, refl, subst, ℕ, zero, suc, ◌+◌, ◌<◌, ℤ, Bool, true, false, cond, List, [], ◌∷◌, ◌++◌, length, get_or, take, drop, Option, Some, None, is_some, IsSome, IfSome, unwrap_or, FitsSigned, w64, arith, add-one, drop-cons, is_eq, is_lt}
+use Rattle.std.proofs.Common.{◌≡◌, ◌∙◌, sym, ap, refl, subst, ℕ, zero, suc, ◌+◌, ◌<◌, ℤ, Bool, true, false, cond, List, [], ◌∷◌, ◌++◌, length, get_or, take, drop, Option, Some, None, is_some, IsSome}
+use Rattle.std.proofs.Common.{IfSome, unwrap_or, FitsSigned, w64, arith, add-one, drop-cons, is_eq, is_lt}
 use Rattle.std.specs.List.{AllByRecursion}
 use Rattle.std.specs.FinMap.{get, find, insert, remove, get-insert, get-remove, same_map, is_sorted}
 use Rattle.std.specs.Cmp.{tied_itself, eq_by_cmp_equiv}
@@ -127,7 +128,8 @@ module _ (es : List Entry) (i : ℕ) (first now : Database) (before after : List
   }
 
   -- an entry that sets its row
-  pub filling_on : (id : RowId) (columns : List ℤ) (next : Database) (kept : List Entry) → IsRising es → (id, Some columns) ≡ get_or es i (id, Some columns) → undo kept next ≡ undo after now → next ≡ insert now id columns → Filling es (i + 1) first next before kept
+  pub filling_on : (id : RowId) (columns : List ℤ) (next : Database) (kept : List Entry) → IsRising es → (id, Some columns) ≡ get_or es i (id, Some columns) → undo kept next ≡ undo after now →
+      next ≡ insert now id columns → Filling es (i + 1) first next before kept
   filling_on id columns next kept rising is undone put =
       let found : IsSome (find row_cmp id es) = ap (λ (e : Entry). is_some (find row_cmp e.0 es)) is ∙ found_at es i (id, Some columns) within in
       let apart : AreApart id (take i es) = subst (λ (e : Entry). AreApart e.0 (take i es)) (sym is) (apart_before es i (id, Some columns) rising within) in
@@ -161,7 +163,8 @@ AreSet-put_row db id columns ((row, Some left) ∷ es) below h =
 keys-push : (es : List Entry) (e : Entry) → AllByRecursion (λ (f : Entry). FitsSigned w64 f.0.key) es → FitsSigned w64 e.0.key → AllByRecursion (λ (f : Entry). FitsSigned w64 f.0.key) (es ++ e ∷ [])
 keys-push es e h last = AllByRecursion-push (λ (f : Entry). FitsSigned w64 f.0.key) es e h last
 
-module _ (es : List Entry) (i : ℕ) (first now : Database) (h : Setting es i first now) (within : i < length es) (id : RowId) (columns : Option (List ℤ)) (is : (id, columns) ≡ get_or es i (id, columns)) where
+module _ (es : List Entry) (i : ℕ) (first now : Database) (h : Setting es i first now) (within : i < length es) (id : RowId) (columns : Option (List ℤ))
+    (is : (id, columns) ≡ get_or es i (id, columns)) where
   rest_is : drop i es ≡ (id, columns) ∷ drop (i + 1) es
   rest_is = drop-cons es i (id, columns) within ∙ rw (← is, add-one) refl
 

@@ -11,7 +11,8 @@ use Rattle.commit_stages.specs.Queues.{line_of, is_waiting, IsSession, IsOrderly
 use Rattle.commit_stages.specs.Line.{queues_in, IsLine, AreGroups}
 use Rattle.commit_stages.proofs.Parts.{line-of_parts}
 
-pub orderly : (line : List ℕ) (sync_from flush_from capacity : ℕ) (sizes : List ℕ) (room : ℕ) → IsLine line sync_from flush_from capacity × AreGroups sizes sync_from flush_from room → IsOrderly (queues_in line sync_from flush_from sizes)
+pub orderly : (line : List ℕ) (sync_from flush_from capacity : ℕ) (sizes : List ℕ) (room : ℕ) → IsLine line sync_from flush_from capacity × AreGroups sizes sync_from flush_from room →
+    IsOrderly (queues_in line sync_from flush_from sizes)
 orderly line sync_from flush_from capacity sizes room (is, groups) =
     let whole : line_of (queues_in line sync_from flush_from sizes) ≡ line = line-of_parts line sync_from flush_from sizes is.in_order in
     record {
@@ -28,7 +29,8 @@ flipped (first ∷ line) session = ap (λ b. b || list_any (λ y. nat_eq y sessi
     turned : (a b : ℕ) → nat_eq a b ≡ eqb b a
     turned a b = grind (arith, nat_tests)
 
-pub found : (line : List ℕ) (sync_from flush_from : ℕ) (sizes : List ℕ) (session : ℕ) → sync_from ≤ flush_from → list_any (λ y. nat_eq y session) line ≡ is_waiting (queues_in line sync_from flush_from sizes) session
+pub found : (line : List ℕ) (sync_from flush_from : ℕ) (sizes : List ℕ) (session : ℕ) → sync_from ≤ flush_from →
+    list_any (λ y. nat_eq y session) line ≡ is_waiting (queues_in line sync_from flush_from sizes) session
 found line sync_from flush_from sizes session h = flipped line session ∙ ap (λ l. list_any (eqb session) l) (sym (line-of_parts line sync_from flush_from sizes h))
 
 -- ---- one more session
@@ -65,7 +67,8 @@ few line all distinct =
           | inr apart ↦ let both = is_session_of line all q (rw apart.0 at e) in omega (arith, both.1)
         ]
 
-module _ (line : List ℕ) (sync_from flush_from capacity : ℕ) (sizes : List ℕ) (session : ℕ) (is : IsLine line sync_from flush_from capacity) (one : IsSession session) (free : is_waiting (queues_in line sync_from flush_from sizes) session ≡ false) where
+module _ (line : List ℕ) (sync_from flush_from capacity : ℕ) (sizes : List ℕ) (session : ℕ) (is : IsLine line sync_from flush_from capacity) (one : IsSession session)
+    (free : is_waiting (queues_in line sync_from flush_from sizes) session ≡ false) where
   absent : list_any (eqb session) line ≡ false
   absent = ap (λ l. list_any (eqb session) l) (sym (line-of_parts line sync_from flush_from sizes is.in_order)) ∙ free
 
@@ -101,7 +104,8 @@ distinct-drop zero line distinct = distinct
 distinct-drop (suc n) [] distinct = distinct
 distinct-drop (suc n) (first ∷ line) distinct = distinct-drop n line (IsDistinct-tail eqb first line distinct)
 
-pub committed_line : (line : List ℕ) (sync_from flush_from capacity : ℕ) → IsLine line sync_from flush_from capacity → (less : List ℕ) (now : ℕ) → less ≡ drop sync_from line → now ≡ capacity → IsLine less 0 (flush_from - sync_from) now
+pub committed_line : (line : List ℕ) (sync_from flush_from capacity : ℕ) → IsLine line sync_from flush_from capacity → (less : List ℕ) (now : ℕ) → less ≡ drop sync_from line → now ≡ capacity →
+    IsLine less 0 (flush_from - sync_from) now
 committed_line line sync_from flush_from capacity is less now less_is kept = record {
   in_order = omega arith;
   within = omega (arith, is.within, length-drop sync_from line, ap length less_is);

@@ -64,11 +64,13 @@ first_size (size ∷ sizes) rest None is less = absurd (omega (arith, ap (λ (l 
 -- ---- the groups of a line
 
 -- the sizes with that of the flush queue
-pub sizes_are : (line : List ℕ) (flush_from long : ℕ) → long ≡ length line → (sizes now : List ℕ) → now ≡ sizes ++ (if nat_lt 0 (long - flush_from) then (long - flush_from) ∷ [] else []) → now ≡ sizes ++ sizes_of (drop flush_from line)
+pub sizes_are : (line : List ℕ) (flush_from long : ℕ) → long ≡ length line → (sizes now : List ℕ) → now ≡ sizes ++ (if nat_lt 0 (long - flush_from) then (long - flush_from) ∷ [] else []) →
+    now ≡ sizes ++ sizes_of (drop flush_from line)
 sizes_are line flush_from long long_is sizes now is =
     is ∙ ap (λ n. sizes ++ (if nat_lt 0 n then n ∷ [] else [])) (ap (λ n. n - flush_from) long_is ∙ sym (length-drop flush_from line))
 
-pub size_room : (line : List ℕ) (sync_from flush_from capacity : ℕ) (sizes : List ℕ) (room long count : ℕ) → IsLine line sync_from flush_from capacity → AreGroups sizes sync_from flush_from room → long ≡ length line → count ≡ length sizes →
+pub size_room : (line : List ℕ) (sync_from flush_from capacity : ℕ) (sizes : List ℕ) (room long count : ℕ) → IsLine line sync_from flush_from capacity → AreGroups sizes sync_from flush_from room →
+    long ≡ length line → count ≡ length sizes →
     0 < long - flush_from → count < room
 size_room line sync_from flush_from capacity sizes room long count is groups long_is count_is some =
     let few_sessions = few line is.sessions is.distinct in
@@ -86,7 +88,8 @@ flushed_parts line sync_from flush_from capacity sizes room both to to_is now no
 )
 
 pub synced_parts : (line : List ℕ) (sync_from flush_from capacity : ℕ) (sizes : List ℕ) (room : ℕ) → IsLine line sync_from flush_from capacity × AreGroups sizes sync_from flush_from room →
-    (count : ℕ) → count ≡ slice_index_or sizes 0 0 → (now : List ℕ) → now ≡ drop 1 sizes → (kept : ℕ) → kept ≡ room → IsLine line (sync_from + count) flush_from capacity × AreGroups now (sync_from + count) flush_from kept
+    (count : ℕ) → count ≡ slice_index_or sizes 0 0 → (now : List ℕ) → now ≡ drop 1 sizes → (kept : ℕ) → kept ≡ room →
+    IsLine line (sync_from + count) flush_from capacity × AreGroups now (sync_from + count) flush_from kept
 synced_parts line sync_from flush_from capacity sizes room both count count_is now now_is kept same =
     let is = both.0 in
     let groups = both.1 in

@@ -10,7 +10,8 @@
 
 ghost use Rattle.std.specs.Prelude.{◌≡◌, ◌≤◌, ◌<◌, ◌++◌, ◌∷◌, [], nat_lt, if◌then◌else◌, false, length, IfOk};
 ghost use Rattle.std.specs.VecDeque.{deque_len, deque_capacity};
-ghost use Rattle.commit_stages.specs.Queues.{no_queues, queue_of, is_waiting, queued, flush_taken, oldest_size, sync_taken, commit_taken, IsOrderly};
+ghost use Rattle.commit_stages.specs.Queues.{no_queues, queue_of, is_waiting, queued, flush_taken, oldest_size, sync_taken, commit_taken};
+ghost use Rattle.commit_stages.specs.Queues.{IsOrderly};
 
 pub mod laws;
 
@@ -56,7 +57,8 @@ impl Model for Stages {
 
     ghost view = { λ s. queues_in s.line.items s.sync_from s.flush_from s.sizes.items };
 
-    ghost invariant = { λ s. IsLine s.line.items s.sync_from s.flush_from (vec_capacity s.line) × AreGroups s.sizes.items s.sync_from s.flush_from (deque_capacity s.sizes) };
+    ghost invariant = { λ s. IsLine s.line.items s.sync_from s.flush_from (vec_capacity s.line)
+        × AreGroups s.sizes.items s.sync_from s.flush_from (deque_capacity s.sizes) };
 }
 
 impl Stages {

@@ -1,5 +1,6 @@
 -- The texts from which intervals are read are those that list them.
-use Rattle.std.proofs.Common.{◌≡◌, ◌≢◌, ◌⊎◌, ◌∙◌, sym, ap, refl, subst, inl, inr, ℕ, ◌+◌, ◌^◌, ◌<◌, ◌≤◌, Bool, true, false, cond, ltb, leb, List, [], ◌∷◌, ◌++◌, length, get_or, take, drop, append_assoc, Option, Some, None, Result, Ok, Err, arith}
+use Rattle.std.proofs.Common.{◌≡◌, ◌≢◌, ◌⊎◌, ◌∙◌, sym, ap, refl, subst, inl, inr, ℕ, ◌+◌, ◌^◌, ◌<◌, ◌≤◌, Bool, true, false, cond, ltb, leb, List, [], ◌∷◌, ◌++◌, length, get_or, take, drop}
+use Rattle.std.proofs.Common.{append_assoc, Option, Some, None, Result, Ok, Err, arith}
 use Rattle.std.specs.Prelude.{IsSome}
 use Rattle.std.specs.Int.{IsInRange}
 use Rattle.std.specs.List.{AllByRecursion, All, slice_split, before_first, after_first, position_or_len, join_with_byte}
@@ -19,7 +20,8 @@ use Rattle.gtid_set.specs.declared.intervals.Interval.{Interval}
 use Rattle.uuid.specs.Text.{parsed_hyphenated}
 use Rattle.gtid_set.specs.Numbers.{IsInterval}
 use Rattle.gtid_set.specs.Ids.{Ids, no_ids}
-use Rattle.gtid_set.specs.Reading.{◌>>=◌, number_at, is_hyphen, is_colon, interval_of, interval_at, intervals_at, IsTextOf, ListIntervals, Lists, ListsSome, ids_at, listed_at, head_at, source_at, behind_colon}
+use Rattle.gtid_set.specs.Reading.{◌>>=◌, number_at, is_hyphen, is_colon, interval_of, interval_at, intervals_at, IsTextOf, ListIntervals, Lists, ListsSome, ids_at, listed_at, head_at, source_at}
+use Rattle.gtid_set.specs.Reading.{behind_colon}
 use Rattle.gtid_set.proofs.NumberTexts.{own, number_spelled, number_again}
 
 pub bind_ok : {A B : Type 0} (r : Result A GtidFault) (f : A → Result B GtidFault) (y : B) → (r >>= f) ≡ Ok y → (x : A) × (r ≡ Ok x) × (f x ≡ Ok y)
@@ -114,7 +116,8 @@ two_again text a b e one le low =
     let before : before_first is_hyphen text ≡ decimal a = ap (λ (k : ℕ). take k text) place ∙ ap (take (length (decimal a))) e ∙ take_at (decimal a) (45 ∷ decimal b) (length (decimal a)) refl in
     let whole : text ≡ (decimal a ++ 45 ∷ []) ++ decimal b = e ∙ sym (append_assoc (decimal a) (45 ∷ []) (decimal b)) in
     let long : length (decimal a ++ 45 ∷ []) ≡ length (decimal a) + 1 = omega (arith, length-append (decimal a) (45 ∷ [])) in
-    let after : after_first is_hyphen text ≡ decimal b = ap (λ (k : ℕ). drop (k + 1) text) place ∙ ap (drop (length (decimal a) + 1)) whole ∙ drop_at (decimal a ++ 45 ∷ []) (decimal b) (length (decimal a) + 1) long in
+    let after : after_first is_hyphen text ≡ decimal b = ap (λ (k : ℕ). drop (k + 1) text) place ∙ ap (drop (length (decimal a) + 1)) whole
+    ∙ drop_at (decimal a ++ 45 ∷ []) (decimal b) (length (decimal a) + 1) long in
     let first : number_at (before_first is_hyphen text) ≡ Ok a = ap number_at before ∙ number_again a one (omega arith) in
     let last : number_at (after_first is_hyphen text) ≡ Ok b = ap number_at after ∙ number_again b (omega arith) low in
     let order : leb a b ≡ true = le-leb a b le in
@@ -149,7 +152,8 @@ no_colon text i t =
     elim t.1 [
       | inl w ↦ subst (λ (l : List ℕ). All (λ b. is_colon b ≡ false) l) (sym w.0) (in_number i.first (omega (arith, t.0.rising, t.0.last)))
       | inr w ↦ subst (λ (l : List ℕ). All (λ b. is_colon b ≡ false) l) (sym w)
-          (All-append (λ b. is_colon b ≡ false) (decimal i.first) (45 ∷ decimal i.last) (in_number i.first (omega (arith, t.0.rising, t.0.last))) (All-cons (λ b. is_colon b ≡ false) 45 (decimal i.last) refl (in_number i.last t.0.last)))
+          (All-append (λ b. is_colon b ≡ false) (decimal i.first) (45 ∷ decimal i.last) (in_number i.first (omega (arith, t.0.rising, t.0.last)))
+          (All-cons (λ b. is_colon b ≡ false) 45 (decimal i.last) refl (in_number i.last t.0.last)))
     ]
   where
     in_number : (n : ℕ) → n < 2 ^ 63 → All (λ b. is_colon b ≡ false) (decimal n)
@@ -221,7 +225,16 @@ some_listed text listed e =
     let head = head_split text a.0 a.1 in
     let list = split_listed a.0.1 b.0 b.1 in
     subst (λ (l : Ids). ListsSome text l) (ok_is (record { source = Some a.0.0; numbers = b.0 }) listed b.2)
-    (record { name = take 36 text; list = drop 36 text; split = sym (take-append-drop 36 text); source = head.0; named = refl; some = list.1; intervals = subst (λ (l : List ℕ). ListIntervals l b.0) (sym head.1) list.0 })
+    (record {
+      name = take 36 text;
+      list = drop 36 text;
+      split = sym (take-append-drop 36 text);
+      source = head.0;
+      named = refl;
+      some = list.1;
+      intervals =
+          subst (λ (l : List ℕ). ListIntervals l b.0) (sym head.1) list.0;
+    })
 
 pub read_listed : (text : List ℕ) (listed : Ids) → ids_at text ≡ Ok listed → Lists text listed
 read_listed [] listed e = inl (refl, sym (ok_is no_ids listed e))

@@ -56,7 +56,8 @@ widened x next last m a b c d e =
       | inr le ↦ let f : last ≡ x.last = omega arith in grind (arith, nat_tests)
     ]
 
-joins_extend : (front : List Interval) (x next : Interval) (last : ℕ) → AreNumbers (front ++ x ∷ []) → IsInterval next → AllByRecursion (λ i. i.first ≤ next.first) (front ++ x ∷ []) → next.first ≤ x.last + 1 → last ≡ max x.last next.last
+joins_extend : (front : List Interval) (x next : Interval) (last : ℕ) → AreNumbers (front ++ x ∷ []) → IsInterval next → AllByRecursion (λ i. i.first ≤ next.first) (front ++ x ∷ []) →
+    next.first ≤ x.last + 1 → last ≡ max x.last next.last
     → Joins (front ++ x ∷ []) (front ++ record { first = x.first; last = last } ∷ []) next
 joins_extend front x next last are is sorted near e =
     let r = rise_back 1 front (x ∷ []) are in
@@ -71,7 +72,8 @@ joins_extend front x next last are is sorted near e =
           ∙ ap (λ (b : Bool). b || is_within next m) (sym (has_one front x m));
     }
 
-pub pushed : (is : List Interval) (kept : ℕ) (next : Interval) → kept < length is → IsInterval next → AreNumbers (take kept is) → AllByRecursion (λ i. i.first ≤ next.first) (take kept is) → end_of 1 (take kept is) ≤ next.first
+pub pushed : (is : List Interval) (kept : ℕ) (next : Interval) → kept < length is → IsInterval next → AreNumbers (take kept is) → AllByRecursion (λ i. i.first ≤ next.first) (take kept is) →
+    end_of 1 (take kept is) ≤ next.first
     → Joins (take kept is) (take (kept + 1) (set is kept next)) next
 pushed is kept next lt i are sorted le =
     subst (λ (l : List Interval). Joins (take kept is) l next) (sym (take_more_set is kept next lt)) (joins_push (take kept is) next are i sorted le)
@@ -94,14 +96,16 @@ kept_set is kept y some lt =
 pub end_last : (is : List Interval) (kept : ℕ) (d : Interval) → 0 < kept → kept < length is → end_of 1 (take kept is) ≡ (get_or is (kept - 1) d).last + 2
 end_last is kept d some lt = ap (end_of 1) (kept_last is kept d some lt) ∙ end_push 1 (take (kept - 1) is) (get_or is (kept - 1) d)
 
-pub extended : (is : List Interval) (kept : ℕ) (next d : Interval) (last : ℕ) → 0 < kept → kept < length is → IsInterval next → AreNumbers (take kept is) → AllByRecursion (λ i. i.first ≤ next.first) (take kept is)
+pub extended : (is : List Interval) (kept : ℕ) (next d : Interval) (last : ℕ) → 0 < kept → kept < length is → IsInterval next → AreNumbers (take kept is) →
+    AllByRecursion (λ i. i.first ≤ next.first) (take kept is)
     → next.first ≤ (get_or is (kept - 1) d).last + 1 → last ≡ max (get_or is (kept - 1) d).last next.last
     → Joins (take kept is) (take kept (set is (kept - 1) (record { first = (get_or is (kept - 1) d).first; last = last }))) next
 extended is kept next d last some lt i are sorted near e =
     let x = get_or is (kept - 1) d in
     let y : Interval = record { first = x.first; last = last } in
     let was = kept_last is kept d some lt in
-    let joins = joins_extend (take (kept - 1) is) x next last (subst (λ (l : List Interval). AreNumbers l) was are) i (subst (λ (l : List Interval). AllByRecursion (λ i. i.first ≤ next.first) l) was sorted) near e in
+    let joins = joins_extend (take (kept - 1) is) x next last (subst (λ (l : List Interval). AreNumbers l) was are) i
+    (subst (λ (l : List Interval). AllByRecursion (λ i. i.first ≤ next.first) l) was sorted) near e in
     subst (λ (l : List Interval). Joins (take kept is) l next) (sym (kept_set is kept y some lt))
     (subst (λ (l : List Interval). Joins l (take (kept - 1) is ++ y ∷ []) next) (sym was) joins)
 
@@ -140,7 +144,8 @@ pub record JoinsOne (new : List Interval) (kept : ℕ) (d : Interval) (after : L
   pub few : count ≤ kept + 1
   pub long : length after ≡ length new
 
-pub one_joined : (old new after : List Interval) (kept count i : ℕ) (d : Interval) → IsNonDecreasingBy (λ x. x.first) old → AreJoined old new kept i → i < length old → JoinsOne new kept (get_or new i d) after count →
+pub one_joined : (old new after : List Interval) (kept count i : ℕ) (d : Interval) → IsNonDecreasingBy (λ x. x.first) old → AreJoined old new kept i → i < length old →
+    JoinsOne new kept (get_or new i d) after count →
     AreJoined old after count (i + 1)
 one_joined old new after kept count i d sorts h lt one =
     let next = next_is old new kept i d h in
@@ -149,7 +154,12 @@ one_joined old new after kept count i d sorts h lt one =
       long = one.long ∙ h.long;
       are = one.joins.are;
       sorted = λ j e le below.
-          let up : (get_or new i d).first ≤ (get_or old j e).first = omega (arith, ap (λ (x : Interval). x.first) next, ap (λ (x : Interval). x.first) (get_or_default old i d e lt), sorts i j e (omega arith) below) in
+          let up : (get_or new i d).first ≤ (get_or old j e).first = omega (
+            arith,
+            ap (λ (x : Interval). x.first) next,
+            ap (λ (x : Interval). x.first) (get_or_default old i d e lt),
+            sorts i j e (omega arith) below,
+          ) in
           sorted_more (get_or new i d).first (get_or old j e).first (take count after) up one.joins.sorted;
       have = λ m.
           one.joins.have m ∙ ap (λ (b : Bool). b || is_within (get_or new i d) m) (h.have m) ∙ ap (λ (x : Interval). has_number (take i old) m || is_within x m) next

@@ -21,15 +21,18 @@ regroup : (front : List Interval) (i : Interval) (read : Result (List Interval) 
 regroup front i (Ok is) = ap (λ (l : List Interval). Ok l) (sym (append_assoc front (i ∷ []) is))
 regroup front i (Err fault) = refl
 
-pub goes_on : (texts : List (List ℕ)) (k : ℕ) (front : List Interval) (text : List ℕ) (i : Interval) (total : Result (List Interval) GtidFault) → k < length texts → text ≡ get_or texts k text → Ok i ≡ interval_at text
+pub goes_on : (texts : List (List ℕ)) (k : ℕ) (front : List Interval) (text : List ℕ) (i : Interval) (total : Result (List Interval) GtidFault) → k < length texts → text ≡ get_or texts k text →
+    Ok i ≡ interval_at text
     → with_front front (intervals_at (drop k texts)) ≡ total → with_front (front ++ i ∷ []) (intervals_at (drop (k + 1) texts)) ≡ total
 unfolding intervals_at
 goes_on texts k front text i total lt at read so_far =
     let next : drop k texts ≡ text ∷ drop (k + 1) texts = drop_more texts k text lt ∙ ap (λ (t : List ℕ). t ∷ drop (k + 1) texts) (sym at) in
-    let one : with_front front (intervals_at (drop k texts)) ≡ with_front (front ++ i ∷ []) (intervals_at (drop (k + 1) texts)) = rw (next, ← read) (regroup front i (intervals_at (drop (k + 1) texts))) in
+    let one : with_front front (intervals_at (drop k texts)) ≡ with_front (front ++ i ∷ []) (intervals_at (drop (k + 1) texts)) =
+    rw (next, ← read) (regroup front i (intervals_at (drop (k + 1) texts))) in
     sym one ∙ so_far
 
-pub ends : (texts : List (List ℕ)) (k : ℕ) (front : List Interval) (text : List ℕ) (fault : GtidFault) (total : Result (List Interval) GtidFault) → k < length texts → text ≡ get_or texts k text → Err fault ≡ interval_at text
+pub ends : (texts : List (List ℕ)) (k : ℕ) (front : List Interval) (text : List ℕ) (fault : GtidFault) (total : Result (List Interval) GtidFault) → k < length texts → text ≡ get_or texts k text →
+    Err fault ≡ interval_at text
     → with_front front (intervals_at (drop k texts)) ≡ total → Fails fault total
 unfolding intervals_at
 ends texts k front text fault total lt at read so_far =
@@ -37,7 +40,8 @@ ends texts k front text fault total lt at read so_far =
     let one : with_front front (intervals_at (drop k texts)) ≡ Err fault = rw (next, ← read) refl in
     Fails-is fault total (sym so_far ∙ one)
 
-pub is_done : (texts : List (List ℕ)) (k : ℕ) (front : List Interval) (total : Result (List Interval) GtidFault) → length texts ≤ k → with_front front (intervals_at (drop k texts)) ≡ total → total ≡ Ok front
+pub is_done : (texts : List (List ℕ)) (k : ℕ) (front : List Interval) (total : Result (List Interval) GtidFault) → length texts ≤ k → with_front front (intervals_at (drop k texts)) ≡ total →
+    total ≡ Ok front
 unfolding intervals_at
 is_done texts k front total le so_far =
     let one : with_front front (intervals_at (drop k texts)) ≡ Ok front = rw (drop_all k texts le) (ap (λ (l : List Interval). Ok l) (append-nil front)) in

@@ -1,5 +1,6 @@
 -- The texts of numbers are those that `decimal` writes, and what `parse` reads of them.
-use Rattle.std.proofs.Common.{◌≡◌, ◌≢◌, ◌∙◌, sym, ap, refl, ℕ, ◌^◌, ◌<◌, ◌≤◌, Bool, true, false, not, cond, ◌&&◌, eqb, ltb, List, [], ◌∷◌, length, get_or, Result, Ok, Err, OkIff, arith, rules, zero, suc}
+use Rattle.std.proofs.Common.{◌≡◌, ◌≢◌, ◌∙◌, sym, ap, refl, ℕ, ◌^◌, ◌<◌, ◌≤◌, Bool, true, false, not, cond, ◌&&◌, eqb, ltb, List, [], ◌∷◌, length, get_or, Result, Ok, Err, OkIff, arith, rules, zero}
+use Rattle.std.proofs.Common.{suc}
 use Rattle.std.specs.Char.{is_ascii_digit}
 use Rattle.std.specs.List.{list_all}
 use Rattle.std.specs.Str.Parse.{digits_value, ParsesUnsigned}
@@ -78,10 +79,12 @@ pub no_number : (text : List ℕ) → is_number text ≡ false → number_at tex
 unfolding number_at
 no_number text e = rw e refl
 
-parsed_value : {E : Type 0} (text : List ℕ) (r : Result ℕ E) → ParsesUnsigned 64 10 text r → is_number text ≡ true → OkIff r ((0 < length text) × (digits_value 10 text < 2 ^ 64)) (digits_value 10 text)
+parsed_value : {E : Type 0} (text : List ℕ) (r : Result ℕ E) → ParsesUnsigned 64 10 text r → is_number text ≡ true →
+    OkIff r ((0 < length text) × (digits_value 10 text < 2 ^ 64)) (digits_value 10 text)
 parsed_value text r h e = parse_digits own 64 text r h (plain_from_test text e).digits
 
-pub number_parsed : {E : Type 0} (text : List ℕ) (r : Result ℕ E) (n : ℕ) → ParsesUnsigned 64 10 text r → is_number text ≡ true → r ≡ Ok n → number_at text ≡ cond (ltb n (2 ^ 63)) (Ok n) (Err BadNumber)
+pub number_parsed : {E : Type 0} (text : List ℕ) (r : Result ℕ E) (n : ℕ) → ParsesUnsigned 64 10 text r → is_number text ≡ true → r ≡ Ok n →
+    number_at text ≡ cond (ltb n (2 ^ 63)) (Ok n) (Err BadNumber)
 unfolding number_at
 number_parsed text r n h e is =
     let v : n ≡ digits_value 10 text = (OkIff-at_ok r _ (digits_value 10 text) n (parsed_value text r h e) is).1 in
@@ -91,7 +94,8 @@ pub number_past : {E : Type 0} (text : List ℕ) (r : Result ℕ E) (f : E) → 
 unfolding number_at
 number_past text r f h e is =
     let plain = plain_from_test text e in
-    let past : ltb (digits_value 10 text) (2 ^ 63) ≡ false = not_below (digits_value 10 text) (λ low. OkIff-at_err r _ (digits_value 10 text) f (parsed_value text r h e) is (plain.some, omega arith)) in
+    let past : ltb (digits_value 10 text) (2 ^ 63) ≡ false = not_below (digits_value 10 text)
+    (λ low. OkIff-at_err r _ (digits_value 10 text) f (parsed_value text r h e) is (plain.some, omega arith)) in
     rw (e, past) refl
   where
     not_below : (v : ℕ) → (v < 2 ^ 63 → ⊥) → ltb v (2 ^ 63) ≡ false

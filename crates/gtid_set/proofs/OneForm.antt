@@ -30,7 +30,8 @@ first_le low i j is js f g same =
     ]
 
 -- nor ends its first interval first
-last_le : (low : ℕ) (i j : Interval) (is js : List Interval) → RiseFrom low (i ∷ is) → RiseFrom low (j ∷ js) → i.first ≡ j.first → ((n : ℕ) → has_number (i ∷ is) n ≡ has_number (j ∷ js) n) → j.last ≤ i.last
+last_le : (low : ℕ) (i j : Interval) (is js : List Interval) → RiseFrom low (i ∷ is) → RiseFrom low (j ∷ js) → i.first ≡ j.first → ((n : ℕ) → has_number (i ∷ is) n ≡ has_number (j ∷ js) n) →
+    j.last ≤ i.last
 last_le low i j is js f g e same =
     elim (cases_lt i.last j.last) [
       | inl lt ↦
@@ -42,7 +43,8 @@ last_le low i j is js f g e same =
     ]
 
 -- and what stands behind it is one set too
-rest_same : (i j : Interval) (is js : List Interval) → RiseFrom (i.last + 2) is → RiseFrom (i.last + 2) js → i.last ≡ j.last → ((n : ℕ) → has_number (i ∷ is) n ≡ has_number (j ∷ js) n) → (n : ℕ) → has_number is n ≡ has_number js n
+rest_same : (i j : Interval) (is js : List Interval) → RiseFrom (i.last + 2) is → RiseFrom (i.last + 2) js → i.last ≡ j.last → ((n : ℕ) → has_number (i ∷ is) n ≡ has_number (j ∷ js) n) → (n : ℕ) →
+    has_number is n ≡ has_number js n
 rest_same i j is js f g e same n =
     elim (cases_lt n (i.last + 2)) [
       | inl lt ↦ none_before (i.last + 2) n is f lt ∙ sym (none_before (i.last + 2) n js g lt)
@@ -92,7 +94,8 @@ no_numbers : (numbers : List Interval) → true ≡ eqb (length numbers) 0 → n
 no_numbers [] e = refl
 no_numbers (i ∷ is) e = absurd (omega (arith, eqb-true (length (i ∷ is)) 0 (sym e)))
 
-text_lists : (source : Option (List ℕ)) (numbers : List Interval) → IsSet (record { source = source; numbers = numbers }) → IfSome source IsIdentifier → ids_at (text_with source numbers) ≡ Ok (record { source = source; numbers = numbers })
+text_lists : (source : Option (List ℕ)) (numbers : List Interval) → IsSet (record { source = source; numbers = numbers }) → IfSome source IsIdentifier →
+    ids_at (text_with source numbers) ≡ Ok (record { source = source; numbers = numbers })
 text_lists None numbers set is = ap (λ (l : List Interval). Ok (record { source = None; numbers = l })) (sym (no_numbers numbers set.source))
 text_lists (Some source) numbers set is =
     listed_read (hyphenated_text lower source ++ intervals_text numbers) (record { source = Some source; numbers = numbers }) (inr (record {

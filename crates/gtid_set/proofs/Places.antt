@@ -1,5 +1,6 @@
 -- What putting a number at its place leaves.
-use Rattle.std.proofs.Common.{add-one, ◌≡◌, ◌∙◌, subst, sym, ap, refl, ℕ, zero, suc, ◌+◌, ◌-◌, ◌^◌, ◌<◌, ◌≤◌, Bool, true, false, not, ◌||◌, ltb, leb, List, [], ◌∷◌, ◌++◌, length, get_or, take, drop, set, arith}
+use Rattle.std.proofs.Common.{add-one, ◌≡◌, ◌∙◌, subst, sym, ap, refl, ℕ, zero, suc, ◌+◌, ◌-◌, ◌^◌, ◌<◌, ◌≤◌, Bool, true, false, not, ◌||◌, ltb, leb, List, [], ◌∷◌, ◌++◌, length, get_or, take, drop}
+use Rattle.std.proofs.Common.{set, arith}
 use Rattle.std.specs.List.{AllByRecursion, insert, remove}
 use Rattle.std.proofs.lemmas.Bool.{ltb-true, ltb-false, or_from}
 use Rattle.std.proofs.lemmas.Bool.Decides.{nat_tests}
@@ -38,12 +39,14 @@ absent : (front back : List Interval) (low n : ℕ) → AllByRecursion (λ i. i.
 absent front back low n below rises lt =
     has_number-append front back n ∙ or_from _ _ (none_behind n front (below_more (n - 1) n front (omega arith) below)) (none_before low n back rises lt)
 
-pub absent_lower : (front back : List Interval) (x : Interval) (n : ℕ) → RiseFrom 1 (front ++ x ∷ back) → AllByRecursion (λ i. i.last < n - 1) front → n < x.first → has_number (front ++ x ∷ back) n ≡ false
+pub absent_lower : (front back : List Interval) (x : Interval) (n : ℕ) → RiseFrom 1 (front ++ x ∷ back) → AllByRecursion (λ i. i.last < n - 1) front → n < x.first →
+    has_number (front ++ x ∷ back) n ≡ false
 absent_lower front back x n rises below lt =
     let r = rise_back 1 front (x ∷ back) rises in
     absent front (x ∷ back) x.first n below (omega arith, r.1, r.2, r.3) lt
 
-pub absent_higher : (front back : List Interval) (x : Interval) (n : ℕ) → RiseFrom 1 (front ++ x ∷ back) → AllByRecursion (λ i. i.last < n - 1) front → x.last + 1 ≡ n → has_number (front ++ x ∷ back) n ≡ false
+pub absent_higher : (front back : List Interval) (x : Interval) (n : ℕ) → RiseFrom 1 (front ++ x ∷ back) → AllByRecursion (λ i. i.last < n - 1) front → x.last + 1 ≡ n →
+    has_number (front ++ x ∷ back) n ≡ false
 absent_higher front back x n rises below e =
     let r = rise_back 1 front (x ∷ back) rises in
     has_number-append front (x ∷ back) n
@@ -122,7 +125,8 @@ pub lowered : (is : List Interval) (at n : ℕ) (x : Interval) → AreNumbers is
     → Puts is (set is at (record { first = n; last = x.last })) n
 lowered is at n x are place one lt e f =
     let put = puts_lower (take at is) (drop (suc at) is) x n (rises_at is at x are lt e) place.front one f in
-    rw (set_split is at (record { first = n; last = x.last }) lt) (subst (λ (l : List Interval). Puts l (take at is ++ record { first = n; last = x.last } ∷ drop (suc at) is) n) (sym (at_place is at x lt e)) put)
+    rw (set_split is at (record { first = n; last = x.last }) lt) (subst (λ (l : List Interval). Puts l (take at is ++ record { first = n; last = x.last } ∷ drop (suc at) is) n)
+    (sym (at_place is at x lt e)) put)
 
 pub lacks_lower : (is : List Interval) (at n : ℕ) (x : Interval) → AreNumbers is → IsPlace is (n - 1) at → at < length is → x ≡ get_or is at x → n < x.first → true ≡ not (has_number is n)
 lacks_lower is at n x are place lt e f =
@@ -141,10 +145,12 @@ pub raised : (is : List Interval) (at n : ℕ) (x : Interval) → AreNumbers is 
     → Puts is (set is at (record { first = x.first; last = n })) n
 raised is at n x are fits lt e f goes =
     let put = puts_higher (take at is) (drop (suc at) is) x n (rises_at is at x are lt e) fits f goes in
-    rw (set_split is at (record { first = x.first; last = n }) lt) (subst (λ (l : List Interval). Puts l (take at is ++ record { first = x.first; last = n } ∷ drop (suc at) is) n) (sym (at_place is at x lt e)) put)
+    rw (set_split is at (record { first = x.first; last = n }) lt) (subst (λ (l : List Interval). Puts l (take at is ++ record { first = x.first; last = n } ∷ drop (suc at) is) n)
+    (sym (at_place is at x lt e)) put)
 
 -- the interval at the next place is taken out, and its end is written into that at the place
-pub joined : (is : List Interval) (at n : ℕ) (x y : Interval) → AreNumbers is → suc at < length is → x ≡ get_or (remove is (suc at)) at x → y ≡ get_or is (suc at) y → ((i : Interval) → (get_or is at i).last + 1 ≡ n) → y.first ≡ n + 1
+pub joined : (is : List Interval) (at n : ℕ) (x y : Interval) → AreNumbers is → suc at < length is → x ≡ get_or (remove is (suc at)) at x → y ≡ get_or is (suc at) y →
+    ((i : Interval) → (get_or is at i).last + 1 ≡ n) → y.first ≡ n + 1
     → Puts is (set (remove is (suc at)) at (record { first = x.first; last = y.last })) n
 joined is at n x y are lt e f ends g =
     let front = take at is in
@@ -152,9 +158,11 @@ joined is at n x y are lt e f ends g =
     let here : x ≡ get_or is at x = e ∙ get_or-remove_below is (suc at) x at (omega arith) lt in
     let end : x.last + 1 ≡ n = ap (λ (i : Interval). i.last + 1) here ∙ ends x in
     let whole : is ≡ front ++ x ∷ y ∷ back = at_place is at x (omega arith) here ∙ ap (λ (l : List Interval). front ++ x ∷ l) (drop_place is (suc at) y lt f) in
-    let left : remove is (suc at) ≡ front ++ x ∷ back = ap (λ (l : List Interval). l ++ back) (take-suc is at x (omega arith) ∙ ap (λ (i : Interval). front ++ i ∷ []) (sym here)) ∙ append_assoc front (x ∷ []) back in
+    let left : remove is (suc at) ≡ front ++ x ∷ back = ap (λ (l : List Interval). l ++ back) (take-suc is at x (omega arith) ∙ ap (λ (i : Interval). front ++ i ∷ []) (sym here))
+    ∙ append_assoc front (x ∷ []) back in
     let long : length front ≡ at = length-take-le at is (omega arith) in
-    let written : set (remove is (suc at)) at (record { first = x.first; last = y.last }) ≡ front ++ record { first = x.first; last = y.last } ∷ back = ap (λ (l : List Interval). set l at (record { first = x.first; last = y.last })) left ∙ set_at front x back (record { first = x.first; last = y.last }) at long in
+    let written : set (remove is (suc at)) at (record { first = x.first; last = y.last }) ≡ front ++ record { first = x.first; last = y.last } ∷ back =
+    ap (λ (l : List Interval). set l at (record { first = x.first; last = y.last })) left ∙ set_at front x back (record { first = x.first; last = y.last }) at long in
     let put = puts_joined front back x y n (subst (λ (l : List Interval). RiseFrom 1 l) whole are) end g in
     subst (λ (l : List Interval). Puts is l n) (sym written) (subst (λ (l : List Interval). Puts l (front ++ record { first = x.first; last = y.last } ∷ back) n) (sym whole) put)
 
@@ -168,7 +176,8 @@ inserted is at n are place one fits goes =
       subst (λ (l : List Interval). Puts l (insert is at (record { first = n; last = n })) n) whole (puts_alone (take at is) (drop at is) n rises place.front one fits goes),
     )
 
-pub joined_at : (is removed : List Interval) (at n : ℕ) (x y : Interval) → AreNumbers is → at + 1 < length is → removed ≡ remove is (at + 1) → x ≡ get_or removed at x → y ≡ get_or is (at + 1) y → ((i : Interval) → (get_or is at i).last + 1 ≡ n) → y.first ≡ n + 1
+pub joined_at : (is removed : List Interval) (at n : ℕ) (x y : Interval) → AreNumbers is → at + 1 < length is → removed ≡ remove is (at + 1) → x ≡ get_or removed at x → y ≡ get_or is (at + 1) y →
+    ((i : Interval) → (get_or is at i).last + 1 ≡ n) → y.first ≡ n + 1
     → Puts is (set removed at (record { first = x.first; last = y.last })) n
 joined_at is removed at n x y are lt left e f ends g =
     let next : removed ≡ remove is (suc at) = left ∙ ap (λ (k : ℕ). remove is k) (add-one at) in

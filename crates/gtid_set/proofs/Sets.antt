@@ -25,7 +25,8 @@ some_numbers (i ∷ is) (j ∷ js) each some those = omega arith
 not_none : (numbers : List Interval) → 1 ≤ length numbers → false ≡ eqb (length numbers) 0
 not_none numbers some = grind (arith, nat_tests)
 
-pub set_of : (source list : List ℕ) (listed numbers : List Interval) → intervals_at (slice_split is_colon list) ≡ Ok listed → AreThoseOf listed numbers → IsSetOf (record { source = Some source; numbers = listed }) (record { source = Some source; numbers = numbers })
+pub set_of : (source list : List ℕ) (listed numbers : List Interval) → intervals_at (slice_split is_colon list) ≡ Ok listed → AreThoseOf listed numbers →
+    IsSetOf (record { source = Some source; numbers = listed }) (record { source = Some source; numbers = numbers })
 set_of source list listed numbers e those =
     let some = some_numbers listed numbers (each_interval (slice_split is_colon list) listed e) (split_listed list listed e).1 those in
     record { is_set = record { numbers = those.are; source = not_none numbers some }; source = refl; numbers = those.have }
@@ -34,7 +35,8 @@ ids_some : (text : List ℕ) → false ≡ eqb (length text) 0 → ids_at text �
 ids_some [] e = absurd (false≢true e)
 ids_some (c ∷ cs) e = refl
 
-pub read_is : (text source list : List ℕ) (listed : List Interval) → false ≡ eqb (length text) 0 → head_at text ≡ Ok (source, list) → intervals_at (slice_split is_colon list) ≡ Ok listed → ids_at text ≡ Ok (record { source = Some source; numbers = listed })
+pub read_is : (text source list : List ℕ) (listed : List Interval) → false ≡ eqb (length text) 0 → head_at text ≡ Ok (source, list) → intervals_at (slice_split is_colon list) ≡ Ok listed →
+    ids_at text ≡ Ok (record { source = Some source; numbers = listed })
 unfolding listed_at
 read_is text source list listed some head e = ids_some text some ∙ rw (head, e) refl
 
@@ -50,7 +52,8 @@ Fails-at BadInterval read total go h = go h
 Fails-at ForeignSource read total go h = go h
 Fails-at Memory read total go h = tt
 
-pub read_list : (text source list : List ℕ) (fault : GtidFault) → false ≡ eqb (length text) 0 → head_at text ≡ Ok (source, list) → Fails fault (intervals_at (slice_split is_colon list)) → Fails fault (ids_at text)
+pub read_list : (text source list : List ℕ) (fault : GtidFault) → false ≡ eqb (length text) 0 → head_at text ≡ Ok (source, list) → Fails fault (intervals_at (slice_split is_colon list)) →
+    Fails fault (ids_at text)
 unfolding listed_at
 read_list text source list fault some head h =
     let go : intervals_at (slice_split is_colon list) ≡ Err fault → ids_at text ≡ Err fault = λ e. ids_some text some ∙ rw (head, e) refl in

@@ -1,6 +1,7 @@
 //! Sets of numbers, as intervals that rise and never touch.
 
-ghost use Rattle.std.specs.Prelude.{◌≡◌, ℕ, ◌+◌, ◌-◌, ◌^◌, ◌<◌, ◌≤◌, ◌||◌, not, length, take, drop, slice_index_or, vec_len, IfOk, IfErr, Some};
+ghost use Rattle.std.specs.Prelude.{◌≡◌, ℕ, ◌+◌, ◌-◌, ◌^◌, ◌<◌, ◌≤◌, ◌||◌, not, length, take, drop, slice_index_or, vec_len, IfOk, IfErr};
+ghost use Rattle.std.specs.Prelude.{Some};
 ghost use Rattle.gtid_set.specs.Text.{interval_text};
 ghost use Rattle.std.specs.List.{AllByRecursion};
 ghost use Rattle.std.specs.List.Sorted.{IsNonDecreasingBy};
@@ -41,7 +42,8 @@ fn place_of(intervals: &[Interval], low: u64) -> usize
 pub(crate) fn put(intervals: &mut Vec<Interval>, number: u64) -> Result<bool, GtidFault>
     requires are { AreNumbers intervals.old.items }
     requires number { (1 ≤ number) × (number < 2 ^ 63) }
-    ensures ok { IfOk result (λ new. (new ≡ not (has_number intervals.old.items number)) × Puts intervals.old.items intervals.new.items number) }
+    ensures ok { IfOk result (λ new. (new ≡ not (has_number intervals.old.items number))
+        × Puts intervals.old.items intervals.new.items number) }
     ensures err { IfErr result (λ fault. (fault ≡ GtidFault.Memory) × (intervals.new.items ≡ intervals.old.items)) }
 {
     let at = place_of(intervals, number - 1);

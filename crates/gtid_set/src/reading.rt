@@ -6,7 +6,8 @@ ghost use Rattle.std.specs.Char.{is_ascii_digit};
 ghost use Rattle.std.specs.List.{list_all, slice_split};
 ghost use Rattle.gtid_set.specs.Numbers.{AreThoseOf};
 ghost use Rattle.gtid_set.specs.declared.intervals.Interval.{Interval as AnInterval};
-ghost use Rattle.gtid_set.specs.Reading.{Gives, Fails, is_number, number_at, is_colon, interval_of, interval_at, intervals_at, source_at, head_at};
+ghost use Rattle.gtid_set.specs.Reading.{Gives, Fails, is_number, number_at, is_colon, interval_of, interval_at, intervals_at, source_at};
+ghost use Rattle.gtid_set.specs.Reading.{head_at};
 ghost use Rattle.uuid.specs.Text.{parsed_hyphenated};
 
 use crate::fault::GtidFault;
@@ -21,7 +22,8 @@ pub(crate) const HEAD_LEN: usize = 37;
 
 /// The source that a text begins with, where a colon follows. It takes no memory.
 pub(crate) fn head_of(text: &str) -> Result<Uuid, GtidFault>
-    ensures value { MatchResult result (λ source. head_at text.now ≡ Ok (source, drop 37 text.now)) (λ fault. head_at text.now ≡ Err fault) }
+    ensures value { MatchResult result (λ source. head_at text.now ≡ Ok (source, drop 37 text.now))
+        (λ fault. head_at text.now ≡ Err fault) }
     ensures boundary { OnOk result (IsCharBoundary text.now 37) }
 {
     let bytes = text.as_bytes();
@@ -48,7 +50,8 @@ fn source_of(name: &[u8]) -> Result<Uuid, GtidFault>
 
 /// The set of the numbers that are listed between colons.
 pub(crate) fn numbers_of(alloc: Global, list: &str) -> Result<Vec<Interval>, GtidFault>
-    ensures ok { IfOk result (λ numbers. (listed : List AnInterval) × (intervals_at (slice_split is_colon list.now) ≡ Ok listed) × AreThoseOf listed numbers.items) }
+    ensures ok { IfOk result (λ numbers. (listed : List AnInterval) × (intervals_at (slice_split is_colon list.now) ≡ Ok listed)
+        × AreThoseOf listed numbers.items) }
     ensures err { IfErr result (λ fault. Fails fault (intervals_at (slice_split is_colon list.now))) }
 {
     let mut intervals = intervals_of(alloc, list)?;

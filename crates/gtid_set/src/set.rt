@@ -1,6 +1,7 @@
 //! A set of ids, and its text.
 
-ghost use Rattle.std.specs.Prelude.{◌≡◌, ◌≢◌, ◌⊎◌, ◌<◌, ◌^◌, not, is_none, length, ◌==◌, [], OnErr, IfOk, IfErr, IfSome, MatchOption, Some, None, Ok, Err};
+ghost use Rattle.std.specs.Prelude.{◌≡◌, ◌≢◌, ◌⊎◌, ◌<◌, ◌^◌, not, is_none, length, ◌==◌, [], OnErr, IfOk, IfErr, IfSome, MatchOption, Some};
+ghost use Rattle.std.specs.Prelude.{None, Ok, Err};
 ghost use Rattle.gtid_set.specs.Ids.{Ids, IsSet, no_ids, first_ids, takes_source, has_id, add_fault, Adds, IsSetOf};
 ghost use Rattle.gtid_set.specs.Numbers.{IsGreatest};
 ghost use Rattle.gtid_set.specs.Reading.{Reads, ids_at, head_at, Lists};

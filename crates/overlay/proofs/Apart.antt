@@ -40,14 +40,17 @@ unwritten : {ts : List Table} {db : Database} {pending : Pending} {after : Datab
 unwritten {after = after} f q none = left_at-Follows f q ∙ ap (λ b. cond b (Some (get after q)) None) none
 
 -- of two transactions that are apart, the earlier leaves no row that the later one writes
-left_by_later : {ts : List Table} {db : Database} {earlier later : Pending} {after end : Database} → Follows ts db earlier after → Follows ts db later end → IsApart ts db earlier later → (q : RowId) → IsSome (left_at later q) → left_at earlier q ≡ None
+left_by_later : {ts : List Table} {db : Database} {earlier later : Pending} {after end : Database} → Follows ts db earlier after → Follows ts db later end → IsApart ts db earlier later →
+    (q : RowId) → IsSome (left_at later q) → left_at earlier q ≡ None
 left_by_later {ts = ts} {db = db} {earlier = earlier} {later = later} f g apart q is =
-    unwritten f q (not_in_first (writes earlier.changes) (writes later.changes ++ kin ts later.changes db) q apart.rows (has_row-left (writes later.changes) (kin ts later.changes db) q (written g q is)))
+    unwritten f q (not_in_first (writes earlier.changes) (writes later.changes ++ kin ts later.changes db) q apart.rows
+    (has_row-left (writes later.changes) (kin ts later.changes db) q (written g q is)))
 
 pub apart_without_conflict : ApartWithoutConflict
 apart_without_conflict ts db earlier later none =
     let wrote = writes earlier.changes in
-    let sets = or_parts (meets wrote (writes later.changes) || meets wrote (kin ts later.changes db) || meets (writes later.changes) (kin ts earlier.changes db)) (meets (marks ts earlier.changes db) (marks ts later.changes db)) none in
+    let sets = or_parts (meets wrote (writes later.changes) || meets wrote (kin ts later.changes db) || meets (writes later.changes) (kin ts earlier.changes db))
+    (meets (marks ts earlier.changes db) (marks ts later.changes db)) none in
     let parts = or_parts (meets wrote (writes later.changes) || meets wrote (kin ts later.changes db)) (meets (writes later.changes) (kin ts earlier.changes db)) sets.0 in
     let own = or_parts (meets wrote (writes later.changes)) (meets wrote (kin ts later.changes db)) parts.0 in
     record { rows = none_of_both wrote (writes later.changes) (kin ts later.changes db) own.0 own.1; marks = sets.1 }
@@ -77,7 +80,8 @@ module _ {ts : List Table} {db : Database} {first : Pending} {mid : Database} (f
       let same = moved pending each.0.0 each.0.1 apart.0 in
       ((same.leaves, Follows-moved each.0.1 same), each_moved pendings each.1 apart.1)
 
-  apart_moved : (earlier : Pending) → marks ts earlier.changes mid ≡ marks ts earlier.changes db → (pendings : List Pending) → EachFollows ts db pendings → AllByRecursion (IsApart ts db first) pendings → AllByRecursion (IsApart ts db earlier) pendings → AllByRecursion (IsApart ts mid earlier) pendings
+  apart_moved : (earlier : Pending) → marks ts earlier.changes mid ≡ marks ts earlier.changes db → (pendings : List Pending) → EachFollows ts db pendings →
+      AllByRecursion (IsApart ts db first) pendings → AllByRecursion (IsApart ts db earlier) pendings → AllByRecursion (IsApart ts mid earlier) pendings
   apart_moved earlier stay [] each apart were = tt
   apart_moved earlier stay (pending ∷ pendings) each apart were =
       let same = moved pending each.0.0 each.0.1 apart.0 in
@@ -94,7 +98,8 @@ module _ {ts : List Table} {db : Database} {first : Pending} {mid : Database} (f
       (apart_moved pending stay pendings each.1 apart.1 were.0, all_apart_moved pendings each.1 apart.1 were.1)
 
   -- what the first leaves of a row, none of the others changes
-  none_later : (pendings : List Pending) → EachFollows ts db pendings → AllByRecursion (IsApart ts db first) pendings → (q : RowId) (left : Option (List ℤ)) → left_at first q ≡ Some left → first_left pendings q ≡ None
+  none_later : (pendings : List Pending) → EachFollows ts db pendings → AllByRecursion (IsApart ts db first) pendings → (q : RowId) (left : Option (List ℤ)) → left_at first q ≡ Some left →
+      first_left pendings q ≡ None
   none_later [] each apart q left is = refl
   none_later (pending ∷ pendings) each apart q left is =
       by (left_at pending q) refl ∙ none_later pendings each.1 apart.1 q left is
@@ -105,7 +110,8 @@ module _ {ts : List Table} {db : Database} {first : Pending} {mid : Database} (f
           let none : left_at first q ≡ None = left_by_later f each.0.1 apart.0 q (ap is_some e) in
           cc
 
-  first_or_later : (pendings : List Pending) → EachFollows ts db pendings → AllByRecursion (IsApart ts db first) pendings → (q : RowId) → unwrap_or (first_left pendings q) (get mid q) ≡ unwrap_or (option_or (left_at first q) (first_left pendings q)) (get db q)
+  first_or_later : (pendings : List Pending) → EachFollows ts db pendings → AllByRecursion (IsApart ts db first) pendings → (q : RowId) →
+      unwrap_or (first_left pendings q) (get mid q) ≡ unwrap_or (option_or (left_at first q) (first_left pendings q)) (get db q)
   first_or_later pendings each apart q =
       ap (unwrap_or (first_left pendings q)) (get-Follows f q) ∙ by (left_at first q) refl
     where
@@ -131,7 +137,8 @@ all_run ts db (first ∷ pendings) each apart =
     )
 
 -- a batch of the rows of all leaves what all of them leave
-of_all_rows : (ts : List Table) (db : Database) (pendings : List Pending) (batch : List Entry) (run : AllRun ts db pendings) → IsRising batch → ((q : RowId) → find row_cmp q batch ≡ first_left pendings q) → put_batch batch db ≡ run.0
+of_all_rows : (ts : List Table) (db : Database) (pendings : List Pending) (batch : List Entry) (run : AllRun ts db pendings) → IsRising batch →
+    ((q : RowId) → find row_cmp q batch ≡ first_left pendings q) → put_batch batch db ≡ run.0
 of_all_rows ts db pendings batch run rising same =
     same_map row_total exact_row (put_batch batch db) run.0 (λ q.
     get-put_batch batch db q rising ∙ ap (λ o. unwrap_or o (get db q)) (same q) ∙ sym (run.2 q))
@@ -148,13 +155,15 @@ batch_is_after ts db after pendings batch each apart applied rising same =
 
 -- ---- rows that are not joined yet
 
-none_before : (ts : List Table) (db : Database) (before : List Pending) (pending : Pending) (behind : List Pending) → EachFollows ts db (before ++ pending ∷ behind) → AllApart ts db (before ++ pending ∷ behind) → (q : RowId) → IsSome (left_at pending q) → first_left before q ≡ None
+none_before : (ts : List Table) (db : Database) (before : List Pending) (pending : Pending) (behind : List Pending) → EachFollows ts db (before ++ pending ∷ behind) →
+    AllApart ts db (before ++ pending ∷ behind) → (q : RowId) → IsSome (left_at pending q) → first_left before q ≡ None
 none_before ts db [] pending behind each apart q is = refl
 none_before ts db (first ∷ before) pending behind each apart q is =
     let here = at before each.1 apart.0 in
     (λ i. option_or (left_by_later each.0.1 here.0.1 here.1 q is i) (first_left before q)) ∙ none_before ts db before pending behind each.1 apart.1 q is
   where
-    at : (before : List Pending) → EachFollows ts db (before ++ pending ∷ behind) → AllByRecursion (IsApart ts db first) (before ++ pending ∷ behind) → ((after : Database) × Follows ts db pending after) × IsApart ts db first pending
+    at : (before : List Pending) → EachFollows ts db (before ++ pending ∷ behind) → AllByRecursion (IsApart ts db first) (before ++ pending ∷ behind) →
+        ((after : Database) × Follows ts db pending after) × IsApart ts db first pending
     at [] each apart = (each.0, apart.0)
     at (p ∷ before) each apart = at before each.1 apart.1
 

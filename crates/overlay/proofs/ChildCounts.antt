@@ -1,5 +1,6 @@
 -- How many rows name a row as their parent.
-use Rattle.std.proofs.Common.{◌≡◌, ◌∙◌, sym, ap, refl, inl, inr, ℕ, ◌+◌, ◌≤◌, arith, Bool, true, false, not, ◌||◌, cond, is_eq, is_lt, Ordering, Less, Equal, Greater, ℤ, List, [], ◌∷◌, Option, Some, None, nat_lt}
+use Rattle.std.proofs.Common.{◌≡◌, ◌∙◌, sym, ap, refl, inl, inr, ℕ, ◌+◌, ◌≤◌, arith, Bool, true, false, not, ◌||◌, cond, is_eq, is_lt, Ordering, Less, Equal, Greater, ℤ, List, [], ◌∷◌, Option, Some}
+use Rattle.std.proofs.Common.{None, nat_lt}
 use Rattle.std.specs.List.{IsDistinct, list_any, count_by}
 use Rattle.std.specs.Map.{keys_of}
 use Rattle.std.specs.Option.{option_map_or}
@@ -103,7 +104,8 @@ count_in_order test (e ∷ es) once =
 -- ---- behind a batch
 
 -- rows behind this one count as before, where another answer is only there
-alike_behind : (f g : RowId → Bool) (x : RowId) (es : List Entry) → below_all row_cmp x es ≡ true → ((q : RowId) → same_row x q ≡ false → f q ≡ g q) → count_by (λ (e : Entry). f e.0) es ≡ count_by (λ (e : Entry). g e.0) es
+alike_behind : (f g : RowId → Bool) (x : RowId) (es : List Entry) → below_all row_cmp x es ≡ true → ((q : RowId) → same_row x q ≡ false → f q ≡ g q) →
+    count_by (λ (e : Entry). f e.0) es ≡ count_by (λ (e : Entry). g e.0) es
 alike_behind f g x [] below same = refl
 alike_behind f g x (e ∷ es) below same =
     let parts = and_parts (is_lt (row_cmp x e.0)) (below_all row_cmp x es) below in
@@ -125,7 +127,8 @@ module _ (ts : List Table) (row : RowId) where
       moved_count (λ (e : RowId × List ℤ). names_row ts row e.0.table e.1) id db (put_row db id left) (put_apart db id left)
       ∙ ap (λ o. child_count ts db row + one_if (left_names ts row (id, o))) (put_here db id left)
 
-  others_stay : (db : Database) (id : RowId) (left : Option (List ℤ)) (es : List Entry) → below_all row_cmp id es ≡ true → count_by (λ (e : Entry). names_at (put_row db id left) e.0) es ≡ count_by (λ (e : Entry). names_at db e.0) es
+  others_stay : (db : Database) (id : RowId) (left : Option (List ℤ)) (es : List Entry) → below_all row_cmp id es ≡ true →
+      count_by (λ (e : Entry). names_at (put_row db id left) e.0) es ≡ count_by (λ (e : Entry). names_at db e.0) es
   others_stay db id left es below =
       alike_behind (names_at (put_row db id left)) (names_at db) id es below (λ q other. ap (λ o. left_names ts row (q, o)) (put_apart db id left q other))
 
@@ -167,7 +170,8 @@ tells_by_count ts db pending row rising =
         ])
 
 -- told from the rows as they are kept
-pub told_by_count : (ts : List Table) (db : Database) (pending : Pending) (es : List Entry) (count : ℕ) (row : RowId) (own more : Bool) → in_order es ≡ pending.left → IsDistinct same_row (keys_of es) →
+pub told_by_count : (ts : List Table) (db : Database) (pending : Pending) (es : List Entry) (count : ℕ) (row : RowId) (own more : Bool) → in_order es ≡ pending.left →
+    IsDistinct same_row (keys_of es) →
     own ≡ list_any (left_names ts row) es → more ≡ nat_lt (count_by (λ (e : Entry). left_names ts row (e.0, get db e.0)) es) count → (own || more) ≡ has_child_by ts db pending count row
 told_by_count ts db pending es count row own more left_is distinct own_is more_is =
     let changed : count_by (λ (e : Entry). left_names ts row (e.0, get db e.0)) es ≡ changed_children ts db pending row =

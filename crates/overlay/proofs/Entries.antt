@@ -54,7 +54,8 @@ pub any_found : {X : Type 0} (test : RowId × X → Bool) (es : List (RowId × X
 any_found test [] id x is h = absurd cc
 any_found {X} test (e ∷ es) id x is h = by (any_found test es id x) (same_row id e.0) refl is
   where
-    by : (find row_cmp id es ≡ Some x → test (id, x) ≡ true → list_any test es ≡ true) → (b : Bool) → same_row id e.0 ≡ b → cond b (Some e.1) (find row_cmp id es) ≡ Some x → (test e || list_any test es) ≡ true
+    by : (find row_cmp id es ≡ Some x → test (id, x) ≡ true → list_any test es ≡ true) → (b : Bool) → same_row id e.0 ≡ b → cond b (Some e.1) (find row_cmp id es) ≡ Some x →
+        (test e || list_any test es) ≡ true
     by behind true same here = or_left _ _ ((λ i. test (sym (row_is id e.0 same) i, same_Some e.1 x here i)) ∙ h)
     by behind false same there = or_right (test e) _ (behind there h)
 
@@ -66,5 +67,6 @@ any_in_order test es distinct =
     (λ h. let f = found_any test (in_order es) (once_from_sorted (in_order es) (in_order_rises es)) h in any_found test es f.0 f.1 (sym (find-in_order es f.0) ∙ f.2) f.3)
 
 -- so the rows that a transaction changed are told, however they lie
-pub any_left : (test : Entry → Bool) (es : List Entry) (pending : Pending) (answer : Bool) → in_order es ≡ pending.left → IsDistinct same_row (keys_of es) → answer ≡ list_any test es → answer ≡ list_any test pending.left
+pub any_left : (test : Entry → Bool) (es : List Entry) (pending : Pending) (answer : Bool) → in_order es ≡ pending.left → IsDistinct same_row (keys_of es) → answer ≡ list_any test es →
+    answer ≡ list_any test pending.left
 any_left test es pending answer left_is distinct is = is ∙ any_in_order test es distinct ∙ ap (list_any test) left_is

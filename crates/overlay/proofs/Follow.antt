@@ -35,7 +35,8 @@ Follows-none ts db = record { applied = refl; left = refl }
 pub rising-Follows : {ts : List Table} {db : Database} {pending : Pending} {after : Database} → Follows ts db pending after → IsRising pending.left
 rising-Follows {pending = pending} {after = after} f = rw f.left (rows_in_rise (writes pending.changes) after)
 
-pub left_at-Follows : {ts : List Table} {db : Database} {pending : Pending} {after : Database} → Follows ts db pending after → (q : RowId) → left_at pending q ≡ cond (has_row (writes pending.changes) q) (Some (get after q)) None
+pub left_at-Follows : {ts : List Table} {db : Database} {pending : Pending} {after : Database} → Follows ts db pending after → (q : RowId) →
+    left_at pending q ≡ cond (has_row (writes pending.changes) q) (Some (get after q)) None
 left_at-Follows {pending = pending} {after = after} f q = ap (find row_cmp q) f.left ∙ find-rows_in (writes pending.changes) after q
 
 -- a row is as the changes leave it, and else as it was
@@ -54,7 +55,8 @@ seen-Follows {db = db} {pending = pending} {after = after} f =
     get-put_batch pending.left db q (rising-Follows f) ∙ sym (get-Follows f q))
 
 -- one more change that applies, with what it leaves of its row
-pub Follows-pushed : {ts : List Table} {db : Database} {pending : Pending} {after : Database} (change : Change) (next : Database) → Follows ts db pending after → apply ts change after ≡ Some next → Follows ts db (pushed pending change (get next (target change))) next
+pub Follows-pushed : {ts : List Table} {db : Database} {pending : Pending} {after : Database} (change : Change) (next : Database) → Follows ts db pending after → apply ts change after ≡ Some next →
+    Follows ts db (pushed pending change (get next (target change))) next
 Follows-pushed {ts = ts} {db = db} {pending = pending} {after = after} change next f h = record {
   applied = effect_joined ts pending.changes (change ∷ []) db ∙ ap (option_and_then (effect ts (change ∷ []))) f.applied ∙ ap (option_and_then (effect ts [])) h;
   left = same_batch (put row_cmp row (get next row) pending.left) (rows_in (writes (pending.changes ++ change ∷ [])) next)
@@ -84,12 +86,15 @@ Follows-pushed {ts = ts} {db = db} {pending = pending} {after = after} change ne
     has_row-push q (first ∷ changes) = ap (λ b. same_row q (target first) || b) (has_row-push q changes) ∙ or_last (same_row q (target first)) (same_row q row) (has_row (writes changes) q)
 
 -- changes that do to another database what they do to db are seen over it too
-pub Follows-moved : {ts : List Table} {db : Database} {pending : Pending} {after other : Database} → Follows ts db pending after → (same : SameEffect ts pending.changes db after other) → Follows ts other pending same.leaves
+pub Follows-moved : {ts : List Table} {db : Database} {pending : Pending} {after other : Database} → Follows ts db pending after → (same : SameEffect ts pending.changes db after other) →
+    Follows ts other pending same.leaves
 Follows-moved {pending = pending} {after = after} f same =
     record { applied = same.defined; left = f.left ∙ rows_in-alike (writes pending.changes) after same.leaves same.same_writes }
 
 -- the same, for a change that fits its row, whose parent is there, and whose value no other row has
-pub Follows-step : {ts : List Table} {db : Database} {pending : Pending} {after : Database} (change : Change) (left : Option (List ℤ)) → Follows ts db pending after → changed change (get after (target change)) ≡ Ok left → parent_stands ts change after left ≡ true → value_stands ts change after left ≡ true → Follows ts db (pushed pending change left) (put_row after (target change) left)
+pub Follows-step : {ts : List Table} {db : Database} {pending : Pending} {after : Database} (change : Change) (left : Option (List ℤ)) → Follows ts db pending after →
+    changed change (get after (target change)) ≡ Ok left → parent_stands ts change after left ≡ true → value_stands ts change after left ≡ true →
+    Follows ts db (pushed pending change left) (put_row after (target change) left)
 Follows-step {ts = ts} {db = db} {pending = pending} {after = after} change left f fits parent value =
     let row = target change in
     let there : get (put_row after row left) row ≡ left =

@@ -55,11 +55,13 @@ apart_from x (f ∷ fs) h =
     let here : same_row f.0 x ≡ false = h f.0 (ap (λ b. is_some (cond b (Some f.1) (find row_cmp f.0 fs))) (same_row_itself f.0)) in
     (same_row-symm x f.0 ∙ here, apart_from x fs (λ q is. h q (others_found q f fs is)))
 
-apart_from_both : (x : RowId) (es fs : List Entry) → AllByRecursion (λ y. same_row x y ≡ false) (keys_of es) → AllByRecursion (λ y. same_row x y ≡ false) (keys_of fs) → AllByRecursion (λ y. same_row x y ≡ false) (keys_of (es ++ fs))
+apart_from_both : (x : RowId) (es fs : List Entry) → AllByRecursion (λ y. same_row x y ≡ false) (keys_of es) → AllByRecursion (λ y. same_row x y ≡ false) (keys_of fs) →
+    AllByRecursion (λ y. same_row x y ≡ false) (keys_of (es ++ fs))
 apart_from_both x [] fs own other = other
 apart_from_both x (e ∷ es) fs own other = (own.0, apart_from_both x es fs own.1 other)
 
-pub distinct-append : (es fs : List Entry) → IsDistinct same_row (keys_of es) → IsDistinct same_row (keys_of fs) → ((q : RowId) → IsSome (find row_cmp q fs) → find row_cmp q es ≡ None) → IsDistinct same_row (keys_of (es ++ fs))
+pub distinct-append : (es fs : List Entry) → IsDistinct same_row (keys_of es) → IsDistinct same_row (keys_of fs) → ((q : RowId) → IsSome (find row_cmp q fs) → find row_cmp q es ≡ None) →
+    IsDistinct same_row (keys_of (es ++ fs))
 unfolding IsDistinct
 distinct-append [] fs own other none = other
 distinct-append (e ∷ es) fs own other none = (
@@ -72,7 +74,8 @@ unfolding IsDistinct
 distinct-none = tt
 
 -- a row of the second list is not in the first, where it is not in the first put in order
-pub not_found_yet : (es fs own : List Entry) (pending : Pending) → in_order es ≡ own → in_order fs ≡ pending.left → ((q : RowId) → IsSome (left_at pending q) → find row_cmp q own ≡ None) → (q : RowId) → IsSome (find row_cmp q fs) → find row_cmp q es ≡ None
+pub not_found_yet : (es fs own : List Entry) (pending : Pending) → in_order es ≡ own → in_order fs ≡ pending.left → ((q : RowId) → IsSome (left_at pending q) → find row_cmp q own ≡ None) →
+    (q : RowId) → IsSome (find row_cmp q fs) → find row_cmp q es ≡ None
 not_found_yet es fs own pending own_is left_is none q is =
     sym (find-in_order es q) ∙ ap (find row_cmp q) own_is
     ∙ none q (ap is_some (ap (find row_cmp q) (sym left_is) ∙ find-in_order fs q) ∙ is)

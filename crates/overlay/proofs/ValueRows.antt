@@ -54,7 +54,8 @@ module _ (ts : List Table) (db : Database) (pending : Pending) (rising : IsRisin
         let there = mark_there ts (seen pending db) q mark has in
         by (left_at pending q) refl there.0 there.2 (sym (get-put_batch pending.left db q rising) ∙ there.1) parts.0 parts.1
       where
-        own : (columns : List ℤ) → mark_of ts q.table columns ≡ Some mark → left_at pending q ≡ Some (Some columns) → not (list_any (other_has ts id mark) pending.left) ≡ true → (b : Bool) → same_row q id ≡ b → q ≡ id
+        own : (columns : List ℤ) → mark_of ts q.table columns ≡ Some mark → left_at pending q ≡ Some (Some columns) → not (list_any (other_has ts id mark) pending.left) ≡ true → (b : Bool) →
+            same_row q id ≡ b → q ≡ id
         own columns is at none true same = row_is q id same
         own columns is at none false other =
             absurd (fails _ none (any_found (other_has ts id mark) pending.left q (Some columns) at (and_from _ _ (ap not other) (names mark (mark_of ts q.table columns) is))))
@@ -130,7 +131,8 @@ value_is_over ts (Delete row) db pending left holder fits apart rising held =
     ap (λ l. option_map_or (λ mark. free_over ts pending row mark holder) (option_and_then (mark_of ts row.table) l) true) (deleted row (get (seen pending db) row) left fits)
 
 -- what tells it, where the change gives a value
-pub value_told : (ts : List Table) (pending : Pending) (change : Change) (takes : Option Mark) (holder : Option ℤ) (mark : Mark) (other way : Bool) → takes ≡ Some mark → other ≡ list_any (other_has ts (target change) mark) pending.left →
+pub value_told : (ts : List Table) (pending : Pending) (change : Change) (takes : Option Mark) (holder : Option ℤ) (mark : Mark) (other way : Bool) → takes ≡ Some mark →
+    other ≡ list_any (other_has ts (target change) mark) pending.left →
     way ≡ option_map_or (λ key. gives_way pending (target change) (row_at mark.table key)) holder true → (not other && way) ≡ value_over ts pending change takes holder
 value_told ts pending change takes holder mark other way taken any gives =
     (λ i. not (any i) && gives i) ∙ ap (λ t. value_over ts pending change t holder) (sym taken)

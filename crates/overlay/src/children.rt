@@ -58,7 +58,8 @@ fn has_more<S: RowStore>(
     count: usize,
     row: RowId,
 ) -> bool
-    ensures { result ≡ nat_lt (count_by (λ (entry : Entry). left_names schema.now row (entry.0, row_of (S.contents store.now) entry.0)) left.now.entries) count }
+    ensures { result ≡ nat_lt (count_by (λ (entry : Entry). left_names schema.now row (entry.0, row_of (S.contents store.now) entry.0))
+        left.now.entries) count }
 {
     count != 0 && changed_children(schema, store, left, row) < count
 }
@@ -70,7 +71,8 @@ fn changed_children<S: RowStore>(
     left: &IndexMap<RowId, Option<Row>>,
     row: RowId,
 ) -> usize
-    ensures { result ≡ count_by (λ (entry : Entry). left_names schema.now row (entry.0, row_of (S.contents store.now) entry.0)) left.now.entries }
+    ensures { result ≡ count_by (λ (entry : Entry). left_names schema.now row (entry.0, row_of (S.contents store.now) entry.0))
+        left.now.entries }
 {
     left.iter()
         .filter(|(id, _)| stored_names(schema, store, **id, row))

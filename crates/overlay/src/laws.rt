@@ -4,7 +4,8 @@ ghost use Rattle.overlay.specs.Follows.{NoneFollows, StepFollows, PushedFollows,
 ghost use Rattle.overlay.specs.Step.{StepsWhereItApplies, KinOfStep, MarksOfStep};
 ghost use Rattle.overlay.specs.Children.{TellsChildren, TellsByCount};
 ghost use Rattle.overlay.specs.Values.{ValueOver};
-ghost use Rattle.overlay.specs.Joining.{ApartGoesOn, ApartWithoutConflict, JoinedGoesOn, JoinedHasRows, JoinedRises, NotYetJoined, JoinedIsAfter, BatchIsAfter};
+ghost use Rattle.overlay.specs.Joining.{ApartGoesOn, ApartWithoutConflict, JoinedGoesOn, JoinedHasRows, JoinedRises, NotYetJoined};
+ghost use Rattle.overlay.specs.Joining.{JoinedIsAfter, BatchIsAfter};
 
 /// How the overlay of changes that apply one after another goes on: from no changes, by a change that applies,
 /// and over another database to which the changes do the same.

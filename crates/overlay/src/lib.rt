@@ -32,6 +32,7 @@ use rows::{Change, Row};
 use schema::{Memory, RowId, Schema};
 use std::alloc::Global;
 use std::marker::Model;
+use std::mem::replace;
 pub use step::{Step, step_seen};
 use store_trait::{Batch, RowStore};
 pub use values::value_holds;
@@ -61,6 +62,15 @@ impl Overlay {
             changes: Vec::new(alloc),
             left: IndexMap::new(alloc),
         }
+    }
+
+    /// Takes the changes out, and leaves none. It takes no memory.
+    pub fn take(&mut self) -> Overlay
+        ensures taken { result ≡ self.old }
+        ensures none { self.new ≡ none_pending }
+    {
+        let alloc = *self.changes.allocator();
+        replace(self, Overlay::new(alloc))
     }
 
     /// What the changes leave of the row: its columns, or `None` where they remove it. No answer where no

@@ -80,7 +80,8 @@ no_parents ts (row ∷ rows) =
     flat_map-cons (parent_in ts empty) row rows
     ∙ (λ i. option_to_list (option_and_then (parent_of ts row.table) (get-empty {X = List ℤ} row_cmp row i)) ++ no_parents ts rows i)
 
-pub loaded_counts : (ts : List Table) (batch : List Entry) (before after : Counts) → IsRising batch → before ≡ empty → Recounts [] (parents_left ts batch) before after → CountsChildren ts (put_batch batch empty) after
+pub loaded_counts : (ts : List Table) (batch : List Entry) (before after : Counts) → IsRising batch → before ≡ empty → Recounts [] (parents_left ts batch) before after →
+    CountsChildren ts (put_batch batch empty) after
 loaded_counts ts batch before after rising none moves =
     counts_follow ts empty batch before after rising (λ row. ap (λ (c : Counts). count_at c row) none ∙ none_counted ts row)
     (λ row. ap (λ l. count_at after row + times_in l row) (no_parents ts (keys_of batch)) ∙ moves row)

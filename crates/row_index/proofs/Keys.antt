@@ -167,7 +167,8 @@ module _ (ts : List Table) (db : Database) (batch : List Entry) (rising : IsRisi
             let none : find row_cmp id batch ≡ None = ap (λ q. find row_cmp q batch) it ∙ out in
             cc
 
-        by : (found : Option (Option (List ℤ))) → find row_cmp (row_with mark key) batch ≡ found → cond (list_any (gives ts mark) batch) (Some key) (cond (has_row old mark) None (holder_of ts db mark)) ≡ Some key
+        by : (found : Option (Option (List ℤ))) → find row_cmp (row_with mark key) batch ≡ found →
+            cond (list_any (gives ts mark) batch) (Some key) (cond (has_row old mark) None (holder_of ts db mark)) ≡ Some key
         by (Some left) there =
             ap (λ b. cond b (Some key) (cond (has_row old mark) None (holder_of ts db mark)))
             (any_found (gives ts mark) batch (row_with mark key) left there (sym (has_then (row_with mark key) left there) ∙ has))

@@ -6,6 +6,7 @@ use Rattle.schema.specs.declared.RowId.{RowId}
 use Rattle.schema.proofs.RowMaps.{row_eq, rows_of, rows-set}
 
 -- where the insert could not fail, the row is set
-pub rows-inserted : {X S T E : Type 0} (m n : IndexMap RowId X S) (r : Result T E) (k : RowId) (v : X) → IsOk r → OnOk r (Updates row_eq m n k (Some v)) → rows_of n.entries ≡ insert (rows_of m.entries) k v
+pub rows-inserted : {X S T E : Type 0} (m n : IndexMap RowId X S) (r : Result T E) (k : RowId) (v : X) → IsOk r → OnOk r (Updates row_eq m n k (Some v)) →
+    rows_of n.entries ≡ insert (rows_of m.entries) k v
 rows-inserted m n (Ok x) k v h is = rows-set m.entries n.entries k v is.0
 rows-inserted m n (Err e) k v h is = absurd (true≢false (sym h))

@@ -1,5 +1,6 @@
 -- Entries of which no two give their rows one mark.
-use Rattle.std.proofs.Common.{◌≡◌, ◌↔◌, ◌∙◌, sym, ap, refl, inl, inr, ℕ, Bool, true, false, true≢false, not, ◌&&◌, ◌||◌, cond, ℤ, List, [], ◌∷◌, ◌++◌, Option, Some, None, length, take, drop, get_or, ◌+◌, ◌<◌}
+use Rattle.std.proofs.Common.{◌≡◌, ◌↔◌, ◌∙◌, sym, ap, refl, inl, inr, ℕ, Bool, true, false, true≢false, not, ◌&&◌, ◌||◌, cond, ℤ, List, [], ◌∷◌, ◌++◌, Option, Some, None, length, take, drop, get_or}
+use Rattle.std.proofs.Common.{◌+◌, ◌<◌}
 use Rattle.std.specs.Prelude.{option_to_list}
 use Rattle.std.specs.List.{list_any}
 use Rattle.std.specs.Option.{option_map_or}
@@ -53,7 +54,8 @@ once-push (x ∷ xs) m once none =
     let parts = and_parts (not (has_row xs x)) (once_each xs) once in
     let apart = or_parts (same_row m x) (has_row xs m) none in
     and_from (not (has_row (xs ++ m ∷ []) x)) (once_each (xs ++ m ∷ []))
-    (none_of (has_row (xs ++ m ∷ []) x) (list_any-append (same_row x) xs (m ∷ []) ∙ or_from (has_row xs x) (same_row x m || false) (is_none (has_row xs x) parts.0) (or_from (same_row x m) false (turned x m ∙ apart.0) refl)))
+    (none_of (has_row (xs ++ m ∷ []) x) (list_any-append (same_row x) xs (m ∷ [])
+    ∙ or_from (has_row xs x) (same_row x m || false) (is_none (has_row xs x) parts.0) (or_from (same_row x m) false (turned x m ∙ apart.0) refl)))
     (once-push xs m parts.1 apart.1)
 
 -- one more that is among them
@@ -112,7 +114,8 @@ module _ (ts : List Table) where
       by rest false false s t f g = rest (once-behind (mark_left ts e) (marks_left ts es) its) f g has has'
 
   -- and where two that give one mark are of one row, no mark comes twice
-  each_once : (es : List Entry) → AreOnce es → ((mark : Mark) (p q : RowId) (l k : Option (List ℤ)) → find row_cmp p es ≡ Some l → find row_cmp q es ≡ Some k → gives ts mark (p, l) ≡ true → gives ts mark (q, k) ≡ true → p ≡ q) →
+  each_once : (es : List Entry) → AreOnce es → ((mark : Mark) (p q : RowId) (l k : Option (List ℤ)) → find row_cmp p es ≡ Some l → find row_cmp q es ≡ Some k → gives ts mark (p, l) ≡ true →
+      gives ts mark (q, k) ≡ true → p ≡ q) →
       once_each (marks_left ts es) ≡ true
   each_once [] once same = refl
   each_once (e ∷ es) once same = ap once_each (left-cons e es) ∙ by (each_once es once.1 (λ mark p q l k at at'. same mark p q l k (behind p l at) (behind q k at'))) (mark_left ts e) refl
@@ -131,7 +134,8 @@ module _ (ts : List Table) where
       by rest (Some m) is = and_from (not (has_row (marks_left ts es) m)) (once_each (marks_left ts es)) (elim (cases_Bool (has_row (marks_left ts es) m)) [
         | inl has ↦
             let f = found_any (gives ts m) es once.1 (sym (has_left m es) ∙ has) in
-            let it : f.0 ≡ e.0 = same m f.0 e.0 f.1 e.1 (behind f.0 f.1 f.2) (ap (λ b. cond b (Some e.1) (find row_cmp e.0 es)) (same_row_itself e.0)) f.3 (ap (λ o. option_map_or (same_row m) o false) is ∙ same_row_itself m) in
+            let it : f.0 ≡ e.0 = same m f.0 e.0 f.1 e.1 (behind f.0 f.1 f.2) (ap (λ b. cond b (Some e.1) (find row_cmp e.0 es)) (same_row_itself e.0)) f.3
+            (ap (λ o. option_map_or (same_row m) o false) is ∙ same_row_itself m) in
             let none : find row_cmp f.0 es ≡ None = ap (λ q. find row_cmp q es) it ∙ once.0 in
             let there : find row_cmp f.0 es ≡ Some f.1 = f.2 in
             absurd cc

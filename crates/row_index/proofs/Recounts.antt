@@ -41,11 +41,13 @@ none_or_one : (b : Bool) → ◌≡◌ {A = ℕ} (cond b 0 0) 0
 none_or_one true = refl
 none_or_one false = refl
 
-pub one_lost : (before after : Counts) (row : RowId) (count : ℕ) → ((q : RowId) → count_at after q ≡ cond (same_row q row) count (count_at before q)) → count + 1 ≡ count_at before row → Recounts (row ∷ []) [] before after
+pub one_lost : (before after : Counts) (row : RowId) (count : ℕ) → ((q : RowId) → count_at after q ≡ cond (same_row q row) count (count_at before q)) → count + 1 ≡ count_at before row →
+    Recounts (row ∷ []) [] before after
 one_lost before after row count is sum q =
     omega (arith, moved_at before after row q count 1 0 (is q) (omega arith), times-cons row [] q, none_or_one (same_row q row))
 
-pub one_got : (before after : Counts) (row : RowId) (count : ℕ) → ((q : RowId) → count_at after q ≡ cond (same_row q row) count (count_at before q)) → count ≡ count_at before row + 1 → Recounts [] (row ∷ []) before after
+pub one_got : (before after : Counts) (row : RowId) (count : ℕ) → ((q : RowId) → count_at after q ≡ cond (same_row q row) count (count_at before q)) → count ≡ count_at before row + 1 →
+    Recounts [] (row ∷ []) before after
 one_got before after row count is sum q =
     omega (arith, moved_at before after row q count 0 1 (is q) (omega arith), times-cons row [] q, none_or_one (same_row q row))
 
@@ -104,7 +106,8 @@ pub is_below : (new rest : List RowId) (row : RowId) (a b : Counts) (most : ℕ)
 is_below new rest row a b most so_far fits = omega (arith, so_far row, fits, once row rest)
 
 -- once those are gone that go, those fit that come
-pub left_fits : (old new : List RowId) (a b : Counts) (most : ℕ) → Recounts old [] a b → ((row : RowId) → count_at a row + times_in new row ≤ most + times_in old row) → (row : RowId) → count_at b row + times_in new row ≤ most
+pub left_fits : (old new : List RowId) (a b : Counts) (most : ℕ) → Recounts old [] a b → ((row : RowId) → count_at a row + times_in new row ≤ most + times_in old row) → (row : RowId) →
+    count_at b row + times_in new row ≤ most
 left_fits old new a b most gone fits row = omega (arith, gone row, fits row)
 
 -- ---- no counts

@@ -19,7 +19,8 @@ use Rattle.row_index.specs.Keys.{Keys, mark_left, given_up, with_entry, taken_up
 pub next_left : {X : Type 0} (xs : List X) (i : ℕ) (x : X) → i < length xs → x ≡ get_or xs i x → drop i xs ≡ x ∷ drop (i + 1) xs
 next_left xs i x within is = drop_more xs i x within ∙ ap (λ y. y ∷ drop (i + 1) xs) (sym is)
 
-pub one_gone : (old : List Mark) (i : ℕ) (mark : Mark) (keys all : Keys) → i < length old → mark ≡ get_or old i mark → given_up (drop i old) keys ≡ all → given_up (drop (i + 1) old) (remove keys mark) ≡ all
+pub one_gone : (old : List Mark) (i : ℕ) (mark : Mark) (keys all : Keys) → i < length old → mark ≡ get_or old i mark → given_up (drop i old) keys ≡ all →
+    given_up (drop (i + 1) old) (remove keys mark) ≡ all
 one_gone old i mark keys all within is before = ap (λ l. given_up l keys) (sym (next_left old i mark within is)) ∙ before
 
 module _ (ts : List Table) (entries : List Entry) (i : ℕ) (entry : Entry) (within : i < length entries) (is : entry ≡ get_or entries i entry) where
@@ -55,7 +56,8 @@ module _ {X : Type 0} (f : X → Option RowId) where
   next_listed : (xs : List X) (i : ℕ) (x : X) → i < length xs → x ≡ get_or xs i x → listed (drop i xs) ≡ option_to_list (f x) ++ listed (drop (i + 1) xs)
   next_listed xs i x within is = ap listed (next_left xs i x within is) ∙ flat_map-cons (λ y. option_to_list (f y)) x (drop (i + 1) xs)
 
-  pub some_listed : (xs : List X) (i : ℕ) (x : X) (got : Option RowId) (row : RowId) → i < length xs → x ≡ get_or xs i x → got ≡ f x → got ≡ Some row → listed (drop i xs) ≡ row ∷ listed (drop (i + 1) xs)
+  pub some_listed : (xs : List X) (i : ℕ) (x : X) (got : Option RowId) (row : RowId) → i < length xs → x ≡ get_or xs i x → got ≡ f x → got ≡ Some row →
+      listed (drop i xs) ≡ row ∷ listed (drop (i + 1) xs)
   some_listed xs i x got row within is its some = next_listed xs i x within is ∙ ap (λ o. option_to_list o ++ listed (drop (i + 1) xs)) (sym its ∙ some)
 
   pub none_listed : (xs : List X) (i : ℕ) (x : X) (got : Option RowId) → i < length xs → x ≡ get_or xs i x → got ≡ f x → got ≡ None → listed (drop i xs) ≡ listed (drop (i + 1) xs)
@@ -71,11 +73,13 @@ listed_more {X} f entries i entry within is =
     ∙ ap (λ l. flat_map f (keys_of (take i entries)) ++ l) (flat_map-cons f entry.0 [] ∙ append-nil (f entry.0))
 
 -- the list of what those of a whole walk have
-pub listed_all : {X : Type 0} (f : RowId → List RowId) (entries batch : List (RowId × X)) (i : ℕ) (found : List RowId) → length entries ≤ i → entries ≡ batch → found ≡ flat_map f (keys_of (take i entries)) → found ≡ flat_map f (keys_of batch)
+pub listed_all : {X : Type 0} (f : RowId → List RowId) (entries batch : List (RowId × X)) (i : ℕ) (found : List RowId) → length entries ≤ i → entries ≡ batch →
+    found ≡ flat_map f (keys_of (take i entries)) → found ≡ flat_map f (keys_of batch)
 listed_all {X} f entries batch i found past is walked = walked ∙ ap (λ (l : List (RowId × X)). flat_map f (keys_of l)) (take_all i entries past ∙ is)
 
 -- one more is listed, or none
-pub one_listed : {X : Type 0} (f : RowId → List RowId) (entries : List (RowId × X)) (i : ℕ) (entry : RowId × X) (found pushed after : List RowId) (got o : Option RowId) → i < length entries → entry ≡ get_or entries i entry →
+pub one_listed : {X : Type 0} (f : RowId → List RowId) (entries : List (RowId × X)) (i : ℕ) (entry : RowId × X) (found pushed after : List RowId) (got o : Option RowId) → i < length entries →
+    entry ≡ get_or entries i entry →
     found ≡ flat_map f (keys_of (take i entries)) → got ≡ o → option_to_list got ≡ f entry.0 → after ≡ pushed → pushed ≡ found ++ option_to_list o → after ≡ flat_map f (keys_of (take (i + 1) entries))
 one_listed f entries i entry found pushed after got o within is walked same its left grown =
     left ∙ grown ∙ (λ k. walked k ++ option_to_list (sym same k)) ∙ ap (λ l. flat_map f (keys_of (take i entries)) ++ l) its ∙ sym (listed_more f entries i entry within is)

@@ -90,7 +90,8 @@ impl Children {
     pub fn put(&mut self, schema: &Schema, old: &[RowId], batch: &Batch, rows: usize)
         requires room { length (parents_left schema.now batch.now) ≤ self.old.room }
         requires counted { (row : RowId) → times_in old.now row ≤ count_at self.old.counts row }
-        requires fits { (row : RowId) → count_at self.old.counts row + times_in (parents_left schema.now batch.now) row ≤ rows + times_in old.now row }
+        requires fits { (row : RowId) → count_at self.old.counts row + times_in
+            (parents_left schema.now batch.now) row ≤ rows + times_in old.now row }
         ensures { Recounts old.now (parents_left schema.now batch.now) self.old.counts self.new.counts }
     {
         self.give_up(old);

@@ -48,7 +48,8 @@ impl Index {
     /// The index of the rows that this batch loads into an empty store. The time is that of a walk over the batch, and the memory that of
     /// its rows that have a value in a unique column.
     pub fn of(alloc: Global, schema: &Schema, batch: &Batch) -> Result<Index, Memory>
-        ensures { IfOk result (λ index. NoValueTwice schema.now (put_batch batch.now empty) → Indexes schema.now (put_batch batch.now empty) index.keys) }
+        ensures { IfOk result (λ index. NoValueTwice schema.now (put_batch batch.now empty)
+            → Indexes schema.now (put_batch batch.now empty) index.keys) }
     {
         let mut index = Index::new(alloc);
         index.reserve(schema, batch)?;

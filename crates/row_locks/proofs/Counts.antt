@@ -27,7 +27,8 @@ branch true o p mode = refl
 branch false o p mode = refl
 
 -- what a row's count was and is, where the counts of other rows stay
-moved : (counts counts' : Counts) (row q : RowId) (mode : Mode) (o : Option Count) (n w w' : ℕ) → get counts' q ≡ cond (same_row q row) o (get counts q) → of_option o mode ≡ n → n + w ≡ count_at counts row mode + w' →
+moved : (counts counts' : Counts) (row q : RowId) (mode : Mode) (o : Option Count) (n w w' : ℕ) → get counts' q ≡ cond (same_row q row) o (get counts q) → of_option o mode ≡ n →
+    n + w ≡ count_at counts row mode + w' →
     count_at counts' q mode + cond (same_row q row) w 0 ≡ count_at counts q mode + cond (same_row q row) w' 0
 moved counts counts' row q mode o n w w' is this sum =
     let now : count_at counts' q mode ≡ cond (same_row q row) (of_option o mode) (count_at counts q mode) = ap (λ p. of_option p mode) is ∙ branch (same_row q row) o (get counts q) mode in

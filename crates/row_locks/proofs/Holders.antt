@@ -117,7 +117,8 @@ meets_none (x ∷ xs) ys h =
     ∙ meets_none xs ys (λ q is. h q (or_right (same_row q x) (has_row xs q) is))
 
 -- where a row is written by one session, no other holds it
-alone : (locks : Locks) → NoClash locks → (session other : ℕ) (row : RowId) → 1 ≤ session → 1 ≤ other → session ≢ other → get (held_by locks session) row ≡ Some Exclusive → get (held_by locks other) row ≡ None
+alone : (locks : Locks) → NoClash locks → (session other : ℕ) (row : RowId) → 1 ≤ session → 1 ≤ other → session ≢ other → get (held_by locks session) row ≡ Some Exclusive →
+    get (held_by locks other) row ≡ None
 alone locks none session other row least least' apart here = by (get (held_by locks other) row) refl
   where
     by : (o : Option Mode) → get (held_by locks other) row ≡ o → o ≡ None
@@ -132,7 +133,8 @@ not_held false true h = cc
 not_held false false h = (refl, refl)
 
 -- what one session writes another neither writes nor refers to
-unheld : (writes refs writes' refs' : List RowId) (mine theirs : Holding) → mine ≡ holding writes refs → theirs ≡ holding writes' refs' → ((q : RowId) → get mine q ≡ Some Exclusive → get theirs q ≡ None) →
+unheld : (writes refs writes' refs' : List RowId) (mine theirs : Holding) → mine ≡ holding writes refs → theirs ≡ holding writes' refs' →
+    ((q : RowId) → get mine q ≡ Some Exclusive → get theirs q ≡ None) →
     (q : RowId) → has_row writes q ≡ true → (has_row writes' q ≡ false) × (has_row refs' q ≡ false)
 unheld writes refs writes' refs' mine theirs here there none q is =
     let held : get mine q ≡ Some Exclusive = ap (λ (h : Holding). get h q) here ∙ held_by_rows writes refs q ∙ ap (λ b. way b (has_row refs q)) is in

@@ -22,7 +22,8 @@ moves_on a b c k l m first then row mode = joined _ _ _ _ _ _ (first row mode) (
 
 -- one row's counts moved with what the session holds of it
 one_row : (held held' : Holding) (counts counts' : Counts) (row : RowId) (was now : Option Mode) → get held row ≡ was → ((q : RowId) → get held' q ≡ cond (same_row q row) now (get held q)) →
-    ((q : RowId) (mode : Mode) → count_at counts' q mode + cond (same_row q row) (weight was mode) 0 ≡ count_at counts q mode + cond (same_row q row) (weight now mode) 0) → MovesAlike held counts held' counts'
+    ((q : RowId) (mode : Mode) → count_at counts' q mode + cond (same_row q row) (weight was mode) 0 ≡ count_at counts q mode + cond (same_row q row) (weight now mode) 0) →
+    MovesAlike held counts held' counts'
 one_row held held' counts counts' row was now this gets sums q mode =
     elim (cases_Bool (same_row q row)) [
       | inl same ↦
@@ -38,12 +39,14 @@ one_row held held' counts counts' row was now this gets sums q mode =
     alike n n' w e = omega arith
 
 pub moves-set : (held : Holding) (counts counts' : Counts) (row : RowId) (was : Option Mode) (now : Mode) → was ≡ get held row →
-    ((q : RowId) (mode : Mode) → count_at counts' q mode + cond (same_row q row) (weight was mode) 0 ≡ count_at counts q mode + cond (same_row q row) (weight (Some now) mode) 0) → MovesAlike held counts (insert held row now) counts'
+    ((q : RowId) (mode : Mode) → count_at counts' q mode + cond (same_row q row) (weight was mode) 0 ≡ count_at counts q mode + cond (same_row q row) (weight (Some now) mode) 0) →
+    MovesAlike held counts (insert held row now) counts'
 moves-set held counts counts' row was now this sums =
     one_row held (insert held row now) counts counts' row was (Some now) (sym this) (get-insert row_total held row now) sums
 
 pub moves-removed : (held : Holding) (counts counts' : Counts) (row : RowId) (was : Mode) → get held row ≡ Some was →
-    ((q : RowId) (mode : Mode) → count_at counts' q mode + cond (same_row q row) (weight (Some was) mode) 0 ≡ count_at counts q mode + cond (same_row q row) (weight None mode) 0) → MovesAlike held counts (remove held row) counts'
+    ((q : RowId) (mode : Mode) → count_at counts' q mode + cond (same_row q row) (weight (Some was) mode) 0 ≡ count_at counts q mode + cond (same_row q row) (weight None mode) 0) →
+    MovesAlike held counts (remove held row) counts'
 moves-removed held counts counts' row was this sums =
     one_row held (remove held row) counts counts' row (Some was) None this (get-remove row_total held row) sums
 
@@ -64,7 +67,8 @@ fewer held row was there =
     zero_or_more (suc n) = inr (omega arith)
 
 -- the next lock of a list is taken behind those before it
-pub also_held-push : (held : Holding) (locks : List (RowId × Mode)) (lock : RowId × Mode) → also_held held (locks ++ lock ∷ []) ≡ insert (also_held held locks) lock.0 (stronger (get (also_held held locks) lock.0) lock.1)
+pub also_held-push : (held : Holding) (locks : List (RowId × Mode)) (lock : RowId × Mode) →
+    also_held held (locks ++ lock ∷ []) ≡ insert (also_held held locks) lock.0 (stronger (get (also_held held locks) lock.0) lock.1)
 also_held-push held [] lock = refl
 also_held-push held (first ∷ locks) lock = also_held-push (insert held first.0 (stronger (get held first.0) first.1)) locks lock
 

@@ -15,7 +15,8 @@ use Rattle.row_locks.specs.Laws.{TakenByOne, ReleasedByOne, HeldAsListed, Holder
 use Rattle.schema.proofs.RowMaps.{row_is}
 use Rattle.row_locks.proofs.Tied.{no_other}
 
-by_one : (locks : Locks) (session other : ℕ) (held : Holding) → 1 ≤ session → session ≤ length locks → 1 ≤ other → held_by (set locks (session - 1) held) other ≡ cond (nat_eq other session) held (held_by locks other)
+by_one : (locks : Locks) (session other : ℕ) (held : Holding) → 1 ≤ session → session ≤ length locks → 1 ≤ other →
+    held_by (set locks (session - 1) held) other ≡ cond (nat_eq other session) held (held_by locks other)
 by_one locks session other held least greatest positive =
     let within : session - 1 < length locks = omega arith in
     elim (eqb_tells other session) [
@@ -49,7 +50,8 @@ held_as_listed held (lock ∷ rest) row mode =
     ∙ ap (λ b. b || list_any (λ l. same_row row l.0 && opposes (Some l.1) mode) rest) (one (cases_Bool (same_row row lock.0)))
     ∙ or_assoc (opposes (get held row) mode) (same_row row lock.0 && opposes (Some lock.1) mode) (list_any (λ l. same_row row l.0 && opposes (Some l.1) mode) rest)
   where
-    one : (same_row row lock.0 ≡ true) ⊎ (same_row row lock.0 ≡ false) → opposes (get (insert held lock.0 (stronger (get held lock.0) lock.1)) row) mode ≡ (opposes (get held row) mode || (same_row row lock.0 && opposes (Some lock.1) mode))
+    one : (same_row row lock.0 ≡ true) ⊎ (same_row row lock.0 ≡ false) → opposes (get (insert held lock.0 (stronger (get held lock.0) lock.1)) row) mode
+        ≡ (opposes (get held row) mode || (same_row row lock.0 && opposes (Some lock.1) mode))
     one (inl same) =
         ap (λ o. opposes o mode) (get-insert row_total held lock.0 (stronger (get held lock.0) lock.1) row ∙ ap (λ b. cond b (Some (stronger (get held lock.0) lock.1)) (get held row)) same)
         ∙ opposes-stronger (get held lock.0) lock.1 mode

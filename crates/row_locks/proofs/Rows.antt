@@ -11,7 +11,8 @@ use Rattle.schema.specs.RowId.{row_cmp, row_total}
 
 module _ {X : Type 0} where
   -- the entry that a map gave up last was its row's
-  pub got_last : {S : Type 0} (m n : IndexMap RowId X S) (o : Option (RowId × X)) → m.entries ≡ n.entries ++ option_to_list o → IfSome o (λ p. Updates row_eq m n p.0 None) → IfSome o (λ p. get (rows_of m.entries) p.0 ≡ Some p.1)
+  pub got_last : {S : Type 0} (m n : IndexMap RowId X S) (o : Option (RowId × X)) → m.entries ≡ n.entries ++ option_to_list o → IfSome o (λ p. Updates row_eq m n p.0 None) →
+      IfSome o (λ p. get (rows_of m.entries) p.0 ≡ Some p.1)
   got_last m n None e h = tt
   got_last m n (Some p) e h =
       let none : find row_cmp p.0 n.entries ≡ None = sym (lookup-find n.entries p.0) ∙ h.0 p.0 ∙ ap (λ b. cond b None (lookup (row_eq p.0) m.entries)) (turned p.0 p.0 ∙ same_row_itself p.0) in
@@ -23,7 +24,8 @@ module _ {X : Type 0} where
   gave_last m n (Some p) h = rows-removed m.entries n.entries p.0 h.0
 
   -- where the insert could not fail, the row is set
-  pub rows-inserted : {S T E : Type 0} (m n : IndexMap RowId X S) (r : Result T E) (k : RowId) (v : X) → IsOk r → OnOk r (Updates row_eq m n k (Some v)) → rows_of n.entries ≡ insert (rows_of m.entries) k v
+  pub rows-inserted : {S T E : Type 0} (m n : IndexMap RowId X S) (r : Result T E) (k : RowId) (v : X) → IsOk r → OnOk r (Updates row_eq m n k (Some v)) →
+      rows_of n.entries ≡ insert (rows_of m.entries) k v
   rows-inserted m n (Ok x) k v h is = rows-set m.entries n.entries k v is.0
   rows-inserted m n (Err e) k v h is = absurd (true≢false (sym h))
 

@@ -1,5 +1,6 @@
 -- What ties the counts of rows to what the sessions hold, and that no two sessions clash.
-use Rattle.std.proofs.Common.{◌≡◌, ◌≢◌, ◌∙◌, sym, ap, refl, ℕ, suc, ◌+◌, ◌-◌, ◌*◌, ◌<◌, ◌≤◌, arith, length, get_or, set, replicate, nat_lt, Bool, true, false, true≢false, ◌||◌, cond, Option, Some, None, List, [], ◌∷◌, map, ◌⊎◌, inl, inr}
+use Rattle.std.proofs.Common.{◌≡◌, ◌≢◌, ◌∙◌, sym, ap, refl, ℕ, suc, ◌+◌, ◌-◌, ◌*◌, ◌<◌, ◌≤◌, arith, length, get_or, set, replicate, nat_lt, Bool, true, false, true≢false, ◌||◌, cond, Option, Some}
+use Rattle.std.proofs.Common.{None, List, [], ◌∷◌, map, ◌⊎◌, inl, inr}
 use Rattle.std.specs.List.{list_any, count_by}
 use Rattle.std.specs.FinMap.{get, insert, empty, get-empty, get-insert}
 use Rattle.std.proofs.lemmas.Bool.{cases_Bool, or_parts}
@@ -165,11 +166,13 @@ module _ (locks : Locks) (counts : Counts) (session : ℕ) (least : 1 ≤ sessio
       cc)
 
 -- what a session also holds clashes with none where its locks and those of the list do not
-all_clear : (p : RowId → Mode → Bool) (held : Holding) (locks : List (RowId × Mode)) → ((row : RowId) (mode : Mode) → get held row ≡ Some mode → p row mode ≡ false) → list_any (λ lock. p lock.0 lock.1) locks ≡ false →
+all_clear : (p : RowId → Mode → Bool) (held : Holding) (locks : List (RowId × Mode)) → ((row : RowId) (mode : Mode) → get held row ≡ Some mode → p row mode ≡ false) →
+    list_any (λ lock. p lock.0 lock.1) locks ≡ false →
     (row : RowId) (mode : Mode) → get (also_held held locks) row ≡ Some mode → p row mode ≡ false
 all_clear p held [] own none = own
 all_clear p held (lock ∷ rest) own none =
-    all_clear p (insert held lock.0 (stronger (get held lock.0) lock.1)) rest (with_one (or_parts (p lock.0 lock.1) (list_any (λ l. p l.0 l.1) rest) none).0) (or_parts (p lock.0 lock.1) (list_any (λ l. p l.0 l.1) rest) none).1
+    all_clear p (insert held lock.0 (stronger (get held lock.0) lock.1)) rest (with_one (or_parts (p lock.0 lock.1) (list_any (λ l. p l.0 l.1) rest) none).0)
+    (or_parts (p lock.0 lock.1) (list_any (λ l. p l.0 l.1) rest) none).1
   where
     strong : (was : Option Mode) → get held lock.0 ≡ was → p lock.0 lock.1 ≡ false → p lock.0 (stronger was lock.1) ≡ false
     strong None e this = this
@@ -198,7 +201,8 @@ any_on_marks : (locks : Locks) (session : ℕ) (marks : List Mark) → any_clash
 any_on_marks locks session [] = refl
 any_on_marks locks session (mark ∷ marks) = ap (λ b. clashes_with locks session mark Exclusive || b) (any_on_marks locks session marks)
 
-pub marks_free : (locks : AllLocks) (session : ℕ) (rows : List (RowId × Mode)) (marks : List Mark) → any_clashes_all locks session rows marks ≡ false → any_clashes locks.marks session (locks_on Exclusive marks) ≡ false
+pub marks_free : (locks : AllLocks) (session : ℕ) (rows : List (RowId × Mode)) (marks : List Mark) → any_clashes_all locks session rows marks ≡ false →
+    any_clashes locks.marks session (locks_on Exclusive marks) ≡ false
 marks_free locks session rows marks clear = any_on_marks locks.marks session marks ∙ (or_parts (any_clashes locks.rows session rows) (list_any (mark_clashes locks session) marks) clear).1
 
 -- a table in which no session holds a row
@@ -244,25 +248,29 @@ abbrev pub rows_in : List Place → Locks
 rows_in places = map (λ place. place.rows) places
 
 -- what the session's place has is what the session holds
-pub place_rows : (places : List Place) (counts : Counts) (session : ℕ) (place : Place) → 1 ≤ session → session ≤ 256 → IsTied (rows_in places) counts → place ≡ get_or places (session - 1) place → place.rows ≡ held_by (rows_in places) session
+pub place_rows : (places : List Place) (counts : Counts) (session : ℕ) (place : Place) → 1 ≤ session → session ≤ 256 → IsTied (rows_in places) counts → place ≡ get_or places (session - 1) place →
+    place.rows ≡ held_by (rows_in places) session
 place_rows places counts session place least greatest tied is =
     let within : session - 1 < length places = omega (arith, tied.places, length-map places (λ (p : Place). p.rows)) in
     ap (λ (p : Place). p.rows) is ∙ sym (get_or-map (λ (p : Place). p.rows) places (session - 1) place empty within)
 
 -- the session's own rows are counted
-pub counted_place : (places : List Place) (counts : Counts) (session : ℕ) (place : Place) → 1 ≤ session → session ≤ 256 → IsTied (rows_in places) counts → place ≡ get_or places (session - 1) place → IsCounted place.rows counts
+pub counted_place : (places : List Place) (counts : Counts) (session : ℕ) (place : Place) → 1 ≤ session → session ≤ 256 → IsTied (rows_in places) counts → place ≡ get_or places (session - 1) place →
+    IsCounted place.rows counts
 counted_place places counts session place least greatest tied is =
     rw (place_rows places counts session place least greatest tied is) (counted_own (rows_in places) counts session least greatest tied)
 
 -- room made in the session's place moves no rows
-pub with_room : (places : List Place) (counts : Counts) (session : ℕ) (place roomy : Place) → 1 ≤ session → session ≤ 256 → IsTied (rows_in places) counts → place ≡ get_or places (session - 1) place → roomy.rows ≡ place.rows →
+pub with_room : (places : List Place) (counts : Counts) (session : ℕ) (place roomy : Place) → 1 ≤ session → session ≤ 256 → IsTied (rows_in places) counts →
+    place ≡ get_or places (session - 1) place → roomy.rows ≡ place.rows →
     rows_in (set places (session - 1) roomy) ≡ rows_in places
 with_room places counts session place roomy least greatest tied is same =
     map-set (λ (p : Place). p.rows) places (session - 1) roomy
     ∙ ap (λ h. set (rows_in places) (session - 1) h) (same ∙ place_rows places counts session place least greatest tied is)
     ∙ set-get_or (rows_in places) (session - 1) empty
 
-module _ (places : List Place) (counts counts' : Counts) (session : ℕ) (place place' : Place) (least : 1 ≤ session) (greatest : session ≤ 256) (tied : IsTied (rows_in places) counts) (is : place ≡ get_or places (session - 1) place)
+module _ (places : List Place) (counts counts' : Counts) (session : ℕ) (place place' : Place) (least : 1 ≤ session) (greatest : session ≤ 256) (tied : IsTied (rows_in places) counts)
+    (is : place ≡ get_or places (session - 1) place)
     (moves : MovesAlike place.rows counts place'.rows counts') where
   own : place.rows ≡ held_by (rows_in places) session
   own = place_rows places counts session place least greatest tied is
@@ -271,7 +279,8 @@ module _ (places : List Place) (counts counts' : Counts) (session : ℕ) (place 
   pub place_taken : (rows : List (RowId × Mode)) → place'.rows ≡ also_held place.rows rows → rows_in (set places (session - 1) place') ≡ taken (rows_in places) session rows
   place_taken rows took = map-set (λ (p : Place). p.rows) places (session - 1) place' ∙ ap (λ h. set (rows_in places) (session - 1) h) (took ∙ ap (λ h. also_held h rows) own)
 
-  pub place_taken_tied : (rows : List (RowId × Mode)) → place'.rows ≡ also_held place.rows rows → any_clashes (rows_in places) session rows ≡ false → IsTied (rows_in (set places (session - 1) place')) counts'
+  pub place_taken_tied : (rows : List (RowId × Mode)) → place'.rows ≡ also_held place.rows rows → any_clashes (rows_in places) session rows ≡ false →
+      IsTied (rows_in (set places (session - 1) place')) counts'
   place_taken_tied rows took clear =
       let moved : MovesAlike (held_by (rows_in places) session) counts (also_held (held_by (rows_in places) session) rows) counts' = rw (took, own) at moves in
       rw (place_taken rows took) (tied-taken (rows_in places) counts counts' session rows least greatest tied clear moved)

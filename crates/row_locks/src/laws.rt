@@ -1,6 +1,7 @@
 //! What follows from the definitions alone. Each function states laws by its contract, and does nothing.
 
-ghost use Rattle.row_locks.specs.Laws.{NothingHeld, TakenByOne, ReleasedByOne, HeldAsListed, HoldersShare, HeldByRows, HoldsMoreRows, HoldsMoreMarks, HoldersDoNotConflict};
+ghost use Rattle.row_locks.specs.Laws.{NothingHeld, TakenByOne, ReleasedByOne, HeldAsListed, HoldersShare, HeldByRows, HoldsMoreRows};
+ghost use Rattle.row_locks.specs.Laws.{HoldsMoreMarks, HoldersDoNotConflict};
 
 /// In a new table there are 256 sessions, and none of them holds a row, or a mark.
 pub fn new_table()

@@ -17,7 +17,8 @@ ghost use Rattle.std.specs.Prelude.{◌≡◌, ◌≤◌, ◌↔◌, false, IsTr
 ghost use Rattle.std.specs.List.{list_any};
 ghost use Rattle.row_locks.specs.declared.LockFault.TheVariants.{Clash};
 ghost use Rattle.row_locks.specs.Mode.{stronger, weight};
-ghost use Rattle.row_locks.specs.Locks.{all_free, clashes_with, mark_clashes, any_clashes, any_clashes_all, taken, taken_all, released_all, NoClash};
+ghost use Rattle.row_locks.specs.Locks.{all_free, clashes_with, mark_clashes, any_clashes, any_clashes_all, taken, taken_all, released_all};
+ghost use Rattle.row_locks.specs.Locks.{NoClash};
 
 mod held;
 pub mod laws;

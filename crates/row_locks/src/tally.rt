@@ -89,7 +89,8 @@ impl Tally {
         requires counted { (mode : Mode) → weight was mode ≤ count_at self.old.rows row mode }
         requires fits { (mode : Mode) → count_at self.old.rows row mode ≤ weight was mode + 256 }
         requires room { IsNone was → 0 < self.old.room }
-        ensures counts { (q : RowId) (mode : Mode) → count_at self.new.rows q mode + (if same_row q row then weight was mode else 0) ≡ count_at self.old.rows q mode + (if same_row q row then weight now mode else 0) }
+        ensures counts { (q : RowId) (mode : Mode) → count_at self.new.rows q mode + (if same_row q row then weight was mode else 0)
+            ≡ count_at self.old.rows q mode + (if same_row q row then weight now mode else 0) }
         ensures room { self.old.room ≤ self.new.room + 1 }
     {
         let count = changed(self.count(row), was, now);

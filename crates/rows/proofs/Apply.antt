@@ -21,8 +21,10 @@ use Rattle.rows.specs.declared.ChangeFault.{ChangeFault}
 use Rattle.rows.specs.declared.ChangeFault.TheVariants.{Columns}
 use Rattle.rows.specs.Naming.{NamedColumns, names_column, assigned}
 use Rattle.rows.specs.Change.{changed}
-use Rattle.rows.specs.Database.{Database, put_row, target, parent_of, parent_in, mark_of, mark_in, has_parent, names_parent, is_free, names_unique, apply, moves_value, marks_between, ChildrenHaveParents, HasChild, DeletesNoParent}
-use Rattle.rows.specs.Effect.{row_has_parent, sets_parent, parent_stands, row_is_free, sets_value, value_stands, AppliesByRow, FitsWhereItApplies, ParentStandsWhereItApplies, ValueStandsWhereItApplies, HasParentWhereItApplies, AppliesWhereItFits}
+use Rattle.rows.specs.Database.{Database, put_row, target, parent_of, parent_in, mark_of, mark_in, has_parent, names_parent, is_free, names_unique, apply, moves_value, marks_between}
+use Rattle.rows.specs.Database.{ChildrenHaveParents, HasChild, DeletesNoParent}
+use Rattle.rows.specs.Effect.{row_has_parent, sets_parent, parent_stands, row_is_free, sets_value, value_stands, AppliesByRow, FitsWhereItApplies, ParentStandsWhereItApplies}
+use Rattle.rows.specs.Effect.{ValueStandsWhereItApplies, HasParentWhereItApplies, AppliesWhereItFits}
 use Rattle.rows.specs.Frame.{SameHolders}
 use Rattle.rows.proofs.Assigned.{assigned_keeps}
 use Rattle.rows.proofs.Marks.{free_alike, listed}
@@ -115,7 +117,8 @@ insert_applies ts row columns db None left fit stands value =
     ap (λ b. cond b (Some (insert db row columns)) None) (and_from _ _ there free) ∙ ap (λ l. Some (put_row db row l)) e
 insert_applies ts row columns db (Some there) left fit stands value = cc
 
-update_applies : (ts : List Table) (row : RowId) (named : NamedColumns) (db : Database) (o left : Option (List ℤ)) → ◌≡◌ {A = Result (Option (List ℤ)) ChangeFault} (ok_or (option_map (λ columns. Some columns) o) Columns) (Ok left) →
+update_applies : (ts : List Table) (row : RowId) (named : NamedColumns) (db : Database) (o left : Option (List ℤ)) →
+    ◌≡◌ {A = Result (Option (List ℤ)) ChangeFault} (ok_or (option_map (λ columns. Some columns) o) Columns) (Ok left) →
     parent_stands ts (Update row named) db left ≡ true → value_stands ts (Update row named) db left ≡ true → updated ts row named db o ≡ Some (put_row db row left)
 update_applies ts row named db None left fit stands value = cc
 update_applies ts row named db (Some columns) left fit stands value =
@@ -136,7 +139,8 @@ delete_applies row db None left fit = cc
 delete_applies row db (Some there) left fit = ap (λ l. Some (put_row db row l)) (same_ok fit)
 
 -- a change that fits its row applies, where the parent that it gives the row is there and no other row has the value that it gives it
-pub applies_from : (ts : List Table) (change : Change) (db : Database) (left : Option (List ℤ)) → changed change (get db (target change)) ≡ Ok left → parent_stands ts change db left ≡ true → value_stands ts change db left ≡ true → apply ts change db ≡ Some (put_row db (target change) left)
+pub applies_from : (ts : List Table) (change : Change) (db : Database) (left : Option (List ℤ)) → changed change (get db (target change)) ≡ Ok left → parent_stands ts change db left ≡ true →
+    value_stands ts change db left ≡ true → apply ts change db ≡ Some (put_row db (target change) left)
 applies_from ts (Insert row columns) db left fit stands value = insert_applies ts row columns db (get db row) left fit stands value
 applies_from ts (Update row named) db left fit stands value = update_applies_at ts row named db (get db row) left fit stands value
 applies_from ts (Delete row) db left fit stands value = delete_applies row db (get db row) left fit
@@ -153,7 +157,8 @@ apply_by_row ts change db = by (changed change (get db (target change))) refl
     nothing None no_more = refl
     nothing (Some after) no_more = absurd (no_more after refl)
 
-    fitting : (left : Option (List ℤ)) (stands : Bool) → changed change (get db (target change)) ≡ Ok left → stand_both ts change db left ≡ stands → apply ts change db ≡ cond stands (Some (put_row db (target change) left)) None
+    fitting : (left : Option (List ℤ)) (stands : Bool) → changed change (get db (target change)) ≡ Ok left → stand_both ts change db left ≡ stands →
+        apply ts change db ≡ cond stands (Some (put_row db (target change) left)) None
     fitting left true fit stands =
         let parts = and_parts (parent_stands ts change db left) (value_stands ts change db left) stands in
         applies_from ts change db left fit parts.0 parts.1
@@ -162,7 +167,8 @@ apply_by_row ts change db = by (changed change (get db (target change))) refl
         let same : a.left ≡ left = same_ok (sym a.fits ∙ fit) in
         true_is_not_false (sym (and_from _ _ a.stands a.value) ∙ ap (stand_both ts change db) same ∙ stands))
 
-    by : (r : Result (Option (List ℤ)) ChangeFault) → changed change (get db (target change)) ≡ r → apply ts change db ≡ option_and_then (λ left. cond (stand_both ts change db left) (Some (put_row db (target change) left)) None) (result_ok r)
+    by : (r : Result (Option (List ℤ)) ChangeFault) → changed change (get db (target change)) ≡ r →
+        apply ts change db ≡ option_and_then (λ left. cond (stand_both ts change db left) (Some (put_row db (target change) left)) None) (result_ok r)
     by (Ok left) fit = fitting left (stand_both ts change db left) fit refl
     by (Err fault) unfit = nothing (apply ts change db) (λ after h. let a = applied_from ts change db after h in ok_is_not_err (sym a.fits ∙ unfit))
 
@@ -205,7 +211,8 @@ parent_there ts db id columns p names there =
     or_right (not (is_some (link_of ts id))) (option_map_or (contains_key db) (parent_of ts id columns) false) (ap (λ o. option_map_or (contains_key db) o false) names ∙ there)
 
 -- a database that has the parent that the columns name, where another one has it
-pub parent_alike : (ts : List Table) (a b : Database) (id : ℕ) (columns : List ℤ) → ((p : RowId) → parent_of ts id columns ≡ Some p → contains_key a p ≡ true → contains_key b p ≡ true) → has_parent ts a id columns ≡ true → has_parent ts b id columns ≡ true
+pub parent_alike : (ts : List Table) (a b : Database) (id : ℕ) (columns : List ℤ) → ((p : RowId) → parent_of ts id columns ≡ Some p → contains_key a p ≡ true → contains_key b p ≡ true) →
+    has_parent ts a id columns ≡ true → has_parent ts b id columns ≡ true
 parent_alike ts a b id columns same h =
     elim (or_cases (not (is_some (link_of ts id))) (option_map_or (contains_key a) (parent_of ts id columns) false) h) [
       | inl none ↦ or_left _ _ none
@@ -219,7 +226,8 @@ abbrev pub named_by : List ℤ → ℕ × ℕ → Option RowId
 named_by columns link = option_map (λ key. record { table = link.1; key = key }) (slice_get columns link.0)
 
 -- the parent is the same one, where the column that names it stays
-same_parent : (ts : List Table) (id mask : ℕ) (there new : List ℤ) → ((c : ℕ) → names_column mask c ≡ false → slice_get new c ≡ slice_get there c) → names_parent ts id mask ≡ false → parent_of ts id new ≡ parent_of ts id there
+same_parent : (ts : List Table) (id mask : ℕ) (there new : List ℤ) → ((c : ℕ) → names_column mask c ≡ false → slice_get new c ≡ slice_get there c) → names_parent ts id mask ≡ false →
+    parent_of ts id new ≡ parent_of ts id there
 same_parent ts id mask there new same apart = by (link_of ts id) apart
   where
     by : (o : Option (ℕ × ℕ)) → option_map_or (λ link. names_column mask link.0) o false ≡ false → option_and_then (named_by new) o ≡ option_and_then (named_by there) o
@@ -229,7 +237,8 @@ same_parent ts id mask there new same apart = by (link_of ts id) apart
         ap parent (same link.0 h)
 
 -- an update that does not name the parent column leaves the row with the parent that it had
-update_keeps : (ts : List Table) (row : RowId) (named : NamedColumns) (db : Database) (there : List ℤ) (o left : Option (List ℤ)) → assigned named there ≡ o → ◌≡◌ {A = Result (Option (List ℤ)) ChangeFault} (ok_or (option_map (λ columns. Some columns) o) Columns) (Ok left) →
+update_keeps : (ts : List Table) (row : RowId) (named : NamedColumns) (db : Database) (there : List ℤ) (o left : Option (List ℤ)) → assigned named there ≡ o →
+    ◌≡◌ {A = Result (Option (List ℤ)) ChangeFault} (ok_or (option_map (λ columns. Some columns) o) Columns) (Ok left) →
     names_parent ts row.table named.mask ≡ false → has_parent ts db row.table there ≡ true → row_has_parent ts db row.table left ≡ true
 update_keeps ts row named db there None left e fit apart had = cc
 update_keeps ts row named db there (Some new) left e fit apart had =
@@ -237,7 +246,8 @@ update_keeps ts row named db there (Some new) left e fit apart had =
     ap (row_has_parent ts db row.table) (sym (same_ok fit))
     ∙ ap (λ p. not (is_some (link_of ts row.table)) || option_map_or (contains_key db) p false) same ∙ had
 
-update_keeps_at : (ts : List Table) (row : RowId) (named : NamedColumns) (db : Database) (before left : Option (List ℤ)) → ChildrenHaveParents ts db → get db row ≡ before → changed (Update row named) before ≡ Ok left →
+update_keeps_at : (ts : List Table) (row : RowId) (named : NamedColumns) (db : Database) (before left : Option (List ℤ)) → ChildrenHaveParents ts db → get db row ≡ before →
+    changed (Update row named) before ≡ Ok left →
     names_parent ts row.table named.mask ≡ false → row_has_parent ts db row.table left ≡ true
 update_keeps_at ts row named db None left kept was fit apart = cc
 update_keeps_at ts row named db (Some there) left kept was fit apart = update_keeps ts row named db there (assigned named there) left refl fit apart (kept row there was)
@@ -247,7 +257,8 @@ delete_keeps ts row db None left fit = cc
 delete_keeps ts row db (Some there) left fit = ap (row_has_parent ts db row.table) (sym (same_ok fit))
 
 -- where each child has its parent, the row that a change leaves has its own
-left_has_parent : (ts : List Table) (change : Change) (db : Database) (left : Option (List ℤ)) → ChildrenHaveParents ts db → changed change (get db (target change)) ≡ Ok left → parent_stands ts change db left ≡ true → row_has_parent ts db (target change).table left ≡ true
+left_has_parent : (ts : List Table) (change : Change) (db : Database) (left : Option (List ℤ)) → ChildrenHaveParents ts db → changed change (get db (target change)) ≡ Ok left →
+    parent_stands ts change db left ≡ true → row_has_parent ts db (target change).table left ≡ true
 left_has_parent ts (Insert row columns) db left kept fit stands = stands
 left_has_parent ts (Update row named) db left kept fit stands =
     elim (cases_Bool (names_parent ts row.table named.mask)) [
@@ -262,7 +273,8 @@ has_parent_where ts change db after kept h =
     ap (row_has_parent ts db (target change).table) (left_there a) ∙ left_has_parent ts change db a.left kept a.fits a.stands
 
 -- a row that has its parent in one database has it in another that has the same there
-row_alike : (ts : List Table) (a b : Database) (id : ℕ) (left : Option (List ℤ)) → ((p : RowId) → has_row (option_to_list (option_and_then (parent_of ts id) left)) p ≡ true → get a p ≡ get b p) → row_has_parent ts a id left ≡ true → row_has_parent ts b id left ≡ true
+row_alike : (ts : List Table) (a b : Database) (id : ℕ) (left : Option (List ℤ)) → ((p : RowId) → has_row (option_to_list (option_and_then (parent_of ts id) left)) p ≡ true → get a p ≡ get b p) →
+    row_has_parent ts a id left ≡ true → row_has_parent ts b id left ≡ true
 row_alike ts a b id None same h = refl
 row_alike ts a b id (Some columns) same h =
     parent_alike ts a b id columns (λ p names there. ap is_some (sym (same p (ap (λ o. has_row (option_to_list o) p) names ∙ or_left _ _ (same_row_itself p)))) ∙ there) h
@@ -271,7 +283,8 @@ row_alike ts a b id (Some columns) same h =
 abbrev SameParent : List Table → Change → Database → Database → Option (List ℤ) → Type 0
 SameParent ts change a b left = (p : RowId) → has_row (option_to_list (option_and_then (parent_of ts (target change).table) left)) p ≡ true → get a p ≡ get b p
 
-stands_alike : (ts : List Table) (change : Change) (a b : Database) (left : Option (List ℤ)) → (sets_parent ts change ≡ true → SameParent ts change a b left) → parent_stands ts change a left ≡ true → parent_stands ts change b left ≡ true
+stands_alike : (ts : List Table) (change : Change) (a b : Database) (left : Option (List ℤ)) → (sets_parent ts change ≡ true → SameParent ts change a b left) → parent_stands ts change a left ≡ true →
+    parent_stands ts change b left ≡ true
 stands_alike ts change a b left same h =
     elim (cases_Bool (sets_parent ts change)) [
       | inl sets ↦
@@ -292,12 +305,14 @@ SameAtLeft ts change a b left =
     (mark : Mark) → has_row (option_to_list (option_and_then (mark_of ts (target change).table) left)) mark ≡ true → (q : RowId) → has_row (mark_in ts a q) mark ≡ has_row (mark_in ts b q) mark
 
 -- columns that are free in one database are so in another, where the same rows have their mark
-left_free_alike : (ts : List Table) (change : Change) (a b : Database) (left : Option (List ℤ)) → SameAtLeft ts change a b left → row_is_free ts a (target change) left ≡ true → row_is_free ts b (target change) left ≡ true
+left_free_alike : (ts : List Table) (change : Change) (a b : Database) (left : Option (List ℤ)) → SameAtLeft ts change a b left → row_is_free ts a (target change) left ≡ true →
+    row_is_free ts b (target change) left ≡ true
 left_free_alike ts change a b None same free = refl
 left_free_alike ts change a b (Some columns) same free =
     free_alike ts a b (target change) columns (λ mark is q. same mark (listed (mark_of ts (target change).table columns) mark is) q) free
 
-value_alike : (ts : List Table) (change : Change) (a b : Database) (left : Option (List ℤ)) → (sets_value ts change ≡ true → SameAtLeft ts change a b left) → value_stands ts change a left ≡ true → value_stands ts change b left ≡ true
+value_alike : (ts : List Table) (change : Change) (a b : Database) (left : Option (List ℤ)) → (sets_value ts change ≡ true → SameAtLeft ts change a b left) → value_stands ts change a left ≡ true →
+    value_stands ts change b left ≡ true
 value_alike ts change a b left same h =
     elim (cases_Bool (sets_value ts change)) [
       | inl sets ↦
@@ -307,7 +322,8 @@ value_alike ts change a b left same h =
     ]
 
 -- the mark of the row that a change leaves is one of the change's
-pub left_mark : (ts : List Table) (change : Change) (before after : Database) (mark : Mark) → moves_value ts change ≡ true → has_row (mark_in ts after (target change)) mark ≡ true → has_row (marks_between ts change before after) mark ≡ true
+pub left_mark : (ts : List Table) (change : Change) (before after : Database) (mark : Mark) → moves_value ts change ≡ true → has_row (mark_in ts after (target change)) mark ≡ true →
+    has_row (marks_between ts change before after) mark ≡ true
 left_mark ts change before after mark moves has =
     let was = mark_in ts before (target change) in
     let now = mark_in ts after (target change) in
@@ -322,21 +338,25 @@ pub apply_alike_given : (ts : List Table) (change : Change) (a b after : Databas
 apply_alike_given ts change a b after h same parents holders =
     let x = applied_from ts change a after h in
     let id = (target change).table in
-    let alike : sets_parent ts change ≡ true → SameParent ts change a b x.left = λ sets p is. parents sets p (ap (λ o. has_row (option_to_list (option_and_then (parent_of ts id) o)) p) (left_there x) ∙ is) in
-    let marked : sets_value ts change ≡ true → SameAtLeft ts change a b x.left = λ sets mark is. holders sets mark (ap (λ o. has_row (option_to_list (option_and_then (mark_of ts id) o)) mark) (left_there x) ∙ is) in (
+    let alike : sets_parent ts change ≡ true → SameParent ts change a b x.left =
+    λ sets p is. parents sets p (ap (λ o. has_row (option_to_list (option_and_then (parent_of ts id) o)) p) (left_there x) ∙ is) in
+    let marked : sets_value ts change ≡ true → SameAtLeft ts change a b x.left =
+    λ sets mark is. holders sets mark (ap (λ o. has_row (option_to_list (option_and_then (mark_of ts id) o)) mark) (left_there x) ∙ is) in (
       put_row b (target change) x.left,
       applies_from ts change b x.left (ap (changed change) (sym same) ∙ x.fits) (stands_alike ts change a b x.left alike x.stands) (value_alike ts change a b x.left marked x.value),
     )
 
 -- a change that applies to a database applies to another one that has the same at its row and at the parent
 -- that it leaves there, and in which the same rows have its marks
-pub apply_alike : (ts : List Table) (change : Change) (a b after : Database) → apply ts change a ≡ Some after → get a (target change) ≡ get b (target change) → ((p : RowId) → has_row (parent_in ts after (target change)) p ≡ true → get a p ≡ get b p) →
+pub apply_alike : (ts : List Table) (change : Change) (a b after : Database) → apply ts change a ≡ Some after → get a (target change) ≡ get b (target change) →
+    ((p : RowId) → has_row (parent_in ts after (target change)) p ≡ true → get a p ≡ get b p) →
     SameHolders ts (marks_between ts change a after) a b → (left : Database) × (apply ts change b ≡ Some left)
 apply_alike ts change a b after h same parents holders =
     apply_alike_given ts change a b after h same (λ _. parents) (λ sets mark is. holders mark (left_mark ts change a after mark (sets_moves ts change sets) is))
 
 -- a change does the same to two databases at each row where they are the same, and at its own row
-pub apply_agrees : (ts : List Table) (change : Change) (a b after left : Database) (q : RowId) → apply ts change a ≡ Some after → apply ts change b ≡ Some left → get a (target change) ≡ get b (target change) → ((same_row q (target change) ≡ false) → get a q ≡ get b q) → get after q ≡ get left q
+pub apply_agrees : (ts : List Table) (change : Change) (a b after left : Database) (q : RowId) → apply ts change a ≡ Some after → apply ts change b ≡ Some left →
+    get a (target change) ≡ get b (target change) → ((same_row q (target change) ≡ false) → get a q ≡ get b q) → get after q ≡ get left q
 apply_agrees ts change a b after left q ha hb same rest =
     elim (cases_Bool (same_row q (target change))) [
       | inl here ↦
@@ -358,7 +378,8 @@ removes_no_parent ts db (Update row named) (Some there) h none = by (assigned na
 removes_no_parent ts db (Delete row) before h none = none
 
 -- a parent that stands before the change stands after it, unless the change deletes it
-parent_stays : (ts : List Table) (change : Change) (db after : Database) (id p : RowId) (there : List ℤ) → DeletesNoParent ts change db → apply ts change db ≡ Some after → get after id ≡ Some there → parent_of ts id.table there ≡ Some p → contains_key db p ≡ true → contains_key after p ≡ true
+parent_stays : (ts : List Table) (change : Change) (db after : Database) (id p : RowId) (there : List ℤ) → DeletesNoParent ts change db → apply ts change db ≡ Some after → get after id ≡ Some there →
+    parent_of ts id.table there ≡ Some p → contains_key db p ≡ true → contains_key after p ≡ true
 parent_stays ts change db after id p there none h is names e =
     elim (cases_Bool (same_row p (target change))) [
       | inl here ↦ let same = row_is p (target change) here in by x.left refl same
@@ -373,12 +394,14 @@ parent_stays ts change db after id p there none h is names e =
         let removed : get after (target change) ≡ None = left_there x ∙ gone in
         elim (cases_Bool (same_row id (target change))) [
           | inl itself ↦ absurd (some_is_not_none (sym is ∙ ap (get after) (row_is id (target change) itself) ∙ removed))
-          | inr apart ↦ absurd (removes_no_parent ts db change (get db (target change)) (x.fits ∙ ap Ok gone) none (id, there, sym (apply_stays ts change db after id h apart) ∙ is, names ∙ ap Some same))
+          | inr apart ↦ absurd (removes_no_parent ts db change (get db (target change)) (x.fits ∙ ap Ok gone) none
+              (id, there, sym (apply_stays ts change db after id h apart) ∙ is, names ∙ ap Some same))
         ]
     by (Some columns) stays same = ap is_some (ap (get after) same ∙ left_there x ∙ stays)
 
 -- a change that applies leaves each child its parent, unless it deletes one
-pub apply_keeps_parents : (ts : List Table) (change : Change) (db after : Database) → ChildrenHaveParents ts db → DeletesNoParent ts change db → apply ts change db ≡ Some after → ChildrenHaveParents ts after
+pub apply_keeps_parents : (ts : List Table) (change : Change) (db after : Database) → ChildrenHaveParents ts db → DeletesNoParent ts change db → apply ts change db ≡ Some after →
+    ChildrenHaveParents ts after
 apply_keeps_parents ts change db after kept none h id there is =
     let x = applied_from ts change db after h in
     let had : has_parent ts db id.table there ≡ true = elim (cases_Bool (same_row id (target change))) [

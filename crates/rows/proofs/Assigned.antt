@@ -1,5 +1,6 @@
 -- The columns of a row with the named ones replaced.
-use Rattle.std.proofs.Common.{◌≡◌, ◌≢◌, sym, ap, ◌∙◌, refl, arith, ℕ, zero, suc, ◌+◌, ◌<◌, ◌≤◌, Bool, true, false, cond, ◌/◌, ◌%◌, ◌==◌, count_ones, List, [], ◌∷◌, ◌++◌, append_assoc, length, is_some, nat_lt, ◌*◌, ◌^◌, inl, inr, take, drop, set, get_or, ℤ, pos, Option, Some, None, add-zero, add-one}
+use Rattle.std.proofs.Common.{◌≡◌, ◌≢◌, sym, ap, ◌∙◌, refl, arith, ℕ, zero, suc, ◌+◌, ◌<◌, ◌≤◌, Bool, true, false, cond, ◌/◌, ◌%◌, ◌==◌, count_ones, List, [], ◌∷◌, ◌++◌, append_assoc, length, is_some}
+use Rattle.std.proofs.Common.{nat_lt, ◌*◌, ◌^◌, inl, inr, take, drop, set, get_or, ℤ, pos, Option, Some, None, add-zero, add-one}
 use lib.Count.{ones_step, ones-ones}
 use Rattle.std.proofs.lemmas.List.{length-drop, drop-drop, drop-set-lt, drop_more, get_or-drop, take_more, take_more_set}
 use Rattle.std.specs.Prelude.{slice_get, slice_index_or}
@@ -42,10 +43,12 @@ assign_step rest i left behind columns after v lt one front back =
 -- a named column takes the next value
 pub assign_named : (rest used i : ℕ) (values columns : List ℤ) → i < length columns → rest % 2 ≡ 1 → used < length values →
     option_map (λ more. take i columns ++ more) (assigned_from rest (drop used values) (drop i columns))
-    ≡ option_map (λ more. take (i + 1) (set columns i (get_or values used (pos 0))) ++ more) (assigned_from (rest / 2) (drop (used + 1) values) (drop (i + 1) (set columns i (get_or values used (pos 0)))))
+    ≡ option_map (λ more. take (i + 1) (set columns i (get_or values used (pos 0))) ++ more)
+    (assigned_from (rest / 2) (drop (used + 1) values) (drop (i + 1) (set columns i (get_or values used (pos 0)))))
 assign_named rest used i values columns lt odd room =
     assign_step rest i (drop used values) (drop (used + 1) values) columns (set columns i v) v lt
-    (ap (λ n. cond (n == 1) (option_map (λ more. slice_index_or (drop used values) 0 (pos 0) ∷ more) (assigned_from (rest / 2) (drop 1 (drop used values)) (drop (i + 1) columns))) (option_map (λ more. get_or columns i (pos 0) ∷ more) (assigned_from (rest / 2) (drop used values) (drop (i + 1) columns)))) odd
+    (ap (λ n. cond (n == 1) (option_map (λ more. slice_index_or (drop used values) 0 (pos 0) ∷ more) (assigned_from (rest / 2) (drop 1 (drop used values)) (drop (i + 1) columns)))
+    (option_map (λ more. get_or columns i (pos 0) ∷ more) (assigned_from (rest / 2) (drop used values) (drop (i + 1) columns)))) odd
     ∙ (λ j. option_map (λ more. first j ∷ more) (assigned_from (rest / 2) (drop-drop 1 used values j) (drop (i + 1) columns))))
     (take_more_set columns i v lt) (drop-set-lt (i + 1) columns i v (omega arith))
   where
@@ -61,7 +64,8 @@ pub assign_other : (rest used i : ℕ) (values columns : List ℤ) → i < lengt
     ≡ option_map (λ more. take (i + 1) columns ++ more) (assigned_from (rest / 2) (drop used values) (drop (i + 1) columns))
 assign_other rest used i values columns lt even =
     assign_step rest i (drop used values) (drop used values) columns columns (get_or columns i (pos 0)) lt
-    (ap (λ n. cond (n == 1) (option_map (λ more. slice_index_or (drop used values) 0 (pos 0) ∷ more) (assigned_from (rest / 2) (drop 1 (drop used values)) (drop (i + 1) columns))) (option_map (λ more. get_or columns i (pos 0) ∷ more) (assigned_from (rest / 2) (drop used values) (drop (i + 1) columns)))) zero_left)
+    (ap (λ n. cond (n == 1) (option_map (λ more. slice_index_or (drop used values) 0 (pos 0) ∷ more) (assigned_from (rest / 2) (drop 1 (drop used values)) (drop (i + 1) columns)))
+    (option_map (λ more. get_or columns i (pos 0) ∷ more) (assigned_from (rest / 2) (drop used values) (drop (i + 1) columns)))) zero_left)
     (take_more columns i (pos 0) lt) refl
   where
     zero_left : rest % 2 ≡ 0
@@ -87,11 +91,13 @@ assigned_cons mask values column columns new h = by (mask % 2 == 1) refl h
     same_some e = cc
 
     put : (first : ℤ) (left : List ℤ) (o : Option (List ℤ)) → assigned_from (mask / 2) left columns ≡ o → option_map (λ rest. first ∷ rest) o ≡ Some new →
-        ((mask % 2 == 1) ≡ true → (first ≡ slice_index_or values 0 (pos 0)) × (left ≡ drop 1 values)) → ((mask % 2 == 1) ≡ false → (first ≡ column) × (left ≡ values)) → Assigned mask values column columns new
+        ((mask % 2 == 1) ≡ true → (first ≡ slice_index_or values 0 (pos 0)) × (left ≡ drop 1 values)) → ((mask % 2 == 1) ≡ false → (first ≡ column) × (left ≡ values)) →
+        Assigned mask values column columns new
     put first left None e h takes stays = cc
     put first left (Some rest) e h takes stays = record { first = first; rest = rest; left = left; behind = e; is = same_some h; takes = takes; stays = stays }
 
-    by : (b : Bool) → (mask % 2 == 1) ≡ b → cond b (option_map (λ rest. slice_index_or values 0 (pos 0) ∷ rest) (assigned_from (mask / 2) (drop 1 values) columns)) (option_map (λ rest. column ∷ rest) (assigned_from (mask / 2) values columns)) ≡ Some new → Assigned mask values column columns new
+    by : (b : Bool) → (mask % 2 == 1) ≡ b → cond b (option_map (λ rest. slice_index_or values 0 (pos 0) ∷ rest) (assigned_from (mask / 2) (drop 1 values) columns))
+        (option_map (λ rest. column ∷ rest) (assigned_from (mask / 2) values columns)) ≡ Some new → Assigned mask values column columns new
     by true e h = put (slice_index_or values 0 (pos 0)) (drop 1 values) (assigned_from (mask / 2) (drop 1 values) columns) refl h (λ _. (refl, refl)) (λ other. true_is_false (sym e ∙ other))
     by false e h = put column values (assigned_from (mask / 2) values columns) refl h (λ other. true_is_false (sym other ∙ e)) (λ _. (refl, refl))
 
@@ -137,7 +143,8 @@ even_from : (n : ℕ) → (n % 2 == 1) ≡ false → n % 2 ≡ 0
 even_from n other = let apart : n % 2 ≢ 1 = λ e. cc in omega arith
 
 -- a named column takes its value
-pub assigned_takes : (c mask : ℕ) (values columns new : List ℤ) → count_ones mask ≤ length values → assigned_from mask values columns ≡ Some new → names_column mask c ≡ true → slice_get new c ≡ slice_get values (count_ones (mask % 2 ^ c))
+pub assigned_takes : (c mask : ℕ) (values columns new : List ℤ) → count_ones mask ≤ length values → assigned_from mask values columns ≡ Some new → names_column mask c ≡ true →
+    slice_get new c ≡ slice_get values (count_ones (mask % 2 ^ c))
 assigned_takes c mask values [] new room h names =
     let none : mask ≡ 0 = grind (arith, nat_tests, (cond_some (mask == 0) [] new h).0) in
     let bit : (bit_at mask c == 1) ≡ false = ap (λ n. bit_at n c == 1) none ∙ ap (λ n. n == 1) (bit_at-zero c) in
@@ -172,7 +179,8 @@ assigned_takes (suc c) mask values (column ∷ columns) new room h names =
     ])
 
 -- a named column takes its value, or 0 where there are not so many
-pub assigned_gives : (c mask : ℕ) (values columns new : List ℤ) → assigned_from mask values columns ≡ Some new → names_column mask c ≡ true → slice_get new c ≡ Some (slice_index_or values (count_ones (mask % 2 ^ c)) (pos 0))
+pub assigned_gives : (c mask : ℕ) (values columns new : List ℤ) → assigned_from mask values columns ≡ Some new → names_column mask c ≡ true →
+    slice_get new c ≡ Some (slice_index_or values (count_ones (mask % 2 ^ c)) (pos 0))
 assigned_gives c mask values [] new h names =
     let none : mask ≡ 0 = grind (arith, nat_tests, (cond_some (mask == 0) [] new h).0) in
     let bit : (bit_at mask c == 1) ≡ false = ap (λ n. bit_at n c == 1) none ∙ ap (λ n. n == 1) (bit_at-zero c) in
@@ -201,7 +209,8 @@ assigned_gives (suc c) mask values (column ∷ columns) new h names =
 half_below : (mask n : ℕ) → nat_lt (mask / 2) (2 ^ n) ≡ nat_lt mask (2 ^ suc n)
 half_below mask n =
     let double : 2 ^ suc n ≡ 2 ^ n * 2 = pow-suc 2 n in
-    both_or_none _ _ (λ h. let low : mask / 2 < 2 ^ n = grind (arith, nat_tests) in let all : mask < 2 ^ suc n = omega arith in grind (arith, nat_tests)) (λ h. let low : mask < 2 ^ suc n = grind (arith, nat_tests) in let all : mask / 2 < 2 ^ n = omega arith in grind (arith, nat_tests))
+    both_or_none _ _ (λ h. let low : mask / 2 < 2 ^ n = grind (arith, nat_tests) in let all : mask < 2 ^ suc n = omega arith in grind (arith, nat_tests))
+    (λ h. let low : mask < 2 ^ suc n = grind (arith, nat_tests) in let all : mask / 2 < 2 ^ n = omega arith in grind (arith, nat_tests))
 
 -- each column named is there
 pub assigned_is_there : (mask : ℕ) (values columns : List ℤ) → is_some (assigned_from mask values columns) ≡ nat_lt mask (2 ^ length columns)
@@ -221,6 +230,7 @@ assigned_is_there mask values (column ∷ columns) =
     mapped first (Some rest) = refl
 
     by : ((left : List ℤ) → is_some (assigned_from (mask / 2) left columns) ≡ nat_lt (mask / 2) (2 ^ length columns)) → (b : Bool) →
-        is_some (cond b (option_map (λ rest. slice_index_or values 0 (pos 0) ∷ rest) (assigned_from (mask / 2) (drop 1 values) columns)) (option_map (λ rest. column ∷ rest) (assigned_from (mask / 2) values columns))) ≡ nat_lt (mask / 2) (2 ^ length columns)
+        is_some (cond b (option_map (λ rest. slice_index_or values 0 (pos 0) ∷ rest) (assigned_from (mask / 2) (drop 1 values) columns))
+        (option_map (λ rest. column ∷ rest) (assigned_from (mask / 2) values columns))) ≡ nat_lt (mask / 2) (2 ^ length columns)
     by behind true = mapped (slice_index_or values 0 (pos 0)) (assigned_from (mask / 2) (drop 1 values) columns) ∙ behind (drop 1 values)
     by behind false = mapped column (assigned_from (mask / 2) values columns) ∙ behind values

@@ -1,5 +1,6 @@
 -- Named columns that are read pair by pair.
-use Rattle.std.proofs.Common.{◌≡◌, sym, ap, ◌∙◌, refl, arith, ℕ, ◌+◌, ◌*◌, ◌%◌, ◌^◌, ◌<◌, ◌≤◌, add-one, Bool, true, ◌&&◌, nat_le, nat_lt, count_ones, sum_by, map, List, [], ◌∷◌, ◌++◌, length, take, drop, set, get_or, ℤ, pos}
+use Rattle.std.proofs.Common.{◌≡◌, sym, ap, ◌∙◌, refl, arith, ℕ, ◌+◌, ◌*◌, ◌%◌, ◌^◌, ◌<◌, ◌≤◌, add-one, Bool, true, ◌&&◌, nat_le, nat_lt, count_ones, sum_by, map, List, [], ◌∷◌, ◌++◌, length, take}
+use Rattle.std.proofs.Common.{drop, set, get_or, ℤ, pos}
 use lib.Count.{ones_cat, ones-ones}
 use Rattle.std.proofs.Math.Nat.{pow-suc, pow-le-pow_right}
 use Rattle.std.proofs.lemmas.Bool.Decides.{nat_tests}

@@ -20,24 +20,29 @@ use Rattle.rows.proofs.Apply.{apply_stays, apply_changes, apply_keeps_parents, r
 use Rattle.rows.proofs.Values.{apply_keeps_marks, apply_keeps_apart}
 
 -- the effect of a list of changes is that of the first, and then that of the others
-pub effect_first : (ts : List Table) (change : Change) (changes : List Change) (before after : Database) → effect ts (change ∷ changes) before ≡ Some after → (mid : Database) × (apply ts change before ≡ Some mid) × (effect ts changes mid ≡ Some after)
+pub effect_first : (ts : List Table) (change : Change) (changes : List Change) (before after : Database) → effect ts (change ∷ changes) before ≡ Some after →
+    (mid : Database) × (apply ts change before ≡ Some mid) × (effect ts changes mid ≡ Some after)
 effect_first ts change changes before after h = option_and_then_some (effect ts changes) (apply ts change before) after h (λ mid one rest. (mid, one, rest))
 
 pub effect_then : (ts : List Table) (change : Change) (changes : List Change) (before mid : Database) → apply ts change before ≡ Some mid → effect ts (change ∷ changes) before ≡ effect ts changes mid
 effect_then ts change changes before mid one = ap (option_and_then (effect ts changes)) one
 
-pub kin_then : (ts : List Table) (change : Change) (changes : List Change) (before mid : Database) → apply ts change before ≡ Some mid → kin ts (change ∷ changes) before ≡ parent_in ts before (target change) ++ parent_in ts mid (target change) ++ kin ts changes mid
+pub kin_then : (ts : List Table) (change : Change) (changes : List Change) (before mid : Database) → apply ts change before ≡ Some mid →
+    kin ts (change ∷ changes) before ≡ parent_in ts before (target change) ++ parent_in ts mid (target change) ++ kin ts changes mid
 kin_then ts change changes before mid one = ap (λ o. option_map_or (λ after. parent_in ts before (target change) ++ parent_in ts after (target change) ++ kin ts changes after) o []) one
 
-pub marks_then : (ts : List Table) (change : Change) (changes : List Change) (before mid : Database) → apply ts change before ≡ Some mid → marks ts (change ∷ changes) before ≡ marks_between ts change before mid ++ marks ts changes mid
+pub marks_then : (ts : List Table) (change : Change) (changes : List Change) (before mid : Database) → apply ts change before ≡ Some mid →
+    marks ts (change ∷ changes) before ≡ marks_between ts change before mid ++ marks ts changes mid
 marks_then ts change changes before mid one = ap (λ o. option_map_or (λ after. marks_between ts change before after ++ marks ts changes after) o []) one
 
 -- the marks of the first change are among those of all, and so are those of the others
-pub marks_first : (ts : List Table) (change : Change) (changes : List Change) (before mid : Database) (mark : Mark) → apply ts change before ≡ Some mid → has_row (marks_between ts change before mid) mark ≡ true → has_row (marks ts (change ∷ changes) before) mark ≡ true
+pub marks_first : (ts : List Table) (change : Change) (changes : List Change) (before mid : Database) (mark : Mark) → apply ts change before ≡ Some mid →
+    has_row (marks_between ts change before mid) mark ≡ true → has_row (marks ts (change ∷ changes) before) mark ≡ true
 marks_first ts change changes before mid mark one is =
     ap (λ l. has_row l mark) (marks_then ts change changes before mid one) ∙ has_row-left (marks_between ts change before mid) (marks ts changes mid) mark is
 
-pub marks_behind : (ts : List Table) (change : Change) (changes : List Change) (before mid : Database) (mark : Mark) → apply ts change before ≡ Some mid → has_row (marks ts changes mid) mark ≡ true → has_row (marks ts (change ∷ changes) before) mark ≡ true
+pub marks_behind : (ts : List Table) (change : Change) (changes : List Change) (before mid : Database) (mark : Mark) → apply ts change before ≡ Some mid → has_row (marks ts changes mid) mark ≡ true →
+    has_row (marks ts (change ∷ changes) before) mark ≡ true
 marks_behind ts change changes before mid mark one is =
     ap (λ l. has_row l mark) (marks_then ts change changes before mid one) ∙ has_row-right (marks_between ts change before mid) (marks ts changes mid) mark is
 
@@ -54,7 +59,8 @@ changes_only_marks ts (change ∷ changes) before after mark q h other =
     let first = effect_first ts change changes before after h in
     let one = marks_between ts change before first.0 in
     let rest = marks ts changes first.0 in
-    let apart = or_parts (has_row one mark) (has_row rest mark) (sym (list_any-append (same_row mark) one rest) ∙ ap (λ l. has_row l mark) (sym (marks_then ts change changes before first.0 first.1)) ∙ other) in
+    let apart = or_parts (has_row one mark) (has_row rest mark) (sym (list_any-append (same_row mark) one rest) ∙ ap (λ l. has_row l mark) (sym (marks_then ts change changes before first.0 first.1))
+    ∙ other) in
     changes_only_marks ts changes first.0 after mark q first.2 apart.1 ∙ apply_keeps_marks ts change before first.0 mark q first.1 apart.0
 
 pub writes_joined : WritesOfJoined
@@ -92,7 +98,8 @@ marks_joined ts (change ∷ xs) ys db mid h =
 pub row_after_joined : RowAfterJoined
 row_after_joined [] ys q row = refl
 row_after_joined (change ∷ xs) ys q row =
-    elim (same_row q (target change)) as (λ b. cond b (option_and_then (row_after (xs ++ ys) q) (result_ok (changed change row))) (row_after (xs ++ ys) q row) ≡ option_and_then (row_after ys q) (cond b (option_and_then (row_after xs q) (result_ok (changed change row))) (row_after xs q row))) [
+    elim (same_row q (target change)) as (λ b. cond b (option_and_then (row_after (xs ++ ys) q) (result_ok (changed change row))) (row_after (xs ++ ys) q row)
+    ≡ option_and_then (row_after ys q) (cond b (option_and_then (row_after xs q) (result_ok (changed change row))) (row_after xs q row))) [
       | true ↦ elim (result_ok (changed change row)) as (λ o. option_and_then (row_after (xs ++ ys) q) o ≡ option_and_then (row_after ys q) (option_and_then (row_after xs q) o)) [
         | None ↦ refl
         | Some left ↦ row_after_joined xs ys q left
@@ -101,7 +108,8 @@ row_after_joined (change ∷ xs) ys q row =
     ]
 
 -- the changes of a row, the first of them apart
-row_after_here : (change : Change) (changes : List Change) (q : RowId) (row left : Option (List ℤ)) → same_row q (target change) ≡ true → changed change row ≡ Ok left → row_after (change ∷ changes) q row ≡ row_after changes q left
+row_after_here : (change : Change) (changes : List Change) (q : RowId) (row left : Option (List ℤ)) → same_row q (target change) ≡ true → changed change row ≡ Ok left →
+    row_after (change ∷ changes) q row ≡ row_after changes q left
 row_after_here change changes q row left here fit =
     ap (λ b. cond b (option_and_then (row_after changes q) (result_ok (changed change row))) (row_after changes q row)) here
     ∙ ap (λ r. option_and_then (row_after changes q) (result_ok r)) fit
@@ -119,7 +127,8 @@ each_row_is_left ts (change ∷ changes) before after q h =
     let rest = each_row_is_left ts changes mid after q first.2 in
     elim (cases_Bool (same_row q (target change))) [
       | inl here ↦
-          let fit : changed change (get before q) ≡ Ok (get mid q) = ap (λ r. changed change (get before r)) (row_is q (target change) here) ∙ apply_changes ts change before mid first.1 ∙ ap (λ r. Ok (get mid r)) (sym (row_is q (target change) here)) in
+          let fit : changed change (get before q) ≡ Ok (get mid q) = ap (λ r. changed change (get before r)) (row_is q (target change) here) ∙ apply_changes ts change before mid first.1
+          ∙ ap (λ r. Ok (get mid r)) (sym (row_is q (target change) here)) in
           row_after_here change changes q (get before q) (get mid q) here fit ∙ rest
       | inr other ↦
           row_after_other change changes q (get before q) other ∙ ap (row_after changes q) (sym (apply_stays ts change before mid q first.1 other)) ∙ rest

@@ -25,7 +25,8 @@ module _ {X : Type 0} where
       ap (λ b. cond b (Some e.1) (find_row row_cmp id es)) (less_apart (row_cmp id e.0) parts.0) ∙ none_below id es parts.1
 
   -- the first entry that passes is the one of its row
-  found_row : (test : RowId × X → Bool) (es : List (RowId × X)) (found : RowId × X) → is_sorted row_cmp es ≡ true → find test es ≡ Some found → (find_row row_cmp found.0 es ≡ Some found.1) × (test found ≡ true)
+  found_row : (test : RowId × X → Bool) (es : List (RowId × X)) (found : RowId × X) → is_sorted row_cmp es ≡ true → find test es ≡ Some found →
+      (find_row row_cmp found.0 es ≡ Some found.1) × (test found ≡ true)
   found_row test [] found sorted is = cc
   found_row test (e ∷ es) found sorted is =
       let parts = and_parts (below_all row_cmp e.0 es) (is_sorted row_cmp es) sorted in
@@ -35,7 +36,8 @@ module _ {X : Type 0} where
       behind true same none there = absurd (none_is_some found.1 (find_row row_cmp found.0 es) (ap (λ id. find_row row_cmp id es) (row_is found.0 e.0 same) ∙ none) there)
       behind false same none there = there
 
-      by : (find test es ≡ Some found → (find_row row_cmp found.0 es ≡ Some found.1) × (test found ≡ true)) → find_row row_cmp e.0 es ≡ None → (b : Bool) → test e ≡ b → cond b (Some e) (find test es) ≡ Some found → (find_row row_cmp found.0 (e ∷ es) ≡ Some found.1) × (test found ≡ true)
+      by : (find test es ≡ Some found → (find_row row_cmp found.0 es ≡ Some found.1) × (test found ≡ true)) → find_row row_cmp e.0 es ≡ None → (b : Bool) → test e ≡ b →
+          cond b (Some e) (find test es) ≡ Some found → (find_row row_cmp found.0 (e ∷ es) ≡ Some found.1) × (test found ≡ true)
       by rest none true passes first =
           let same : e ≡ found = same_Some e found first in
           subst (λ (d : RowId × X). (find_row row_cmp d.0 (e ∷ es) ≡ Some d.1) × (test d ≡ true)) same
@@ -46,7 +48,8 @@ module _ {X : Type 0} where
   find_any test [] h = cc
   find_any test (e ∷ es) h = by (find_any test es) (test e) h
     where
-      by : (list_any test es ≡ true → (found : RowId × X) × (find test es ≡ Some found)) → (b : Bool) → (b || list_any test es) ≡ true → (found : RowId × X) × (cond b (Some e) (find test es) ≡ Some found)
+      by : (list_any test es ≡ true → (found : RowId × X) × (find test es ≡ Some found)) → (b : Bool) → (b || list_any test es) ≡ true →
+          (found : RowId × X) × (cond b (Some e) (find test es) ≡ Some found)
       by rest true passes = (e, refl)
       by rest false later = rest later
 
@@ -62,7 +65,8 @@ module _ {X : Type 0} where
   row_any test [] id x is h = cc
   row_any test (e ∷ es) id x is h = by (row_any test es id x) (same_row id e.0) refl is
     where
-      by : (find_row row_cmp id es ≡ Some x → test (id, x) ≡ true → list_any test es ≡ true) → (b : Bool) → same_row id e.0 ≡ b → cond b (Some e.1) (find_row row_cmp id es) ≡ Some x → (test e || list_any test es) ≡ true
+      by : (find_row row_cmp id es ≡ Some x → test (id, x) ≡ true → list_any test es ≡ true) → (b : Bool) → same_row id e.0 ≡ b → cond b (Some e.1) (find_row row_cmp id es) ≡ Some x →
+          (test e || list_any test es) ≡ true
       by rest true same here = or_left _ _ ((λ i. test (sym (row_is id e.0 same) i, same_Some e.1 x here i)) ∙ h)
       by rest false same there = or_right (test e) _ (rest there h)
 

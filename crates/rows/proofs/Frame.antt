@@ -20,17 +20,20 @@ abbrev touched : List Table → Change → List Change → Database → Database
 touched ts change changes before mid =
     writes (change ∷ changes) ++ (parent_in ts before (target change) ++ parent_in ts mid (target change) ++ kin ts changes mid)
 
-touched-writes : (ts : List Table) (change : Change) (changes : List Change) (before mid : Database) (q : RowId) → has_row (writes (change ∷ changes)) q ≡ true → has_row (touched ts change changes before mid) q ≡ true
+touched-writes : (ts : List Table) (change : Change) (changes : List Change) (before mid : Database) (q : RowId) → has_row (writes (change ∷ changes)) q ≡ true →
+    has_row (touched ts change changes before mid) q ≡ true
 touched-writes ts change changes before mid q is =
     has_row-left (writes (change ∷ changes)) (parent_in ts before (target change) ++ parent_in ts mid (target change) ++ kin ts changes mid) q is
 
-touched-parent : (ts : List Table) (change : Change) (changes : List Change) (before mid : Database) (q : RowId) → has_row (parent_in ts mid (target change)) q ≡ true → has_row (touched ts change changes before mid) q ≡ true
+touched-parent : (ts : List Table) (change : Change) (changes : List Change) (before mid : Database) (q : RowId) → has_row (parent_in ts mid (target change)) q ≡ true →
+    has_row (touched ts change changes before mid) q ≡ true
 touched-parent ts change changes before mid q is =
     let was = parent_in ts before (target change) in
     let now = parent_in ts mid (target change) in
     has_row-right (writes (change ∷ changes)) (was ++ now ++ kin ts changes mid) q (has_row-left (was ++ now) (kin ts changes mid) q (has_row-right was now q is))
 
-touched-behind : (ts : List Table) (change : Change) (changes : List Change) (before mid : Database) (q : RowId) → has_row (writes changes ++ kin ts changes mid) q ≡ true → has_row (touched ts change changes before mid) q ≡ true
+touched-behind : (ts : List Table) (change : Change) (changes : List Change) (before mid : Database) (q : RowId) → has_row (writes changes ++ kin ts changes mid) q ≡ true →
+    has_row (touched ts change changes before mid) q ≡ true
 touched-behind ts change changes before mid q is =
     let parents = parent_in ts before (target change) ++ parent_in ts mid (target change) in
     elim (or_cases (has_row (writes changes) q) (has_row (kin ts changes mid) q) (sym (list_any-append (same_row q) (writes changes) (kin ts changes mid)) ∙ is)) [
@@ -42,7 +45,8 @@ joined : {A : Type 0} {a a' b b' c c' : List A} → a ≡ a' → b ≡ b' → c 
 joined p q r = λ i. p i ++ q i ++ r i
 
 -- where the one row of a change is the same in two databases, before it and after it, it has the same marks there
-between_alike : (ts : List Table) (change : Change) (a b after left : Database) → get a (target change) ≡ get b (target change) → get after (target change) ≡ get left (target change) → marks_between ts change a after ≡ marks_between ts change b left
+between_alike : (ts : List Table) (change : Change) (a b after left : Database) → get a (target change) ≡ get b (target change) → get after (target change) ≡ get left (target change) →
+    marks_between ts change a after ≡ marks_between ts change b left
 between_alike ts change a b after left was now =
     let mark_at : Option (List ℤ) → List Mark = λ o. option_to_list (option_and_then (mark_of ts (target change).table) o) in
     λ i. cond (moves_value ts change) (mark_at (was i) ++ mark_at (now i)) []

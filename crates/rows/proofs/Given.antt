@@ -43,7 +43,8 @@ update_left id named (Some there) left fits = by (assigned named there) refl fit
     by (Some columns) e f = (there, columns, refl, sym (same_ok f), e)
 
 -- a named column takes its value, or 0 where there are not so many
-pub takes_value : (named : NamedColumns) (there new : List ℤ) (c : ℕ) → assigned named there ≡ Some new → names_column named.mask c ≡ true → slice_get new c ≡ Some (slice_index_or named.values (count_ones (named.mask % 2 ^ c)) (pos 0))
+pub takes_value : (named : NamedColumns) (there new : List ℤ) (c : ℕ) → assigned named there ≡ Some new → names_column named.mask c ≡ true →
+    slice_get new c ≡ Some (slice_index_or named.values (count_ones (named.mask % 2 ^ c)) (pos 0))
 takes_value named there new c leaves names = assigned_gives c named.mask named.values there new leaves names
 
 -- where an update names a column, it gives it a value, and leaves that there
@@ -60,7 +61,8 @@ gives_named id named c value gives = by (names_column named.mask c) gives
     by false e = cc
 
 -- the value that a change gives a column is there behind it
-pub value_is_left : (change : Change) (row left : Option (List ℤ)) (c : ℕ) (value : ℤ) → ◌≡◌ {A = Result (Option (List ℤ)) ChangeFault} (changed change row) (Ok left) → given_value change c ≡ Some value → (columns : List ℤ) × (left ≡ Some columns) × (slice_get columns c ≡ Some value)
+pub value_is_left : (change : Change) (row left : Option (List ℤ)) (c : ℕ) (value : ℤ) → ◌≡◌ {A = Result (Option (List ℤ)) ChangeFault} (changed change row) (Ok left) →
+    given_value change c ≡ Some value → (columns : List ℤ) × (left ≡ Some columns) × (slice_get columns c ≡ Some value)
 value_is_left (Insert id columns) None left c value fits gives = (columns, sym (same_ok fits), gives)
 value_is_left (Insert id columns) (Some there) left c value fits gives = cc
 value_is_left (Update id named) row left c value fits gives =
@@ -73,7 +75,8 @@ abbrev row_in : ℕ → ℤ → RowId
 row_in table key = record { table = table; key = key }
 
 -- the parent that a change gives its row is the parent of the row that it leaves
-pub parent_is_left : (ts : List Table) (change : Change) (before mid : Database) (p : RowId) → apply ts change before ≡ Some mid → given_parent ts change ≡ Some p → has_row (parent_in ts mid (target change)) p ≡ true
+pub parent_is_left : (ts : List Table) (change : Change) (before mid : Database) (p : RowId) → apply ts change before ≡ Some mid → given_parent ts change ≡ Some p →
+    has_row (parent_in ts mid (target change)) p ≡ true
 parent_is_left ts change before mid p one gives =
     option_and_then_some (λ (link : ℕ × ℕ). option_map (row_in link.1) (given_value change link.0)) (link_of ts (target change).table) p gives (λ link at named.
     let key = made_of (row_in link.1) (given_value change link.0) p named in
@@ -85,7 +88,8 @@ parent_is_left ts change before mid p one gives =
     ∙ ap Some key.2))
 
 -- and so is the mark that it gives it
-pub mark_is_left : (ts : List Table) (change : Change) (before mid : Database) (mark : Mark) → apply ts change before ≡ Some mid → given_mark ts change ≡ Some mark → has_row (mark_in ts mid (target change)) mark ≡ true
+pub mark_is_left : (ts : List Table) (change : Change) (before mid : Database) (mark : Mark) → apply ts change before ≡ Some mid → given_mark ts change ≡ Some mark →
+    has_row (mark_in ts mid (target change)) mark ≡ true
 mark_is_left ts change before mid mark one gives =
     option_and_then_some (λ (column : ℕ). option_map (row_in (target change).table) (given_value change column)) (unique_of ts (target change).table) mark gives (λ column at named.
     let value = made_of (row_in (target change).table) (given_value change column) mark named in
@@ -97,16 +101,19 @@ mark_is_left ts change before mid mark one gives =
     ∙ ap Some value.2))
 
 -- where a change says which parent its row has, that is the one that it gives it
-insert_left : (id : RowId) (given : List ℤ) (row : Option (List ℤ)) (columns : List ℤ) → ◌≡◌ {A = Result (Option (List ℤ)) ChangeFault} (changed (Insert id given) row) (Ok (Some columns)) → columns ≡ given
+insert_left : (id : RowId) (given : List ℤ) (row : Option (List ℤ)) (columns : List ℤ) → ◌≡◌ {A = Result (Option (List ℤ)) ChangeFault} (changed (Insert id given) row) (Ok (Some columns)) →
+    columns ≡ given
 insert_left id given None columns fits = sym (same_Some given columns (same_ok fits))
 insert_left id given (Some there) columns fits = cc
 
-pub parent_given : (ts : List Table) (change : Change) (row : Option (List ℤ)) (columns : List ℤ) → ◌≡◌ {A = Result (Option (List ℤ)) ChangeFault} (changed change row) (Ok (Some columns)) → sets_parent ts change ≡ true → parent_of ts (target change).table columns ≡ given_parent ts change
+pub parent_given : (ts : List Table) (change : Change) (row : Option (List ℤ)) (columns : List ℤ) → ◌≡◌ {A = Result (Option (List ℤ)) ChangeFault} (changed change row) (Ok (Some columns)) →
+    sets_parent ts change ≡ true → parent_of ts (target change).table columns ≡ given_parent ts change
 parent_given ts (Insert id given) row columns fits sets = ap (parent_of ts id.table) (insert_left id given row columns fits)
 parent_given ts (Update id named) row columns fits sets = by (link_of ts id.table) sets
   where
     by : (o : Option (ℕ × ℕ)) → option_map_or (λ link. names_column named.mask link.0) o false ≡ true →
-        option_and_then (λ (link : ℕ × ℕ). option_map (row_in link.1) (slice_get columns link.0)) o ≡ option_and_then (λ (link : ℕ × ℕ). option_map (row_in link.1) (given_value (Update id named) link.0)) o
+        option_and_then (λ (link : ℕ × ℕ). option_map (row_in link.1) (slice_get columns link.0)) o
+        ≡ option_and_then (λ (link : ℕ × ℕ). option_map (row_in link.1) (given_value (Update id named) link.0)) o
     by None h = refl
     by (Some link) h =
         let new = update_left id named row (Some columns) fits in
@@ -114,7 +121,8 @@ parent_given ts (Update id named) row columns fits sets = by (link_of ts id.tabl
 parent_given ts (Delete id) row columns fits sets = cc
 
 -- and so with its mark
-pub mark_given : (ts : List Table) (change : Change) (row : Option (List ℤ)) (columns : List ℤ) → ◌≡◌ {A = Result (Option (List ℤ)) ChangeFault} (changed change row) (Ok (Some columns)) → sets_value ts change ≡ true → mark_of ts (target change).table columns ≡ given_mark ts change
+pub mark_given : (ts : List Table) (change : Change) (row : Option (List ℤ)) (columns : List ℤ) → ◌≡◌ {A = Result (Option (List ℤ)) ChangeFault} (changed change row) (Ok (Some columns)) →
+    sets_value ts change ≡ true → mark_of ts (target change).table columns ≡ given_mark ts change
 mark_given ts (Insert id given) row columns fits sets =
     ap (mark_of ts id.table) (insert_left id given row columns fits) ∙ split (unique_of ts id.table)
   where
@@ -147,22 +155,29 @@ gives_moves ts (Delete id) mark gives = by (unique_of ts id.table) gives
 -- ---- what the changes look at
 
 -- the parent of the row that a change leaves is the one that it gives it, if it says which
-left_parent_given : (ts : List Table) (change : Change) (before mid : Database) (p : RowId) → apply ts change before ≡ Some mid → sets_parent ts change ≡ true → has_row (parent_in ts mid (target change)) p ≡ true → given_parent ts change ≡ Some p
+left_parent_given : (ts : List Table) (change : Change) (before mid : Database) (p : RowId) → apply ts change before ≡ Some mid → sets_parent ts change ≡ true →
+    has_row (parent_in ts mid (target change)) p ≡ true → given_parent ts change ≡ Some p
 left_parent_given ts change before mid p one sets has =
-    option_and_then_some (parent_of ts (target change).table) (get mid (target change)) p (one_listed (option_and_then (parent_of ts (target change).table) (get mid (target change))) p has) (λ columns there is.
+    option_and_then_some (parent_of ts (target change).table) (get mid (target change)) p (one_listed (option_and_then (parent_of ts (target change).table) (get mid (target change))) p has)
+    (λ columns there is.
     sym (parent_given ts change (get before (target change)) columns (apply_changes ts change before mid one ∙ ap Ok there) sets) ∙ is)
 
-left_mark_given : (ts : List Table) (change : Change) (before mid : Database) (mark : Mark) → apply ts change before ≡ Some mid → sets_value ts change ≡ true → has_row (mark_in ts mid (target change)) mark ≡ true → given_mark ts change ≡ Some mark
+left_mark_given : (ts : List Table) (change : Change) (before mid : Database) (mark : Mark) → apply ts change before ≡ Some mid → sets_value ts change ≡ true →
+    has_row (mark_in ts mid (target change)) mark ≡ true → given_mark ts change ≡ Some mark
 left_mark_given ts change before mid mark one sets has =
-    option_and_then_some (mark_of ts (target change).table) (get mid (target change)) mark (one_listed (option_and_then (mark_of ts (target change).table) (get mid (target change))) mark has) (λ columns there is.
+    option_and_then_some (mark_of ts (target change).table) (get mid (target change)) mark (one_listed (option_and_then (mark_of ts (target change).table) (get mid (target change))) mark has)
+    (λ columns there is.
     sym (mark_given ts change (get before (target change)) columns (apply_changes ts change before mid one ∙ ap Ok there) sets) ∙ is)
 
 -- what a change and those behind it look at, and what those behind it do
-first_parent : (ts : List Table) (change : Change) (changes : List Change) (p : RowId) → given_parent ts change ≡ Some p → has_row (writes (change ∷ changes) ++ given_parents ts (change ∷ changes)) p ≡ true
+first_parent : (ts : List Table) (change : Change) (changes : List Change) (p : RowId) → given_parent ts change ≡ Some p →
+    has_row (writes (change ∷ changes) ++ given_parents ts (change ∷ changes)) p ≡ true
 first_parent ts change changes p gives =
-    has_row-right (writes (change ∷ changes)) (given_parents ts (change ∷ changes)) p (has_row-left (option_to_list (given_parent ts change)) (given_parents ts changes) p (listed (given_parent ts change) p gives))
+    has_row-right (writes (change ∷ changes)) (given_parents ts (change ∷ changes)) p
+    (has_row-left (option_to_list (given_parent ts change)) (given_parents ts changes) p (listed (given_parent ts change) p gives))
 
-looked_behind : (ts : List Table) (change : Change) (changes : List Change) (q : RowId) → has_row (writes changes ++ given_parents ts changes) q ≡ true → has_row (writes (change ∷ changes) ++ given_parents ts (change ∷ changes)) q ≡ true
+looked_behind : (ts : List Table) (change : Change) (changes : List Change) (q : RowId) → has_row (writes changes ++ given_parents ts changes) q ≡ true →
+    has_row (writes (change ∷ changes) ++ given_parents ts (change ∷ changes)) q ≡ true
 looked_behind ts change changes q is =
     elim (or_cases (has_row (writes changes) q) (has_row (given_parents ts changes) q) (sym (list_any-append (same_row q) (writes changes) (given_parents ts changes)) ∙ is)) [
       | inl written ↦ has_row-left (writes (change ∷ changes)) (given_parents ts (change ∷ changes)) q (or_right (same_row q (target change)) (has_row (writes changes) q) written)
@@ -181,7 +196,8 @@ looks_only_at_given ts (change ∷ changes) before after other h agree =
     let was : get before row ≡ get other row = written row (or_left _ _ (same_row_itself row)) in
     let left = apply_alike_given ts change before other mid first.1 was
     (λ sets p has. agree.rows p (first_parent ts change changes p (left_parent_given ts change before mid p first.1 sets has)))
-    (λ sets mark has. agree.holders mark (has_row-left (option_to_list (given_mark ts change)) (given_marks ts changes) mark (listed (given_mark ts change) mark (left_mark_given ts change before mid mark first.1 sets has)))) in
+    (λ sets mark has. agree.holders mark (has_row-left (option_to_list (given_mark ts change)) (given_marks ts changes) mark
+    (listed (given_mark ts change) mark (left_mark_given ts change before mid mark first.1 sets has)))) in
     let twin : Twin ts change before other = record { was = was; mid = mid; one = first.1; left = left.0; two = left.1 } in
     let still : (q : RowId) → get before q ≡ get other q → get mid q ≡ get left.0 q = λ q same. apply_agrees ts change before other mid left.0 q first.1 left.1 was (λ _. same) in
     same_effect ts change changes before other after twin first.2

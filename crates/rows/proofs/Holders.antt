@@ -58,7 +58,8 @@ no_holder ts db mark q none = elim (cases_Bool (has_row (mark_in ts db q) mark))
 
 -- ---- where no two rows have one value
 
-holder_is : (ts : List Table) (db : Database) (mark : Mark) (q : RowId) → NoValueTwice ts db → has_row (mark_in ts db q) mark ≡ true → (o : Option ℤ) → holder_of ts db mark ≡ o → holder_of ts db mark ≡ Some q.key
+holder_is : (ts : List Table) (db : Database) (mark : Mark) (q : RowId) → NoValueTwice ts db → has_row (mark_in ts db q) mark ≡ true → (o : Option ℤ) → holder_of ts db mark ≡ o →
+    holder_of ts db mark ≡ Some q.key
 holder_is ts db mark q apart has None none = absurd (true≢false (sym has ∙ no_holder ts db mark q none))
 holder_is ts db mark q apart has (Some key) is = is ∙ ap (λ (r : RowId). Some r.key) (apart (row_with mark key) q mark (holder_there ts db mark key is) has)
 
@@ -74,7 +75,8 @@ holder_has_it ts db mark q apart = (
       ap (λ (r : RowId). has_row (mark_in ts db r) mark) (sym same) ∙ holder_there ts db mark q.key holds.0,
 )
 
-holder_alike : (ts : List Table) (a b : Database) (mark : Mark) → NoValueTwice ts b → ((q : RowId) → has_row (mark_in ts a q) mark ≡ has_row (mark_in ts b q) mark) → (o : Option ℤ) → holder_of ts a mark ≡ o → holder_of ts b mark ≡ o
+holder_alike : (ts : List Table) (a b : Database) (mark : Mark) → NoValueTwice ts b → ((q : RowId) → has_row (mark_in ts a q) mark ≡ has_row (mark_in ts b q) mark) → (o : Option ℤ) →
+    holder_of ts a mark ≡ o → holder_of ts b mark ≡ o
 holder_alike ts a b mark apart same (Some key) is = holder_of_marked ts b mark (row_with mark key) apart (sym (same (row_with mark key)) ∙ holder_there ts a mark key is)
 holder_alike ts a b mark apart same None none = nobody (holder_of ts b mark) refl
   where
@@ -113,26 +115,30 @@ holder_behind ts change db after mark apart one = by (has_row (mark_in ts after 
     apart_then = apply_keeps_apart ts change db after apart one
 
     -- a row that has it behind the change, where that of the change does not, had it before
-    had : (q : RowId) → has_row (mark_in ts after (target change)) mark ≡ false → has_row (mark_in ts after q) mark ≡ true → (same_row q (target change) ≡ false) × (has_row (mark_in ts db q) mark ≡ true)
+    had : (q : RowId) → has_row (mark_in ts after (target change)) mark ≡ false → has_row (mark_in ts after q) mark ≡ true →
+        (same_row q (target change) ≡ false) × (has_row (mark_in ts db q) mark ≡ true)
     had q gone has = elim (cases_Bool (same_row q (target change))) [
       | inl here ↦ absurd (true≢false (sym has ∙ ap (λ (r : RowId). has_row (mark_in ts after r) mark) (row_is q (target change) here) ∙ gone))
       | inr other ↦ (other, ap (λ l. has_row l mark) (sym (mark_stays ts change db after q one other)) ∙ has)
     ]
 
-    nobody : (o : Option ℤ) → has_row (mark_in ts after (target change)) mark ≡ false → has_row (mark_in ts db (target change)) mark ≡ true → holder_of ts after mark ≡ o → holder_of ts after mark ≡ None
+    nobody : (o : Option ℤ) → has_row (mark_in ts after (target change)) mark ≡ false → has_row (mark_in ts db (target change)) mark ≡ true → holder_of ts after mark ≡ o →
+        holder_of ts after mark ≡ None
     nobody None gone was is = is
     nobody (Some key) gone was is =
         let before = had (row_with mark key) gone (holder_there ts after mark key is) in
         let same : row_with mark key ≡ target change = apart (row_with mark key) (target change) mark before.1 was in
         absurd (true≢false (sym (ap (λ (r : RowId). same_row r (target change)) same ∙ same_row_itself (target change)) ∙ before.0))
 
-    other_rows : has_row (mark_in ts after (target change)) mark ≡ false → has_row (mark_in ts db (target change)) mark ≡ false → (q : RowId) → has_row (mark_in ts db q) mark ≡ has_row (mark_in ts after q) mark
+    other_rows : has_row (mark_in ts after (target change)) mark ≡ false → has_row (mark_in ts db (target change)) mark ≡ false → (q : RowId) →
+        has_row (mark_in ts db q) mark ≡ has_row (mark_in ts after q) mark
     other_rows gone never q = elim (cases_Bool (same_row q (target change))) [
       | inl here ↦ rw (row_is q (target change) here) (never ∙ sym gone)
       | inr other ↦ ap (λ l. has_row l mark) (sym (mark_stays ts change db after q one other))
     ]
 
-    by : (now was : Bool) → has_row (mark_in ts after (target change)) mark ≡ now → has_row (mark_in ts db (target change)) mark ≡ was → holder_of ts after mark ≡ cond now (Some (target change).key) (cond was None (holder_of ts db mark))
+    by : (now was : Bool) → has_row (mark_in ts after (target change)) mark ≡ now → has_row (mark_in ts db (target change)) mark ≡ was →
+        holder_of ts after mark ≡ cond now (Some (target change).key) (cond was None (holder_of ts db mark))
     by true was has w = holder_of_marked ts after mark (target change) apart_then has
     by false true gone was = nobody (holder_of ts after mark) gone was refl
     by false false gone never = holder_alike ts db after mark apart_then (other_rows gone never) (holder_of ts db mark) refl

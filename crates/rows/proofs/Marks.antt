@@ -45,11 +45,13 @@ mark_table ts id columns mark is =
     ap (λ (m : Mark). m.table) (sym made.2)
 
 -- a row that has a mark is there, with columns that have it
-pub mark_there : (ts : List Table) (db : Database) (q : RowId) (mark : Mark) → has_row (mark_in ts db q) mark ≡ true → (columns : List ℤ) × (get db q ≡ Some columns) × (mark_of ts q.table columns ≡ Some mark)
+pub mark_there : (ts : List Table) (db : Database) (q : RowId) (mark : Mark) → has_row (mark_in ts db q) mark ≡ true →
+    (columns : List ℤ) × (get db q ≡ Some columns) × (mark_of ts q.table columns ≡ Some mark)
 mark_there ts db q mark has =
     option_and_then_some (mark_of ts q.table) (get db q) mark (one_listed (option_and_then (mark_of ts q.table) (get db q)) mark has) (λ columns there is. (columns, there, is))
 
-pub there_marked : (ts : List Table) (db : Database) (q : RowId) (columns : List ℤ) (mark : Mark) → get db q ≡ Some columns → mark_of ts q.table columns ≡ Some mark → has_row (mark_in ts db q) mark ≡ true
+pub there_marked : (ts : List Table) (db : Database) (q : RowId) (columns : List ℤ) (mark : Mark) → get db q ≡ Some columns → mark_of ts q.table columns ≡ Some mark →
+    has_row (mark_in ts db q) mark ≡ true
 there_marked ts db q columns mark there is = listed (option_and_then (mark_of ts q.table) (get db q)) mark (ap (option_and_then (mark_of ts q.table)) there ∙ is)
 
 -- and it is of the mark's table
@@ -59,7 +61,8 @@ table_of_marked ts db q mark has = let there = mark_there ts db q mark has in sy
 -- ---- when columns are free for a row
 
 -- columns that have a mark
-free_marked : (ts : List Table) (db : Database) (id : RowId) (columns : List ℤ) (mark : Mark) → mark_of ts id.table columns ≡ Some mark → is_free ts db id columns ≡ not (list_any (is_taken_by ts id mark) (entries db))
+free_marked : (ts : List Table) (db : Database) (id : RowId) (columns : List ℤ) (mark : Mark) → mark_of ts id.table columns ≡ Some mark →
+    is_free ts db id columns ≡ not (list_any (is_taken_by ts id mark) (entries db))
 free_marked ts db id columns mark is = ap (λ o. option_map_or (λ (m : Mark). not (list_any (is_taken_by ts id m) (entries db))) o true) is
 
 not_both : (b : Bool) → not b ≡ true → b ≡ true → ⊥
@@ -91,7 +94,8 @@ free_by_rows ts db id columns mark is = (
 )
 
 -- columns that are free in one database are so in another, where the same rows have their mark
-pub free_alike : (ts : List Table) (a b : Database) (id : RowId) (columns : List ℤ) → ((mark : Mark) → mark_of ts id.table columns ≡ Some mark → (q : RowId) → has_row (mark_in ts a q) mark ≡ has_row (mark_in ts b q) mark) →
+pub free_alike : (ts : List Table) (a b : Database) (id : RowId) (columns : List ℤ) →
+    ((mark : Mark) → mark_of ts id.table columns ≡ Some mark → (q : RowId) → has_row (mark_in ts a q) mark ≡ has_row (mark_in ts b q) mark) →
     is_free ts a id columns ≡ true → is_free ts b id columns ≡ true
 free_alike ts a b id columns same free = by (mark_of ts id.table columns) refl
   where
@@ -123,7 +127,8 @@ pub marks_are_few : MarksAreFew
 marks_are_few ts [] db = omega arith
 marks_are_few ts (change ∷ changes) db = by (marks_are_few ts changes) (apply ts change db)
   where
-    by : ((next : Database) → length (marks ts changes next) ≤ 2 * length changes) → (o : Option Database) → length (option_map_or (λ after. marks_between ts change db after ++ marks ts changes after) o []) ≤ 2 * length (change ∷ changes)
+    by : ((next : Database) → length (marks ts changes next) ≤ 2 * length changes) → (o : Option Database) →
+        length (option_map_or (λ after. marks_between ts change db after ++ marks ts changes after) o []) ≤ 2 * length (change ∷ changes)
     by behind None = omega arith
     by behind (Some after) = omega (arith, length-append (marks_between ts change db after) (marks ts changes after), between_few ts change db after, behind after)
 
@@ -160,7 +165,8 @@ pub marks_of_unique : MarksAreOfUnique
 marks_of_unique ts [] db = refl
 marks_of_unique ts (change ∷ changes) db = by (marks_of_unique ts changes) (apply ts change db)
   where
-    by : ((next : Database) → list_all (of_unique ts) (marks ts changes next) ≡ true) → (o : Option Database) → list_all (of_unique ts) (option_map_or (λ after. marks_between ts change db after ++ marks ts changes after) o []) ≡ true
+    by : ((next : Database) → list_all (of_unique ts) (marks ts changes next) ≡ true) → (o : Option Database) →
+        list_all (of_unique ts) (option_map_or (λ after. marks_between ts change db after ++ marks ts changes after) o []) ≡ true
     by behind None = refl
     by behind (Some after) = both_of (of_unique ts) (marks_between ts change db after) (marks ts changes after) (between_of_unique ts change db after) (behind after)
 

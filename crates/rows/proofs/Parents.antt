@@ -43,12 +43,14 @@ abbrev NoMoreChildren : List Table → List RowId → Database → Database → 
 NoMoreChildren ts rows a b =
     (id : RowId) (columns : List ℤ) (p : RowId) → has_row rows p ≡ true → get b id ≡ Some columns → parent_of ts id.table columns ≡ Some p → get a id ≡ Some columns
 
-deletes_alike : (ts : List Table) (rows : List RowId) (change : Change) (a b : Database) → has_row rows (target change) ≡ true → NoMoreChildren ts rows a b → DeletesNoParent ts change a → DeletesNoParent ts change b
+deletes_alike : (ts : List Table) (rows : List RowId) (change : Change) (a b : Database) → has_row rows (target change) ≡ true → NoMoreChildren ts rows a b → DeletesNoParent ts change a →
+    DeletesNoParent ts change b
 deletes_alike ts rows (Insert row columns) a b is fewer none = tt
 deletes_alike ts rows (Update row named) a b is fewer none = tt
 deletes_alike ts rows (Delete row) a b is fewer none = λ child. none (child.0, child.1, fewer child.0 child.1 row is child.2 child.3, child.3)
 
-alike : (ts : List Table) (changes : List Change) (a b after : Database) → effect ts changes a ≡ Some after → AgreeOn (writes changes) a b → NoMoreChildren ts (writes changes) a b → LeavesNoOrphan ts changes a → LeavesNoOrphan ts changes b
+alike : (ts : List Table) (changes : List Change) (a b after : Database) → effect ts changes a ≡ Some after → AgreeOn (writes changes) a b → NoMoreChildren ts (writes changes) a b →
+    LeavesNoOrphan ts changes a → LeavesNoOrphan ts changes b
 alike ts [] a b after h same fewer none = tt
 alike ts (change ∷ changes) a b after h same fewer none =
     let first = effect_first ts change changes a after h in
@@ -72,7 +74,8 @@ second_holds true b h none = refl
 second_holds false b h none = absurd (true≢false (sym h ∙ none))
 
 -- the parent that changes leave a row that they write is one of their kin
-pub left_parent_is_kin : (ts : List Table) (changes : List Change) (before after : Database) (id : RowId) (columns : List ℤ) (p : RowId) → effect ts changes before ≡ Some after → has_row (writes changes) id ≡ true → get after id ≡ Some columns → parent_of ts id.table columns ≡ Some p → has_row (kin ts changes before) p ≡ true
+pub left_parent_is_kin : (ts : List Table) (changes : List Change) (before after : Database) (id : RowId) (columns : List ℤ) (p : RowId) → effect ts changes before ≡ Some after →
+    has_row (writes changes) id ≡ true → get after id ≡ Some columns → parent_of ts id.table columns ≡ Some p → has_row (kin ts changes before) p ≡ true
 left_parent_is_kin ts [] before after id columns p h is there names = absurd (true≢false (sym is))
 left_parent_is_kin ts (change ∷ changes) before after id columns p h is there names =
     let first = effect_first ts change changes before after h in
@@ -93,7 +96,8 @@ left_parent_is_kin ts (change ∷ changes) before after id columns p h is there 
 
 pub no_orphan_behind : NoOrphanBehind
 no_orphan_behind ts first second db mid leaves one two apart none =
-    let rows_apart = (or_parts (meets (writes first) (writes second) || meets (writes first) (kin ts second db) || meets (writes second) (kin ts first db)) (meets (marks ts first db) (marks ts second db)) apart).0 in
+    let rows_apart = (or_parts (meets (writes first) (writes second) || meets (writes first) (kin ts second db) || meets (writes second) (kin ts first db))
+    (meets (marks ts first db) (marks ts second db)) apart).0 in
     let parts = or_parts (meets (writes first) (writes second) || meets (writes first) (kin ts second db)) (meets (writes second) (kin ts first db)) rows_apart in
     let own = or_parts (meets (writes first) (writes second)) (meets (writes first) (kin ts second db)) parts.0 in
     alike ts second db mid leaves two
@@ -112,12 +116,20 @@ pub kin_are_few : KinAreFew
 kin_are_few ts [] db = omega arith
 kin_are_few ts (change ∷ changes) db = by (kin_are_few ts changes) (apply ts change db)
   where
-    by : ((next : Database) → length (kin ts changes next) ≤ 2 * length changes) → (o : Option Database) → length (option_map_or (λ after. parent_in ts db (target change) ++ parent_in ts after (target change) ++ kin ts changes after) o []) ≤ 2 * length (change ∷ changes)
+    by : ((next : Database) → length (kin ts changes next) ≤ 2 * length changes) → (o : Option Database) →
+        length (option_map_or (λ after. parent_in ts db (target change) ++ parent_in ts after (target change) ++ kin ts changes after) o []) ≤ 2 * length (change ∷ changes)
     by behind None = omega arith
     by behind (Some after) =
         let was = parent_in ts db (target change) in
         let now = parent_in ts after (target change) in
-        omega (arith, length-append (was ++ now) (kin ts changes after), length-append was now, at_most_one (option_and_then (parent_of ts (target change).table) (get db (target change))), at_most_one (option_and_then (parent_of ts (target change).table) (get after (target change))), behind after)
+        omega (
+          arith,
+          length-append (was ++ now) (kin ts changes after),
+          length-append was now,
+          at_most_one (option_and_then (parent_of ts (target change).table) (get db (target change))),
+          at_most_one (option_and_then (parent_of ts (target change).table) (get after (target change))),
+          behind after,
+        )
 
 -- a row of a table that has no parent has none
 no_parent_in : (ts : List Table) (db : Database) (id : RowId) → is_some (link_of ts id.table) ≡ false → parent_in ts db id ≡ []

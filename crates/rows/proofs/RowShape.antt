@@ -5,7 +5,8 @@ use Rattle.std.proofs.lemmas.List.{drop-replicate, length-replicate, take_at}
 use Rattle.rows.specs.Row.{IsRow}
 
 -- sixteen zeros, with the columns written over the first of them
-pub is_row : (columns zeros written : List ℤ) → zeros ≡ replicate 16 (pos 0) → written ≡ columns → 1 ≤ length columns → length columns ≤ 16 → IsRow (record { len = length columns; values = written ++ drop (length columns) zeros })
+pub is_row : (columns zeros written : List ℤ) → zeros ≡ replicate 16 (pos 0) → written ≡ columns → 1 ≤ length columns → length columns ≤ 16 →
+    IsRow (record { len = length columns; values = written ++ drop (length columns) zeros })
 is_row columns zeros written z w some few =
     let n = length columns in
     let here : length written ≡ n = ap length w in

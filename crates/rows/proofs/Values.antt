@@ -25,7 +25,8 @@ use Rattle.rows.proofs.Marks.{mark_there, free_by_rows}
 -- ---- changes that leave the value alone
 
 -- the mark is the same one, where the unique column stays
-same_mark : (ts : List Table) (id mask : ℕ) (there new : List ℤ) → ((c : ℕ) → names_column mask c ≡ false → slice_get new c ≡ slice_get there c) → names_unique ts id mask ≡ false → mark_of ts id new ≡ mark_of ts id there
+same_mark : (ts : List Table) (id mask : ℕ) (there new : List ℤ) → ((c : ℕ) → names_column mask c ≡ false → slice_get new c ≡ slice_get there c) → names_unique ts id mask ≡ false →
+    mark_of ts id new ≡ mark_of ts id there
 same_mark ts id mask there new same apart = by (unique_of ts id) apart
   where
     marked : Option ℤ → Option Mark
@@ -36,29 +37,34 @@ same_mark ts id mask there new same apart = by (unique_of ts id) apart
     by (Some column) h = ap marked (same column h)
 
 -- an update that does not name the unique column leaves its row the mark that it had
-update_unmoved : (ts : List Table) (row : RowId) (named : NamedColumns) (before left : Option (List ℤ)) → ◌≡◌ {A = Result (Option (List ℤ)) ChangeFault} (changed (Update row named) before) (Ok left) → names_unique ts row.table named.mask ≡ false →
+update_unmoved : (ts : List Table) (row : RowId) (named : NamedColumns) (before left : Option (List ℤ)) →
+    ◌≡◌ {A = Result (Option (List ℤ)) ChangeFault} (changed (Update row named) before) (Ok left) → names_unique ts row.table named.mask ≡ false →
     option_and_then (mark_of ts row.table) left ≡ option_and_then (mark_of ts row.table) before
 update_unmoved ts row named None left fit apart = cc
 update_unmoved ts row named (Some there) left fit apart = by (assigned named there) refl fit
   where
-    by : (o : Option (List ℤ)) → assigned named there ≡ o → ◌≡◌ {A = Result (Option (List ℤ)) ChangeFault} (ok_or (option_map (λ columns. Some columns) o) Columns) (Ok left) → option_and_then (mark_of ts row.table) left ≡ mark_of ts row.table there
+    by : (o : Option (List ℤ)) → assigned named there ≡ o → ◌≡◌ {A = Result (Option (List ℤ)) ChangeFault} (ok_or (option_map (λ columns. Some columns) o) Columns) (Ok left) →
+        option_and_then (mark_of ts row.table) left ≡ mark_of ts row.table there
     by None e f = cc
     by (Some new) e f =
         ap (option_and_then (mark_of ts row.table)) (sym (same_ok f))
         ∙ same_mark ts row.table named.mask there new (λ c other. assigned_keeps c named.mask named.values there new e other) apart
 
 -- a change that moves no value leaves its row the mark that it had
-unmoved : (ts : List Table) (change : Change) (before after : Database) → apply ts change before ≡ Some after → moves_value ts change ≡ false → mark_in ts after (target change) ≡ mark_in ts before (target change)
+unmoved : (ts : List Table) (change : Change) (before after : Database) → apply ts change before ≡ Some after → moves_value ts change ≡ false →
+    mark_in ts after (target change) ≡ mark_in ts before (target change)
 unmoved ts (Insert row columns) before after h stays = cc
 unmoved ts (Update row named) before after h stays = ap option_to_list (update_unmoved ts row named (get before row) (get after row) (apply_changes ts (Update row named) before after h) stays)
 unmoved ts (Delete row) before after h stays = cc
 
 -- a mark that a change leaves its row without saying so is one that the row had
-delete_leaves : (ts : List Table) (row : RowId) (before left : Option (List ℤ)) (mark : Mark) → ◌≡◌ {A = Result (Option (List ℤ)) ChangeFault} (changed (Delete row) before) (Ok left) → has_row (option_to_list (option_and_then (mark_of ts row.table) left)) mark ≡ false
+delete_leaves : (ts : List Table) (row : RowId) (before left : Option (List ℤ)) (mark : Mark) → ◌≡◌ {A = Result (Option (List ℤ)) ChangeFault} (changed (Delete row) before) (Ok left) →
+    has_row (option_to_list (option_and_then (mark_of ts row.table) left)) mark ≡ false
 delete_leaves ts row None left mark fit = cc
 delete_leaves ts row (Some there) left mark fit = ap (λ l. has_row (option_to_list (option_and_then (mark_of ts row.table) l)) mark) (sym (same_ok fit))
 
-unset_mark : (ts : List Table) (change : Change) (before after : Database) (mark : Mark) → apply ts change before ≡ Some after → sets_value ts change ≡ false → has_row (mark_in ts after (target change)) mark ≡ true → has_row (mark_in ts before (target change)) mark ≡ true
+unset_mark : (ts : List Table) (change : Change) (before after : Database) (mark : Mark) → apply ts change before ≡ Some after → sets_value ts change ≡ false →
+    has_row (mark_in ts after (target change)) mark ≡ true → has_row (mark_in ts before (target change)) mark ≡ true
 unset_mark ts (Insert row columns) before after mark h unset has = cc
 unset_mark ts (Update row named) before after mark h unset has = ap (λ l. has_row l mark) (sym (unmoved ts (Update row named) before after h unset)) ∙ has
 unset_mark ts (Delete row) before after mark h unset has =
@@ -67,11 +73,13 @@ unset_mark ts (Delete row) before after mark h unset has =
 -- ---- the rows that the change is not of
 
 -- they keep their marks
-pub mark_stays : (ts : List Table) (change : Change) (before after : Database) (q : RowId) → apply ts change before ≡ Some after → same_row q (target change) ≡ false → mark_in ts after q ≡ mark_in ts before q
+pub mark_stays : (ts : List Table) (change : Change) (before after : Database) (q : RowId) → apply ts change before ≡ Some after → same_row q (target change) ≡ false →
+    mark_in ts after q ≡ mark_in ts before q
 mark_stays ts change before after q h other = ap (λ o. option_to_list (option_and_then (mark_of ts q.table) o)) (apply_stays ts change before after q h other)
 
 -- where a change does the same to its row in two databases, the same rows have a mark behind it, where they had it before
-pub apply_same_holders : (ts : List Table) (change : Change) (a b after left : Database) (mark : Mark) → apply ts change a ≡ Some after → apply ts change b ≡ Some left → get after (target change) ≡ get left (target change) →
+pub apply_same_holders : (ts : List Table) (change : Change) (a b after left : Database) (mark : Mark) → apply ts change a ≡ Some after → apply ts change b ≡ Some left →
+    get after (target change) ≡ get left (target change) →
     ((q : RowId) → has_row (mark_in ts a q) mark ≡ has_row (mark_in ts b q) mark) → (q : RowId) → has_row (mark_in ts after q) mark ≡ has_row (mark_in ts left q) mark
 apply_same_holders ts change a b after left mark one two now same q =
     elim (cases_Bool (same_row q (target change))) [
@@ -87,7 +95,8 @@ apply_same_holders ts change a b after left mark one two now same q =
 -- ---- what one change does
 
 -- a mark that is none of a change's stays with the rows that have it
-pub apply_keeps_marks : (ts : List Table) (change : Change) (before after : Database) (mark : Mark) (q : RowId) → apply ts change before ≡ Some after → has_row (marks_between ts change before after) mark ≡ false → has_row (mark_in ts after q) mark ≡ has_row (mark_in ts before q) mark
+pub apply_keeps_marks : (ts : List Table) (change : Change) (before after : Database) (mark : Mark) (q : RowId) → apply ts change before ≡ Some after →
+    has_row (marks_between ts change before after) mark ≡ false → has_row (mark_in ts after q) mark ≡ has_row (mark_in ts before q) mark
 apply_keeps_marks ts change before after mark q h other =
     elim (cases_Bool (same_row q (target change))) [
       | inl here ↦ rw (row_is q (target change) here) (at_target (moves_value ts change) refl other)
@@ -107,7 +116,8 @@ apply_keeps_marks ts change before after mark q h other =
     at_target false stays none = ap (λ l. has_row l mark) (unmoved ts change before after h stays)
 
 -- the mark that a change leaves its row no other row has before it
-pub own_alone : (ts : List Table) (change : Change) (before after : Database) (mark : Mark) (q : RowId) → NoValueTwice ts before → apply ts change before ≡ Some after → has_row (mark_in ts after (target change)) mark ≡ true → has_row (mark_in ts before q) mark ≡ true → q ≡ target change
+pub own_alone : (ts : List Table) (change : Change) (before after : Database) (mark : Mark) (q : RowId) → NoValueTwice ts before → apply ts change before ≡ Some after →
+    has_row (mark_in ts after (target change)) mark ≡ true → has_row (mark_in ts before q) mark ≡ true → q ≡ target change
 own_alone ts change before after mark q apart h has other =
     elim (cases_Bool (sets_value ts change)) [
       | inl sets ↦

@@ -52,7 +52,8 @@ row_after (change ∷ changes) q row =
 -- it, and puts the row that it leaves
 abbrev pub AppliesByRow : Type 0
 AppliesByRow = (ts : List Table) (change : Change) (db : Database) →
-    apply ts change db ≡ option_and_then (λ left. if parent_stands ts change db left && value_stands ts change db left then Some (put_row db (target change) left) else None) (result_ok (changed change (get db (target change))))
+    apply ts change db ≡ option_and_then (λ left. if parent_stands ts change db left && value_stands ts change db left then Some (put_row db (target change) left) else None)
+    (result_ok (changed change (get db (target change))))
 
 -- a change that applies fits its row, and leaves there what it says
 abbrev pub FitsWhereItApplies : Type 0

@@ -1,6 +1,8 @@
 //! What follows from the definitions alone. Each function states laws by its contract, and does nothing.
 
-ghost use Rattle.rows.specs.Effect.{AppliesByRow, FitsWhereItApplies, ParentStandsWhereItApplies, ValueStandsWhereItApplies, HasParentWhereItApplies, AppliesWhereItFits, WritesOfJoined, EffectOfJoined, KinOfJoined, MarksOfJoined, RowAfterJoined, EachRowIsLeft, EffectIsItsRows, ValuesStayApart, ChildrenKeepParents};
+ghost use Rattle.rows.specs.Effect.{AppliesByRow, FitsWhereItApplies, ParentStandsWhereItApplies, ValueStandsWhereItApplies};
+ghost use Rattle.rows.specs.Effect.{HasParentWhereItApplies, AppliesWhereItFits, WritesOfJoined, EffectOfJoined, KinOfJoined};
+ghost use Rattle.rows.specs.Effect.{MarksOfJoined, RowAfterJoined, EachRowIsLeft, EffectIsItsRows, ValuesStayApart, ChildrenKeepParents};
 ghost use Rattle.rows.specs.Naming.{AssignsWhatIsThere, KeepsWidth, OthersStay, NamedTakeTheirs};
 ghost use Rattle.rows.specs.Frame.{ChangesOnlyWrites, ChangesOnlyMarks, LooksOnlyAtItsRows, AppliesBehind};
 ghost use Rattle.rows.specs.Given.{LooksOnlyAtGiven, OneOutcome, GivenParentsAreKin, GivenMarksAreMarks};

@@ -10,7 +10,8 @@ use Rattle.schema.proofs.Conflicts.{both_ways, by_sets}
 with_same : (a rows others : Touched) → SameRows rows.writes others.writes → SameRows rows.refs others.refs → SameRows rows.marks others.marks → conflicts a rows ≡ conflicts a others
 with_same a rows others writes refs marks = both_ways a rows ∙ by_sets rows others a writes refs marks ∙ both_ways others a
 
-pub covers_by_sets : (past : List (ℕ × Touched)) (rows others : Touched) (parent : ℕ) → SameRows rows.writes others.writes → SameRows rows.refs others.refs → SameRows rows.marks others.marks → Covers past rows parent → Covers past others parent
+pub covers_by_sets : (past : List (ℕ × Touched)) (rows others : Touched) (parent : ℕ) → SameRows rows.writes others.writes → SameRows rows.refs others.refs → SameRows rows.marks others.marks →
+    Covers past rows parent → Covers past others parent
 covers_by_sets [] rows others parent writes refs marks all = tt
 covers_by_sets (before ∷ past) rows others parent writes refs marks all =
     (λ h. all.0 (with_same before.1 rows others writes refs marks ∙ h), covers_by_sets past rows others parent writes refs marks all.1)

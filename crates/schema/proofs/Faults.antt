@@ -10,7 +10,8 @@ use Rattle.schema.specs.declared.SchemaFault.{SchemaFault}
 use Rattle.schema.specs.Schema.{fault_from, table_fault}
 
 -- the first fault from place i on is that of the table there, and else the first from place i + 1 on
-pub fault_step : (ts : List Table) (i : ℕ) (fault : Option SchemaFault) → i < length ts → Some fault ≡ option_and_then (λ t. Some (table_fault ts (take i ts) t)) (slice_get ts i) → fault_from ts (take i ts) (drop i ts) ≡ option_or fault (fault_from ts (take (i + 1) ts) (drop (i + 1) ts))
+pub fault_step : (ts : List Table) (i : ℕ) (fault : Option SchemaFault) → i < length ts → Some fault ≡ option_and_then (λ t. Some (table_fault ts (take i ts) t)) (slice_get ts i) →
+    fault_from ts (take i ts) (drop i ts) ≡ option_or fault (fault_from ts (take (i + 1) ts) (drop (i + 1) ts))
 fault_step ts i fault h e =
     elim (slice_get_cases ts i).1 [
       | inl w ↦
@@ -23,11 +24,13 @@ fault_step ts i fault h e =
     ]
 
 -- where the table at place i has no fault, the first is behind it
-pub no_fault_here : (ts : List Table) (i : ℕ) (fault first : Option SchemaFault) → i < length ts → Some fault ≡ option_and_then (λ t. Some (table_fault ts (take i ts) t)) (slice_get ts i) → is_some fault ≡ false → fault_from ts (take i ts) (drop i ts) ≡ first → fault_from ts (take (i + 1) ts) (drop (i + 1) ts) ≡ first
+pub no_fault_here : (ts : List Table) (i : ℕ) (fault first : Option SchemaFault) → i < length ts → Some fault ≡ option_and_then (λ t. Some (table_fault ts (take i ts) t)) (slice_get ts i) →
+    is_some fault ≡ false → fault_from ts (take i ts) (drop i ts) ≡ first → fault_from ts (take (i + 1) ts) (drop (i + 1) ts) ≡ first
 no_fault_here ts i None first h e n so_far = sym (fault_step ts i None h e) ∙ so_far
 no_fault_here ts i (Some fault) first h e n so_far = cc
 
 -- where it has one, that is the first
-pub fault_here : (ts : List Table) (i : ℕ) (fault first : Option SchemaFault) → i < length ts → Some fault ≡ option_and_then (λ t. Some (table_fault ts (take i ts) t)) (slice_get ts i) → is_some fault ≡ true → fault_from ts (take i ts) (drop i ts) ≡ first → fault ≡ first
+pub fault_here : (ts : List Table) (i : ℕ) (fault first : Option SchemaFault) → i < length ts → Some fault ≡ option_and_then (λ t. Some (table_fault ts (take i ts) t)) (slice_get ts i) →
+    is_some fault ≡ true → fault_from ts (take i ts) (drop i ts) ≡ first → fault ≡ first
 fault_here ts i None first h e n so_far = cc
 fault_here ts i (Some fault) first h e n so_far = sym (fault_step ts i (Some fault) h e) ∙ so_far

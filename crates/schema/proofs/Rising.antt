@@ -4,7 +4,8 @@ use Rattle.std.specs.List.{list_any, dedup, AllByRecursion}
 use Rattle.std.specs.List.Sorted.{IsSorted, IsStrictlySortedBy}
 use Rattle.std.specs.Ordering.{eq_by_cmp}
 use Rattle.std.specs.Cmp.{IsTotalOrder, eq_by_cmp_equiv}
-use Rattle.std.specs.FinMap.{FinMap, IsAntisymmetric, get, find, keys, entries, entries_sorted, from_entries, from_sorted, entries-from_sorted, get-from_entries, get-from_sorted, contains_key-keys, same_map, is_sorted}
+use Rattle.std.specs.FinMap.{FinMap, IsAntisymmetric, get, find, keys, entries, entries_sorted, from_entries, from_sorted, entries-from_sorted, get-from_entries, get-from_sorted, contains_key-keys}
+use Rattle.std.specs.FinMap.{same_map, is_sorted}
 use Rattle.std.specs.FinMap.Entries.{below_all, is_some-find}
 use Rattle.std.proofs.lemmas.Bool.{and_from, and_parts}
 use Rattle.std.proofs.lemmas.List.Kept.{IsStrictlySortedBy-dedup, Contains-dedup, Contains-from_dedup}

@@ -39,4 +39,5 @@ CoversAtEnd = (past : List (ℕ × Touched)) (rows : Touched) (parent : ℕ) →
 
 -- only the sets of rows count, and not how they are listed
 abbrev pub CoversBySets : Type 0
-CoversBySets = (past : List (ℕ × Touched)) (rows others : Touched) (parent : ℕ) → SameRows rows.writes others.writes → SameRows rows.refs others.refs → SameRows rows.marks others.marks → Covers past rows parent → Covers past others parent
+CoversBySets = (past : List (ℕ × Touched)) (rows others : Touched) (parent : ℕ) → SameRows rows.writes others.writes → SameRows rows.refs others.refs → SameRows rows.marks others.marks →
+    Covers past rows parent → Covers past others parent

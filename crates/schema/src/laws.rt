@@ -1,6 +1,7 @@
 //! What follows from the definitions alone. Each function states laws by its contract, and does nothing.
 
-ghost use Rattle.schema.specs.Laws.{FlagsRowByRow, ConflictsBothWays, ConflictsBySets, CoversEach, CoversLonger, CoversFromLess, CoversAtEnd, CoversBySets};
+ghost use Rattle.schema.specs.Laws.{FlagsRowByRow, ConflictsBothWays, ConflictsBySets, CoversEach, CoversLonger, CoversFromLess};
+ghost use Rattle.schema.specs.Laws.{CoversAtEnd, CoversBySets};
 
 /// The flags of a transaction are found row by row.
 pub fn flags()

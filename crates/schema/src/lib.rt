@@ -13,7 +13,8 @@
 ghost use Rattle.std.specs.Prelude.{◌≡◌, ◌<◌, ◌||◌, [], is_some, length, take, slice_get, option_and_then, IfOk, Some, None};
 ghost use Rattle.std.specs.Result.{result_err};
 ghost use Rattle.schema.specs.Flags.{is_parent, is_keyless, no_flags, flags_with};
-ghost use Rattle.schema.specs.Schema.{schema_fault, fault_from, table_at, link_of, unique_of, table_fault, has_fine_parent, has_fine_unique, plain_table, child_of, with_unique};
+ghost use Rattle.schema.specs.Schema.{schema_fault, fault_from, table_at, link_of, unique_of, table_fault, has_fine_parent};
+ghost use Rattle.schema.specs.Schema.{has_fine_unique, plain_table, child_of, with_unique};
 ghost use Rattle.schema.specs.FaultText.{fault_text};
 
 pub mod laws;
@@ -396,9 +397,23 @@ impl Schema {
         ensures { IfOk result (λ schema. schema ≡ self.now) }
     {
         Ok(Schema {
-            tables: self.tables.clone()?,
+            tables: copied(&self.tables)?,
         })
     }
+}
+
+/// An equal list, in memory of its own. Its room is taken once, and is that of the items alone. The time is that of moving
+/// their bytes.
+pub fn copied<T: Copy>(items: &Vec<T>) -> Result<Vec<T>, Memory>
+    ensures { IfOk result (λ copy. copy.items ≡ items.now.items) }
+{
+    let alloc = *items.allocator();
+    if items.is_empty() {
+        return Ok(Vec::new(alloc));
+    }
+    let mut copy = Vec::with_capacity(alloc, items.len())?;
+    copy.extend_from_slice(items)?;
+    Ok(copy)
 }
 
 fn table_of(tables: &[Table], id: u16) -> Option<Table>

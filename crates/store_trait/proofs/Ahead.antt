@@ -37,11 +37,13 @@ no_more p q [] h = omega arith
 no_more p q (x ∷ xs) h = omega (arith, one_or_none (p x) (q x) (h x), no_more p q xs h)
 
 -- a row that was ahead, and is no more, makes them fewer
-fewer : (p q : RowId × List ℤ → Bool) (es : List (RowId × List ℤ)) (id : RowId) (x : List ℤ) → find row_cmp id es ≡ Some x → p (id, x) ≡ true → q (id, x) ≡ false → ((e : RowId × List ℤ) → q e ≡ true → p e ≡ true) → counted q es < counted p es
+fewer : (p q : RowId × List ℤ → Bool) (es : List (RowId × List ℤ)) (id : RowId) (x : List ℤ) → find row_cmp id es ≡ Some x → p (id, x) ≡ true → q (id, x) ≡ false →
+    ((e : RowId × List ℤ) → q e ≡ true → p e ≡ true) → counted q es < counted p es
 fewer p q [] id x is was now h = absurd cc
 fewer p q (e ∷ es) id x is was now h = by (fewer p q es id x) (same_row id e.0) refl is
   where
-    by : (find row_cmp id es ≡ Some x → p (id, x) ≡ true → q (id, x) ≡ false → ((e : RowId × List ℤ) → q e ≡ true → p e ≡ true) → counted q es < counted p es) → (b : Bool) → same_row id e.0 ≡ b → cond b (Some e.1) (find row_cmp id es) ≡ Some x → counted q (e ∷ es) < counted p (e ∷ es)
+    by : (find row_cmp id es ≡ Some x → p (id, x) ≡ true → q (id, x) ≡ false → ((e : RowId × List ℤ) → q e ≡ true → p e ≡ true) → counted q es < counted p es) → (b : Bool) → same_row id e.0 ≡ b →
+        cond b (Some e.1) (find row_cmp id es) ≡ Some x → counted q (e ∷ es) < counted p (e ∷ es)
     by behind true same here =
         let its : (g : RowId × List ℤ → Bool) → g e ≡ g (id, x) = λ g. (λ i. g (sym (row_is id e.0 same) i, same_Some e.1 x here i)) in
         let one : ◌≡◌ {A = ℕ} (cond (p e) 1 0) 1 = ap (λ (b : Bool). cond {A = ℕ} b 1 0) (its p ∙ was) in

@@ -1,5 +1,6 @@
 -- What batches leave of a database.
-use Rattle.std.proofs.Common.{◌≡◌, ◌∙◌, sym, ap, refl, Bool, true, false, cond, ◌&&◌, ◌||◌, T, List, [], ◌∷◌, map, Option, Some, None, option_map, unwrap_or, ℤ, is_eq, is_lt, Ordering, Less, Equal, Greater, true≢false}
+use Rattle.std.proofs.Common.{◌≡◌, ◌∙◌, sym, ap, refl, Bool, true, false, cond, ◌&&◌, ◌||◌, T, List, [], ◌∷◌, map, Option, Some, None, option_map, unwrap_or, ℤ, is_eq, is_lt, Ordering, Less, Equal}
+use Rattle.std.proofs.Common.{Greater, true≢false}
 use Rattle.std.specs.Bool.{passes}
 use Rattle.std.specs.FinMap.{get, find, empty, entries, entries_sorted, is_sorted, put, get-entries, get-empty, same_map}
 use Rattle.std.specs.FinMap.Entries.{below_all, same_entries, find-put, is_sorted-put}

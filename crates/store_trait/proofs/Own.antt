@@ -1,5 +1,6 @@
 -- Rows that are each the first of their table with their value in a column.
-use Rattle.std.proofs.Common.{◌≡◌, ◌∙◌, sym, ap, subst, refl, Bool, true, false, true≢false, cond, ℕ, ◌+◌, ◌<◌, ◌≤◌, ◌==◌, eqb-true, ℤ, ◌<ℤ◌, List, [], ◌∷◌, length, get_or, take, Option, Some, None, ◌⊎◌, inl, inr, ⊎_elim, arith}
+use Rattle.std.proofs.Common.{◌≡◌, ◌∙◌, sym, ap, subst, refl, Bool, true, false, true≢false, cond, ℕ, ◌+◌, ◌<◌, ◌≤◌, ◌==◌, eqb-true, ℤ, ◌<ℤ◌, List, [], ◌∷◌, length, get_or, take, Option, Some, None}
+use Rattle.std.proofs.Common.{◌⊎◌, inl, inr, ⊎_elim, arith}
 use Rattle.std.specs.Prelude.{◌↔◌, IsTrue, slice_get, option_and_then}
 use Rattle.std.specs.List.{AllByRecursion}
 use Rattle.std.specs.FinMap.{get}
@@ -47,7 +48,8 @@ module _ (db : Database) (table column : ℕ) where
   first_is_held value key (Some other) held first = ap Some (one_first value other key held first)
 
   -- so what the holder tells of a row with this value
-  pub own_told : (value key : ℤ) (columns : List ℤ) (found : Option ℤ) (b : Bool) → slice_get columns column ≡ Some value → IsHolder db table column value found → b ≡ option_eq int_eq found (Some key) →
+  pub own_told : (value key : ℤ) (columns : List ℤ) (found : Option ℤ) (b : Bool) → slice_get columns column ≡ Some value → IsHolder db table column value found →
+      b ≡ option_eq int_eq found (Some key) →
       IsTrue b ↔ ((v : ℤ) → slice_get columns column ≡ Some v → IsLeastWithValue db table column v key)
   own_told value key columns found b at held told =
       let equal = told_equal found key in (
@@ -66,7 +68,8 @@ module _ (db : Database) (table column : ℕ) where
   OwnBehind bound = (value key : ℤ) → HasValue db table column value key → IsAbove bound key ⊎ IsLeastWithValue db table column value key
 
   -- the next row is passed, where it is the first that has its value
-  pub own_passed : (bound : Option ℤ) (next : ℤ) (columns : List ℤ) → OwnBehind bound → IsLeastAbove db table bound next columns → ((value : ℤ) → slice_get columns column ≡ Some value → IsLeastWithValue db table column value next) → OwnBehind (Some next)
+  pub own_passed : (bound : Option ℤ) (next : ℤ) (columns : List ℤ) → OwnBehind bound → IsLeastAbove db table bound next columns →
+      ((value : ℤ) → slice_get columns column ≡ Some value → IsLeastWithValue db table column value next) → OwnBehind (Some next)
   own_passed bound next columns behind least own value key has =
       ⊎_elim (λ above. by above (int_cmp next key) (int_ranked next key _ refl)) inr (behind value key has)
     where
@@ -83,7 +86,8 @@ module _ (db : Database) (table column : ℕ) where
       ⊎_elim (λ above. absurd (none-some has.columns (sym (none key above) ∙ has.there))) (λ first. first) (behind value key has)
 
   -- and then the next row is
-  pub own_here : (bound : Option ℤ) (next : ℤ) (columns : List ℤ) → IsLeastAbove db table bound next columns → OwnInColumn db table column → (value : ℤ) → slice_get columns column ≡ Some value → IsLeastWithValue db table column value next
+  pub own_here : (bound : Option ℤ) (next : ℤ) (columns : List ℤ) → IsLeastAbove db table bound next columns → OwnInColumn db table column → (value : ℤ) → slice_get columns column ≡ Some value →
+      IsLeastWithValue db table column value next
   own_here bound next columns least own value is = own value next (record { columns = columns; there = least.there; value_there = is })
 
 -- ---- table by table
@@ -99,7 +103,8 @@ found_of_all P (x ∷ ts) id t all e = by (found_of_all P ts id t all.1) (x.id =
 
 module _ (ts : List Table) (db : Database) where
   -- one table more is looked at
-  pub own_more : (xs : List Table) (i : ℕ) (d : Table) → i < length xs → AllByRecursion (λ (t : Table). OwnInTable ts db t.id) (take i xs) → OwnInTable ts db (get_or xs i d).id → AllByRecursion (λ (t : Table). OwnInTable ts db t.id) (take (i + 1) xs)
+  pub own_more : (xs : List Table) (i : ℕ) (d : Table) → i < length xs → AllByRecursion (λ (t : Table). OwnInTable ts db t.id) (take i xs) → OwnInTable ts db (get_or xs i d).id →
+      AllByRecursion (λ (t : Table). OwnInTable ts db t.id) (take (i + 1) xs)
   own_more xs i d within all here =
       subst (λ (l : List Table). AllByRecursion (λ (t : Table). OwnInTable ts db t.id) l) (sym (take_more xs i d within))
       (AllByRecursion-append (λ (t : Table). OwnInTable ts db t.id) (take i xs) (get_or xs i d ∷ []) all (here, tt))
@@ -126,7 +131,8 @@ module _ (ts : List Table) (db : Database) where
       by : (o : Option ℕ) → unique_of ts mark.table ≡ o → p ≡ q
       by None none = absurd (no_unique_no_mark ts db mark p.key none (marked p of_p))
       by (Some column) unique =
-          let first : (r : RowId) → has_row (mark_in ts db r) mark ≡ true → IsLeastWithValue db mark.table column mark.key r.key = λ r has. own_at all mark.table column unique mark.key r.key (value_of_marked ts db mark column r.key unique (marked r has)) in
+          let first : (r : RowId) → has_row (mark_in ts db r) mark ≡ true → IsLeastWithValue db mark.table column mark.key r.key =
+          λ r has. own_at all mark.table column unique mark.key r.key (value_of_marked ts db mark column r.key unique (marked r has)) in
           here p of_p ∙ ap (row_at mark.table) (one_first db mark.table column mark.key p.key q.key (first p of_p) (first q of_q)) ∙ sym (here q of_q)
 
   -- and where no two have one value, each row is the first with its value

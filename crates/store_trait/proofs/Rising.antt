@@ -1,5 +1,6 @@
 -- Lists of rows in the order of row ids: by neighbors, and with one more row.
-use Rattle.std.proofs.Common.{◌≡◌, ◌∙◌, sym, ap, refl, ℕ, zero, suc, ◌<◌, Bool, true, false, ◌↔◌, IsTrue, List, [], ◌∷◌, ◌++◌, length, get_or, Option, Some, is_some, IsSome, ℤ, cond, is_lt, is_eq, Less, true≢false, arith, add-one}
+use Rattle.std.proofs.Common.{◌≡◌, ◌∙◌, sym, ap, refl, ℕ, zero, suc, ◌<◌, Bool, true, false, ◌↔◌, IsTrue, List, [], ◌∷◌, ◌++◌, length, get_or, Option, Some, is_some, IsSome, ℤ, cond, is_lt, is_eq}
+use Rattle.std.proofs.Common.{Less, true≢false, arith, add-one}
 use Rattle.std.specs.List.{AllByRecursion, IsAllAdjacentAnswer}
 use Rattle.std.specs.List.Sorted.{IsStrictlySortedBy}
 use Rattle.std.specs.Map.{keys_of}

@@ -11,7 +11,8 @@ not_refused (Ok x) fine h = h
 not_refused (Err e) fine h = absurd (true≢false fine)
 
 -- the next batch of the list
-pub put_batches-take : (batches : List (List Entry)) (i : ℕ) (batch : List Entry) (first now next : Database) → i < length batches → batch ≡ get_or batches i batch → now ≡ put_batches (take i batches) first → next ≡ put_batch batch now → next ≡ put_batches (take (i + 1) batches) first
+pub put_batches-take : (batches : List (List Entry)) (i : ℕ) (batch : List Entry) (first now next : Database) → i < length batches → batch ≡ get_or batches i batch →
+    now ≡ put_batches (take i batches) first → next ≡ put_batch batch now → next ≡ put_batches (take (i + 1) batches) first
 put_batches-take batches i batch first now next within here so_far is =
     is ∙ ap (put_batch batch) so_far
     ∙ sym (put_batches-append (take i batches) (batch ∷ []) first)

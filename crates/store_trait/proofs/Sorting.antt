@@ -29,7 +29,8 @@ less_from Equal g h = cc
 less_from Greater g h = cc
 
 -- two neighbours of distinct rows that a sort put in order
-neighbours : (es : List Entry) (d : Entry) → IsDistinct same_row (keys_of es) → IsSortedByKey (λ (e : Entry). e.0) row_cmp es → (k : ℕ) → k + 1 < length (keys_of es) → row_cmp (get_or (keys_of es) k d.0) (get_or (keys_of es) (k + 1) d.0) ≡ Less
+neighbours : (es : List Entry) (d : Entry) → IsDistinct same_row (keys_of es) → IsSortedByKey (λ (e : Entry). e.0) row_cmp es → (k : ℕ) → k + 1 < length (keys_of es) →
+    row_cmp (get_or (keys_of es) k d.0) (get_or (keys_of es) (k + 1) d.0) ≡ Less
 neighbours es d distinct order k within =
     let lengths = length-keys_of es in
     let this : get_or (keys_of es) k d.0 ≡ (get_or es k d).0 = get_or-map (λ (e : Entry). e.0) es k d d.0 (omega arith) in

@@ -1,5 +1,6 @@
 -- The least id of a list of tables that is at least a number.
-use Rattle.std.proofs.Common.{◌≡◌, ◌∙◌, sym, ap, refl, ℕ, ◌≤◌, ◌<◌, min, true, false, cond, leb, nat_le, ◌==◌, List, [], ◌∷◌, map, filter, fold, Option, Some, None, is_some, ◌⊎◌, inl, inr, ⊎_elim, arith, eq-eqb, ne_eqb, leb-true, leb-false}
+use Rattle.std.proofs.Common.{◌≡◌, ◌∙◌, sym, ap, refl, ℕ, ◌≤◌, ◌<◌, min, true, false, cond, leb, nat_le, ◌==◌, List, [], ◌∷◌, map, filter, fold, Option, Some, None, is_some, ◌⊎◌, inl, inr, ⊎_elim}
+use Rattle.std.proofs.Common.{arith, eq-eqb, ne_eqb, leb-true, leb-false}
 use Rattle.std.specs.List.{reduce}
 use Rattle.std.proofs.lemmas.Bool.{cond-true, cond-false}
 use Rattle.schema.specs.declared.Table.{Table}

@@ -51,13 +51,15 @@ first_passes {X} test (x ∷ xs) first is = by (first_passes test xs first) (tes
     by rest false fails later = rest later
 
 -- no entry of a row before that of the first passes
-none_before : {X : Type 0} (test : RowId × X → Bool) (es : List (RowId × X)) (first : RowId × X) (id : RowId) (x : X) → is_sorted row_cmp es ≡ true → find test es ≡ Some first → find_row row_cmp id es ≡ Some x → row_cmp id first.0 ≡ Less → test (id, x) ≡ true → ⊥
+none_before : {X : Type 0} (test : RowId × X → Bool) (es : List (RowId × X)) (first : RowId × X) (id : RowId) (x : X) → is_sorted row_cmp es ≡ true → find test es ≡ Some first →
+    find_row row_cmp id es ≡ Some x → row_cmp id first.0 ≡ Less → test (id, x) ≡ true → ⊥
 none_before test [] first id x sorted is there less passes = cc
 none_before {X} test (e ∷ es) first id x sorted is there less passes =
     let parts = and_parts (below_all row_cmp e.0 es) (is_sorted row_cmp es) sorted in
     by (none_before test es first id x parts.1) parts.0 (test e) refl (same_row id e.0) refl is there
   where
-    by : (find test es ≡ Some first → find_row row_cmp id es ≡ Some x → row_cmp id first.0 ≡ Less → test (id, x) ≡ true → ⊥) → below_all row_cmp e.0 es ≡ true → (b : Bool) → test e ≡ b → (same : Bool) → same_row id e.0 ≡ same → cond b (Some e) (find test es) ≡ Some first → cond same (Some e.1) (find_row row_cmp id es) ≡ Some x → ⊥
+    by : (find test es ≡ Some first → find_row row_cmp id es ≡ Some x → row_cmp id first.0 ≡ Less → test (id, x) ≡ true → ⊥) → below_all row_cmp e.0 es ≡ true → (b : Bool) → test e ≡ b →
+        (same : Bool) → same_row id e.0 ≡ same → cond b (Some e) (find test es) ≡ Some first → cond same (Some e.1) (find_row row_cmp id es) ≡ Some x → ⊥
     by rest below true here true same one there =
         let itself : row_cmp id id ≡ Less = ap (λ q. row_cmp id q) (row_is id e.0 same ∙ ap (λ (d : RowId × X). d.0) (same_Some e first one)) ∙ less in
         true≢false (sym (ap is_lt itself) ∙ ap is_lt (tied_itself row_total id))
@@ -122,7 +124,8 @@ fits_stand ts db fits id columns there =
 pub holder_is_first : HolderIsFirst
 holder_is_first ts db mark column found unique is = by found is (holder_of ts db mark) refl
   where
-    which : (key other : ℤ) → IsLeastWithValue db mark.table column mark.key key → holder_of ts db mark ≡ Some other → (r : Ordering) → MatchOrdering r (key <ℤ other) (key ≡ other) (other <ℤ key) → key ≡ other
+    which : (key other : ℤ) → IsLeastWithValue db mark.table column mark.key key → holder_of ts db mark ≡ Some other → (r : Ordering) → MatchOrdering r (key <ℤ other) (key ≡ other) (other <ℤ key) →
+        key ≡ other
     which key other least held Less lt = absurd (holder_first ts db mark column other key unique held lt least.has)
     which key other least held Equal same = same
     which key other least held Greater gt = absurd (least.least other gt (value_of_marked ts db mark column other unique (holder_there ts db mark other held)))

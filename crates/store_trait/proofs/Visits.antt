@@ -1,5 +1,6 @@
 -- The rows that a walk has visited, and how many are left.
-use Rattle.std.proofs.Common.{◌≡◌, ◌∙◌, sym, ap, refl, subst, ℕ, ◌+◌, ◌-◌, ◌<◌, ℤ, Bool, true, false, cond, not, ◌&&◌, List, Option, Some, None, is_some, ◌⊎◌, inl, inr, ⊎_elim, arith, Ordering, Less, Equal, Greater, true≢false, is_lt, is_eq}
+use Rattle.std.proofs.Common.{◌≡◌, ◌∙◌, sym, ap, refl, subst, ℕ, ◌+◌, ◌-◌, ◌<◌, ℤ, Bool, true, false, cond, not, ◌&&◌, List, Option, Some, None, is_some, ◌⊎◌, inl, inr, ⊎_elim, arith, Ordering, Less}
+use Rattle.std.proofs.Common.{Equal, Greater, true≢false, is_lt, is_eq}
 use Rattle.std.specs.Ordering.{ordering_reverse}
 use Rattle.std.specs.Cmp.{tied_itself}
 use Rattle.std.specs.FinMap.{get, len, empty, remove, get-empty, get-remove, len-empty, len-remove, empty_of_len, same_map}
@@ -74,7 +75,8 @@ pub last_visited : (ts : List Table) (id : RowId) → IsListed ts id.table → i
 last_visited ts id listed = and_from _ _ listed (ap (λ r. not (is_lt r)) (tied_itself row_total id))
 
 -- what the next row adds: itself alone, of the rows that are there
-pub visited_cases : (ts : List Table) (db : Database) (last : Option RowId) (id : RowId) (columns : List ℤ) (q : RowId) → IsFirst db (IsAhead ts last) id columns → is_visited ts (Some id) q ≡ true → (q ≡ id) ⊎ ((is_visited ts last q ≡ true) ⊎ (get db q ≡ None))
+pub visited_cases : (ts : List Table) (db : Database) (last : Option RowId) (id : RowId) (columns : List ℤ) (q : RowId) → IsFirst db (IsAhead ts last) id columns → is_visited ts (Some id) q ≡ true →
+    (q ≡ id) ⊎ ((is_visited ts last q ≡ true) ⊎ (get db q ≡ None))
 visited_cases ts db last id columns q first visited =
     let parts = and_parts (is_some (table_at ts q.table)) _ visited in
     elim (same_row q id) as (λ b. same_row q id ≡ b → (q ≡ id) ⊎ ((is_visited ts last q ≡ true) ⊎ (get db q ≡ None))) [
@@ -86,7 +88,8 @@ visited_cases ts db last id columns q first visited =
     ] refl
 
 -- what is chosen by whether a row is visited, once the next row is, where it matters for no absent row
-pub choice_on : {A : Type 0} (ts : List Table) (db : Database) (last : Option RowId) (id : RowId) (columns : List ℤ) (q : RowId) (seen unseen : A) → IsFirst db (IsAhead ts last) id columns → (get db q ≡ None → seen ≡ unseen) → cond (same_row q id) seen (cond (is_visited ts last q) seen unseen) ≡ cond (is_visited ts (Some id) q) seen unseen
+pub choice_on : {A : Type 0} (ts : List Table) (db : Database) (last : Option RowId) (id : RowId) (columns : List ℤ) (q : RowId) (seen unseen : A) → IsFirst db (IsAhead ts last) id columns →
+    (get db q ≡ None → seen ≡ unseen) → cond (same_row q id) seen (cond (is_visited ts last q) seen unseen) ≡ cond (is_visited ts (Some id) q) seen unseen
 choice_on {A} ts db last id columns q seen unseen first alike =
     elim (same_row q id) as (λ b. same_row q id ≡ b → cond b seen (cond (is_visited ts last q) seen unseen) ≡ cond (is_visited ts (Some id) q) seen unseen) [
       | true ↦ λ same. sym (on_true (ap (is_visited ts (Some id)) (row_is q id same) ∙ last_visited ts id first.counted.0))

@@ -1,5 +1,6 @@
 -- The first row that counts, table by table.
-use Rattle.std.proofs.Common.{◌≡◌, ◌∙◌, sym, ap, refl, subst, ℕ, ◌+◌, ◌≤◌, ◌<◌, ℤ, ◌<ℤ◌, List, Option, Some, None, is_some, ◌⊎◌, inl, inr, ⊎_elim, arith, Ordering, Less, Equal, Greater, true≢false, nat_cmp, int_cmp, is_lt, Bool, cond, ◌==◌, lt-ltb}
+use Rattle.std.proofs.Common.{◌≡◌, ◌∙◌, sym, ap, refl, subst, ℕ, ◌+◌, ◌≤◌, ◌<◌, ℤ, ◌<ℤ◌, List, Option, Some, None, is_some, ◌⊎◌, inl, inr, ⊎_elim, arith, Ordering, Less, Equal, Greater, true≢false}
+use Rattle.std.proofs.Common.{nat_cmp, int_cmp, is_lt, Bool, cond, ◌==◌, lt-ltb}
 use Rattle.std.specs.Ordering.{ordering_then, MatchOrdering}
 use Rattle.std.specs.Cmp.{tied_itself, nat_cmp_total}
 use Rattle.std.specs.FinMap.{get}
@@ -32,7 +33,8 @@ less_parts Greater s P Q R P' Q' R' e p q = over e
 -- a lesser row is of a lesser table, or has a lesser key
 pub lesser_row : (a b : RowId) → row_cmp a b ≡ Less → (a.table < b.table) ⊎ ((a.table ≡ b.table) × (a.key <ℤ b.key))
 lesser_row a b less =
-    less_parts (nat_cmp a.table b.table) (int_cmp a.key b.key) (a.table < b.table) (a.table ≡ b.table) (b.table < a.table) (a.key <ℤ b.key) (a.key ≡ b.key) (b.key <ℤ a.key) less (ranked a.table b.table _ refl) (int_ranked a.key b.key _ refl)
+    less_parts (nat_cmp a.table b.table) (int_cmp a.key b.key) (a.table < b.table) (a.table ≡ b.table) (b.table < a.table) (a.key <ℤ b.key) (a.key ≡ b.key) (b.key <ℤ a.key) less
+    (ranked a.table b.table _ refl) (int_ranked a.key b.key _ refl)
 
 pub lesser_table : (a b : RowId) → a.table < b.table → row_cmp a b ≡ Less
 lesser_table a b lt = ap (λ (t : Bool). ordering_then (cond t Less (cond (a.table == b.table) Equal Greater)) (int_cmp a.key b.key)) (lt-ltb a.table b.table lt)
@@ -76,7 +78,8 @@ module _ (db : Database) (ts : List Table) (first next : ℕ) where
 -- ---- the first row behind another
 
 -- where the last row's table has no more rows, it is the first of the tables behind
-pub first_behind : (db : Database) (ts : List Table) (last : RowId) (found : Option (RowId × List ℤ)) → NoneAbove db last.table (Some last.key) → IsFirstOf db (IsFromTable ts (last.table + 1)) found → IsFirstOf db (IsAhead ts (Some last)) found
+pub first_behind : (db : Database) (ts : List Table) (last : RowId) (found : Option (RowId × List ℤ)) → NoneAbove db last.table (Some last.key) →
+    IsFirstOf db (IsFromTable ts (last.table + 1)) found → IsFirstOf db (IsAhead ts (Some last)) found
 first_behind db ts last None no_more is = λ id counts. ⊎_elim
     (λ lt. is id (counts.0, omega arith))
     (λ at. subst (λ t. get db (row_at t id.key) ≡ None) at.0 (no_more id.key at.1))

@@ -1,6 +1,7 @@
 //! What batches leave of a database, stated as contracts of functions that do nothing.
 
-ghost use Rattle.store_trait.specs.Laws.{SetsItsRows, IsItsRows, HasTheRows, SortedRowsRise, RisingRowsDiffer, CarriesChanges, GoesOn, GoesOnByOps, LoadsAll, FitsApart, StandingFits, FitsStands, HolderIsFirst};
+ghost use Rattle.store_trait.specs.Laws.{SetsItsRows, IsItsRows, HasTheRows, SortedRowsRise, RisingRowsDiffer, CarriesChanges, GoesOn};
+ghost use Rattle.store_trait.specs.Laws.{GoesOnByOps, LoadsAll, FitsApart, StandingFits, FitsStands, HolderIsFirst};
 
 /// Behind a batch each row is as the batch has it, or else as it was.
 pub fn batch_sets_its_rows()

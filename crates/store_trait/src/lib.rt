@@ -8,7 +8,8 @@
 //! what batches leave of a database, and that rows fit exactly where they stand and no two have one value in a unique column.
 #![tactic(auto)]
 
-ghost use Rattle.std.specs.Prelude.{◌≡◌, ℕ, ℤ, Option, ◌≤◌, ◌↔◌, IsTrue, Some, List, [], ◌∷◌, ◌++◌, length, take, map, slice_get, SomeIff, IfSome, IfOk, OnOk, OnErr};
+ghost use Rattle.std.specs.Prelude.{◌≡◌, ℕ, ℤ, Option, ◌≤◌, ◌↔◌, IsTrue, Some, List, [], ◌∷◌, ◌++◌, length, take, map, slice_get, SomeIff};
+ghost use Rattle.std.specs.Prelude.{IfSome, IfOk, OnOk, OnErr};
 ghost use Rattle.std.specs.FinMap.{get as row_of, len as size_of, empty};
 ghost use Rattle.schema.specs.declared.Table.{Table};
 ghost use Rattle.schema.specs.declared.RowId.{RowId};
@@ -24,7 +25,7 @@ pub mod laws;
 mod walk;
 
 use rows::Row;
-use schema::{Mark, Memory, RowId, Schema, Table};
+use schema::{Mark, Memory, RowId, Schema, Table, copied};
 use std::alloc::Global;
 use std::marker::Model;
 use walk::next_row;
@@ -88,7 +89,7 @@ impl Batch {
         ensures { IfOk result (λ batch. batch ≡ self.now) }
     {
         Ok(Batch {
-            entries: self.entries.clone()?,
+            entries: copied(&self.entries)?,
         })
     }
 }

@@ -1,5 +1,6 @@
 -- What a search in rows in order finds.
-use Rattle.std.proofs.Common.{◌≡◌, ◌∙◌, sym, ap, refl, subst, ℕ, zero, suc, ◌+◌, ◌<◌, ◌≤◌, List, [], ◌∷◌, ◌++◌, length, take, drop, get_or, Some, None, Result, Ok, Err, is_lt, is_eq, false, true, Ordering, Less, Equal, Greater, arith, add-one, true≢false, length-append, ◌⊎◌, inl, inr}
+use Rattle.std.proofs.Common.{◌≡◌, ◌∙◌, sym, ap, refl, subst, ℕ, zero, suc, ◌+◌, ◌<◌, ◌≤◌, List, [], ◌∷◌, ◌++◌, length, take, drop, get_or, Some, None, Result, Ok, Err, is_lt, is_eq, false, true}
+use Rattle.std.proofs.Common.{Ordering, Less, Equal, Greater, arith, add-one, true≢false, length-append, ◌⊎◌, inl, inr}
 use Rattle.std.specs.Ordering.{ordering_index, ordering_reverse, is_ge}
 use Rattle.std.specs.List.Sorted.{IsSearchInRange, IsBinarySearchResult, IsNonDecreasingBy, IsSortedBy}
 use Rattle.std.specs.FinMap.{get, find, len, from_sorted, len-entries, entries-from_sorted, get-from_sorted, same_map}
@@ -68,7 +69,8 @@ behind_all (row ∷ rows) id zero h =
     (row_total.antisymm id row.0 ∙ ap ordering_reverse (h 0 row (omega arith) (omega arith)), behind_all rows id zero (λ k d le lt. h (suc k) d (omega arith) (omega arith)))
 behind_all (row ∷ rows) id (suc at) h = behind_all rows id at (λ k d le lt. h (suc k) d (omega arith) (omega arith))
 
-pub searched : (rows : List Stored) (id : RowId) → AreInOrder rows → (r : Result ℕ ℕ) → IsSearchInRange r (length rows) → IsBinarySearchResult (λ (y : Stored). row_cmp y.0 id) rows r → IsPlaceOf rows id r
+pub searched : (rows : List Stored) (id : RowId) → AreInOrder rows → (r : Result ℕ ℕ) → IsSearchInRange r (length rows) → IsBinarySearchResult (λ (y : Stored). row_cmp y.0 id) rows r →
+    IsPlaceOf rows id r
 searched rows id order (Ok at) within found =
     let d : Stored = (id, []) in
     let here : (e : Stored) → (get_or rows at e).0 ≡ id = λ e. exact_row (get_or rows at e).0 id (found e) in (
@@ -166,7 +168,8 @@ module _ (rows : List Stored) (id : RowId) (low high : ℕ) (w : IsWindowOf rows
 
   pub inner_order : AreInOrder rows → AreInOrder (between low high rows)
   inner_order order =
-      (order_parts (between low high rows) (drop high rows) (order_parts (take low rows) (between low high rows ++ drop high rows) (subst (λ (l : List Stored). AreInOrder l) (split_between rows low high w.rises) order)).1).0
+      (order_parts (between low high rows) (drop high rows) (order_parts (take low rows) (between low high rows ++ drop high rows)
+      (subst (λ (l : List Stored). AreInOrder l) (split_between rows low high w.rises) order)).1).0
 
   moved : (a b : ℕ) → IsWindowOf (between low high rows) id a b → IsWindowOf rows id (low + a) (low + b)
   moved a b inner =

@@ -1,5 +1,6 @@
 -- Rows around a gap, as the gap moves.
-use Rattle.std.proofs.Common.{◌≡◌, ◌∙◌, sym, ap, refl, subst, ℕ, ◌+◌, ◌-◌, ◌≤◌, Bool, true, false, cond, List, [], ◌∷◌, ◌++◌, length, take, drop, get_or, Option, Some, None, is_some, Ok, Err, ℤ, arith, append_assoc, length-take}
+use Rattle.std.proofs.Common.{◌≡◌, ◌∙◌, sym, ap, refl, subst, ℕ, ◌+◌, ◌-◌, ◌≤◌, Bool, true, false, cond, List, [], ◌∷◌, ◌++◌, length, take, drop, get_or, Option, Some, None, is_some, Ok, Err, ℤ}
+use Rattle.std.proofs.Common.{arith, append_assoc, length-take}
 use Rattle.std.specs.List.{copy_within}
 use Rattle.std.specs.FinMap.{get, find, insert, remove, get-insert, get-remove, same_map}
 use Rattle.std.proofs.lemmas.List.{take-append-drop, drop-append-le, drop_at, drop-take, length-take-le}

@@ -1,5 +1,6 @@
 -- A batch that is put from its last entry to its first.
-use Rattle.std.proofs.Common.{◌≡◌, ◌∙◌, sym, ap, refl, subst, ℕ, ◌+◌, ◌<◌, ◌≤◌, Bool, true, false, cond, ◌&&◌, List, [], ◌∷◌, ◌++◌, length, take, drop, Option, Some, None, is_some, is_none, IsSome, IsNone, unwrap_or, ℤ, Less, true≢false, arith, append_assoc, append-nil, length-take}
+use Rattle.std.proofs.Common.{◌≡◌, ◌∙◌, sym, ap, refl, subst, ℕ, ◌+◌, ◌<◌, ◌≤◌, Bool, true, false, cond, ◌&&◌, List, [], ◌∷◌, ◌++◌, length, take, drop, Option, Some, None, is_some, is_none, IsSome}
+use Rattle.std.proofs.Common.{IsNone, unwrap_or, ℤ, Less, true≢false, arith, append_assoc, append-nil, length-take}
 use Rattle.std.specs.List.{count_by}
 use Rattle.std.specs.FinMap.{get, find}
 use Rattle.std.specs.FinMap as map
@@ -82,7 +83,8 @@ module _ (rows : List Stored) (end : ℕ) (within : end ≤ length rows) (id : R
   drop_front : (at : ℕ) → at ≤ end → drop at rows ≡ drop at (take end rows) ++ drop end rows
   drop_front at le = ap (drop at) (sym (take-append-drop end rows)) ∙ drop-append-le at (take end rows) (drop end rows) (omega (arith, length-take end rows))
 
-module _ (entries left before : List Entry) (e : Entry) (rows : List Stored) (end count : ℕ) (h : Counting entries left rows end count) (last : left ≡ before ++ e ∷ []) (rising : IsRising entries) (order : AreInOrder rows) where
+module _ (entries left before : List Entry) (e : Entry) (rows : List Stored) (end count : ℕ) (h : Counting entries left rows end count) (last : left ≡ before ++ e ∷ []) (rising : IsRising entries)
+    (order : AreInOrder rows) where
   behind_end : AreBehind e.0 (drop end rows)
   behind_end = h.behind e.0 (done_behind entries left before e h.halves last rising)
 
@@ -135,7 +137,8 @@ none_is : {X : Type 0} (o : Option X) → is_some o ≡ false → is_none o ≡ 
 none_is None h = refl
 none_is (Some x) h = absurd (true≢false h)
 
-module _ (entries left before : List Entry) (e : Entry) (first : Database) (gap : Gap) (rows : List Stored) (h : Merging entries left first gap rows) (last : left ≡ before ++ e ∷ []) (rising : IsRising entries) where
+module _ (entries left before : List Entry) (e : Entry) (first : Database) (gap : Gap) (rows : List Stored) (h : Merging entries left first gap rows) (last : left ≡ before ++ e ∷ [])
+    (rising : IsRising entries) where
   pub next_behind : AreBehind e.0 (drop gap.end rows)
   next_behind = h.behind e.0 (done_behind entries left before e h.halves last rising)
 

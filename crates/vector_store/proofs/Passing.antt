@@ -1,5 +1,6 @@
 -- The first row of a table above a key, by a search in rows in order.
-use Rattle.std.proofs.Common.{◌≡◌, ◌∙◌, sym, ap, refl, subst, ℕ, zero, suc, ◌+◌, ◌<◌, ◌≤◌, ℤ, true, false, List, [], ◌∷◌, length, take, drop, get_or, Option, Some, None, Less, true≢false, arith, inl, inr}
+use Rattle.std.proofs.Common.{◌≡◌, ◌∙◌, sym, ap, refl, subst, ℕ, zero, suc, ◌+◌, ◌<◌, ◌≤◌, ℤ, true, false, List, [], ◌∷◌, length, take, drop, get_or, Option, Some, None, Less, true≢false, arith, inl}
+use Rattle.std.proofs.Common.{inr}
 use Rattle.std.specs.List.Sorted.{IsPartitionedBy}
 use Rattle.std.specs.FinMap.{get, find}
 use Rattle.std.proofs.lemmas.Bool.{cases_lt, cond-false, false_from_ne_true}
@@ -54,7 +55,8 @@ are_parted rows table above order i j d le within h =
 
 -- ---- what is found
 
-find_skips : (rows : List Stored) (q : RowId) (from : ℕ) → ((k : ℕ) (d : Stored) → k < from → k < length rows → same_row q (get_or rows k d).0 ≡ false) → find row_cmp q rows ≡ find row_cmp q (drop from rows)
+find_skips : (rows : List Stored) (q : RowId) (from : ℕ) → ((k : ℕ) (d : Stored) → k < from → k < length rows → same_row q (get_or rows k d).0 ≡ false) →
+    find row_cmp q rows ≡ find row_cmp q (drop from rows)
 find_skips rows q zero h = refl
 find_skips [] q (suc from) h = refl
 find_skips (row ∷ rows) q (suc from) h = cond-false _ _ _ (h 0 row (omega arith) (omega arith)) ∙ find_skips rows q from (λ k d lt within. h (suc k) d (omega arith) (omega arith))

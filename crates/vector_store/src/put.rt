@@ -6,7 +6,8 @@
 //! what is behind the gap is done, what is before it is as it was, and the gap is as wide as the new rows that are still to come
 //! and the removed ones. At the end it is closed, where rows were removed.
 
-ghost use Rattle.std.specs.Prelude.{◌≡◌, ◌+◌, ◌-◌, ◌<◌, ◌≤◌, [], ◌∷◌, ◌++◌, ◌&&◌, length, take, drop, count_by, is_some, is_none, IsSome, IsNone, IfOk, OnOk, OnErr};
+ghost use Rattle.std.specs.Prelude.{◌≡◌, ◌+◌, ◌-◌, ◌<◌, ◌≤◌, [], ◌∷◌, ◌++◌, ◌&&◌, length, take, drop, count_by, is_some, is_none, IsSome};
+ghost use Rattle.std.specs.Prelude.{IsNone, IfOk, OnOk, OnErr};
 ghost use Rattle.std.specs.declared.cmp.Ordering.TheVariants.{Less};
 ghost use Rattle.std.specs.FinMap.{get as row_of};
 ghost use Rattle.schema.specs.declared.RowId.{RowId};

@@ -39,13 +39,15 @@ sorted_once ns sorted moves order = keys_once nat_cmp_total nat_cmp-IsAntisymmet
 
 -- ---- the digests of a footprint
 
-digests_of_keyed : (tables : List Table) (rows : List RowId) (d : ℕ) → list_any (eqb d) (map digest_of (filter (is_keyed tables) rows)) ≡ list_any (λ row. is_keyed tables row && eqb d (digest_of row)) rows
+digests_of_keyed : (tables : List Table) (rows : List RowId) (d : ℕ) → list_any (eqb d) (map digest_of (filter (is_keyed tables) rows))
+    ≡ list_any (λ row. is_keyed tables row && eqb d (digest_of row)) rows
 digests_of_keyed tables [] d = refl
 digests_of_keyed tables (row ∷ rows) d =
     with_row (is_keyed tables row) (digests_of_keyed tables rows d)
   where
     with_row : (keyed : Bool) → list_any (eqb d) (map digest_of (filter (is_keyed tables) rows)) ≡ list_any (λ r. is_keyed tables r && eqb d (digest_of r)) rows →
-        list_any (eqb d) (map digest_of (cond keyed (row ∷ filter (is_keyed tables) rows) (filter (is_keyed tables) rows))) ≡ ((keyed && eqb d (digest_of row)) || list_any (λ r. is_keyed tables r && eqb d (digest_of r)) rows)
+        list_any (eqb d) (map digest_of (cond keyed (row ∷ filter (is_keyed tables) rows) (filter (is_keyed tables) rows)))
+        ≡ ((keyed && eqb d (digest_of row)) || list_any (λ r. is_keyed tables r && eqb d (digest_of r)) rows)
     with_row true h = ap (λ b. eqb d (digest_of row) || b) h
     with_row false h = h
 

@@ -1,5 +1,6 @@
 -- What a history is once digests were entered, one after another.
-use Rattle.std.proofs.Common.{◌≡◌, ◌∙◌, sym, ap, subst, refl, ℕ, ◌+◌, ◌<◌, ◌≤◌, Bool, true, false, ◌||◌, cond, eqb, List, [], ◌∷◌, length, get_or, take, fold, Option, Some, unwrap_or, is_some, nat_cmp, arith}
+use Rattle.std.proofs.Common.{◌≡◌, ◌∙◌, sym, ap, subst, refl, ℕ, ◌+◌, ◌<◌, ◌≤◌, Bool, true, false, ◌||◌, cond, eqb, List, [], ◌∷◌, length, get_or, take, fold, Option, Some, unwrap_or, is_some}
+use Rattle.std.proofs.Common.{nat_cmp, arith}
 use Rattle.std.specs.Cmp.{nat_cmp_total, nat_eq_equiv}
 use Rattle.std.specs.FinMap.{empty, get, get-empty, insert, len, len-insert}
 use Rattle.std.specs.List.{list_any}

@@ -1,5 +1,6 @@
 -- What the numbers in some slots are.
-use Rattle.std.proofs.Common.{◌≡◌, ◌≢◌, ◌∙◌, sym, ap, subst, refl, ℕ, zero, suc, ◌+◌, ◌<◌, Bool, true, false, cond, eqb, ltb, List, [], ◌∷◌, length, set, Option, Some, None, is_some, ◌⊎◌, inl, inr, nat_cmp, arith}
+use Rattle.std.proofs.Common.{◌≡◌, ◌≢◌, ◌∙◌, sym, ap, subst, refl, ℕ, zero, suc, ◌+◌, ◌<◌, Bool, true, false, cond, eqb, ltb, List, [], ◌∷◌, length, set, Option, Some, None, is_some, ◌⊎◌, inl, inr}
+use Rattle.std.proofs.Common.{nat_cmp, arith}
 use Rattle.std.specs.Cmp.{unsigned_tied, nat_cmp_total}
 use Rattle.std.specs.FinMap.{empty, get, insert, len, get-empty, len-empty, get-insert, len-insert, same_map, nat_cmp-IsAntisymmetric}
 use Rattle.std.proofs.lemmas.Bool.{both_ways, cases_Bool, cases_eq, le-ltb, ltb-true, eq-eqb, ne_eqb, cond-true, cond-false}
@@ -140,6 +141,7 @@ numbers_in-above (slot ∷ rest) start digest number e = elim (cases_Bool (is_li
   | inr free ↦ numbers_in-above rest start digest number (ap (λ b. get (after start slot (numbers_in start rest) b) digest) (sym free) ∙ e)
 ]
   where
-    of_first : (get (numbers_in start rest) digest ≡ Some number → start < number) → (own : Bool) → is_live start slot ≡ true → cond own (Some slot.sequence) (get (numbers_in start rest) digest) ≡ Some number → start < number
+    of_first : (get (numbers_in start rest) digest ≡ Some number → start < number) → (own : Bool) → is_live start slot ≡ true →
+        cond own (Some slot.sequence) (get (numbers_in start rest) digest) ≡ Some number → start < number
     of_first above true live h = subst (λ n. start < n) (same_Some slot.sequence number h) (ltb-true start slot.sequence live)
     of_first above false live h = above h

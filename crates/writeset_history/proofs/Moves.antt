@@ -1,5 +1,6 @@
 -- What slots that hold a history answer, and how they go on to hold the next one.
-use Rattle.std.proofs.Common.{◌≡◌, ◌≢◌, ◌∙◌, sym, ap, subst, ℕ, ◌+◌, ◌<◌, ◌≤◌, Bool, true, false, not, cond, List, length, get_or, set, replicate, Some, None, unwrap_or, is_some, inl, inr, nat_cmp, arith, Option}
+use Rattle.std.proofs.Common.{◌≡◌, ◌≢◌, ◌∙◌, sym, ap, subst, ℕ, ◌+◌, ◌<◌, ◌≤◌, Bool, true, false, not, cond, List, length, get_or, set, replicate, Some, None, unwrap_or, is_some, inl, inr, nat_cmp}
+use Rattle.std.proofs.Common.{arith, Option}
 use Rattle.std.specs.Int.{from_bool}
 use Rattle.std.specs.Cmp.{nat_cmp_total}
 use Rattle.std.specs.FinMap.{empty, get, insert, len, len-empty, len-insert}
@@ -144,7 +145,8 @@ module _ (slots : List Slot) (start limit count : ℕ) (sound : IsSound slots st
           ];
         }
 
-    entered-len : (o : Option ℕ) → get (numbers_in start slots) digest ≡ o → len (insert (numbers_in start slots) digest sequence) ≡ cond (is_some o) (len (numbers_in start slots)) (len (numbers_in start slots) + 1)
+    entered-len : (o : Option ℕ) → get (numbers_in start slots) digest ≡ o → len (insert (numbers_in start slots) digest sequence)
+        ≡ cond (is_some o) (len (numbers_in start slots)) (len (numbers_in start slots) + 1)
     entered-len o e =
         len-insert nat_cmp_total (numbers_in start slots) digest sequence
         ∙ ap (λ o. cond (is_some o) (len (numbers_in start slots)) (len (numbers_in start slots) + 1)) e

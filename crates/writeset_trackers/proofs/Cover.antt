@@ -58,7 +58,8 @@ module _ (ts : List Table) (limit : ℕ) (log : List Entry) (t : Footprint) (w :
         one-greatest (newest_of ts start log) start shared.digest (digests_of ts t) shared.second,
       )
 
-  at_most_last : (e : Entry) → (e.footprint.flags.fk ≡ false → e.footprint.refs ≡ []) → ((e.footprint.flags.fk ≡ true → e.sequence ≤ start) × ((digest : ℕ) → start < e.sequence → has_digest ts digest e ≡ true → e.sequence ≤ newest_of ts start log digest)) →
+  at_most_last : (e : Entry) → (e.footprint.flags.fk ≡ false → e.footprint.refs ≡ []) →
+      ((e.footprint.flags.fk ≡ true → e.sequence ≤ start) × ((digest : ℕ) → start < e.sequence → has_digest ts digest e ≡ true → e.sequence ≤ newest_of ts start log digest)) →
       conflicts (touched e.footprint) (touched t) ≡ true → e.sequence ≤ last
   at_most_last e none h conflict = elim (cases_Bool (nat_lt start e.sequence)) [
     | inl above ↦ above_start e (ltb-true start e.sequence above) none h.0 h.1 conflict

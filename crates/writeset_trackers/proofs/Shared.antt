@@ -70,7 +70,8 @@ digest_in ts t row is e =
     among [] e = absurd cc
     among (x ∷ rows) e = elim (or_cases (same_row row x) (has_row rows row) e) [
       | inl here ↦ or_left (is_keyed ts x && eqb (digest_of row) (digest_of x)) (list_any (λ r. is_keyed ts r && eqb (digest_of row) (digest_of r)) rows)
-          (subst (λ r. (is_keyed ts r && eqb (digest_of row) (digest_of r)) ≡ true) (row_is row x here) (and_from (is_keyed ts row) (eqb (digest_of row) (digest_of row)) is (eq-eqb (digest_of row) (digest_of row) refl)))
+          (subst (λ r. (is_keyed ts r && eqb (digest_of row) (digest_of r)) ≡ true) (row_is row x here)
+          (and_from (is_keyed ts row) (eqb (digest_of row) (digest_of row)) is (eq-eqb (digest_of row) (digest_of row) refl)))
       | inr later ↦ or_right (is_keyed ts x && eqb (digest_of row) (digest_of x)) (list_any (λ r. is_keyed ts r && eqb (digest_of row) (digest_of r)) rows) (among rows later)
     ]
 

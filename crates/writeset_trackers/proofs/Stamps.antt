@@ -35,7 +35,8 @@ pub record Stamp (ts : List Table) (log : List Entry) (t : Footprint) (w : List 
   pub h : History
   pub same : h ≡ seen
 
-pub is_exact : (ts : List Table) (log : List Entry) (t : Footprint) (w : List ℕ) (stamp : Stamp ts log t w) (order parent : ℕ) → parent ≡ parent_by stamp.h t w order → parent ≡ writeset_parent ts stamp.seen.limit (reverse log) t order
+pub is_exact : (ts : List Table) (log : List Entry) (t : Footprint) (w : List ℕ) (stamp : Stamp ts log t w) (order parent : ℕ) → parent ≡ parent_by stamp.h t w order →
+    parent ≡ writeset_parent ts stamp.seen.limit (reverse log) t order
 is_exact ts log t w stamp order parent by = by ∙ ap (λ (h : History). parent_by h t w order) stamp.same ∙ same_parent ts (reverse log) stamp.seen t w order stamp.is stamp.of_tables.set
 
 pub is_covered : (ts : List Table) (log : List Entry) (t : Footprint) (w : List ℕ) (stamp : Stamp ts log t w) (session order parent : ℕ) → parent ≡ parent_by stamp.h t w order →
@@ -44,14 +45,16 @@ is_covered ts log t w stamp session order parent by may =
     subst (Covers (map entry_place log) (touched t)) (sym (is_exact ts log t w stamp order parent by)) (writeset_covers ts stamp.seen.limit log t w order stamp.is.logged stamp.of_tables may.covers)
 
 -- the history goes on with the log
-pub has_gone_on : (ts : List Table) (log : List Entry) (t : Footprint) (w : List ℕ) (stamp : Stamp ts log t w) (new : History) (session parent len : ℕ) → len ≡ length log → new ≡ noted stamp.h t w (len + 1) →
+pub has_gone_on : (ts : List Table) (log : List Entry) (t : Footprint) (w : List ℕ) (stamp : Stamp ts log t w) (new : History) (session parent len : ℕ) → len ≡ length log →
+    new ≡ noted stamp.h t w (len + 1) →
     IsHistoryOf ts (reverse (stamped log t session parent)) new
 has_gone_on ts log t w stamp new session parent len long step =
     let last : Entry = record { sequence = length log + 1; parent = parent; session = session; footprint = t } in
     let new_is : new ≡ noted stamp.seen t w (length log + 1) = step ∙ (λ i. noted (stamp.same i) t w (long i + 1)) in
     let behind : IsHistoryOf ts (last ∷ reverse log) (noted stamp.seen t w (length log + 1)) =
     goes_on ts (reverse log) stamp.seen last w stamp.is (record { number = ap (λ n. n + 1) (sym (length-reverse log)); refs = stamp.of_tables.refs }) stamp.of_tables.set in
-    subst (λ (h : History). IsHistoryOf ts (reverse (stamped log t session parent)) h) (sym new_is) (subst (λ (l : List Entry). IsHistoryOf ts l (noted stamp.seen t w (length log + 1))) (sym (reversed log last)) behind)
+    subst (λ (h : History). IsHistoryOf ts (reverse (stamped log t session parent)) h) (sym new_is)
+    (subst (λ (l : List Entry). IsHistoryOf ts l (noted stamp.seen t w (length log + 1))) (sym (reversed log last)) behind)
 
 -- ---- with the sessions' own last entries
 

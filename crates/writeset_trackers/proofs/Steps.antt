@@ -22,13 +22,15 @@ of_none ts limit = record { logged = tt; start = refl; numbers = λ digest. get-
 pub up_to : (ts : List Table) (log : List Entry) (h : History) (n : ℕ) → IsHistoryOf ts log h → length log ≤ n → IsUpTo h n
 up_to ts log h n is long = record {
   start = omega (arith, is.start, start-within ts h.limit log is.logged, long);
-  numbers = λ digest. subst (λ k. k ≤ n) (sym (ap (λ o. unwrap_or o 0) (is.numbers digest) ∙ number_back (newest_of ts h.start log digest))) (omega (arith, newest-within ts h.start log digest is.logged, long));
+  numbers = λ digest. subst (λ k. k ≤ n) (sym (ap (λ o. unwrap_or o 0) (is.numbers digest) ∙ number_back (newest_of ts h.start log digest)))
+      (omega (arith, newest-within ts h.start log digest is.logged, long));
 }
 
 pub starts_before : (ts : List Table) (log : List Entry) (h : History) (n : ℕ) → IsHistoryOf ts log h → length log < n → h.start < n
 starts_before ts log h n is long = omega (arith, is.start, start-within ts h.limit log is.logged, long)
 
-module _ (ts : List Table) (older : List Entry) (h : History) (last : Entry) (digests : List ℕ) (is : IsHistoryOf ts older h) (logged : IsLogged (length older + 1) last) (set : digests ≡ digests_in ts last) where
+module _ (ts : List Table) (older : List Entry) (h : History) (last : Entry) (digests : List ℕ) (is : IsHistoryOf ts older h) (logged : IsLogged (length older + 1) last)
+    (set : digests ≡ digests_in ts last) where
   -- the history is emptied just where that of the log starts at the last entry
   same_test : empties h last.footprint digests ≡ starts_at ts h.limit last older
   same_test = λ i. last.footprint.flags.fk || nat_lt h.limit (count i + length (set i))

@@ -25,5 +25,6 @@ returns-in_err-id c =
 pub returns : goal.returns
 returns c =
     let fits : FitsSigned w64 c.in_ok-id.id.now.key = search rules in
-    let least = first_next c.args.rows.now c.args.table c.args.above c.range.result (range_of (goal.at.returns c).After-range) c.requires c.in_ok-id.id.now c.in_ok-id.row.now c.next.new.self c.in_ok-id.ensures.steps in
+    let least = first_next c.args.rows.now c.args.table c.args.above c.range.result
+    (range_of (goal.at.returns c).After-range) c.requires c.in_ok-id.id.now c.in_ok-id.row.now c.next.new.self c.in_ok-id.ensures.steps in
     rw (c.row.ensures, to_z-of_z fits) least

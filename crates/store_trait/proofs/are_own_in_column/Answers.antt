@@ -24,5 +24,6 @@ returns g c =
 pub returns-then-not-is_own : goal.returns-then-not-is_own
 returns-then-not-is_own g c = (
   λ no. absurd (true≢false (sym no)),
-  λ own. sym c.if-not-is_own.true ∙ c.is_own.ensures.1 (own_here (g.S.RowStore.contents c.args.store.now) c.args.table c.args.column c.loop-next.last c.in-Some.next.0 c.in-Some.next.1 c.in-Some.ensures own),
+  λ own. sym c.if-not-is_own.true ∙ c.is_own.ensures.1 (own_here (g.S.RowStore.contents c.args.store.now) c.args.table c.args.column c.loop-next.last c.in-Some.next.0 c.in-Some.next.1
+      c.in-Some.ensures own),
 )

@@ -23,7 +23,8 @@ all_in g c =
     let db = g.S.RowStore.contents c.args.store.now in
     c.from_rising.ensures ∙ elim c.loop-test.branch [
       | else-loop-test w ↦ let size : c.loop.counter ≡ len db = omega arith in all_copied c.args.schema.now db c.loop.last c.loop.counter c.loop.entries.items c.loop.invariant size
-      | then-loop-test+in_default w ↦ absurd (none_ahead c.args.schema.now db c.loop.last c.loop.counter c.loop.invariant.visits (omega arith) (rw w.tables.ensures.value at w.in_default.ensures) (fits_stand c.args.schema.now db c.requires))
+      | then-loop-test+in_default w ↦ absurd (none_ahead c.args.schema.now db c.loop.last c.loop.counter c.loop.invariant.visits (omega arith) (rw w.tables.ensures.value at w.in_default.ensures)
+          (fits_stand c.args.schema.now db c.requires))
     ]
 
 pub returns-clause-rows : goal.returns-clause-rows

@@ -16,7 +16,8 @@ returns g c =
     let ts = c.args.schema.now in
     let db = g.S.RowStore.contents c.args.store.now in (
       λ _. apart_of_own ts db
-          (subst (λ (l : List Table). AllByRecursion (λ (t : Table). OwnInTable ts db t.id) l) (take_all c.loop-table.table-index c.tables-table-items.result.now c.loop-table-test.false ∙ c.tables-table-items.ensures.value) c.loop-table.invariant),
+          (subst (λ (l : List Table). AllByRecursion (λ (t : Table). OwnInTable ts db t.id) l)
+          (take_all c.loop-table.table-index c.tables-table-items.result.now c.loop-table-test.false ∙ c.tables-table-items.ensures.value) c.loop-table.invariant),
       λ _. refl,
     )
 

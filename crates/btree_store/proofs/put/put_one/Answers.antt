@@ -14,7 +14,8 @@ returns-in_ok-insert-in-Some-clause-ok c =
 pub returns-in_ok-insert-in-Some-clause-keys : goal.returns-in_ok-insert-in-Some-clause-keys
 returns-in_ok-insert-in-Some-clause-keys c = λ before.
     let fits : FitsSigned w64 c.args.id.key = search rules in
-    let set = contents-set c.args.rows.now c.insert.new.self c.args.id c.in_ok-packed-in-Some.packed c.in_ok-insert-in-Some.ensures.updates.0 ∙ ap (λ (columns : List ℤ). insert (contents_of c.args.rows.now) c.args.id columns) c.in_ok-packed-in-Some.ensures in
+    let set = contents-set c.args.rows.now c.insert.new.self c.args.id c.in_ok-packed-in-Some.packed c.in_ok-insert-in-Some.ensures.updates.0
+    ∙ ap (λ (columns : List ℤ). insert (contents_of c.args.rows.now) c.args.id columns) c.in_ok-packed-in-Some.ensures in
     subst KeysFit (sym set) (KeysFit-put_batch ((c.args.id, Some c.in-Some.row) ∷ []) (contents_of c.args.rows.now) (fits, tt) before)
 
 pub returns-in-None-clause-keys : goal.returns-in-None-clause-keys

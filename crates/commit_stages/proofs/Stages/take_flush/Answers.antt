@@ -19,6 +19,7 @@ invariant_of-self c =
 pub returns-clause-queues : goal.returns-clause-queues
 returns-clause-queues c =
     let a = c.self.inside in
-    (λ i. queues_in a.line.items a.sync_from ((c.len-self-inside.ensures ∙ a.line.ok.0) i) (sizes_are a.line.items a.flush_from _ (c.len.ensures ∙ a.line.ok.0) a.sizes.items _ c.keep_size.ensures.sizes i))
+    (λ i. queues_in a.line.items a.sync_from ((c.len-self-inside.ensures ∙ a.line.ok.0) i)
+    (sizes_are a.line.items a.flush_from _ (c.len.ensures ∙ a.line.ok.0) a.sizes.items _ c.keep_size.ensures.sizes i))
     ∙ flush_moves _ _ _ _ c.self.invariant.0.in_order
     ∙ ap flush_taken c.self.view_is

@@ -9,4 +9,10 @@ join_next-kept-requires-clause-sorted c =
 pub loop-i-preserved : goal.loop-i-preserved
 loop-i-preserved c =
     one_joined c.args.intervals.now c.loop-i.intervals c.join_next-kept.new.intervals c.loop-i.kept c.join_next-kept.result c.loop-i.i (record { first = 0; last = 0 })
-    c.requires.sorted c.loop-i.invariant (omega arith) (record { joins = c.join_next-kept.ensures.joins; rest = c.join_next-kept.ensures.rest; few = c.join_next-kept.ensures.within; long = c.join_next-kept.auto.intervals })
+    c.requires.sorted c.loop-i.invariant (omega arith) (record {
+      joins = c.join_next-kept.ensures.joins;
+      rest = c.join_next-kept.ensures.rest;
+      few = c.join_next-kept.ensures.within;
+      long =
+          c.join_next-kept.auto.intervals;
+    })

@@ -8,7 +8,8 @@ overflow_add-intervals c = omega (arith, last_taken c.args.intervals.now c.args.
 
 pub returns-then-next-intervals-clause-joins : goal.returns-then-next-intervals-clause-joins
 returns-then-next-intervals-clause-joins c =
-    extended c.args.intervals.now c.args.kept c.args.next (record { first = 0; last = 0 }) c.max.result c.if-kept-gt0.true c.requires.within c.requires.is c.requires.are c.requires.sorted c.if-next-intervals.true c.max.ensures
+    extended c.args.intervals.now c.args.kept c.args.next (record { first = 0; last = 0 }) c.max.result c.if-kept-gt0.true c.requires.within c.requires.is c.requires.are c.requires.sorted
+    c.if-next-intervals.true c.max.ensures
 
 pub returns-else-kept-gt0-clause-joins : goal.returns-else-kept-gt0-clause-joins
 returns-else-kept-gt0-clause-joins c =

@@ -5,7 +5,8 @@ use Rattle.overlay.specs.Pending.{Pending}
 use Rattle.overlay.proofs.Order.{in_order-updates}
 use Rattle.overlay.proofs.Overlay.push.Goals as goal
 
-made : {changes changes' : List Change} {left left' : List Entry} → changes ≡ changes' → left ≡ left' → ◌≡◌ {A = Pending} (record { changes = changes; left = left }) (record { changes = changes'; left = left' })
+made : {changes changes' : List Change} {left left' : List Entry} → changes ≡ changes' → left ≡ left' →
+    ◌≡◌ {A = Pending} (record { changes = changes; left = left }) (record { changes = changes'; left = left' })
 made p q = λ i. record { changes = p i; left = q i }
 
 pub returns-clause-ok : goal.returns-clause-ok

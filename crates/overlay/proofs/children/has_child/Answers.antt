@@ -11,7 +11,8 @@ returns-then-any_left_names-clause-value g c =
     let ts = c.args.schema.now in
     let pending = c.args.overlay.now in
     let db = g.S.RowStore.contents c.args.store.now in
-    let own = any_left (left_names ts c.args.row) c.overlay.inside.left.entries pending c.any_left_names.result (ap (λ (p : Pending). p.left) c.overlay.view_is) c.any_left_names.ensures.distinct c.any_left_names.ensures.value in
+    let own = any_left (left_names ts c.args.row) c.overlay.inside.left.entries pending c.any_left_names.result
+    (ap (λ (p : Pending). p.left) c.overlay.view_is) c.any_left_names.ensures.distinct c.any_left_names.ensures.value in
     c.if-any_left_names.true ∙ sym (ap (λ b. b || nat_lt (changed_children ts db pending c.args.row) c.args.count) (sym own ∙ c.if-any_left_names.true))
 
 pub returns-then-any_left_names-clause-rising : goal.returns-then-any_left_names-clause-rising

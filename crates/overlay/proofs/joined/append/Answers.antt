@@ -14,6 +14,7 @@ pub returns-in-Ok-clause-ok : goal.returns-in-Ok-clause-ok
 returns-in-Ok-clause-ok c =
     (where_ok c.extend.result _
     (items_from_extend c.extend.result c.extend.ensures.ran
-    (YieldsList-from_map _ (λ (e : Entry). e) (YieldsList-at c.map-rows.ensures.source (YieldsList-from_rest c.args.left.now.entries c.iter.ensures.rest)) c.map-rows.ensures.closure (λ x r q k. search rules)))
+    (YieldsList-from_map _ (λ (e : Entry). e) (YieldsList-at c.map-rows.ensures.source (YieldsList-from_rest c.args.left.now.entries c.iter.ensures.rest)) c.map-rows.ensures.closure
+    (λ x r q k. search rules)))
     c.in-Ok.is).0
     ∙ ap (λ l. c.args.entries.now.items ++ l) (map-id c.args.left.now.entries)

@@ -12,7 +12,8 @@ loop-mark-preserved c =
     let held : Holding = c.loop-mark.held.rows in
     let with_mark = λ (m : Mark). insert held m (stronger (get held m) Exclusive) in
     let next : c.lock_one.new.held.rows ≡ with_mark c.mark-item.result = c.lock_one.ensures.held ∙ ap with_mark c.row_for.ensures in (
-      also_held-next_mark c.args.held.now.rows held c.lock_one.new.held.rows c.args.marks.now c.loop-mark.mark-index c.mark-item.result c.loop-mark-test.true c.loop-mark.invariant.0 (next ∙ ap with_mark c.mark-item.is),
+      also_held-next_mark c.args.held.now.rows held c.lock_one.new.held.rows c.args.marks.now c.loop-mark.mark-index c.mark-item.result c.loop-mark-test.true c.loop-mark.invariant.0
+          (next ∙ ap with_mark c.mark-item.is),
       moves_on c.args.held.now.rows held c.lock_one.new.held.rows c.args.tally.now.rows c.loop-mark.tally.rows c.lock_one.new.tally.rows c.loop-mark.invariant.1 c.lock_one.ensures.counts,
       omega arith,
       omega arith,

@@ -10,14 +10,17 @@ use Rattle.writeset_trackers.proofs.WriteSetSessionTracker.stamp.Goals as goal
 
 pub note-requires-clause-up_to : goal.note-requires-clause-up_to
 note-requires-clause-up_to c =
-    is_up_to c.requires.seen.0 c.args.log.now.entries c.self.inside.history c.args.self.now.history c.len.result (ap (λ (s : Sessions). s.history) c.self.view_is) c.requires.seen.1.0 c.len.ensures.value
+    is_up_to c.requires.seen.0 c.args.log.now.entries c.self.inside.history c.args.self.now.history c.len.result
+    (ap (λ (s : Sessions). s.history) c.self.view_is) c.requires.seen.1.0 c.len.ensures.value
 
 pub note-requires-clause-above : goal.note-requires-clause-above
 note-requires-clause-above c =
-    is_above c.requires.seen.0 c.args.log.now.entries c.self.inside.history c.args.self.now.history c.len.result (ap (λ (s : Sessions). s.history) c.self.view_is) c.requires.seen.1.0 c.len.ensures.value
+    is_above c.requires.seen.0 c.args.log.now.entries c.self.inside.history c.args.self.now.history c.len.result
+    (ap (λ (s : Sessions). s.history) c.self.view_is) c.requires.seen.1.0 c.len.ensures.value
 
 -- the transaction that was stamped
-abbrev stamp_of : (c : goal.After-max) (ts : List Table) → IsHistoryOf ts (reverse c.args.log.now.entries) c.args.self.now.history → IsOfTables ts c.args.t.now c.args.w.now → Stamp ts c.args.log.now.entries c.args.t.now c.args.w.now
+abbrev stamp_of : (c : goal.After-max) (ts : List Table) → IsHistoryOf ts (reverse c.args.log.now.entries) c.args.self.now.history → IsOfTables ts c.args.t.now c.args.w.now →
+    Stamp ts c.args.log.now.entries c.args.t.now c.args.w.now
 stamp_of c ts is of_ = record { of_tables = of_; seen = c.args.self.now.history; is = is; h = c.self.inside.history; same = ap (λ (s : Sessions). s.history) c.self.view_is }
 
 -- its session

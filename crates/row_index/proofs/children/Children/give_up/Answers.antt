@@ -20,7 +20,8 @@ loop-row-preserved c =
     let row : RowId = get_or old i (record { table = 0; key = pos 0 }) in
     record {
       counts = next_lost old (drop (i + 1) old) row c.args.self.now.counts c.loop-row.self.counts c.give_up_one.new.self.counts
-          (subst (λ l. Recounts old l c.args.self.now.counts c.loop-row.self.counts) (drop_more old i (record { table = 0; key = pos 0 }) c.loop-row-test.true) c.loop-row.invariant.counts) c.give_up_one.ensures.counts;
+          (subst (λ l. Recounts old l c.args.self.now.counts c.loop-row.self.counts) (drop_more old i (record { table = 0; key = pos 0 }) c.loop-row-test.true) c.loop-row.invariant.counts)
+          c.give_up_one.ensures.counts;
       room = omega (arith, c.loop-row.invariant.room, c.give_up_one.ensures.room);
     }
 

@@ -31,7 +31,8 @@ pub returns-then-count-eq1-clause-counts : goal.returns-then-count-eq1-clause-co
 returns-then-count-eq1-clause-counts c =
     let rows = rows_of c.self.inside.counts.entries in
     let was : count_at rows c.args.row ≡ 1 = ap (λ (t : Tallied). count_at t.counts c.args.row) c.self.view_is ∙ sym c.count.ensures ∙ c.if-count-eq1.true in
-    rw (← c.self.view_is) (one_lost rows (rows_of c.swap_remove.new.self.entries) c.args.row 0 (λ q. ap (λ (m : Counts). count_at m q) (removed c) ∙ count-removed rows c.args.row q) (omega (arith, was)))
+    rw (← c.self.view_is) (one_lost rows (rows_of c.swap_remove.new.self.entries) c.args.row 0 (λ q. ap (λ (m : Counts). count_at m q) (removed c) ∙ count-removed rows c.args.row q)
+    (omega (arith, was)))
 
 pub returns-in-Some-clause-counts : goal.returns-in-Some-clause-counts
 returns-in-Some-clause-counts c =
@@ -39,7 +40,8 @@ returns-in-Some-clause-counts c =
     let count = c.in-Some.count.now in
     let had : count_at rows c.args.row ≡ count = read_count c.self.inside.counts.entries c.args.row (Some count) c.in-Some.ensures.value in
     let is = ap (λ (t : Tallied). count_at t.counts c.args.row) c.self.view_is in
-    rw (← c.self.view_is) (one_lost rows (rows_of (c.get_mut.follows.lender (count - 1)).entries) c.args.row (count - 1) (λ q. ap (λ (m : Counts). count_at m q) (lowered c) ∙ count-set rows c.args.row q (count - 1))
+    rw (← c.self.view_is) (one_lost rows (rows_of (c.get_mut.follows.lender (count - 1)).entries) c.args.row (count - 1)
+    (λ q. ap (λ (m : Counts). count_at m q) (lowered c) ∙ count-set rows c.args.row q (count - 1))
     (omega (arith, had, is, c.requires)))
 
 pub returns-in_default-clause-counts : goal.returns-in_default-clause-counts

@@ -11,4 +11,5 @@ take_up-requires-clause-fits c row = few_come c.args.schema.now c.entries-entrie
 pub returns : goal.returns
 returns c =
     subst (λ (l : List Entry). CountsChildren c.args.schema.now (put_batch l empty) c.take_up.new.self.counts) c.entries-entries.ensures.value
-    (loaded_counts c.args.schema.now c.entries-entries.result.now c.reserve.new.self.counts c.take_up.new.self.counts c.entries-entries.ensures.rising (c.in_ok-reserve.ensures.counts ∙ c.new-children.ensures) c.take_up.ensures)
+    (loaded_counts c.args.schema.now c.entries-entries.result.now c.reserve.new.self.counts c.take_up.new.self.counts c.entries-entries.ensures.rising
+    (c.in_ok-reserve.ensures.counts ∙ c.new-children.ensures) c.take_up.ensures)

@@ -10,7 +10,8 @@ use Rattle.row_index.proofs.children.Children.take_up.Goals as goal
 use Rattle.row_index.proofs.children.Children.take_up.Goals.{In-Some, in-Some, in_default}
 
 -- what is still to come, where the entry gives its row a parent
-next : (c : In-Some) → parents_left c.args.schema.now (drop c.loop-entry.entry-index c.args.entries.now) ≡ c.in-Some.parent ∷ parents_left c.args.schema.now (drop (c.loop-entry.entry-index + 1) c.args.entries.now)
+next : (c : In-Some) → parents_left c.args.schema.now (drop c.loop-entry.entry-index c.args.entries.now)
+    ≡ c.in-Some.parent ∷ parents_left c.args.schema.now (drop (c.loop-entry.entry-index + 1) c.args.entries.now)
 next c =
     some_listed (λ (e : Entry). parent_at c.args.schema.now e.0.table e.1) c.args.entries.now c.loop-entry.entry-index c.entry-item.result c.parent_left.result c.in-Some.parent
     c.loop-entry-test.true c.entry-item.is c.parent_left.ensures c.in-Some.is
@@ -56,4 +57,5 @@ loop-entry-preserved c =
 
 pub returns : goal.returns
 returns c =
-    subst (λ l. Recounts (parents_left c.args.schema.now l) (parents_left c.args.schema.now c.args.entries.now) c.args.self.now.counts c.loop-entry.self.counts) (drop_all c.loop-entry.entry-index c.args.entries.now c.loop-entry-test.false) c.loop-entry.invariant.counts
+    subst (λ l. Recounts (parents_left c.args.schema.now l) (parents_left c.args.schema.now c.args.entries.now) c.args.self.now.counts c.loop-entry.self.counts)
+    (drop_all c.loop-entry.entry-index c.args.entries.now c.loop-entry-test.false) c.loop-entry.invariant.counts

@@ -20,4 +20,5 @@ returns-clause-counts c =
     let rows = rows_of c.self.inside.counts.entries in
     let count = c.count-count.result + 1 in
     let is = ap (λ (t : Tallied). count_at t.counts c.args.row) c.self.view_is in
-    rw (← c.self.view_is) (one_got rows (rows_of c.insert.new.self.entries) c.args.row count (λ q. ap (λ (m : Counts). count_at m q) (raised c) ∙ count-set rows c.args.row q count) (omega (arith, is, c.count-count.ensures)))
+    rw (← c.self.view_is) (one_got rows (rows_of c.insert.new.self.entries) c.args.row count (λ q. ap (λ (m : Counts). count_at m q) (raised c) ∙ count-set rows c.args.row q count)
+    (omega (arith, is, c.count-count.ensures)))

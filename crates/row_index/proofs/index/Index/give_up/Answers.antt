@@ -15,7 +15,8 @@ pub loop-mark-preserved : goal.loop-mark-preserved
 loop-mark-preserved c =
     let keys = rows_of c.loop-mark.self-inside.keys.entries in
     record {
-      keys = ap (given_up (drop (c.loop-mark.mark-index + 1) c.args.old.now)) (rows-removed c.loop-mark.self-inside.keys.entries c.swap_remove.new.self.entries c.mark-item.result c.swap_remove.ensures.updates.0)
+      keys = ap (given_up (drop (c.loop-mark.mark-index + 1) c.args.old.now)) (rows-removed c.loop-mark.self-inside.keys.entries c.swap_remove.new.self.entries c.mark-item.result
+          c.swap_remove.ensures.updates.0)
           ∙ one_gone c.args.old.now c.loop-mark.mark-index c.mark-item.result keys (given_up c.args.old.now c.args.self.now.keys) c.loop-mark-test.true c.mark-item.is c.loop-mark.invariant.keys;
       room = omega (arith, c.loop-mark.invariant.room, c.swap_remove.ensures.room.0);
     }

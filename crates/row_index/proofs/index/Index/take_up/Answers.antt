@@ -8,7 +8,8 @@ use Rattle.row_index.proofs.index.Index.take_up.Goals.{in-Some, in_default}
 
 pub set-requires : goal.set-requires
 set-requires c =
-    let on = some_listed (mark_left c.args.schema.now) c.args.entries.now c.loop-entry.entry-index c.entry-item.result c.mark_left.result c.in-Some.mark c.loop-entry-test.true c.entry-item.is c.mark_left.ensures c.in-Some.is in
+    let on = some_listed (mark_left c.args.schema.now) c.args.entries.now c.loop-entry.entry-index c.entry-item.result c.mark_left.result c.in-Some.mark c.loop-entry-test.true c.entry-item.is
+    c.mark_left.ensures c.in-Some.is in
     omega (arith, ap length on, c.loop-entry.invariant.room)
 
 pub loop-entry-preserved : goal.loop-entry-preserved

@@ -10,7 +10,8 @@ lock_rows-requires-clause-counted c =
 
 pub invariant_of-self : goal.invariant_of-self
 invariant_of-self c =
-    let clear : any_clashes (rows_in c.self.inside.places.items) c.args.session c.args.rows.now ≡ false = ap (λ (s : Side). any_clashes (locks_in s) c.args.session c.args.rows.now) c.self.view_is ∙ c.requires.free in
+    let clear : any_clashes (rows_in c.self.inside.places.items) c.args.session c.args.rows.now ≡ false = ap (λ (s : Side). any_clashes (locks_in s) c.args.session c.args.rows.now) c.self.view_is
+    ∙ c.requires.free in
     place_taken_tied c.self.inside.places.items c.self.inside.tally.rows c.lock_rows.new.tally.rows c.args.session c.index_mut.result.now c.lock_rows.new.held
     c.requires.least c.requires.greatest c.self.invariant c.index_mut.ensures.value c.lock_rows.ensures.counts c.args.rows.now c.lock_rows.ensures.held clear
 

@@ -31,7 +31,8 @@ returns-then-eq-clause-counts c q mode =
     let rows = rows_of c.self.inside.rows.entries in
     let sum : opposing c.changed-count.result mode + weight c.args.was mode ≡ count_at rows c.args.row mode + weight c.args.now mode =
     c.changed-count.ensures mode ∙ ap (λ n. n + weight c.args.now mode) (c.count.ensures mode ∙ ap (λ (s : Sheet). count_at s.rows c.args.row mode) (sym c.self.view_is)) in
-    rw (removed c, ← c.self.view_is) (count-removed rows c.args.row c.changed-count.result q mode (weight c.args.was mode) (weight c.args.now mode) (is_nobody c.changed-count.result c.eq.result c.eq.ensures c.if-eq.true) sum)
+    rw (removed c, ← c.self.view_is) (count-removed rows c.args.row c.changed-count.result q mode (weight c.args.was mode) (weight c.args.now mode)
+    (is_nobody c.changed-count.result c.eq.result c.eq.ensures c.if-eq.true) sum)
 
 pub returns-else-eq-clause-counts : goal.returns-else-eq-clause-counts
 returns-else-eq-clause-counts c q mode =

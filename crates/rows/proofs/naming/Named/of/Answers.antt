@@ -10,4 +10,5 @@ pub loop-i-preserved : goal.loop-i-preserved
 loop-i-preserved c =
     let v = (pair_at c.args.pairs.now c.loop-i.i).1 in
     let fits : FitsSigned w64 (pair_at c.args.pairs.now c.loop-i.i).1 = search rules in
-    rw (to_z-of_z w64 (pair_at c.args.pairs.now c.loop-i.i).1 fits) (collected_more c.args.pairs.now c.loop-i.i c.loop-i.least c.loop-i.mask _ c.loop-i.values c.loop-i.invariant (omega arith) (omega arith) (omega arith) (one_bit _ (omega arith)))
+    rw (to_z-of_z w64 (pair_at c.args.pairs.now c.loop-i.i).1 fits) (collected_more c.args.pairs.now c.loop-i.i c.loop-i.least c.loop-i.mask _ c.loop-i.values c.loop-i.invariant (omega arith)
+    (omega arith) (omega arith) (one_bit _ (omega arith)))
