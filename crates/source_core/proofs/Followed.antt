@@ -13,13 +13,16 @@ use Rattle.row_index.proofs.Keys.{keys_follow}
 use Rattle.row_index.proofs.Counts.{old_are_counted, children_move, children_are_rows, counts_follow}
 
 -- the keys, for which room was made
-pub keys_behind : (ts : List Table) (db next : Database) (batch : List Entry) (keys after : Keys) (old : List Mark) → IsRising batch → NoValueTwice ts db → NoValueTwice ts (put_batch batch db) → Indexes ts db keys →
+pub keys_behind : (ts : List Table) (db next : Database) (batch : List Entry) (keys after : Keys) (old : List Mark) → IsRising batch → NoValueTwice ts db → NoValueTwice ts (put_batch batch db) →
+    Indexes ts db keys →
     next ≡ put_batch batch db → old ≡ marks_at ts (keys_of batch) db → (roomy : Keys) → roomy ≡ keys → after ≡ moved ts old batch roomy → Indexes ts next after
 keys_behind ts db next batch keys after old rising apart stays_apart indexed put are roomy same moves =
     let then_ : after ≡ moved ts (marks_at ts (keys_of batch) db) batch keys = moves ∙ (λ i. moved ts (are i) batch (same i)) in
-    subst (λ (k : Keys). Indexes ts next k) (sym then_) (subst (λ (d : Database). Indexes ts d (moved ts (marks_at ts (keys_of batch) db) batch keys)) (sym put) (keys_follow ts db batch keys rising apart stays_apart indexed))
+    subst (λ (k : Keys). Indexes ts next k) (sym then_) (subst (λ (d : Database). Indexes ts d (moved ts (marks_at ts (keys_of batch) db) batch keys)) (sym put)
+    (keys_follow ts db batch keys rising apart stays_apart indexed))
 
-module _ (ts : List Table) (db : Database) (batch : List Entry) (counts : Counts) (old : List RowId) (rising : IsRising batch) (counted : CountsChildren ts db counts) (are : old ≡ parents_at ts (keys_of batch) db) where
+module _ (ts : List Table) (db : Database) (batch : List Entry) (counts : Counts) (old : List RowId) (rising : IsRising batch) (counted : CountsChildren ts db counts)
+    (are : old ≡ parents_at ts (keys_of batch) db) where
   -- the children that its rows were are counted
   pub old_counted : (row : RowId) → times_in old row ≤ count_at counts row
   old_counted row = omega (arith, old_are_counted ts db batch row rising, counted row, ap (λ (l : List RowId). times_in l row) are)

@@ -66,7 +66,8 @@ none_twice = tt
 no_held : (held : Option Open → Holding) → replicate 256 (held None) ≡ map held (sessions_view (replicate 256 None))
 no_held held = sym (ap (map held) views_none ∙ mapped held 256 None)
 
-new_core : (ts : List Table) (rows : Database) (index : Keys) (children : Counts) (base : List Entry) (limit : ℕ) (locks : AllLocks) → limit < 2 ^ 63 → put_batch base empty ≡ rows → Fits ts rows → Indexes ts rows index → CountsChildren ts rows children → locks ≡ all_free → NoClash locks.rows → NoClash locks.marks →
+new_core : (ts : List Table) (rows : Database) (index : Keys) (children : Counts) (base : List Entry) (limit : ℕ) (locks : AllLocks) → limit < 2 ^ 63 → put_batch base empty ≡ rows → Fits ts rows →
+    Indexes ts rows index → CountsChildren ts rows children → locks ≡ all_free → NoClash locks.rows → NoClash locks.marks →
     IsCore (parts_over ts rows index children base limit [] [] (replicate 256 None) no_queues locks)
 unfolding no_locks
 new_core ts rows index children base limit locks bound loaded_is fits indexed counted none clear clear_marks = record {
@@ -126,9 +127,15 @@ new_counted n = subst (λ db. CountsChildren n.tables db n.children) n.loads n.c
 pub new_holds : (n : NewParts) (IsSo : List Seen → Type 0) → IsSo [] → Holds (parts_over n.tables n.rows n.index n.children n.base n.limit n.log n.entries n.places n.stages n.locks) (IsSo n.entries)
 new_holds n IsSo so =
     rw (n.no_log, n.no_entries, n.no_places, n.no_stages)
-    (record { core = new_core n.tables n.rows n.index n.children n.base n.limit n.locks n.bound n.loads n.fits (new_indexed n) (new_counted n) n.none n.no_clash n.no_mark_clash; waits = record { syncing = refl; committing = refl }; tracked = so })
+    (record {
+      core = new_core n.tables n.rows n.index n.children n.base n.limit n.locks n.bound n.loads n.fits (new_indexed n) (new_counted n) n.none n.no_clash n.no_mark_clash;
+      waits =
+          record { syncing = refl; committing = refl };
+      tracked = so;
+    })
 
-pub new_view : (n : NewParts) (kind : Kind) → source_of (parts_over n.tables n.rows n.index n.children n.base n.limit n.log n.entries n.places n.stages n.locks) kind false ≡ new_source n.tables n.base n.limit kind
+pub new_view : (n : NewParts) (kind : Kind) → source_of (parts_over n.tables n.rows n.index n.children n.base n.limit n.log n.entries n.places n.stages n.locks) kind false
+    ≡ new_source n.tables n.base n.limit kind
 new_view n kind =
     rw (n.no_log, n.no_entries, n.no_places, n.no_stages) (ap (λ sessions. record (new_source n.tables n.base n.limit kind) { sessions = sessions }) views_none)
 

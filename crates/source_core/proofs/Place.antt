@@ -1,7 +1,8 @@
 -- What stands once one session's transaction is another that is not queued, or none.
 use Rattle.std.specs.List.{list_any, IsDistinct}
 use Rattle.tracker_trait.specs.Kind.{Kind}
-use Rattle.std.proofs.Common.{IsTrue, is_some, false, Bool, eqb, ◌≡◌, ◌≢◌, ◌∙◌, sym, ap, subst, refl, ℕ, ◌+◌, ◌-◌, ◌<◌, ◌≤◌, List, [], ◌∷◌, length, map, get_or, set, Option, Some, None, inl, inr, arith}
+use Rattle.std.proofs.Common.{IsTrue, is_some, false, Bool, eqb, ◌≡◌, ◌≢◌, ◌∙◌, sym, ap, subst, refl, ℕ, ◌+◌, ◌-◌, ◌<◌, ◌≤◌, List, [], ◌∷◌, length, map, get_or, set, Option, Some, None, inl, inr}
+use Rattle.std.proofs.Common.{arith}
 use Rattle.std.specs.Option.{option_map}
 use Rattle.std.specs.FinMap.{empty}
 use Rattle.std.proofs.lemmas.Bool.Decides.{eqb_tells}
@@ -84,10 +85,12 @@ queued_stay places i now free (session ∷ queue) are =
 abbrev pub Grows : List ℕ → List ℕ → Type 0
 Grows old new = (session : ℕ) → IsTrue (list_any (eqb session) old) → IsTrue (list_any (eqb session) new)
 
-pub ready_stays : (p : Parts) (i : ℕ) (now : Option Transaction) (stages : Queues) (locks : AllLocks) (session : ℕ) (changes : List Change) (order : ℕ) → IsReady p session changes order → IsReady (placing p i now stages locks) session changes order
+pub ready_stays : (p : Parts) (i : ℕ) (now : Option Transaction) (stages : Queues) (locks : AllLocks) (session : ℕ) (changes : List Change) (order : ℕ) → IsReady p session changes order →
+    IsReady (placing p i now stages locks) session changes order
 ready_stays p i now stages locks session changes order r = record { some = r.some; within = r.within; covers = r.covers; own = r.own }
 
-stands_stays : (p : Parts) (i : ℕ) (now : Option Transaction) (stages : Queues) (locks : AllLocks) (session : ℕ) (changes : List Change) (phase : Phase) → Grows p.stages.flush stages.flush → StandsAs p session changes phase → StandsAs (placing p i now stages locks) session changes phase
+stands_stays : (p : Parts) (i : ℕ) (now : Option Transaction) (stages : Queues) (locks : AllLocks) (session : ℕ) (changes : List Change) (phase : Phase) → Grows p.stages.flush stages.flush →
+    StandsAs p session changes phase → StandsAs (placing p i now stages locks) session changes phase
 stands_stays p i now stages locks session changes Active grows s = tt
 stands_stays p i now stages locks session changes (Prepared order) grows s = ready_stays p i now stages locks session changes order s
 stands_stays p i now stages locks session changes (Queued order) grows s = (ready_stays p i now stages locks session changes order s.0, grows session s.1)
@@ -113,7 +116,8 @@ abbrev pub NoClashes : AllLocks → Type 0
 NoClashes locks = NoClash locks.rows × NoClash locks.marks
 
 -- the locks of all, where those of one place are set
-set_held : (held : Option Open → Holding) (places : List (Option Transaction)) (i : ℕ) (now : Option Transaction) → map held (sessions_view (set places i now)) ≡ set (map held (sessions_view places)) i (held (option_map open_view now))
+set_held : (held : Option Open → Holding) (places : List (Option Transaction)) (i : ℕ) (now : Option Transaction) →
+    map held (sessions_view (set places i now)) ≡ set (map held (sessions_view places)) i (held (option_map open_view now))
 set_held held places i now =
     ap (map held) (map-set (option_map open_view) places i now)
     ∙ map-set held (sessions_view places) i (option_map open_view now)
@@ -131,7 +135,8 @@ pub record QueueGrows (p : Parts) (places : List (Option Transaction)) (stages :
   pub distinct : IsDistinct eqb stages.flush
   pub grows : Grows p.stages.flush stages.flush
 
-pub place_set : (p : Parts) → IsCore p → (i : ℕ) → i < 256 → (now : Option Transaction) → IsFree (placed p.places i) → (stages : Queues) → QueueGrows p (set p.places i now) stages → (locks : AllLocks) →
+pub place_set : (p : Parts) → IsCore p → (i : ℕ) → i < 256 → (now : Option Transaction) → IsFree (placed p.places i) → (stages : Queues) → QueueGrows p (set p.places i now) stages →
+    (locks : AllLocks) →
     locks ≡ locks_with p.tables p.rows p.locks i (option_map open_view now) → NoClashes locks →
     ((t : Transaction) → now ≡ Some t → Applies p.tables p.rows t.overlay × StandsAs (placing p i now stages locks) (i + 1) t.overlay.changes t.phase × RefersTo p.tables p.rows t) →
     IsCore (placing p i now stages locks)
@@ -178,7 +183,8 @@ held_stay held none locks places are i now same =
 
 pub locks_stay : (p : Parts) → IsCore p → (i : ℕ) (now : Option Transaction) →
     held_for p.tables p.rows (option_map open_view now) ≡ held_for p.tables p.rows (option_map open_view (placed p.places i)) →
-    marks_held_for p.tables p.rows (option_map open_view now) ≡ marks_held_for p.tables p.rows (option_map open_view (placed p.places i)) → p.locks ≡ locks_with p.tables p.rows p.locks i (option_map open_view now)
+    marks_held_for p.tables p.rows (option_map open_view now) ≡ marks_held_for p.tables p.rows (option_map open_view (placed p.places i)) →
+    p.locks ≡ locks_with p.tables p.rows p.locks i (option_map open_view now)
 locks_stay p core i now same same_marks =
     let rows = held_stay (held_for p.tables p.rows) refl p.locks.rows p.places (ap (λ (l : AllLocks). l.rows) core.locks) i now same in
     let marks = held_stay (marks_held_for p.tables p.rows) refl p.locks.marks p.places (ap (λ (l : AllLocks). l.marks) core.locks) i now same_marks in

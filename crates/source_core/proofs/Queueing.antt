@@ -1,5 +1,6 @@
 -- A session puts its prepared transaction last into the flush queue.
-use Rattle.std.proofs.Common.{◌≡◌, ◌∙◌, sym, ap, subst, refl, ℕ, ◌+◌, ◌-◌, ◌<◌, ◌≤◌, List, [], ◌∷◌, ◌++◌, length, length-append, set, slice_index_or, IsTrue, Bool, true, false, eqb, Option, Some, None, inl, inr, arith}
+use Rattle.std.proofs.Common.{◌≡◌, ◌∙◌, sym, ap, subst, refl, ℕ, ◌+◌, ◌-◌, ◌<◌, ◌≤◌, List, [], ◌∷◌, ◌++◌, length, length-append, set, slice_index_or, IsTrue, Bool, true, false, eqb, Option, Some}
+use Rattle.std.proofs.Common.{None, inl, inr, arith}
 use Rattle.std.specs.Prelude.{option_and_then}
 use Rattle.std.specs.Option.{option_map}
 use Rattle.std.specs.List.{list_any, IsDistinct}
@@ -31,7 +32,8 @@ none_is places session (first ∷ queue) are least free =
       | inr apart ↦ rw apart.0 (none_is places session queue are.1 least free)
     ]
 
-pub queue_distinct : (places : List (Option Transaction)) (session : ℕ) (queue : List ℕ) → AreQueued places queue → 1 ≤ session → IsFree (placed places (session - 1)) → IsDistinct eqb queue → IsDistinct eqb (queue ++ session ∷ [])
+pub queue_distinct : (places : List (Option Transaction)) (session : ℕ) (queue : List ℕ) → AreQueued places queue → 1 ≤ session → IsFree (placed places (session - 1)) → IsDistinct eqb queue →
+    IsDistinct eqb (queue ++ session ∷ [])
 queue_distinct places session queue are least free distinct = IsDistinct-push nat_eq_equiv queue session distinct (none_is places session queue are least free)
 
 -- ---- the transaction
@@ -108,8 +110,14 @@ module _ (c : PlaceCall) (order : ℕ) (told : option_and_then prepared_order c.
 
   stands : (t : Transaction) → its ≡ t → Applies p.tables p.rows t.overlay × StandsAs (placing p i now (behind p session) p.locks) (i + 1) t.overlay.changes t.phase × RefersTo p.tables p.rows t
   stands t same =
-      subst (λ (x : Transaction). Applies p.tables p.rows x.overlay × StandsAs (placing p i now (behind p session) p.locks) (i + 1) x.overlay.changes x.phase × RefersTo p.tables p.rows x) same
-      (core.applies i w.t w.is, (ready_stays p i now (behind p session) p.locks (i + 1) w.t.overlay.changes order ready, subst (λ k. IsTrue (list_any (eqb k) (behind p session).flush)) (sym is) (in_queue p.stages.flush session)), core.refers i w.t w.is)
+      subst (λ (x : Transaction). Applies p.tables p.rows x.overlay × StandsAs (placing p i now (behind p session) p.locks) (i + 1) x.overlay.changes x.phase × RefersTo p.tables p.rows x) same (
+        core.applies i w.t w.is,
+        (
+          ready_stays p i now (behind p session) p.locks (i + 1) w.t.overlay.changes order ready,
+          subst (λ k. IsTrue (list_any (eqb k) (behind p session).flush)) (sym is) (in_queue p.stages.flush session),
+        ),
+        core.refers i w.t w.is,
+      )
 
   queued_core : length p.log + length p.stages.flush < p.limit → IsCore (placing p i now (behind p session) p.locks)
   queued_core few =
@@ -134,7 +142,8 @@ module _ (c : PlaceCall) (order : ℕ) (told : option_and_then prepared_order c.
       ap (λ (s : Source). record s { queue = (behind p session).flush }) (view_set p core kind halted i session now p.locks is)
       ∙ ap (λ (o : Option Open). record (with_open (source_of p kind halted) session o) { queue = (behind p session).flush }) (sym opened)
     where
-      opened : option_map {U = Open} (λ (t : Open). record { changes = t.changes; phase = queued_phase t.phase }) (slice_index_or (sessions_view p.places) (session - 1) None) ≡ Some (record { changes = w.t.overlay.changes; phase = Queued order })
+      opened : option_map {U = Open} (λ (t : Open). record { changes = t.changes; phase = queued_phase t.phase }) (slice_index_or (sessions_view p.places) (session - 1) None)
+          ≡ Some (record { changes = w.t.overlay.changes; phase = Queued order })
       opened =
           ap (option_map {U = Open} (λ (t : Open). record { changes = t.changes; phase = queued_phase t.phase })) (open_at p kind halted i session is ∙ ap (option_map open_view) w.is)
           ∙ ap (λ (x : Phase). Some (record { changes = w.t.overlay.changes; phase = queued_phase x })) w.phase

@@ -24,7 +24,8 @@ held_at held places i =
     get_or-map held (sessions_view places) i None
     ∙ ap held (get_or-map (option_map open_view) places i None)
 
-by_place : (held : Option Open → Holding) → held None ≡ empty → (locks : Locks) (places : List (Option Transaction)) → locks ≡ map held (sessions_view places) → (i : ℕ) (t : Transaction) → placed places i ≡ Some t →
+by_place : (held : Option Open → Holding) → held None ≡ empty → (locks : Locks) (places : List (Option Transaction)) → locks ≡ map held (sessions_view places) → (i : ℕ) (t : Transaction) →
+    placed places i ≡ Some t →
     held_by locks (i + 1) ≡ held (Some (open_view t))
 by_place held none locks places are i t at =
     ap (λ (l : Locks). held_by l (i + 1)) are
@@ -36,7 +37,8 @@ by_place held none locks places are i t at =
     back : (i : ℕ) → i + 1 - 1 ≡ i
     back i = omega arith
 
-pub held_by_place : (p : Parts) → IsCore p → (i : ℕ) (t : Transaction) → placed p.places i ≡ Some t → held_by p.locks.rows (i + 1) ≡ holding (writes t.overlay.changes) (kin p.tables t.overlay.changes p.rows)
+pub held_by_place : (p : Parts) → IsCore p → (i : ℕ) (t : Transaction) → placed p.places i ≡ Some t →
+    held_by p.locks.rows (i + 1) ≡ holding (writes t.overlay.changes) (kin p.tables t.overlay.changes p.rows)
 held_by_place p core i t at = by_place (held_for p.tables p.rows) refl p.locks.rows p.places (ap (λ (l : AllLocks). l.rows) core.locks) i t at
 
 pub marks_held_by_place : (p : Parts) → IsCore p → (i : ℕ) (t : Transaction) → placed p.places i ≡ Some t → held_by p.locks.marks (i + 1) ≡ holding (marks p.tables t.overlay.changes p.rows) []
@@ -63,10 +65,24 @@ at_place : (p : Parts) (first : ℕ) (log : List Record) (owners : List ℕ) (i 
 at_place p first [] [] i are within = absurd (omega (arith, within))
 at_place p first [] (owner ∷ owners) i are within = absurd are
 at_place p first (made ∷ log) [] i are within = absurd are
-at_place p first (made ∷ log) (owner ∷ owners) zero are within = record { made = made; owner = owner; is = refl; own = refl; stands = subst (λ n. IsFlushedAs p.tables p.rows p.places n made owner) (omega arith) are.0 }
+at_place p first (made ∷ log) (owner ∷ owners) zero are within = record {
+  made = made;
+  owner = owner;
+  is = refl;
+  own = refl;
+  stands =
+      subst (λ n. IsFlushedAs p.tables p.rows p.places n made owner) (omega arith) are.0;
+}
 at_place p first (made ∷ log) (owner ∷ owners) (suc i) are within =
     let behind = at_place p (first + 1) log owners i are.1 (omega (arith, within)) in
-    record { made = behind.made; owner = behind.owner; is = behind.is; own = behind.own; stands = subst (λ n. IsFlushedAs p.tables p.rows p.places n behind.made behind.owner) (omega arith) behind.stands }
+    record {
+      made = behind.made;
+      owner = behind.owner;
+      is = behind.is;
+      own = behind.own;
+      stands =
+          subst (λ n. IsFlushedAs p.tables p.rows p.places n behind.made behind.owner) (omega arith) behind.stands;
+    }
 
 -- each record that is not committed is that of the transaction in its session's place
 pub record IsOf (p : Parts) (n : ℕ) : Type 0 where

@@ -15,7 +15,8 @@ use Rattle.source_core.proofs.Queueing.{none_is}
 -- ---- who does not wait
 
 -- a session whose transaction is neither queued nor flushed owns none of these records
-owns_none : (p : Parts) (session n : ℕ) (log : List Record) (owners : List ℕ) → AreFlushed p.tables p.rows p.places n log owners → IsFree (placed p.places (session - 1)) → list_any (eqb session) owners ≡ false
+owns_none : (p : Parts) (session n : ℕ) (log : List Record) (owners : List ℕ) → AreFlushed p.tables p.rows p.places n log owners → IsFree (placed p.places (session - 1)) →
+    list_any (eqb session) owners ≡ false
 owns_none p session n [] [] are free = refl
 owns_none p session n [] (owner ∷ owners) are free = absurd are
 owns_none p session n (made ∷ log) [] are free = absurd are
@@ -44,13 +45,15 @@ waits_not p IsSo h session least free =
 pub wait_queued : (stages more : Queues) (owners : List ℕ) (synced_ committed_ session : ℕ) → Wait stages owners synced_ committed_ → more ≡ queued stages session → Wait more owners synced_ committed_
 wait_queued stages more owners synced_ committed_ session w is = record { syncing = ap (λ (q : Queues). q.sync) is ∙ w.syncing; committing = ap (λ (q : Queues). q.commit) is ∙ w.committing }
 
-pub wait_flushed : (stages more : Queues) (owners now : List ℕ) (synced_ committed_ : ℕ) → Wait stages owners synced_ committed_ → synced_ ≤ length owners → more ≡ flush_taken stages → now ≡ owners ++ stages.flush → Wait more now synced_ committed_
+pub wait_flushed : (stages more : Queues) (owners now : List ℕ) (synced_ committed_ : ℕ) → Wait stages owners synced_ committed_ → synced_ ≤ length owners → more ≡ flush_taken stages →
+    now ≡ owners ++ stages.flush → Wait more now synced_ committed_
 wait_flushed stages more owners now synced_ committed_ w within is now_is = record {
   syncing = ap (λ (q : Queues). q.sync) is ∙ ap (λ l. l ++ stages.flush) w.syncing ∙ sym (ap (drop synced_) now_is ∙ drop-append-le synced_ owners stages.flush within);
   committing = ap (λ (q : Queues). q.commit) is ∙ w.committing ∙ sym (ap (λ l. drop committed_ (take synced_ l)) now_is ∙ ap (drop committed_) (take-append-le synced_ owners stages.flush within));
 }
 
-pub wait_synced : (stages more : Queues) (owners : List ℕ) (synced_ committed_ last : ℕ) → Wait stages owners synced_ committed_ → committed_ ≤ synced_ → synced_ + oldest_size stages ≡ last → last ≤ length owners → more ≡ sync_taken stages →
+pub wait_synced : (stages more : Queues) (owners : List ℕ) (synced_ committed_ last : ℕ) → Wait stages owners synced_ committed_ → committed_ ≤ synced_ → synced_ + oldest_size stages ≡ last →
+    last ≤ length owners → more ≡ sync_taken stages →
     Wait more owners last committed_
 wait_synced stages more owners synced_ committed_ last w few sum within is = record {
   syncing = ap (λ (q : Queues). q.sync) is ∙ ap (drop (oldest_size stages)) w.syncing ∙ drop-drop (oldest_size stages) synced_ owners ∙ ap (λ n. drop n owners) sum;
@@ -60,7 +63,8 @@ wait_synced stages more owners synced_ committed_ last w few sum within is = rec
       ∙ ap (λ n. drop committed_ (take n owners)) sum;
 }
 
-pub wait_committed : (stages more : Queues) (owners : List ℕ) (synced_ committed_ : ℕ) → Wait stages owners synced_ committed_ → synced_ ≤ length owners → more ≡ commit_taken stages → Wait more owners synced_ synced_
+pub wait_committed : (stages more : Queues) (owners : List ℕ) (synced_ committed_ : ℕ) → Wait stages owners synced_ committed_ → synced_ ≤ length owners → more ≡ commit_taken stages →
+    Wait more owners synced_ synced_
 wait_committed stages more owners synced_ committed_ w within is = record {
   syncing = ap (λ (q : Queues). q.sync) is ∙ w.syncing;
   committing = ap (λ (q : Queues). q.commit) is ∙ sym (drop_all synced_ (take synced_ owners) (omega (arith, length-take-le synced_ owners within)));

@@ -1,5 +1,6 @@
 -- What each call of a source answers: its first cause of refusal, in order, and what it leaves.
-use Rattle.std.specs.Prelude.{◌≡◌, ℕ, ◌+◌, ◌-◌, Bool, true, false, not, ◌&&◌, ◌==◌, nat_le, if◌then◌else◌, List, [], ◌∷◌, ◌++◌, length, map, take, drop, slice_get, slice_set, Option, Some, None, is_some, is_none}
+use Rattle.std.specs.Prelude.{◌≡◌, ℕ, ◌+◌, ◌-◌, Bool, true, false, not, ◌&&◌, ◌==◌, nat_le, if◌then◌else◌, List, [], ◌∷◌, ◌++◌, length, map, take, drop, slice_get, slice_set, Option, Some, None}
+use Rattle.std.specs.Prelude.{is_some, is_none}
 use Rattle.std.specs.Option.{option_map, option_map_or}
 use Rattle.schema.specs.declared.Table.{Table}
 use Rattle.schema.specs.declared.RowId.{RowId}
@@ -145,7 +146,14 @@ flushed_open first queue session t =
 
 abbrev pub flushed : Source → List Record → Source
 flushed s records =
-    record s { log = s.log ++ records; owners = s.owners ++ s.queue; queue = []; group_sizes = s.group_sizes ++ sizes_of s.queue; sessions = each_session (flushed_open (length s.log + 1) s.queue) 1 s.sessions }
+    record s {
+      log = s.log ++ records;
+      owners = s.owners ++ s.queue;
+      queue = [];
+      group_sizes = s.group_sizes ++ sizes_of s.queue;
+      sessions =
+          each_session (flushed_open (length s.log + 1) s.queue) 1 s.sessions;
+    }
 
 abbrev pub parent_of_phase : Phase → ℕ
 parent_of_phase Active = 0
@@ -219,6 +227,10 @@ abbrev pub receipts_for : List ℕ → List Record → List Receipt
 receipts_for [] log = []
 receipts_for (owner ∷ owners) [] = []
 receipts_for (owner ∷ owners) (made ∷ log) = receipt_as owner made ∷ receipts_for owners log
+
+-- the numbers of the first and the last record that is synced and not committed, where there is one
+abbrev pub ends_committed : Source → Option (ℕ × ℕ)
+ends_committed s = if s.committed == s.synced then None else Some (s.committed + 1, s.synced)
 
 -- a receipt for each record that is synced and not committed, in log order
 abbrev pub receipts : Source → List Receipt

@@ -1,7 +1,8 @@
 -- What a refusal of the source is told as.
 use Rattle.std.specs.Prelude.{ℕ, List, codes}
 use Rattle.source_core.specs.declared.fault.SourceFault.{SourceFault}
-use Rattle.source_core.specs.declared.fault.SourceFault.TheVariants.{NoSession, AlreadyOpen, NotActive, NoTable, WrongColumns, RowLocked, RowExists, NoRow, NoParent, HasChild, TooManyChanges, Halted, Memory, NotPrepared, Exhausted, Duplicate}
+use Rattle.source_core.specs.declared.fault.SourceFault.TheVariants.{NoSession, AlreadyOpen, NotActive, NoTable, WrongColumns, RowLocked, RowExists, NoRow, NoParent, HasChild, TooManyChanges, Halted}
+use Rattle.source_core.specs.declared.fault.SourceFault.TheVariants.{Memory, NotPrepared, Exhausted, Duplicate}
 
 -- its number and name
 abbrev pub fault_text : SourceFault → List ℕ

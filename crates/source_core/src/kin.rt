@@ -6,7 +6,7 @@ ghost use Rattle.source_core.specs.Refs.{rising};
 
 use overlay::Step;
 use record_codec::Refs;
-use schema::{Memory, RowId};
+use schema::{Memory, RowId, copied};
 use std::alloc::Global;
 use std::marker::Model;
 
@@ -81,10 +81,4 @@ impl Kin {
         let seen = copied(&rows)?;
         Ok((Refs::from_rising(rows), seen))
     }
-}
-
-fn copied(rows: &Vec<RowId>) -> Result<Vec<RowId>, Memory>
-    ensures { IfOk result (λ copy. copy.items ≡ rows.now.items) }
-{
-    Ok(rows.clone()?)
 }

@@ -6,7 +6,7 @@ ghost use Rattle.source_core.specs.Refs.{rising};
 
 use overlay::Step;
 use record_codec::Marks;
-use schema::{Mark, Memory};
+use schema::{Mark, Memory, copied};
 use std::alloc::Global;
 use std::marker::Model;
 
@@ -89,10 +89,4 @@ impl Moved {
         let seen = copied(&marks)?;
         Ok((Marks::from_rising(marks), seen))
     }
-}
-
-fn copied(marks: &Vec<Mark>) -> Result<Vec<Mark>, Memory>
-    ensures { IfOk result (λ copy. copy.items ≡ marks.now.items) }
-{
-    Ok(marks.clone()?)
 }

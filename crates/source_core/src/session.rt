@@ -1,6 +1,7 @@
 //! The places of the sessions: what a session's calls ask of the transaction there, and what they make of it.
 
-ghost use Rattle.std.specs.Prelude.{◌≡◌, ◌≤◌, ◌++◌, ◌||◌, [], length, replicate, false, IfOk, IfErr, IsSome, OnOk, OnErr, None, option_and_then};
+ghost use Rattle.std.specs.Prelude.{◌≡◌, ◌≤◌, ◌++◌, ◌||◌, [], length, replicate, false, IfOk, IfErr, IsSome, OnOk, OnErr, None};
+ghost use Rattle.std.specs.Prelude.{option_and_then};
 ghost use Rattle.std.specs.Option.{option_map, option_map_or};
 ghost use Rattle.overlay.specs.Pending.{pushed};
 ghost use Rattle.overlay.specs.Step.{kin_of, marks_of};
@@ -9,7 +10,6 @@ ghost use Rattle.source_core.specs.Core.{open_view, ready, with_change, with_pha
 ghost use Rattle.source_core.specs.Steps.{locks_of as locks_for};
 ghost use Rattle.source_core.specs.Calls.{is_active as active, is_prepared};
 
-use crate::kin::Kin;
 use crate::moved::Moved;
 use crate::stepping::locks_of;
 use crate::transaction::{Phase, Prepared, Transaction};
@@ -76,117 +76,122 @@ pub(crate) fn write_locked(
     ensures same { OnErr result (place.new ≡ place.old) }
     ensures err { OnErr result (locks.new ≡ locks.old) }
 {
-    let t = place.take().unwrap();
-    let (overlay, kin, marks, done) = add_kin(
-        t.overlay, t.kin, t.marks, locks, session, change, step,
-    );
-    *place = Some(Transaction {
-        overlay,
-        kin,
-        marks,
-        phase: t.phase,
-    });
-    done
-}
-
-/// The same of the transaction's parts. Its kin are cut again where the change is not added.
-fn add_kin(
-    overlay: Overlay,
-    mut kin: Kin,
-    marks: Moved,
-    locks: &mut LockTable,
-    session: u16,
-    change: &Change,
-    step: &Step,
-) -> (Overlay, Kin, Moved, Result<(), Memory>)
-    requires least { 1 ≤ session }
-    requires greatest { session ≤ 256 }
-    requires free { any_clashes_all locks.old session (locks_for change.now step.now) (marks_of step.now) ≡ false }
-    ensures overlay { OnOk result.3 (result.0 ≡ pushed overlay change.now step.now.left) }
-    ensures kin { OnOk result.3 (result.1 ≡ kin ++ kin_of step.now) }
-    ensures marks { OnOk result.3 (result.2 ≡ marks ++ marks_of step.now) }
-    ensures locks { OnOk result.3 (locks.new ≡ taken_all locks.old session (locks_for change.now step.now) (marks_of step.now)) }
-    ensures no_clash { OnOk result.3 (NoClash locks.new.rows) }
-    ensures no_mark_clash { OnOk result.3 (NoClash locks.new.marks) }
-    ensures same { OnErr result.3 (result.0 ≡ overlay) }
-    ensures same_kin { OnErr result.3 (result.1 ≡ kin) }
-    ensures same_marks { OnErr result.3 (result.2 ≡ marks) }
-    ensures err { OnErr result.3 (locks.new ≡ locks.old) }
-{
-    let count = kin.len();
-    match kin.add(step) {
-        Ok(()) => match add_marks(overlay, marks, locks, session, change, step) {
-            Ok((overlay, marks)) => (overlay, kin, marks, Ok(())),
-            Err((memory, overlay, marks)) => {
-                kin.cut(count);
-                (overlay, kin, marks, Err(memory))
-            }
-        },
-        Err(memory) => (overlay, kin, marks, Err(memory)),
+    match place {
+        Some(t) => add_kin(t, locks, session, change, step),
+        None => Ok(()),
     }
 }
 
-/// The same without the kin: the overlay and the marks are handed back where memory runs out, these cut again.
-fn add_marks(
-    overlay: Overlay,
-    mut marks: Moved,
+/// The same of a transaction that is there. Its kin are cut again where the change is not added.
+fn add_kin(
+    t: &mut Transaction,
     locks: &mut LockTable,
     session: u16,
     change: &Change,
     step: &Step,
-) -> Result<(Overlay, Moved), (Memory, Overlay, Moved)>
+) -> Result<(), Memory>
     requires least { 1 ≤ session }
     requires greatest { session ≤ 256 }
     requires free { any_clashes_all locks.old session (locks_for change.now step.now) (marks_of step.now) ≡ false }
-    ensures overlay { IfOk result (λ next. next.0 ≡ pushed overlay change.now step.now.left) }
-    ensures marks { IfOk result (λ next. next.1 ≡ marks ++ marks_of step.now) }
+    ensures overlay { OnOk result (t.new.overlay ≡ pushed t.old.overlay change.now step.now.left) }
+    ensures kin { OnOk result (t.new.kin ≡ t.old.kin ++ kin_of step.now) }
+    ensures marks { OnOk result (t.new.marks ≡ t.old.marks ++ marks_of step.now) }
+    ensures phase { t.new.phase ≡ t.old.phase }
     ensures locks { OnOk result (locks.new ≡ taken_all locks.old session (locks_for change.now step.now) (marks_of step.now)) }
     ensures no_clash { OnOk result (NoClash locks.new.rows) }
     ensures no_mark_clash { OnOk result (NoClash locks.new.marks) }
-    ensures same { IfErr result (λ refused. refused.1 ≡ overlay) }
-    ensures same_marks { IfErr result (λ refused. refused.2 ≡ marks) }
+    ensures same { OnErr result (t.new ≡ t.old) }
+    ensures err { OnErr result (locks.new ≡ locks.old) }
+{
+    let count = t.kin.len();
+    t.kin.add(step)?;
+    let done = add_marks(&mut t.overlay, &mut t.marks, locks, session, change, step);
+    if done.is_err() {
+        t.kin.cut(count);
+    }
+    done
+}
+
+/// The same without the kin. The marks are cut again where the change is not added.
+fn add_marks(
+    overlay: &mut Overlay,
+    marks: &mut Moved,
+    locks: &mut LockTable,
+    session: u16,
+    change: &Change,
+    step: &Step,
+) -> Result<(), Memory>
+    requires least { 1 ≤ session }
+    requires greatest { session ≤ 256 }
+    requires free { any_clashes_all locks.old session (locks_for change.now step.now) (marks_of step.now) ≡ false }
+    ensures overlay { OnOk result (overlay.new ≡ pushed overlay.old change.now step.now.left) }
+    ensures marks { OnOk result (marks.new ≡ marks.old ++ marks_of step.now) }
+    ensures locks { OnOk result (locks.new ≡ taken_all locks.old session (locks_for change.now step.now) (marks_of step.now)) }
+    ensures no_clash { OnOk result (NoClash locks.new.rows) }
+    ensures no_mark_clash { OnOk result (NoClash locks.new.marks) }
+    ensures same { OnErr result (overlay.new ≡ overlay.old) }
+    ensures same_marks { OnErr result (marks.new ≡ marks.old) }
     ensures err { OnErr result (locks.new ≡ locks.old) }
 {
     let count = marks.len();
-    match marks.add(step) {
-        Ok(()) => match push_locked(overlay, locks, session, change, step, marks.since(count)) {
-            Ok(overlay) => Ok((overlay, marks)),
-            Err((memory, overlay)) => {
-                marks.cut(count);
-                Err((memory, overlay, marks))
-            }
-        },
-        Err(memory) => Err((memory, overlay, marks)),
+    marks.add(step)?;
+    let done = push_locked(overlay, locks, session, change, step, marks.since(count));
+    if done.is_err() {
+        marks.cut(count);
     }
+    done
 }
 
-/// The same of the transaction's overlay, which is handed back where memory runs out, given the step's marks. The room for the
-/// change is taken before the locks.
+/// The same of the transaction's overlay alone, given the step's marks.
 fn push_locked(
+    overlay: &mut Overlay,
+    locks: &mut LockTable,
+    session: u16,
+    change: &Change,
+    step: &Step,
+    marks: &[Mark],
+) -> Result<(), Memory>
+    requires least { 1 ≤ session }
+    requires greatest { session ≤ 256 }
+    requires free { any_clashes_all locks.old session (locks_for change.now step.now) marks.now ≡ false }
+    ensures ok { OnOk result (overlay.new ≡ pushed overlay.old change.now step.now.left) }
+    ensures locks { OnOk result (locks.new ≡ taken_all locks.old session (locks_for change.now step.now) marks.now) }
+    ensures no_clash { OnOk result (NoClash locks.new.rows) }
+    ensures no_mark_clash { OnOk result (NoClash locks.new.marks) }
+    ensures same { OnErr result (overlay.new ≡ overlay.old) }
+    ensures err { OnErr result (locks.new ≡ locks.old) }
+{
+    let (next, done) = pushed_or_not(overlay.take(), locks, session, change, step, marks);
+    *overlay = next;
+    done
+}
+
+/// The overlay with the change, or as it was where memory runs out. The room for the change is taken before the locks.
+fn pushed_or_not(
     overlay: Overlay,
     locks: &mut LockTable,
     session: u16,
     change: &Change,
     step: &Step,
     marks: &[Mark],
-) -> Result<Overlay, (Memory, Overlay)>
+) -> (Overlay, Result<(), Memory>)
     requires least { 1 ≤ session }
     requires greatest { session ≤ 256 }
     requires free { any_clashes_all locks.old session (locks_for change.now step.now) marks.now ≡ false }
-    ensures ok { IfOk result (λ next. next ≡ pushed overlay change.now step.now.left) }
-    ensures locks { OnOk result (locks.new ≡ taken_all locks.old session (locks_for change.now step.now) marks.now) }
-    ensures no_clash { OnOk result (NoClash locks.new.rows) }
-    ensures no_mark_clash { OnOk result (NoClash locks.new.marks) }
-    ensures same { IfErr result (λ refused. refused.1 ≡ overlay) }
-    ensures err { OnErr result (locks.new ≡ locks.old) }
+    ensures ok { OnOk result.1 (result.0 ≡ pushed overlay change.now step.now.left) }
+    ensures locks { OnOk result.1 (locks.new ≡ taken_all locks.old session (locks_for change.now step.now) marks.now) }
+    ensures no_clash { OnOk result.1 (NoClash locks.new.rows) }
+    ensures no_mark_clash { OnOk result.1 (NoClash locks.new.marks) }
+    ensures same { OnErr result.1 (result.0 ≡ overlay) }
+    ensures err { OnErr result.1 (locks.new ≡ locks.old) }
 {
     let (wanted, count) = locks_of(change, step);
     match overlay.into_roomy() {
         Ok(roomy) => match locks.take_free(session, &wanted[..count], marks) {
-            Ok(()) => Ok(roomy.push(*change, step.left)),
-            Err(memory) => Err((memory, roomy.into_overlay())),
+            Ok(()) => (roomy.push(*change, step.left), Ok(())),
+            Err(memory) => (roomy.into_overlay(), Err(memory)),
         },
-        Err(refused) => Err(refused),
+        Err((memory, overlay)) => (overlay, Err(memory)),
     }
 }
 

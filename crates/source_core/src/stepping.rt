@@ -54,13 +54,13 @@ pub(crate) fn allowed_step<S: RowStore>(
     requires apart { NoValueTwice schema.now (S.contents stored.now.store) }
     requires indexed { Indexes schema.now (S.contents stored.now.store) stored.now.index.keys }
     requires counted { CountsChildren schema.now (S.contents stored.now.store) stored.now.children.counts }
-    ensures { result ≡ stepped schema.now (seen overlay.now (S.contents stored.now.store)) (λ row. clashes_with locks.now.rows session row Share) (mark_clashes locks.now session) change.now }
+    ensures { result ≡ stepped schema.now (seen overlay.now (S.contents stored.now.store))
+        (λ row. clashes_with locks.now.rows session row Share) (mark_clashes locks.now session) change.now }
 {
-    let seen = step_seen(overlay, schema, &stored.store, change);
-    match &seen {
-        Ok(step) => match cause(overlay, schema, stored, locks, session, change, step) {
+    match step_seen(overlay, schema, &stored.store, change) {
+        Ok(step) => match cause(overlay, schema, stored, locks, session, change, &step) {
             Some(fault) => Err(fault),
-            None => Ok(*step),
+            None => Ok(step),
         },
         Err(_) => Err(refusal(change)),
     }
@@ -82,7 +82,8 @@ fn cause<S: RowStore>(
     requires indexed { Indexes schema.now (S.contents stored.now.store) stored.now.index.keys }
     requires counted { CountsChildren schema.now (S.contents stored.now.store) stored.now.children.counts }
     requires step { Ok step.now ≡ step_of schema.now change.now (get (seen overlay.now (S.contents stored.now.store)) (target change.now)) }
-    ensures { result ≡ kin_fault schema.now (seen overlay.now (S.contents stored.now.store)) (λ row. clashes_with locks.now.rows session row Share) (mark_clashes locks.now session) change.now step.now }
+    ensures { result ≡ kin_fault schema.now (seen overlay.now (S.contents stored.now.store))
+        (λ row. clashes_with locks.now.rows session row Share) (mark_clashes locks.now session) change.now step.now }
 {
     if is_held(locks, session, step) {
         Some(SourceFault::RowLocked)

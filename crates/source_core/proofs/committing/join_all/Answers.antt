@@ -17,17 +17,20 @@ bounds-places-session c =
 
 pub join_one-requires-clause-there : goal.join_one-requires-clause-there
 join_one-requires-clause-there c =
-    let here = place_at c.args.places.now c.args.sessions.now c.loop-session.session-index c.index-places-session.result c.requires.each c.requires.places c.loop-session-test.true c.index-places-session.is in
+    let here = place_at c.args.places.now c.args.sessions.now c.loop-session.session-index c.index-places-session.result c.requires.each c.requires.places c.loop-session-test.true
+    c.index-places-session.is in
     rw here (AllByRecursion-at (λ session. IsSome (placed c.args.places.now (session - 1))) c.args.sessions.now c.loop-session.session-index 0 c.requires.there c.loop-session-test.true)
 
 pub join_one-requires-clause-apart : goal.join_one-requires-clause-apart
 join_one-requires-clause-apart c =
-    let here = place_at c.args.places.now c.args.sessions.now c.loop-session.session-index c.index-places-session.result c.requires.each c.requires.places c.loop-session-test.true c.index-places-session.is in
+    let here = place_at c.args.places.now c.args.sessions.now c.loop-session.session-index c.index-places-session.result c.requires.each c.requires.places c.loop-session-test.true
+    c.index-places-session.is in
     rw (here, c.loop-session.invariant) (not_yet c.args.places.now c.args.sessions.now c.loop-session.session-index c.requires.apart c.loop-session-test.true)
 
 pub loop-session-preserved : goal.loop-session-preserved
 loop-session-preserved c =
-    let here = place_at c.args.places.now c.args.sessions.now c.loop-session.session-index c.index-places-session.result c.requires.each c.requires.places c.loop-session-test.true c.index-places-session.is in
+    let here = place_at c.args.places.now c.args.sessions.now c.loop-session.session-index c.index-places-session.result c.requires.each c.requires.places c.loop-session-test.true
+    c.index-places-session.is in
     c.in_ok-join_one.ensures
     ∙ (λ k. joined (c.loop-session.invariant k) (pending_in (here k)))
     ∙ one_joined c.args.places.now c.args.sessions.now c.loop-session.session-index c.loop-session-test.true
