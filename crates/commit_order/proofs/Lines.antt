@@ -1,5 +1,6 @@
 -- The numbers of the results that wait for their turn, and which of them it is.
-use Rattle.std.proofs.Common.{◌≡◌, ◌∙◌, sym, ap, refl, subst, ℕ, zero, suc, ◌+◌, ◌<◌, Bool, true, false, not, ◌||◌, cond, List, [], ◌∷◌, ◌++◌, length, map, take, drop, get_or, Some, None, inl, inr, arith, eqb}
+use Rattle.std.proofs.Common.{◌≡◌, ◌∙◌, sym, ap, refl, subst, ℕ, zero, suc, ◌+◌, ◌<◌, Bool, true, false, not, ◌||◌, cond, List, [], ◌∷◌, ◌++◌, length, map, take, drop, get_or, Some, None, inl, inr}
+use Rattle.std.proofs.Common.{arith, eqb}
 use Rattle.std.specs.Prelude.{slice_get}
 use Rattle.std.specs.Option.{option_map}
 use Rattle.std.specs.List.{position_or_len, remove, AllByRecursion}
@@ -74,7 +75,8 @@ some_kept line kept h = got line.done refl where
   got [] is = absurd (false≢true (ap (λ (l : List Finished). has_gno (gnos_of l) line.next) (sym is) ∙ h))
   got (first ∷ rest) is =
       let within = first_of_within line.done line.next h in
-      let turn_is : turn line ≡ Some (get_or line.done (first_of line.done line.next) first) = ap (slice_get line.done) (place_kept line kept) ∙ slice_get-get_or line.done (first_of line.done line.next) first within in
+      let turn_is : turn line ≡ Some (get_or line.done (first_of line.done line.next) first) = ap (slice_get line.done) (place_kept line kept)
+      ∙ slice_get-get_or line.done (first_of line.done line.next) first within in
       (get_or line.done (first_of line.done line.next) first, turn_is, turn_is_next line (get_or line.done (first_of line.done line.next) first) kept turn_is)
 
 pub none_kept : (line : Line) → line.preserve ≡ true → has_gno (gnos_of line.done) line.next ≡ false → turn line ≡ None
@@ -143,7 +145,8 @@ first_leaves [] result is = absurd (cc)
 first_leaves (first ∷ rest) result is =
     let same : first ≡ result = cc in
     subst (λ (r : Finished). remove (gnos_of (first ∷ rest)) 0 ≡ without r.job.gno (gnos_of (first ∷ rest))) same
-    (sym (without-cons first.job.gno first.job.gno (gnos_of rest) ∙ cond-true (eqb first.job.gno first.job.gno) (gnos_of rest) (first.job.gno ∷ without first.job.gno (gnos_of rest)) (eq-eqb first.job.gno first.job.gno refl)))
+    (sym (without-cons first.job.gno first.job.gno (gnos_of rest) ∙ cond-true (eqb first.job.gno first.job.gno) (gnos_of rest) (first.job.gno ∷ without first.job.gno (gnos_of rest))
+    (eq-eqb first.job.gno first.job.gno refl)))
 
 pub gnos-passed : (line : Line) (result : Finished) → turn line ≡ Some result → gnos_of (passed line).done ≡ without result.job.gno (gnos_of line.done)
 gnos-passed line result is = gnos-remove line.done (place_of line) ∙ elim (cases_Bool line.preserve) [

@@ -20,14 +20,16 @@ pub first_or_all : (first all : ℕ) → first ≤ all → unwrap_or (cond (ltb 
 first_or_all first all h = grind (arith, nat_tests)
 
 -- the first of a number goes to the end
-pub rotated : (xs : List ℕ) (gno place : ℕ) (left : List ℕ) → place ≡ position_or_len (λ (n : ℕ). eqb n gno) xs → place < length xs → left ≡ drop 1 (mid_of place (length xs - place) xs) ++ take 1 (mid_of place (length xs - place) xs) → take (length xs - 1) (put_mid place (length xs - place) xs left) ≡ without gno xs
+pub rotated : (xs : List ℕ) (gno place : ℕ) (left : List ℕ) → place ≡ position_or_len (λ (n : ℕ). eqb n gno) xs → place < length xs →
+    left ≡ drop 1 (mid_of place (length xs - place) xs) ++ take 1 (mid_of place (length xs - place) xs) → take (length xs - 1) (put_mid place (length xs - place) xs left) ≡ without gno xs
 rotated xs gno place left is within after =
     ap (take (length xs - 1)) (put_mid-rotated place (length xs - place) xs left 0 within (omega (arith, within)) after)
     ∙ take_at (remove xs place) (get_or xs place 0 ∷ []) (length xs - 1) (let less = length-remove xs place within in omega (arith, less))
     ∙ ap (remove xs) is
 
 -- what is removed is the result whose turn had come
-pub removed_is_turn : (line : Line) (items : List Finished) (place : ℕ) (result : Finished) → items ≡ line.done → place ≡ place_of line → place < length items → result ≡ get_or items place result → turn line ≡ Some result
+pub removed_is_turn : (line : Line) (items : List Finished) (place : ℕ) (result : Finished) → items ≡ line.done → place ≡ place_of line → place < length items → result ≡ get_or items place result →
+    turn line ≡ Some result
 removed_is_turn line items place result are is within there =
     ap (λ (l : List Finished). slice_get l (place_of line)) (sym are)
     ∙ ap (slice_get items) (sym is)
@@ -39,7 +41,9 @@ in_turn_of line None is = tt
 in_turn_of line (Some done) is = λ kept. turn_is_next line done.now kept (sym is)
 
 -- the line without it
-pub passed_is : (line : Line) (preserve : Bool) (last then : ℕ) (out : List ℕ) (done left : List Finished) (place : ℕ) (result : Finished) → ◌≡◌ {A = Line} (record { preserve = preserve; next = last + 1; out = out; done = done }) line → place ≡ place_of line → turn line ≡ Some result → left ≡ remove done place → then ≡ cond preserve result.job.gno last → ◌≡◌ {A = Line} (record { preserve = preserve; next = then + 1; out = out; done = left }) (passed line)
+pub passed_is : (line : Line) (preserve : Bool) (last then : ℕ) (out : List ℕ) (done left : List Finished) (place : ℕ) (result : Finished) →
+    ◌≡◌ {A = Line} (record { preserve = preserve; next = last + 1; out = out; done = done }) line → place ≡ place_of line → turn line ≡ Some result → left ≡ remove done place →
+    then ≡ cond preserve result.job.gno last → ◌≡◌ {A = Line} (record { preserve = preserve; next = then + 1; out = out; done = left }) (passed line)
 passed_is line preserve last then out done left place result is place_is turned removed then_is =
     let same_preserve : preserve ≡ line.preserve = ap (λ (l : Line). l.preserve) is in
     let same_out : out ≡ line.out = ap (λ (l : Line). l.out) is in

@@ -5,7 +5,8 @@
 //! takes memory. It stands on `executor`, for results, and on `scheduler`, for sets of numbers.
 #![tactic(auto)]
 
-ghost use Rattle.std.specs.Prelude.{◌≡◌, ℕ, ◌+◌, ◌-◌, ◌<◌, ◌≤◌, ◌==◌, true, length, take, IfOk, IfSome, option_copied, is_some, if◌then◌else◌};
+ghost use Rattle.std.specs.Prelude.{◌≡◌, ℕ, ◌+◌, ◌-◌, ◌<◌, ◌≤◌, ◌==◌, true, length, take, IfOk, IfSome, option_copied, is_some};
+ghost use Rattle.std.specs.Prelude.{if◌then◌else◌};
 ghost use Rattle.std.specs.List.{position_or_len};
 ghost use Rattle.scheduler.specs.Gnos.{has_gno, without};
 ghost use Rattle.commit_order.specs.Turns.{no_turns, entered, with_result, first_of, place_of, turn, passed};

@@ -11,7 +11,8 @@ use Rattle.std.proofs.lemmas.Slice.Eq.{slice_eq-Decides}
 use Rattle.schema.specs.declared.Table.{Table}
 use Rattle.rows.specs.Row.{padded}
 
-pub pair_Decides : {A B : Type 0} {E : A → A → Bool} {F : B → B → Bool} → ((a b : A) → Decides (E a b) (a ≡ b)) → ((a b : B) → Decides (F a b) (a ≡ b)) → (p q : A × B) → Decides (E p.0 q.0 && F p.1 q.1) (p ≡ q)
+pub pair_Decides : {A B : Type 0} {E : A → A → Bool} {F : B → B → Bool} → ((a b : A) → Decides (E a b) (a ≡ b)) → ((a b : B) → Decides (F a b) (a ≡ b)) → (p q : A × B) →
+    Decides (E p.0 q.0 && F p.1 q.1) (p ≡ q)
 pair_Decides {A} {B} first second p q =
     Decides-like _ (λ h. λ i. (h.0 i, h.1 i)) (λ e. (ap (λ (r : A × B). r.0) e, ap (λ (r : A × B). r.1) e))
     (Decides-and _ _ (first p.0 q.0) (second p.1 q.1))
@@ -22,7 +23,8 @@ option_Decides same None (Some y) = (λ h. cc, λ e. cc)
 option_Decides same (Some x) None = (λ h. cc, λ e. cc)
 option_Decides same (Some x) (Some y) = Decides-like _ (ap Some) (λ e. cc) (same x y)
 
-pub table_Decides : (a b : Table) → Decides (a.id == b.id && (a.columns == b.columns && (beq a.keyed b.keyed && (option_eq (λ p q. p == q) a.unique b.unique && option_eq (λ p q. p.0 == q.0 && p.1 == q.1) a.parent b.parent)))) (a ≡ b)
+pub table_Decides : (a b : Table) → Decides (a.id == b.id && (a.columns == b.columns &&
+    (beq a.keyed b.keyed && (option_eq (λ p q. p == q) a.unique b.unique && option_eq (λ p q. p.0 == q.0 && p.1 == q.1) a.parent b.parent)))) (a ≡ b)
 table_Decides a b =
     Decides-like _ (λ p. λ i. record { id = p.0 i; columns = p.1.0 i; keyed = p.1.1.0 i; unique = p.1.1.1.0 i; parent = p.1.1.1.1 i })
     (λ e. (ap (λ (t : Table). t.id) e, (ap (λ (t : Table). t.columns) e, (ap (λ (t : Table). t.keyed) e, (ap (λ (t : Table). t.unique) e, ap (λ (t : Table). t.parent) e)))))

@@ -53,7 +53,8 @@ record Came (f : Database → List Entry) (same : Bool) (o : Option Database) (l
   exact : same ≡ true
   rows : f leaves ≡ left
 
-came : (f : Database → List Entry) (same : Bool) (o : Option Database) (left : List Entry) → option_map_or (λ leaves. cond same (Output (f leaves)) WrongRefs) o Undefined ≡ Output left → Came f same o left
+came : (f : Database → List Entry) (same : Bool) (o : Option Database) (left : List Entry) → option_map_or (λ leaves. cond same (Output (f leaves)) WrongRefs) o Undefined ≡ Output left →
+    Came f same o left
 came f same None left is = cc
 came f true (Some leaves) left is = record { leaves = leaves; applies = refl; exact = refl; rows = cc }
 came f false (Some leaves) left is = cc
@@ -84,7 +85,8 @@ leaves_there ts rec db left is =
 good_comes : (ts : List Table) (rec : Record) (db : Database) → (good : IsGood ts rec db) → outcome_over ts rec db ≡ Output (rows_in (writes rec.changes) good.leaves)
 good_comes ts rec db good =
     comes_of ts rec db good.leaves good.applies
-    ∙ ap (λ b. cond b (Output (rows_in (writes rec.changes) good.leaves)) WrongRefs) (and_from _ _ ((tells_sets rec.refs (kin ts rec.changes db)).1 good.refs) ((tells_sets rec.marks (marks ts rec.changes db)).1 good.marks))
+    ∙ ap (λ b. cond b (Output (rows_in (writes rec.changes) good.leaves)) WrongRefs)
+    (and_from _ _ ((tells_sets rec.refs (kin ts rec.changes db)).1 good.refs) ((tells_sets rec.marks (marks ts rec.changes db)).1 good.marks))
 
 pub output_is_good : OutputIsGood
 output_is_good ts rec db = (

@@ -1,5 +1,6 @@
 -- Sets of keys that are compared by an order: searches, and the test of two of them.
-use Rattle.std.proofs.Common.{◌≡◌, sym, ap, ◌∙◌, refl, ℕ, suc, ◌<◌, Bool, true, false, not, ◌&&◌, ◌||◌, List, [], ◌∷◌, length, get_or, Result, Ok, Err, is_ok, Ordering, Less, Equal, Greater, is_eq, inl, inr, true≢false, IsPermutation, arith}
+use Rattle.std.proofs.Common.{◌≡◌, sym, ap, ◌∙◌, refl, ℕ, suc, ◌<◌, Bool, true, false, not, ◌&&◌, ◌||◌, List, [], ◌∷◌, length, get_or, Result, Ok, Err, is_ok, Ordering, Less, Equal, Greater, is_eq}
+use Rattle.std.proofs.Common.{inl, inr, true≢false, IsPermutation, arith}
 use Rattle.std.specs.List.{list_all, list_any}
 use Rattle.std.specs.List.Sorted.{IsSorted, IsBinarySearchResult, IsSearchInRange}
 use Rattle.std.specs.Ordering.{eq_by_cmp, ordering_reverse}
@@ -66,7 +67,8 @@ module _ {K : Type 0} (R : K → K → Ordering) (stated keys moved : List K) (m
       λ i. list_all (λ q. among q i) stated && all i
 
   -- the test of both searches, of each key stated among the others, and of each of these among the keys stated
-  pub searched_both : (first second : Bool) (among listed : List K) → among ≡ moved → listed ≡ moved → first ≡ list_all (has_key R among) stated → second ≡ list_all (has_key R stated) listed → first ≡ true → second ≡ same_keys R stated keys
+  pub searched_both : (first second : Bool) (among listed : List K) → among ≡ moved → listed ≡ moved → first ≡ list_all (has_key R among) stated → second ≡ list_all (has_key R stated) listed →
+      first ≡ true → second ≡ same_keys R stated keys
   searched_both first second among listed is_among is_listed first_is second_is passed =
       second_is
       ∙ ap (list_all (has_key R stated)) is_listed

@@ -46,7 +46,8 @@ none_mapped : {A B : Type 0} (f : A → B) (o : Option A) → option_map f o ≡
 none_mapped f None h = refl
 none_mapped f (Some x) h = cc
 
-module _ {ts : List Table} {changes : List Change} {db : Database} {n : ℕ} {pending : Pending} {rows : List RowId} {values : List Mark} (change : Change) (run : HasRun ts changes db n pending rows values) (within : n < length changes) (is : change ≡ get_or changes n change) where
+module _ {ts : List Table} {changes : List Change} {db : Database} {n : ℕ} {pending : Pending} {rows : List RowId} {values : List Mark} (change : Change)
+    (run : HasRun ts changes db n pending rows values) (within : n < length changes) (is : change ≡ get_or changes n change) where
   -- what the changes from the next one on do
   from_next : effect ts changes db ≡ option_and_then (effect ts (drop (n + 1) changes)) (apply ts change run.after)
   from_next =
@@ -86,17 +87,20 @@ module _ {ts : List Table} {changes : List Change} {db : Database} {n : ℕ} {pe
       (none_mapped (λ (m : Database). step_from ts change (get run.after (target change)) (get m (target change))) (apply ts change run.after) (sym (refused ∙ step_after)))
 
 -- once all have run
-pub pending-run : {ts : List Table} {changes : List Change} {db : Database} {n : ℕ} {pending : Pending} {rows : List RowId} {values : List Mark} → HasRun ts changes db n pending rows values → length changes ≤ n → Some pending ≡ option_map (pending_of changes) (effect ts changes db)
+pub pending-run : {ts : List Table} {changes : List Change} {db : Database} {n : ℕ} {pending : Pending} {rows : List RowId} {values : List Mark} → HasRun ts changes db n pending rows values →
+    length changes ≤ n → Some pending ≡ option_map (pending_of changes) (effect ts changes db)
 pending-run {ts = ts} {changes = changes} {db = db} {n = n} {pending = pending} run end =
     let all : pending.changes ≡ changes = run.done ∙ take_all n changes end in
     let applied : effect ts changes db ≡ Some run.after = ap (λ l. effect ts l db) (sym all) ∙ run.follows.applied in
     let is : ◌≡◌ {A = Pending} pending (pending_of changes run.after) = λ i. record { changes = all i; left = (run.follows.left ∙ ap (λ l. rows_in (writes l) run.after) all) i } in
     ap Some is ∙ sym (ap (option_map (pending_of changes)) applied)
 
-pub kin-run : {ts : List Table} {changes : List Change} {db : Database} {n : ℕ} {pending : Pending} {rows : List RowId} {values : List Mark} → HasRun ts changes db n pending rows values → length changes ≤ n → rows ≡ kin ts changes db
+pub kin-run : {ts : List Table} {changes : List Change} {db : Database} {n : ℕ} {pending : Pending} {rows : List RowId} {values : List Mark} → HasRun ts changes db n pending rows values →
+    length changes ≤ n → rows ≡ kin ts changes db
 kin-run {ts = ts} {changes = changes} {db = db} {n = n} run end = run.kin_is ∙ ap (λ l. kin ts l db) (take_all n changes end)
 
-pub marks-run : {ts : List Table} {changes : List Change} {db : Database} {n : ℕ} {pending : Pending} {rows : List RowId} {values : List Mark} → HasRun ts changes db n pending rows values → length changes ≤ n → values ≡ marks ts changes db
+pub marks-run : {ts : List Table} {changes : List Change} {db : Database} {n : ℕ} {pending : Pending} {rows : List RowId} {values : List Mark} → HasRun ts changes db n pending rows values →
+    length changes ≤ n → values ≡ marks ts changes db
 marks-run {ts = ts} {changes = changes} {db = db} {n = n} run end = run.marks_are ∙ ap (λ l. marks ts l db) (take_all n changes end)
 
 -- ---- what comes of a job
@@ -113,7 +117,8 @@ shown_to_job job changes rows db same is agrees = rw same (record {
 })
 
 -- where the changes were all run
-pub ran : (ts : List Table) (rec : Record) (changes : List Change) (db : Database) (pending : Pending) (rows : List RowId) (values : List Mark) (outcome : Outcome) → changes ≡ rec.changes → Some pending ≡ option_map (pending_of changes) (effect ts changes db) → rows ≡ kin ts changes db → values ≡ marks ts changes db → outcome ≡ outcome_of rec rows values pending.left →
+pub ran : (ts : List Table) (rec : Record) (changes : List Change) (db : Database) (pending : Pending) (rows : List RowId) (values : List Mark) (outcome : Outcome) → changes ≡ rec.changes →
+    Some pending ≡ option_map (pending_of changes) (effect ts changes db) → rows ≡ kin ts changes db → values ≡ marks ts changes db → outcome ≡ outcome_of rec rows values pending.left →
     outcome ≡ outcome_over ts rec db
 ran ts rec changes db pending rows values outcome same left kin_is marks_are is =
     let leaves = made_of (pending_of rec.changes) (effect ts rec.changes db) pending (sym (left ∙ ap (λ l. option_map (pending_of l) (effect ts l db)) same)) in
@@ -124,7 +129,8 @@ ran ts rec changes db pending rows values outcome same left kin_is marks_are is 
     ∙ sym (comes_of ts rec db leaves.0 leaves.1)
 
 -- where the run stopped, the changes do not apply
-pub stopped : (ts : List Table) (rec : Record) (changes : List Change) (db : Database) → changes ≡ rec.changes → None ≡ option_map (pending_of changes) (effect ts changes db) → Undefined ≡ outcome_over ts rec db
+pub stopped : (ts : List Table) (rec : Record) (changes : List Change) (db : Database) → changes ≡ rec.changes → None ≡ option_map (pending_of changes) (effect ts changes db) →
+    Undefined ≡ outcome_over ts rec db
 stopped ts rec changes db same h =
     sym (comes_undefined ts rec db (none_mapped (pending_of rec.changes) (effect ts rec.changes db) (sym (h ∙ ap (λ l. option_map (pending_of l) (effect ts l db)) same))))
 

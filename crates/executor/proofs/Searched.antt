@@ -1,5 +1,6 @@
 -- What a search by halves finds among the holders of marks that rise.
-use Rattle.std.proofs.Common.{◌≡◌, ◌∙◌, sym, ap, refl, ℕ, zero, suc, ◌<◌, ◌≤◌, Bool, true, false, cond, List, [], ◌∷◌, length, get_or, Option, Some, None, unwrap_or, ℤ, Ok, Err, Ordering, Less, Equal, Greater, is_lt, is_eq, arith, add-one, inl, inr}
+use Rattle.std.proofs.Common.{◌≡◌, ◌∙◌, sym, ap, refl, ℕ, zero, suc, ◌<◌, ◌≤◌, Bool, true, false, cond, List, [], ◌∷◌, length, get_or, Option, Some, None, unwrap_or, ℤ, Ok, Err, Ordering, Less, Equal}
+use Rattle.std.proofs.Common.{Greater, is_lt, is_eq, arith, add-one, inl, inr}
 use Rattle.std.specs.Ordering.{ordering_index, ordering_reverse}
 use Rattle.std.specs.List.Sorted.{IsBinarySearchResult, IsNonDecreasingBy, IsSortedBy}
 use Rattle.std.specs.FinMap.{find, is_sorted}
@@ -32,7 +33,8 @@ comparisons_rise holders mark are = searchable_from_sorted row_total (λ (y : Ho
         rw (add-one k) (not_back (get_or holders k d).0 (get_or holders (suc k) d).0 (neighbors_rise holders are k d (omega arith)))
 
 -- the entry of a mark is the one that is found
-find_at : (holders : List Holder) (mark : Mark) (at : ℕ) (d : Holder) → AreHolders holders → at < length holders → (get_or holders at d).0 ≡ mark → find row_cmp mark holders ≡ Some (get_or holders at d).1
+find_at : (holders : List Holder) (mark : Mark) (at : ℕ) (d : Holder) → AreHolders holders → at < length holders → (get_or holders at d).0 ≡ mark →
+    find row_cmp mark holders ≡ Some (get_or holders at d).1
 find_at [] mark at d are within here = absurd (omega arith)
 find_at (e ∷ holders) mark zero d are within here = ap (λ b. cond b (Some e.1) (find row_cmp mark holders)) (ap (same_row mark) here ∙ same_row_itself mark)
 find_at (e ∷ holders) mark (suc at) d are within here =
@@ -50,11 +52,13 @@ find_absent (e ∷ holders) mark none = by (same_row mark e.0) refl (find_absent
     by true is rest = absurd (none 0 e (omega arith) (sym (row_is mark e.0 is)))
     by false is rest = rest
 
-pub held_at : (holders : List Holder) (mark : Mark) (at : ℕ) (d : Holder) → AreHolders holders → at < length holders → IsBinarySearchResult (λ (y : Holder). row_cmp y.0 mark) holders (Ok at) → (get_or holders at d).1 ≡ held holders mark
+pub held_at : (holders : List Holder) (mark : Mark) (at : ℕ) (d : Holder) → AreHolders holders → at < length holders → IsBinarySearchResult (λ (y : Holder). row_cmp y.0 mark) holders (Ok at) →
+    (get_or holders at d).1 ≡ held holders mark
 held_at holders mark at d are within found =
     sym (ap (λ (o : Option (Option ℤ)). unwrap_or o None) (find_at holders mark at d are within (exact_row (get_or holders at d).0 mark (found d))))
 
-pub not_held : (holders : List Holder) (mark : Mark) (at : ℕ) → AreHolders holders → at ≤ length holders → IsBinarySearchResult (λ (y : Holder). row_cmp y.0 mark) holders (Err at) → None ≡ held holders mark
+pub not_held : (holders : List Holder) (mark : Mark) (at : ℕ) → AreHolders holders → at ≤ length holders → IsBinarySearchResult (λ (y : Holder). row_cmp y.0 mark) holders (Err at) →
+    None ≡ held holders mark
 not_held holders mark at are within parted =
     let parts = parted (comparisons_rise holders mark are) in
     sym (ap (λ (o : Option (Option ℤ)). unwrap_or o None) (find_absent holders mark (λ k d lt here.

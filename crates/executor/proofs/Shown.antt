@@ -1,5 +1,6 @@
 -- A change that is run over the rows and the holders that were handed out does what it does to each database that agrees there.
-use Rattle.std.proofs.Common.{◌≡◌, ap, sym, subst, ◌∙◌, refl, ℕ, zero, suc, ◌<◌, ℤ, Bool, true, false, not, ◌&&◌, ◌||◌, cond, List, [], ◌∷◌, ◌++◌, length, get_or, Option, Some, None, is_some, Result, Ok, Err, inl, inr, true≢false, arith, unwrap_or}
+use Rattle.std.proofs.Common.{◌≡◌, ap, sym, subst, ◌∙◌, refl, ℕ, zero, suc, ◌<◌, ℤ, Bool, true, false, not, ◌&&◌, ◌||◌, cond, List, [], ◌∷◌, ◌++◌, length, get_or, Option, Some, None, is_some, Result}
+use Rattle.std.proofs.Common.{Ok, Err, inl, inr, true≢false, arith, unwrap_or}
 use Rattle.std.specs.Prelude.{option_and_then, option_to_list}
 use Rattle.std.specs.Bool.{then_some}
 use Rattle.std.specs.Result.{result_ok, result_map_both}
@@ -37,14 +38,16 @@ use Rattle.executor.proofs.Handed.{in_either}
 -- ---- one of the changes
 
 -- what one of the changes writes or gives, all of them do
-written : (changes : List Change) (n : ℕ) (change : Change) (q : RowId) → n < length changes → change ≡ get_or changes n change → has_row (writes (change ∷ [])) q ≡ true → has_row (writes changes) q ≡ true
+written : (changes : List Change) (n : ℕ) (change : Change) (q : RowId) → n < length changes → change ≡ get_or changes n change → has_row (writes (change ∷ [])) q ≡ true →
+    has_row (writes changes) q ≡ true
 written [] n change q within is has = absurd (omega arith)
 written (first ∷ changes) zero change q within is has =
     has_row-left (target first ∷ []) (writes changes) q (subst (λ (c : Change). has_row (target c ∷ []) q ≡ true) is has)
 written (first ∷ changes) (suc n) change q within is has =
     has_row-right (target first ∷ []) (writes changes) q (written changes n change q (omega arith) is has)
 
-gives_parent : (ts : List Table) (changes : List Change) (n : ℕ) (change : Change) (q : RowId) → n < length changes → change ≡ get_or changes n change → has_row (given_parents ts (change ∷ [])) q ≡ true → has_row (given_parents ts changes) q ≡ true
+gives_parent : (ts : List Table) (changes : List Change) (n : ℕ) (change : Change) (q : RowId) → n < length changes → change ≡ get_or changes n change →
+    has_row (given_parents ts (change ∷ [])) q ≡ true → has_row (given_parents ts changes) q ≡ true
 gives_parent ts [] n change q within is has = absurd (omega arith)
 gives_parent ts (first ∷ changes) zero change q within is has =
     elim (in_either (option_to_list (given_parent ts first)) [] q (subst (λ (c : Change). has_row (given_parents ts (c ∷ [])) q ≡ true) is has)) [
@@ -54,7 +57,8 @@ gives_parent ts (first ∷ changes) zero change q within is has =
 gives_parent ts (first ∷ changes) (suc n) change q within is has =
     has_row-right (option_to_list (given_parent ts first)) (given_parents ts changes) q (gives_parent ts changes n change q (omega arith) is has)
 
-gives_mark : (ts : List Table) (changes : List Change) (n : ℕ) (change : Change) (mark : Mark) → n < length changes → change ≡ get_or changes n change → has_row (given_marks ts (change ∷ [])) mark ≡ true → has_row (given_marks ts changes) mark ≡ true
+gives_mark : (ts : List Table) (changes : List Change) (n : ℕ) (change : Change) (mark : Mark) → n < length changes → change ≡ get_or changes n change →
+    has_row (given_marks ts (change ∷ [])) mark ≡ true → has_row (given_marks ts changes) mark ≡ true
 gives_mark ts [] n change mark within is has = absurd (omega arith)
 gives_mark ts (first ∷ changes) zero change mark within is has =
     elim (in_either (option_to_list (given_mark ts first)) [] mark (subst (λ (c : Change). has_row (given_marks ts (c ∷ [])) mark ≡ true) is has)) [
@@ -65,7 +69,8 @@ gives_mark ts (first ∷ changes) (suc n) change mark within is has =
     has_row-right (option_to_list (given_mark ts first)) (given_marks ts changes) mark (gives_mark ts changes n change mark (omega arith) is has)
 
 -- so a database that is shown to all of them is shown to each
-pub shown_to_one : (ts : List Table) (changes : List Change) (rows : Database) (holders : List Holder) (db : Database) (n : ℕ) (change : Change) → n < length changes → change ≡ get_or changes n change → IsShown ts changes rows holders db → IsShown ts (change ∷ []) rows holders db
+pub shown_to_one : (ts : List Table) (changes : List Change) (rows : Database) (holders : List Holder) (db : Database) (n : ℕ) (change : Change) → n < length changes →
+    change ≡ get_or changes n change → IsShown ts changes rows holders db → IsShown ts (change ∷ []) rows holders db
 shown_to_one ts changes rows holders db n change within is shown = record {
   apart = shown.apart;
   same_rows = λ q has. shown.same_rows q (elim (in_either (writes (change ∷ [])) (given_parents ts (change ∷ [])) q has) [
@@ -106,7 +111,8 @@ module _ (ts : List Table) (change : Change) (a b : Database) (same : AgreeOn (o
       by true is = parent_alike (target change).table columns (parent_given ts change row columns fits is)
 
 -- the mark that a change moves to its row is the one that it gives it
-moved_is_given : (ts : List Table) (change : Change) (row left : Option (List ℤ)) (mark : Mark) → ◌≡◌ {A = Result (Option (List ℤ)) ChangeFault} (changed change row) (Ok left) → mark_moved ts change left ≡ Some mark → given_mark ts change ≡ Some mark
+moved_is_given : (ts : List Table) (change : Change) (row left : Option (List ℤ)) (mark : Mark) → ◌≡◌ {A = Result (Option (List ℤ)) ChangeFault} (changed change row) (Ok left) →
+    mark_moved ts change left ≡ Some mark → given_mark ts change ≡ Some mark
 moved_is_given ts change row None mark fits moves = absurd (none_moved (moves_value ts change) moves)
   where
     none_moved : (b : Bool) → ◌≡◌ {A = Option Mark} (cond b None None) (Some mark) → ⊥
@@ -133,7 +139,8 @@ moved_is_given ts change row (Some columns) mark fits moves = by (moves_value ts
 -- ---- what it does
 
 -- what was told, where it is an answer
-told_from : (ts : List Table) (change : Change) (row : Option (List ℤ)) (told : Result (Option (List ℤ)) ChangeFault) (step : Step) → result_ok (result_map_both (step_from ts change row) (λ (fault : ChangeFault). fault) told) ≡ Some step → (left : Option (List ℤ)) × (told ≡ Ok left) × (step_from ts change row left ≡ step)
+told_from : (ts : List Table) (change : Change) (row : Option (List ℤ)) (told : Result (Option (List ℤ)) ChangeFault) (step : Step) →
+    result_ok (result_map_both (step_from ts change row) (λ (fault : ChangeFault). fault) told) ≡ Some step → (left : Option (List ℤ)) × (told ≡ Ok left) × (step_from ts change row left ≡ step)
 told_from ts change row (Ok left) step is = (left, refl, cc)
 told_from ts change row (Err fault) step is = cc
 
@@ -141,7 +148,8 @@ then_or_none : {X : Type 0} (b : Bool) (x : X) → then_some b x ≡ cond b (Som
 then_or_none true x = refl
 then_or_none false x = refl
 
-module _ (ts : List Table) (change : Change) (pending : Pending) (rows : Database) (holders : List Holder) (db : Database) (rising : IsRising pending.left) (shown : IsShown ts (change ∷ []) rows holders db) where
+module _ (ts : List Table) (change : Change) (pending : Pending) (rows : Database) (holders : List Holder) (db : Database) (rising : IsRising pending.left)
+    (shown : IsShown ts (change ∷ []) rows holders db) where
   same_seen : AgreeOn (writes (change ∷ []) ++ given_parents ts (change ∷ [])) (seen pending rows) (seen pending db)
   same_seen = seen_alike (writes (change ∷ []) ++ given_parents ts (change ∷ [])) pending rows db rising shown.same_rows
 

@@ -3,7 +3,7 @@
 ghost use Rattle.std.specs.Prelude.{◌≡◌, [], IfOk};
 ghost use Rattle.executor.specs.Held.{AreHolders, held};
 
-use schema::{Mark, Memory};
+use schema::{Mark, Memory, copied};
 use std::alloc::Global;
 use std::marker::Model;
 
@@ -66,7 +66,7 @@ impl Holders {
         ensures { IfOk result (λ holders. holders ≡ self.now) }
     {
         Ok(Holders {
-            list: self.list.clone()?,
+            list: copied(&self.list)?,
         })
     }
 }

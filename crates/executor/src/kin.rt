@@ -38,9 +38,11 @@ pub(crate) fn run_changes<S: RowStore>(
 ) -> Result<Option<Run>, Memory>
     ensures left { IfOk result (λ ran. (db : Database) → IsShown schema.now changes.now (S.contents store.now) holders.now db
         → option_map (λ run. run.overlay) ran ≡ option_map (pending_of changes.now) (effect schema.now changes.now db)) }
-    ensures kin { IfOk result (λ ran. IfSome ran (λ run. (db : Database) → IsShown schema.now changes.now (S.contents store.now) holders.now db
+    ensures kin { IfOk result (λ ran. IfSome ran (λ run. (db : Database)
+        → IsShown schema.now changes.now (S.contents store.now) holders.now db
         → run.kin.items ≡ kin schema.now changes.now db)) }
-    ensures marks { IfOk result (λ ran. IfSome ran (λ run. (db : Database) → IsShown schema.now changes.now (S.contents store.now) holders.now db
+    ensures marks { IfOk result (λ ran. IfSome ran (λ run. (db : Database)
+        → IsShown schema.now changes.now (S.contents store.now) holders.now db
         → run.marks.items ≡ marks schema.now changes.now db)) }
 {
     let mut overlay = Overlay::new(alloc);

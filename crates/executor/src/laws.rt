@@ -1,6 +1,8 @@
 //! What follows from the definitions alone. Each function states laws by its contract, and does nothing.
 
-ghost use Rattle.executor.specs.Laws.{InputIsRows, SameRowsIn, HoldersRise, HoldersAreHeld, SameHandedOver, HandedAgrees, AgreesWithoutUnique, TellsSets, GoodDoesTheSame, GoodElsewhere, OutputIsGood, OutputIsThere, GoodHasOutput, FaultIsThere};
+ghost use Rattle.executor.specs.Laws.{InputIsRows, SameRowsIn, HoldersRise, HoldersAreHeld, SameHandedOver, HandedAgrees};
+ghost use Rattle.executor.specs.Laws.{AgreesWithoutUnique, TellsSets, GoodDoesTheSame, GoodElsewhere, OutputIsGood, OutputIsThere};
+ghost use Rattle.executor.specs.Laws.{GoodHasOutput, FaultIsThere};
 
 /// Copies of a database's rows have them as they are there, and the holders of marks are those that these have there. Both are the
 /// same for each database that looks alike to a record.

@@ -116,7 +116,8 @@ impl Job {
     /// Whether the job has this record, these rows, these holders and this schema. It takes no memory. The time is that of a walk
     /// over them.
     pub fn is_of(&self, rec: &Record, input: &Batch, holders: &Holders, schema: &Schema) -> bool
-        ensures { IsTrue result ↔ ((self.now.rec ≡ rec.now) × (self.now.input ≡ input.now) × (self.now.holders ≡ holders.now) × (self.now.schema ≡ schema.now)) }
+        ensures { IsTrue result ↔ ((self.now.rec ≡ rec.now) × (self.now.input ≡ input.now) × (self.now.holders ≡ holders.now)
+            × (self.now.schema ≡ schema.now)) }
     {
         same_records(&self.rec, rec)
             && same_batches(&self.input, input)
@@ -181,7 +182,8 @@ impl JobResult {
 /// b rows more.
 pub fn execute(alloc: Global, job: Job) -> JobResult
     ensures job { result.job ≡ job }
-    ensures outcome { (result.outcome ≡ Outcome.Memory) ⊎ ((db : Database) → Agrees job db → result.outcome ≡ outcome_over job.schema job.rec db) }
+    ensures outcome { (result.outcome ≡ Outcome.Memory) ⊎
+        ((db : Database) → Agrees job db → result.outcome ≡ outcome_over job.schema job.rec db) }
 {
     let outcome = match run(alloc, &job) {
         Ok(outcome) => outcome,

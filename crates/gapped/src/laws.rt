@@ -1,6 +1,7 @@
 //! What follows from the definitions alone. Each function states a law by its contract, and does nothing.
 
-ghost use Rattle.gapped.specs.Laws.{RanIsGapped, FirstAreChosen, LongerLog, EligibleWaits, WaitingApart, WaitingLooksAlike, CommitLeaves, LegalIsGapped, WaitingIsGood};
+ghost use Rattle.gapped.specs.Laws.{RanIsGapped, FirstAreChosen, LongerLog, EligibleWaits, WaitingApart, WaitingLooksAlike, CommitLeaves};
+ghost use Rattle.gapped.specs.Laws.{LegalIsGapped, WaitingIsGood};
 
 /// Whatever log was received: commits in any order leave a gapped state of the log, the one that their records leave in log order.
 /// In the order of the log that is the state after so many records; and more records change it not.

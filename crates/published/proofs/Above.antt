@@ -38,7 +38,8 @@ above_lacks n (x ∷ gnos) none =
 above_has : (n : ℕ) (gnos : List ℕ) → AreDistinct gnos → has_gno gnos (n + 1) ≡ true → count_above n gnos ≡ count_above (n + 1) gnos + 1
 above_has n [] d there = absurd (cc (there))
 above_has n (x ∷ gnos) d there = split n x gnos (x == n + 1) refl d there (above_has n gnos d.1) where
-  split : (n x : ℕ) (gnos : List ℕ) (b : Bool) → (x == n + 1) ≡ b → AreDistinct (x ∷ gnos) → has_gno (x ∷ gnos) (n + 1) ≡ true → (has_gno gnos (n + 1) ≡ true → count_above n gnos ≡ count_above (n + 1) gnos + 1)
+  split : (n x : ℕ) (gnos : List ℕ) (b : Bool) → (x == n + 1) ≡ b → AreDistinct (x ∷ gnos) → has_gno (x ∷ gnos) (n + 1) ≡ true
+      → (has_gno gnos (n + 1) ≡ true → count_above n gnos ≡ count_above (n + 1) gnos + 1)
       → count_above n (x ∷ gnos) ≡ count_above (n + 1) (x ∷ gnos) + 1
   split n x gnos true is d there rest =
       let same : x ≡ n + 1 = grind (arith, nat_tests, is) in
@@ -85,6 +86,7 @@ no_zero false (Load base ∷ ops) h = none [] ops h where
       rw other (none (gone ++ gno ∷ []) ops h.2)
 no_zero false (Commit gno batch ∷ ops) h = absurd h
 
+-- of a history's commits those above the mark and those up to it are all
 pub history_above : (preserve : Bool) (ops : List Op) → IsHistory preserve ops
     → count_above (low_of (gnos_of ops)) (gnos_of ops) + low_of (gnos_of ops) ≡ commits_in ops
 history_above preserve ops h =
@@ -107,8 +109,10 @@ above_rise n least most (x ∷ xs) le r =
     let here : count_above n (x ∷ xs) ≡ 1 + count_above n xs = count_cons n x xs ∙ ap (λ b. cond b 1 0 + count_above n xs) more in
     omega (arith, here, above_rise n x most xs (omega (arith, le, r.0)) r.2)
 
+-- the same of the numbers that are noted: those up to the mark, and those ahead of a gap
 pub noted_above : (upto most : ℕ) (ahead : List ℕ) → RiseBetween (upto + 1) most ahead
     → count_above upto (first_gnos upto ++ ahead) + upto ≡ length (first_gnos upto ++ ahead)
 noted_above upto most ahead r =
-    let parts : count_above upto (first_gnos upto ++ ahead) ≡ count_above upto (first_gnos upto) + count_above upto ahead = sum_by-append (λ (gno : ℕ). cond (nat_lt upto gno) 1 0) (first_gnos upto) ahead in
+    let parts : count_above upto (first_gnos upto ++ ahead) ≡ count_above upto (first_gnos upto) + count_above upto ahead =
+    sum_by-append (λ (gno : ℕ). cond (nat_lt upto gno) 1 0) (first_gnos upto) ahead in
     omega (arith, parts, above_first upto upto (omega arith), above_rise upto (upto + 1) most ahead (omega arith) r, length-append (first_gnos upto) ahead, length-first_gnos upto)

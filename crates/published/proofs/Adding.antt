@@ -57,7 +57,9 @@ adds_goes log v ops old new state are hlog pre false is =
 pub adds_moves : (v : List (List Op)) (ops : List Op) (old new : ℕ) (state : Option ℕ) → AreNext v ops old new
     → Moves CountsCommits shown moved 0 (v, (no_nib, state)) (λ n. either (n == old) new n) (Adds (step 0 old new ops) (v, (no_nib, state)))
 adds_moves v ops old new state are cs log kept pre away =
-    let P : List Cell → Type 0 = λ c. (0 < length c) × ((cell c 0).1 ≡ true) × Goes CountsCommits shown moved 0 (v, (no_nib, state)) (λ n. either (n == old) new n) (Adds (step 0 old new ops) (v, (no_nib, state))) c log in
+    let P : List Cell → Type 0 =
+    λ c. (0 < length c) × ((cell c 0).1 ≡ true) ×
+    Goes CountsCommits shown moved 0 (v, (no_nib, state)) (λ n. either (n == old) new n) (Adds (step 0 old new ops) (v, (no_nib, state))) c log in
     subst P (sym kept.words) (omega arith, refl, adds_goes log v ops old new state are kept.begun pre (commits_in (operations_of log) == old) refl)
 
 -- where the number found was the one expected, the operations were added

@@ -26,7 +26,8 @@ record IsNew (preserve : Bool) (gnos : List ℕ) (gno : ℕ) : Type 0 where
   none : has_gno gnos gno ≡ false
   next : preserve ≡ true → gno ≡ low_of gnos + 1
 
-new_if : {S : Type 0} (preserve : Bool) (shown : Shown S) (gno : ℕ) (batch : List Entry) → IsCounted preserve shown.upto shown.more shown.gnos shown.waiting → MayFollow preserve shown (Commit gno batch) → IsNew preserve shown.gnos gno
+new_if : {S : Type 0} (preserve : Bool) (shown : Shown S) (gno : ℕ) (batch : List Entry) → IsCounted preserve shown.upto shown.more shown.gnos shown.waiting
+    → MayFollow preserve shown (Commit gno batch) → IsNew preserve shown.gnos gno
 new_if true shown gno batch c may =
     let low = low_counted true shown.upto shown.more shown.gnos shown.waiting c refl in
     let next : gno ≡ low_of shown.gnos + 1 = may ∙ ap (λ n. n + 1) (sym low) in record {
@@ -36,7 +37,9 @@ new_if true shown gno batch c may =
     }
 new_if false shown gno batch c may = record { some = may.0; none = may.1; next = λ order. absurd (false≢true order) }
 
-pub follows : {S : Type 0} (shown : Shown S) (op : Op) (gno : ℕ) (batch : List Entry) → IsCounted shown.preserve shown.upto shown.more shown.gnos shown.waiting → MayFollow shown.preserve shown op → op ≡ Commit gno batch
+-- the gno of a commit that may be appended is from 1 on, and none of those appended
+pub follows : {S : Type 0} (shown : Shown S) (op : Op) (gno : ℕ) (batch : List Entry) → IsCounted shown.preserve shown.upto shown.more shown.gnos shown.waiting
+    → MayFollow shown.preserve shown op → op ≡ Commit gno batch
     → (1 ≤ gno) × (has_gno shown.gnos gno ≡ false)
 follows shown op gno batch c may is =
     let new = new_if shown.preserve shown gno batch c (subst (MayFollow shown.preserve shown) is may) in
@@ -74,6 +77,7 @@ shown_in_order preserve upto more gnos waiting count low c is mark order =
     let reached : low ≡ upto + length waiting = mark ∙ low_counted preserve upto more gnos waiting c order in
     (reached, omega (arith, is, c.number, c.none order, reached))
 
+-- once all is shown the commits are counted as those up to the mark and those above it
 pub counted_shown : (preserve : Bool) (upto more : ℕ) (gnos : List ℕ) (waiting rest : List (List Entry)) (count low : ℕ)
     → IsCounted preserve upto more gnos waiting → rest ≡ [] → count ≡ length gnos → low ≡ low_of gnos → low ≤ length gnos
     → IsCounted preserve low (count - low) gnos rest

@@ -1,5 +1,34 @@
 -- Beginnings of one history, a history with one more commit, and the numbers in it.
-use Rattle.std.proofs.Common.{◌≡◌, ◌≢◌, ℕ, ◌+◌, ◌<◌, ◌≤◌, Bool, true, false, List, [], ◌∷◌, ◌++◌, length, refl, sym, ap, ◌∙◌, subst, arith, length-append, append_assoc, add-zero, MatchBool, zero, suc, slice_get, Some}
+use Rattle.std.proofs.Common.{
+  ◌≡◌,
+  ◌≢◌,
+  ℕ,
+  ◌+◌,
+  ◌<◌,
+  ◌≤◌,
+  Bool,
+  true,
+  false,
+  List,
+  [],
+  ◌∷◌,
+  ◌++◌,
+  length,
+  refl,
+  sym,
+  ap,
+  ◌∙◌,
+  subst,
+  arith,
+  length-append,
+  append_assoc,
+  add-zero,
+  MatchBool,
+  zero,
+  suc,
+  slice_get,
+  Some,
+}
 use Rattle.std.proofs.lemmas.Bool.{false≢true}
 use Rattle.std.proofs.lemmas.Bool.Decides.{nat_tests}
 use Rattle.std.specs.Prelude.{nat_le}
@@ -42,6 +71,7 @@ operations_of-snoc log part = flat_map-append (λ (p : List Op). p) log (part �
 
 -- ---- how long they are
 
+-- a history has its load
 pub begun : (preserve : Bool) (ops : List Op) → IsHistory preserve ops → 1 ≤ length ops
 begun true [] h = absurd h
 begun false [] h = absurd h
@@ -50,12 +80,15 @@ begun preserve (op ∷ ops) h = omega arith
 pub count_begun : (ops : List Op) → 1 ≤ length ops → length ops ≡ commits_in ops + 1
 count_begun ops some = omega arith
 
+-- it is the load and its commits
 pub history_length : (preserve : Bool) (ops : List Op) → IsHistory preserve ops → length ops ≡ commits_in ops + 1
 history_length preserve ops h = count_begun ops (begun preserve ops h)
 
+-- what stands behind a load are commits more
 pub commits_in-with : (ops more : List Op) → 1 ≤ length ops → commits_in (ops ++ more) ≡ commits_in ops + length more
 commits_in-with ops more some = omega (arith, length-append ops more)
 
+-- of two beginnings of one list the one with no more commits begins the other
 pub begins_by : (a b whole : List Op) → IsPrefix a whole → IsPrefix b whole → 1 ≤ length a → 1 ≤ length b → (t : Bool)
     → nat_le (commits_in a) (commits_in b) ≡ t
     → MatchBool t (IsPrefix a b) (IsPrefix b a)
@@ -95,6 +128,7 @@ commits_front n (op ∷ ops) more h = (h.0, commits_front (n + 1) ops more h.1)
 
 -- ---- the numbers of the commits
 
+-- the gnos of two lists are those of the one and then those of the other
 pub gnos_of-append : (ops more : List Op) → gnos_of (ops ++ more) ≡ gnos_of ops ++ gnos_of more
 gnos_of-append [] more = refl
 gnos_of-append (Load base ∷ ops) more = gnos_of-append ops more
@@ -110,6 +144,7 @@ gnos_from n m (Commit gno batch ∷ ops) h size =
     ∙ ap (λ l. l ++ gnos_of ops) (sym (first_gnos-next n))
     ∙ gnos_from (n + 1) m ops h.1 (omega (arith, size))
 
+-- in the order of the log the gnos are those from 1 on
 pub gnos_in_order : (ops : List Op) → IsHistory true ops → gnos_of ops ≡ first_gnos (commits_in ops)
 gnos_in_order [] h = absurd h
 gnos_in_order (Load base ∷ ops) h = gnos_from 0 (commits_in (Load base ∷ ops)) ops h (omega arith)
@@ -164,6 +199,7 @@ count_gnos false (Commit gno batch ∷ ops) h = absurd h
 pub low_within : (preserve : Bool) (ops : List Op) → IsHistory preserve ops → low_of (gnos_of ops) ≤ commits_in ops
 low_within preserve ops h = subst (λ n. low_of (gnos_of ops) ≤ n) (count_gnos preserve ops h) (low_is_few (gnos_of ops) (history_distinct preserve ops h))
 
+-- a load alone is a history
 pub history_load : (preserve : Bool) (base : List Entry) → IsHistory preserve (Load base ∷ [])
 history_load true base = tt
 history_load false base = tt
@@ -205,6 +241,7 @@ pub put_is_next : (ops : List Op) (gno : ℕ) (batch : List Entry) → IsHistory
     → gno ≡ low_of (gnos_of ops) + 1
 put_is_next ops gno batch h may = may ∙ count_begun ops (begun true ops h) ∙ ap (λ n. n + 1) (sym (low_in_order ops h))
 
+-- a beginning of a history is one
 pub history_front : (preserve : Bool) (ops more : List Op) → 1 ≤ length ops → IsHistory preserve (ops ++ more) → IsHistory preserve ops
 history_front preserve [] more some h = absurd (omega arith)
 history_front true (Load base ∷ ops) more some h = commits_front 1 ops more h

@@ -1,5 +1,40 @@
 -- Numbers up to a mark, and rising numbers ahead of it.
-use Rattle.std.proofs.Common.{◌≡◌, ℕ, zero, suc, ◌+◌, ◌-◌, ◌<◌, ◌≤◌, ◌==◌, ◌||◌, ◌&&◌, Bool, true, false, List, [], ◌∷◌, ◌++◌, length, drop, get_or, refl, sym, ap, subst, ◌∙◌, arith, length-append, append_assoc, add-one, drop-cons, Result, Ok, Err}
+use Rattle.std.proofs.Common.{
+  ◌≡◌,
+  ℕ,
+  zero,
+  suc,
+  ◌+◌,
+  ◌-◌,
+  ◌<◌,
+  ◌≤◌,
+  ◌==◌,
+  ◌||◌,
+  ◌&&◌,
+  Bool,
+  true,
+  false,
+  List,
+  [],
+  ◌∷◌,
+  ◌++◌,
+  length,
+  drop,
+  get_or,
+  refl,
+  sym,
+  ap,
+  subst,
+  ◌∙◌,
+  arith,
+  length-append,
+  append_assoc,
+  add-one,
+  drop-cons,
+  Result,
+  Ok,
+  Err,
+}
 use Rattle.std.specs.Prelude.{nat_le}
 use Rattle.std.proofs.lemmas.Bool.Decides.{nat_tests}
 use Rattle.std.proofs.lemmas.Bool.{false≢true}
@@ -35,6 +70,7 @@ rise_lacks least most (x ∷ xs) gno r le =
     let other : (x == gno) ≡ false = grind (arith, nat_tests, r.0) in
     rw other (rise_lacks x most xs gno r.2 (omega (arith, r.0)))
 
+-- numbers that rise from one on do so from a lower one
 pub rise_from : (least lower most : ℕ) (xs : List ℕ) → lower ≤ least → RiseBetween least most xs → RiseBetween lower most xs
 rise_from least lower most [] le r = tt
 rise_from least lower most (x ∷ xs) le r = (omega (arith, r.0), r.1, r.2)
@@ -91,9 +127,11 @@ mark_is_low upto most ahead r = sym (low_of_is (first_gnos upto ++ ahead) upto (
   next = lacks_both (first_gnos upto) ahead (upto + 1) (first_lacks upto (upto + 1) (omega arith)) (rise_lacks (upto + 1) most ahead (upto + 1) r (omega arith));
 }))
 
+-- so many are noted: those up to the mark, and those ahead
 pub count_noted : (upto : ℕ) (ahead : List ℕ) → upto + length ahead ≡ length (first_gnos upto ++ ahead)
 count_noted upto ahead = ap (λ n. n + length ahead) (sym (length-first_gnos upto)) ∙ sym (length-append (first_gnos upto) ahead)
 
+-- they are no more than the greatest number
 pub count_fits : (upto most : ℕ) (ahead : List ℕ) → upto ≤ most → RiseBetween (upto + 1) most ahead → upto + length ahead ≤ most
 count_fits upto most [] le r = omega arith
 count_fits upto most (x ∷ ahead) le r = omega (arith, r.0, rise_few x most ahead r.1 r.2)
@@ -123,6 +161,7 @@ has_next upto gno ahead new next is other =
       turn false false true = refl
       turn false false false = refl
 
+-- where the next number comes, one more is noted
 pub next_count : (upto gno : ℕ) (ahead new : List ℕ) → gno ≡ upto + 1 → new ≡ first_gnos gno ++ ahead
     → length new ≡ length (first_gnos upto ++ ahead) + 1
 next_count upto gno ahead new next is =
@@ -142,10 +181,12 @@ has_ahead upto ahead more gno has other =
       assoc true b c = refl
       assoc false b c = refl
 
+-- and where one comes ahead
 pub ahead_count : (upto : ℕ) (ahead more : List ℕ) → length more ≡ length ahead + 1
     → length (first_gnos upto ++ more) ≡ length (first_gnos upto ++ ahead) + 1
 ahead_count upto ahead more is = omega (arith, is, count_noted upto more, count_noted upto ahead)
 
+-- a number that is not noted is not ahead
 pub lacks_ahead : (upto : ℕ) (ahead : List ℕ) (gno : ℕ) → has_gno (first_gnos upto ++ ahead) gno ≡ false → has_gno ahead gno ≡ false
 lacks_ahead upto ahead gno none = lacks_behind (first_gnos upto) ahead gno none
 
@@ -159,6 +200,7 @@ pub rise_passed : (upto most i : ℕ) (ahead : List ℕ) → i < length ahead �
     → RiseBetween (get_or ahead i 0) most (drop (i + 1) ahead)
 rise_passed upto most i ahead more r = (subst (RiseBetween upto most) (at_place ahead i more) r).2
 
+-- the mark may pass a number ahead that is the next one: the same are noted
 pub same_passed : (upto i : ℕ) (ahead whole : List ℕ) → i < length ahead → get_or ahead i 0 ≡ upto + 1
     → first_gnos upto ++ drop i ahead ≡ whole → first_gnos (get_or ahead i 0) ++ drop (i + 1) ahead ≡ whole
 same_passed upto i ahead whole more is so_far =
@@ -169,6 +211,7 @@ same_passed upto i ahead whole more is so_far =
     ∙ ap (λ l. first_gnos upto ++ l) (sym (at_place ahead i more))
     ∙ so_far
 
+-- the next number ahead is above the mark
 pub next_is_above : (upto most i : ℕ) (ahead : List ℕ) → i < length ahead → RiseBetween upto most (drop i ahead) → upto < get_or ahead i 0
 next_is_above upto most i ahead more r = (subst (RiseBetween upto most) (at_place ahead i more) r).0
 
@@ -200,6 +243,7 @@ found_place most gno i xs r rise told is =
     let P : Result ℕ ℕ → Type 0 = λ o. MatchResult o (λ i. (i < length xs) × (get_or xs i 0 ≡ gno)) (HasPlace xs gno) in
     subst P is (searched xs gno r told (rise_places 0 most xs rise))
 
+-- a number that is put in its place leaves the others rising
 pub rise_put : (least most gno i : ℕ) (xs new : List ℕ) (r : Result ℕ ℕ) → RiseBetween 0 most xs
     → IsBinarySearchResult (λ y. nat_cmp y gno) xs r
     → r ≡ Err i → new ≡ insert xs i gno → gno ≤ most → least < gno → RiseBetween least most xs → RiseBetween least most new

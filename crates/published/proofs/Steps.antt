@@ -1,5 +1,34 @@
 -- What a publication does to a copy.
-use Rattle.std.proofs.Common.{◌≡◌, ℕ, ◌+◌, ◌-◌, ◌≤◌, ◌==◌, ◌||◌, Bool, false, List, [], ◌∷◌, ◌++◌, length, drop, map, fold, refl, sym, ap, subst, ◌∙◌, Option, Some, IfSome, arith, append_assoc, length-append}
+use Rattle.std.proofs.Common.{
+  ◌≡◌,
+  ℕ,
+  ◌+◌,
+  ◌-◌,
+  ◌≤◌,
+  ◌==◌,
+  ◌||◌,
+  Bool,
+  false,
+  List,
+  [],
+  ◌∷◌,
+  ◌++◌,
+  length,
+  drop,
+  map,
+  fold,
+  refl,
+  sym,
+  ap,
+  subst,
+  ◌∙◌,
+  Option,
+  Some,
+  IfSome,
+  arith,
+  append_assoc,
+  length-append,
+}
 use Rattle.std.proofs.Math.Seq.{drop-length, drop-nil}
 use Rattle.std.proofs.lemmas.List.{append-nil, drop-append-le, length-drop}
 use Rattle.std.proofs.lemmas.List.Sums.{fold-append}
@@ -20,11 +49,13 @@ use Rattle.store_trait.proofs.Batches.{left_by-append}
 use Rattle.published.proofs.Histories.{begun, history_put, put_is_new, history_front, commits_in-with, gnos_of-append, no_gnos}
 
 module _ {J : Type 0} where
+  -- a step that puts an operation adds it
   pub puts_in-put : (steps : List (Step J)) (op : Op) → puts_in (steps ++ Put op ∷ []) ≡ puts_in steps ++ op ∷ []
   puts_in-put [] op = refl
   puts_in-put (Put first ∷ steps) op = ap (λ l. first ∷ l) (puts_in-put steps op)
   puts_in-put (Note ops ∷ steps) op = puts_in-put steps op
 
+  -- a step that notes what was published adds none
   pub puts_in-note : (steps : List (Step J)) (ops : List Op) → puts_in (steps ++ Note ops ∷ []) ≡ puts_in steps
   puts_in-note [] ops = refl
   puts_in-note (Put first ∷ steps) ops = ap (λ l. first ∷ l) (puts_in-note steps ops)
@@ -130,10 +161,12 @@ pub whole_history : (preserve : Bool) (rows : Database) (p : Publishing) (gnos :
     → IsHistory preserve (p.history ++ unsaid p)
 whole_history preserve rows p gnos tied = subst (IsHistory preserve) (sym tied.whole) tied.history
 
+-- as many are noted as are commits in the history and in what waits and is not in it
 pub whole_number : (preserve : Bool) (rows : Database) (p : Publishing) (gnos : List ℕ) (count : ℕ) → IsTied preserve rows p gnos
     → count ≡ length gnos → count ≡ commits_in (p.history ++ unsaid p)
 whole_number preserve rows p gnos count tied is = is ∙ tied.number ∙ ap commits_in (sym tied.whole)
 
+-- and the mark is theirs
 pub whole_mark : (preserve : Bool) (rows : Database) (p : Publishing) (gnos : List ℕ) (upto : ℕ) → IsTied preserve rows p gnos
     → upto ≡ low_of gnos → upto ≡ low_of (gnos_of (p.history ++ unsaid p))
 whole_mark preserve rows p gnos upto tied is =
@@ -162,6 +195,7 @@ tied_begun preserve rows load gnos h none left is = record {
   whole = ap (λ l. load ++ l) (drop-nil (length load - length load));
 }
 
+-- a publisher is what is published, what waits, and the history
 pub same_publishing : (a b : Publishing) → a.published ≡ b.published → a.waiting ≡ b.waiting → a.history ≡ b.history → a ≡ b
 same_publishing a b p w h i = record { published = p i; waiting = w i; history = h i }
 

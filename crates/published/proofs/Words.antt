@@ -8,6 +8,7 @@ use Rattle.published.specs.declared.counts.Counts.{Counts}
 use Rattle.published.specs.declared.counts.Look.{Look}
 use Rattle.published.specs.Status.{InOrder, NoneFalls, latest, AreReports, Kept, counts_of, beginner, watching, Stores, Finds}
 
+-- before the first store the words are 0
 pub begins : Kept (counts_of 0 0 0) (beginner ∷ [])
 begins = record { stored = []; reports = tt; last = refl; writer = 0; seen = alone }
   where
@@ -27,6 +28,7 @@ rises : (seen stored : List Counts) → IsSuffix seen stored → AreReports stor
 rises seen stored later reports =
     subst (λ l. NoneFalls (latest seen) (latest l)) later.1 (none_falls later.0 seen (subst AreReports (sym later.1) reports))
 
+-- who looks again finds no number lower than it saw
 pub finds_no_less : (before : List Counts) (v w : Look) (x y : Counts) → v.seen ≡ before → Finds v x y w → NoneFalls (latest before) x
 finds_no_less before v w x y same told =
     subst (λ l. NoneFalls (latest l) x) same (subst (λ c. NoneFalls (latest v.seen) c) (sym told.found) (rises v.seen w.seen told.later told.reports))
@@ -36,6 +38,7 @@ kept : (x : Counts) (before after : List Look) → (k : Kept x before)
     → ((j : ℕ) (u : Look) → get_elem? after j ≡ some u → IsSuffix u.seen k.stored × (u.stores ≡ true → (j ≡ k.writer) × (u.seen ≡ k.stored))) → Kept x after
 kept x before after k seen = record { stored = k.stored; reports = k.reports; last = k.last; writer = k.writer; seen = seen }
 
+-- who looks finds the words that were stored last
 pub finds : (pass : ℕ) (v : Look) (x : Counts) (views : List Look) → Kept x views → get_elem? views pass ≡ some v
     → (w : Look) × Kept x (set views pass w) × Finds v x x w
 finds pass v x views k at =
@@ -78,6 +81,7 @@ stores pass v x c right order rise views k at =
       (refl, refl),
     )
 
+-- one more may watch
 pub forks : (pass : ℕ) (v : Look) (x : Counts) (views : List Look) → Kept x views → get_elem? views pass ≡ some v
     → Kept x (set views pass v ++ watching v ∷ [])
 forks pass v x views k at =

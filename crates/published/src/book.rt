@@ -169,7 +169,8 @@ impl<J: Naming> Model for Notice<J> {
 
     ghost view = { λ n. operations_of n.seen.log };
 
-    ghost invariant = { λ n. (n.count ≡ commits_in (operations_of n.seen.log)) × (n.upto ≡ low_of (gnos_of (operations_of n.seen.log))) × (n.seen.book ≡ J.book) × IsHistory J.preserve (operations_of n.seen.log) };
+    ghost invariant = { λ n. (n.count ≡ commits_in (operations_of n.seen.log)) × (n.upto ≡ low_of (gnos_of (operations_of n.seen.log))) ×
+        (n.seen.book ≡ J.book) × IsHistory J.preserve (operations_of n.seen.log) };
 }
 
 impl<J: Naming> Notice<J> {

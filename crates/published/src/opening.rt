@@ -61,7 +61,8 @@ pub trait Supply<S: RowStore + Drop, J: Naming> {
         requires first { S.contents first ≡ empty }
         requires second { S.contents second ≡ empty }
         requires seats { (1 ≤ seats) × (seats ≤ 32) }
-        ensures publisher { IfOk result (λ made. made.0 ≡ record { published = Load beginning.base ∷ []; waiting = []; history = Load beginning.base ∷ [] }) }
+        ensures publisher { IfOk result
+            (λ made. made.0 ≡ record { published = Load beginning.base ∷ []; waiting = []; history = Load beginning.base ∷ [] }) }
         ensures room { IfOk result (λ made. (made.1.items ≡ []) × (seats ≤ vec_capacity made.1)) }
         ensures refused { OnErr result lacks_memory };
 
@@ -114,7 +115,8 @@ pub fn open<S: RowStore + Drop, J: Naming, R: Wait, P: Supply<S, J>>(
     requires second { S.contents second ≡ empty }
     requires some { 1 ≤ seats }
     requires few { seats ≤ 32 }
-    ensures publisher { IfOk result (λ opened. opened.0 ≡ record { published = Load beginning.base ∷ []; waiting = []; history = Load beginning.base ∷ [] }) }
+    ensures publisher { IfOk result
+        (λ opened. opened.0 ≡ record { published = Load beginning.base ∷ []; waiting = []; history = Load beginning.base ∷ [] }) }
     ensures seats { IfOk result (λ opened. opened.1.items ≡ replicate seats (Load beginning.base ∷ [])) }
     ensures cause { IfErr result (λ cause. Tells cause P.lacks_memory P.lacks_readers) }
 {

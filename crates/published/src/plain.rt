@@ -33,7 +33,14 @@ impl<S: RowStore> Model for Plain<S> {
 
     ghost Value = { Shown S };
 
-    ghost view = { λ p. record { store = p.store; preserve = p.preserve; upto = p.upto; more = p.more; gnos = p.appended.gnos; waiting = p.waiting.items } };
+    ghost view = { λ p. record {
+      store = p.store;
+      preserve = p.preserve;
+      upto = p.upto;
+      more = p.more;
+      gnos = p.appended.gnos;
+      waiting = p.waiting.items;
+    } };
 
     ghost invariant = { λ p. IsCounted p.preserve p.upto p.more p.appended.gnos p.waiting.items };
 }
@@ -84,10 +91,12 @@ impl<S: RowStore> Plain<S> {
     /// out nothing changes, and the next `publish` shows the same and what came since. Where nothing waits it takes no
     /// memory. The time is n log(n + m), for n entries that wait and a store of m rows.
     pub fn publish(&mut self) -> Result<u64, Memory>
-        ensures number { IfOk result (λ count. (count ≡ self.new.upto + self.new.more) × (count ≡ self.old.upto + self.old.more + length self.old.waiting)) }
+        ensures number { IfOk result
+            (λ count. (count ≡ self.new.upto + self.new.more) × (count ≡ self.old.upto + self.old.more + length self.old.waiting)) }
         ensures mark { OnOk result (self.new.upto ≡ low_of self.old.gnos) }
         ensures above { OnOk result (self.new.more ≡ count_above self.new.upto self.new.gnos) }
-        ensures in_order { OnOk result (self.old.preserve ≡ true → (self.new.upto ≡ self.old.upto + length self.old.waiting) × (self.new.more ≡ 0)) }
+        ensures in_order { OnOk result
+            (self.old.preserve ≡ true → (self.new.upto ≡ self.old.upto + length self.old.waiting) × (self.new.more ≡ 0)) }
         ensures same { (self.new.preserve ≡ self.old.preserve) × (self.new.gnos ≡ self.old.gnos) }
         ensures contents { OnOk result (S.contents self.new.store ≡ put_batches self.old.waiting (S.contents self.old.store)) }
         ensures all { OnOk result (self.new.waiting ≡ []) }

@@ -18,8 +18,9 @@ use std::sync::Wait;
 use store_trait::{Op, RowStore};
 
 /// It appends commits and publishes them. Contracts see it as the operations that are published, those that wait,
-/// and the history of what readers may see, which is what they see but after a refused `publish`. It is not `Drop`: end it by `close`. A struct that has one repeats its bound. One that lies under a lock
-/// has to be `Drop`, so it keeps the handle too, and closes the publisher in its `drop`.
+/// and the history of what readers may see, which is what they see but after a refused `publish`. It is not `Drop`: end it by `close`.
+/// A struct that has one repeats its bound. One that lies under a lock has to be `Drop`, so it keeps the handle too, and closes the
+/// publisher in its `drop`.
 pub struct Publisher<S: RowStore + Drop, J: Naming>
 where
     Version<S, J>: Absorb<Step<J>, State = Common>,
@@ -41,9 +42,18 @@ where
 
     ghost Value = { Publishing };
 
-    ghost view = { λ p. record { published = p.writer.desk.shown.value.by; waiting = puts_in (drop p.writer.behind p.writer.log.items); history = p.history } };
+    ghost view = { λ p. record {
+      published = p.writer.desk.shown.value.by;
+      waiting = puts_in (drop p.writer.behind p.writer.log.items);
+      history = p.history;
+    } };
 
-    ghost invariant = { λ p. IsTied J.preserve (S.contents p.writer.desk.shown.value.store) (record { published = p.writer.desk.shown.value.by; waiting = puts_in (drop p.writer.behind p.writer.log.items); history = p.history }) p.appended.gnos };
+    ghost invariant = { λ p. IsTied J.preserve (S.contents p.writer.desk.shown.value.store)
+        (record {
+          published = p.writer.desk.shown.value.by;
+          waiting = puts_in (drop p.writer.behind p.writer.log.items);
+          history = p.history;
+        }) p.appended.gnos };
 }
 
 /// What waits and is not in the history.
@@ -116,13 +126,15 @@ impl<S: RowStore + Drop, J: Naming> Publisher<S, J> {
     /// have them, which is at the `publish` after. (It would also answer `Memory` if another had added to the
     /// history, which nobody but this publisher can.)
     pub fn publish<R: Wait>(&mut self, rt: &R) -> Result<u64, Memory>
-        ensures number { IfOk result (λ count. (count ≡ commits_in self.new.published) × (count ≡ commits_in self.old.published + length self.old.waiting)) }
+        ensures number { IfOk result
+            (λ count. (count ≡ commits_in self.new.published) × (count ≡ commits_in self.old.published + length self.old.waiting)) }
         ensures is_history { IsHistory J.preserve self.new.published }
         ensures published { OnOk result (self.new.published ≡ self.old.published ++ self.old.waiting) }
         ensures all { OnOk result (self.new.waiting ≡ []) }
         ensures history { OnOk result (self.new.history ≡ self.new.published) }
         ensures err { OnErr result (self.new ≡ record self.old { history = self.new.history }) }
-        ensures err_history { OnErr result ((self.new.history ≡ self.old.history) ⊎ (self.new.history ≡ self.old.published ++ self.old.waiting)) }
+        ensures err_history { OnErr result
+            ((self.new.history ≡ self.old.history) ⊎ (self.new.history ≡ self.old.published ++ self.old.waiting)) }
     {
         let Some(history) = self.extended() else {
             return Err(Memory);
@@ -188,9 +200,13 @@ fn show<S: RowStore + Drop, J: Naming, R: Wait>(
     writer: &mut StoreWriter<S, J>,
     rt: &R,
 ) -> Result<(), AllocError>
-    requires { Settles (record { rows = S.contents writer.old.desk.shown.value.store; by = writer.old.desk.shown.value.by }) (drop writer.old.behind writer.old.log.items) }
+    requires { Settles (record { rows = S.contents writer.old.desk.shown.value.store; by = writer.old.desk.shown.value.by })
+        (drop writer.old.behind writer.old.log.items) }
     ensures ok { OnOk result (drop writer.new.behind writer.new.log.items ≡ []) }
-    ensures shown { OnOk result (record { rows = S.contents writer.new.desk.shown.value.store; by = writer.new.desk.shown.value.by } ≡ fold after_step (record { rows = S.contents writer.old.desk.shown.value.store; by = writer.old.desk.shown.value.by }) (drop writer.old.behind writer.old.log.items)) }
+    ensures shown { OnOk result
+        (record { rows = S.contents writer.new.desk.shown.value.store; by = writer.new.desk.shown.value.by } ≡ fold after_step
+        (record { rows = S.contents writer.old.desk.shown.value.store; by = writer.old.desk.shown.value.by })
+        (drop writer.old.behind writer.old.log.items)) }
     ensures err { OnErr result (drop writer.new.behind writer.new.log.items ≡ drop writer.old.behind writer.old.log.items) }
     ensures same { OnErr result (writer.new.desk.shown.value ≡ writer.old.desk.shown.value) }
 {

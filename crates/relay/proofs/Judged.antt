@@ -144,7 +144,8 @@ pub accepts_the_acceptable : AcceptsTheAcceptable
 accepts_the_acceptable r from new = (accepted_is_acceptable r from new, λ both. acceptable_is_accepted r from new both.0 both.1)
 
 -- what a record that is accepted is, as it is judged
-pub next_of : (r now : Relay) (from : List ℕ) (new : Record) (answer : Result Received ReplicaFault) → r ≡ now → answer ≡ received now from new → answer ≡ Ok Accepted → (from ≡ r.source) × IsAcceptable r.tables r.accepted new
+pub next_of : (r now : Relay) (from : List ℕ) (new : Record) (answer : Result Received ReplicaFault) → r ≡ now → answer ≡ received now from new → answer ≡ Ok Accepted →
+    (from ≡ r.source) × IsAcceptable r.tables r.accepted new
 next_of r now from new answer same e is = accepted_is_acceptable r from new (ap (λ (q : Relay). received q from new) same ∙ sym e ∙ is)
 
 -- the ids before the next record
@@ -154,7 +155,8 @@ ids_before source from n gno ids same next is =
     is ∙ ap (λ (s : List ℕ). first_ids s n) (sym same) ∙ ap (first_ids from) before
 
 -- the id is put in behind those before it
-pub next_put : (source : List ℕ) (gno : ℕ) (old new : Ids) → 1 ≤ gno → gno < 2 ^ 63 → old ≡ first_ids source (gno - 1) → Adds old new (record { source = source; gno = gno }) → new ≡ first_ids source gno
+pub next_put : (source : List ℕ) (gno : ℕ) (old new : Ids) → 1 ≤ gno → gno < 2 ^ 63 → old ≡ first_ids source (gno - 1) → Adds old new (record { source = source; gno = gno }) →
+    new ≡ first_ids source gno
 next_put source gno old new some few before adds =
     let n = gno - 1 in
     let number : n + 1 ≡ gno = omega arith in

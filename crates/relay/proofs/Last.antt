@@ -16,7 +16,8 @@ use Rattle.record_codec.specs.declared.records.Record.{Record}
 use Rattle.record_codec.specs.Log.{touched, place_of}
 use Rattle.relay.specs.declared.touches.Touch.{Touch}
 use Rattle.relay.specs.Relay.{is_covered, IsAcceptable}
-use Rattle.relay.specs.Touches.{LastTouches, LastMarks, last_of, writes_row, touches_row, states_mark, written_at, touched_at, touch_at, untouched, stated_at, AreLastTouches, AreLastMarks, Notes, NotesMarks, is_behind}
+use Rattle.relay.specs.Touches.{LastTouches, LastMarks, last_of, writes_row, touches_row, states_mark, written_at, touched_at, touch_at, untouched, stated_at, AreLastTouches, AreLastMarks, Notes}
+use Rattle.relay.specs.Touches.{NotesMarks, is_behind}
 use Rattle.relay.specs.Kept.{IsKept}
 use Rattle.relay.proofs.Covered.{AreBehind}
 use Rattle.schema.proofs.Covers.{passed_covers, covers_passes}
@@ -132,7 +133,8 @@ conflict_under : (r new : Record) (log : List Record) → Under (writes new.chan
 conflict_under r new log h conflict =
     by_kind (meets (writes r.changes) (writes new.changes)) (meets (writes r.changes) new.refs) (meets (writes new.changes) r.refs) (meets r.marks new.marks) refl refl refl refl conflict
   where
-    by_kind : (ww wr rw mm : Bool) → meets (writes r.changes) (writes new.changes) ≡ ww → meets (writes r.changes) new.refs ≡ wr → meets (writes new.changes) r.refs ≡ rw → meets r.marks new.marks ≡ mm →
+    by_kind : (ww wr rw mm : Bool) → meets (writes r.changes) (writes new.changes) ≡ ww → meets (writes r.changes) new.refs ≡ wr → meets (writes new.changes) r.refs ≡ rw →
+        meets r.marks new.marks ≡ mm →
         (((ww || wr) || rw) || mm) ≡ true → r.sequence ≤ new.parent
     by_kind true wr rw mm is _ _ _ _ =
         let q = common (writes r.changes) (writes new.changes) is in
@@ -170,8 +172,10 @@ covers_under (r ∷ log) new h =
     record {
       written = λ q is. both_under (touches_row q r) r.sequence (last_of (touches_row q) log) new.parent (λ t. h.0 (touch q is (writes_row q r) refl t)) (rest.written q is);
       referred = λ q is. both_under (writes_row q r) r.sequence (last_of (writes_row q) log) new.parent
-          (λ t. h.0 (by_rows (or_left _ (meets (writes new.changes) r.refs) (or_right (meets (writes r.changes) (writes new.changes)) (meets (writes r.changes) new.refs) (in_common (writes r.changes) new.refs q t is))))) (rest.referred q is);
-      stated = λ mark is. both_under (states_mark mark r) r.sequence (last_of (states_mark mark) log) new.parent (λ t. h.0 (or_right (meet_by_rows r new) (meets r.marks new.marks) (in_common r.marks new.marks mark t is))) (rest.stated mark is);
+          (λ t. h.0 (by_rows (or_left _ (meets (writes new.changes) r.refs) (or_right (meets (writes r.changes) (writes new.changes)) (meets (writes r.changes) new.refs)
+          (in_common (writes r.changes) new.refs q t is))))) (rest.referred q is);
+      stated = λ mark is. both_under (states_mark mark r) r.sequence (last_of (states_mark mark) log) new.parent
+          (λ t. h.0 (or_right (meet_by_rows r new) (meets r.marks new.marks) (in_common r.marks new.marks mark t is))) (rest.stated mark is);
     }
   where
     by_rows : meet_by_rows r new ≡ true → conflicts (touched r) (touched new) ≡ true
@@ -179,7 +183,8 @@ covers_under (r ∷ log) new h =
 
     touch : (q : RowId) → has_row (writes new.changes) q ≡ true → (b : Bool) → writes_row q r ≡ b → (b || has_row r.refs q) ≡ true → conflicts (touched r) (touched new) ≡ true
     touch q is true wrote t =
-        by_rows (or_left _ (meets (writes new.changes) r.refs) (or_left (meets (writes r.changes) (writes new.changes)) (meets (writes r.changes) new.refs) (in_common (writes r.changes) (writes new.changes) q wrote is)))
+        by_rows (or_left _ (meets (writes new.changes) r.refs) (or_left (meets (writes r.changes) (writes new.changes)) (meets (writes r.changes) new.refs)
+        (in_common (writes r.changes) (writes new.changes) q wrote is)))
     touch q is false wrote t =
         by_rows (or_right (meets (writes r.changes) (writes new.changes) || meets (writes r.changes) new.refs) (meets (writes new.changes) r.refs) (in_common (writes new.changes) r.refs q is t))
 
@@ -206,7 +211,8 @@ by_passes : (w r m : Bool) → Passes w r m → (w && r && m) ≡ true
 by_passes w r m p = rw (p.written, p.referred, p.stated)
 
 -- a parent that is no lower than the last touches, and than the last records of the marks, covers the log
-pub behind_covers : (log : List Record) (touches : LastTouches) (marks : LastMarks) (new : Record) → AreLastTouches log touches → AreLastMarks log marks → is_behind touches marks new ≡ is_covered log new
+pub behind_covers : (log : List Record) (touches : LastTouches) (marks : LastMarks) (new : Record) → AreLastTouches log touches → AreLastMarks log marks →
+    is_behind touches marks new ≡ is_covered log new
 behind_covers log touches marks new last stated =
     let tests_written = list_all (λ row. nat_le (touched_at touches row) new.parent) (writes new.changes) in
     let tests_referred = list_all (λ row. nat_le (written_at touches row) new.parent) new.refs in

@@ -92,7 +92,8 @@ kin_are_parents ts (change ∷ changes) db =
     by : (o : Option Database) → ((after : Database) → are_parents ts (kin ts changes after) ≡ true) →
         are_parents ts (option_map_or (λ after. parent_in ts db (target change) ++ parent_in ts after (target change) ++ kin ts changes after) o []) ≡ true
     by None behind = refl
-    by (Some after) behind = three (parent_in ts db (target change)) (parent_in ts after (target change)) (kin ts changes after) (parent_in_is_parent ts db (target change)) (parent_in_is_parent ts after (target change)) (behind after)
+    by (Some after) behind = three (parent_in ts db (target change)) (parent_in ts after (target change)) (kin ts changes after) (parent_in_is_parent ts db (target change))
+        (parent_in_is_parent ts after (target change)) (behind after)
 
 -- refs that are exactly the parent rows that changes look at are of parent tables
 pub refs_are_parents : (ts : List Table) (changes : List Change) (db : Database) (refs : List RowId) → SameRows refs (kin ts changes db) → are_parents ts refs ≡ true

@@ -43,7 +43,8 @@ is_among : (gives : Change → Option RowId) (changes : List Change) (stated : L
 is_among gives [] stated all q is = absurd cc
 is_among gives (change ∷ changes) stated all q is =
     let parts = and_parts (has_given gives stated change) (list_all (has_given gives stated) changes) all in
-    elim (or_cases (has_row (option_to_list (gives change)) q) (has_row (gathered gives changes) q) (sym (list_any-append (same_row q) (option_to_list (gives change)) (gathered gives changes)) ∙ is)) [
+    elim (or_cases (has_row (option_to_list (gives change)) q) (has_row (gathered gives changes) q)
+    (sym (list_any-append (same_row q) (option_to_list (gives change)) (gathered gives changes)) ∙ is)) [
       | inl here ↦ by (gives change) parts.0 here
       | inr there ↦ is_among gives changes stated parts.1 q there
     ]

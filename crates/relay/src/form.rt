@@ -7,7 +7,8 @@ ghost use Rattle.schema.specs.Rows.{has_row};
 ghost use Rattle.rows.specs.Database.{writes};
 ghost use Rattle.rows.specs.Naming.{names_column};
 ghost use Rattle.rows.specs.Given.{given_value as value_given, given_parent as parent_given, given_mark as mark_given};
-ghost use Rattle.relay.specs.Form.{has_flags as flags_fit, are_parents as all_are_parents, has_ref as refers, are_unique as all_are_unique, states_given as states};
+ghost use Rattle.relay.specs.Form.{has_flags as flags_fit, are_parents as all_are_parents, has_ref as refers, are_unique as all_are_unique};
+ghost use Rattle.relay.specs.Form.{states_given as states};
 
 use record_codec::{Marks, Record, Refs};
 use rows::{Change, Named};
@@ -117,7 +118,8 @@ fn given_value(change: &Change, column: u8) -> Option<i64>
 
 /// The value of this column, if it is named.
 fn named_value(columns: &Named, column: u8) -> Option<i64>
-    ensures { result ≡ (if names_column columns.now.mask column then Some (slice_index_or columns.now.values (count_ones (columns.now.mask % 2 ^ column)) (pos 0)) else None) }
+    ensures { result ≡ (if names_column columns.now.mask column
+        then Some (slice_index_or columns.now.values (count_ones (columns.now.mask % 2 ^ column)) (pos 0)) else None) }
 {
     let bits = columns.mask();
     if column >= 16 {

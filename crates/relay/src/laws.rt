@@ -1,6 +1,7 @@
 //! What follows from the definitions alone. Each function states a law by its contract, and does nothing.
 
-ghost use Rattle.relay.specs.Laws.{CoveredByParent, AcceptsTheAcceptable, EmptyIsAcceptable, NextIsAcceptable, BeginningIsAcceptable, PlaceIsNumber, AcceptableStatesGiven, LegalIsAcceptable, ReceivesOfLog};
+ghost use Rattle.relay.specs.Laws.{CoveredByParent, AcceptsTheAcceptable, EmptyIsAcceptable, NextIsAcceptable, BeginningIsAcceptable};
+ghost use Rattle.relay.specs.Laws.{PlaceIsNumber, AcceptableStatesGiven, LegalIsAcceptable, ReceivesOfLog};
 
 /// The test of a parent tells whether it covers the records before.
 pub fn covered()

@@ -43,7 +43,13 @@ impl Model for Touches {
 
     ghost coded = { sheet_code };
 
-    ghost view = { λ t. record { rows = from_entries {R = row_cmp} t.rows.entries; room = spare t.rows; marks = from_entries {R = row_cmp} t.marks.entries; places = spare t.marks } };
+    ghost view = { λ t. record {
+      rows = from_entries {R = row_cmp} t.rows.entries;
+      room = spare t.rows;
+      marks =
+          from_entries {R = row_cmp} t.marks.entries;
+      places = spare t.marks;
+    } };
 }
 
 impl Touches {

@@ -1,5 +1,6 @@
 -- Records that are handed on one after another, and the pieces that they come in.
-use Rattle.std.proofs.Common.{◌≡◌, ◌∙◌, sym, ap, subst, refl, ℕ, ◌+◌, ◌<◌, ◌⊎◌, inl, inr, List, [], ◌∷◌, ◌++◌, length, take, get_or, append_assoc, append-nil, length-append, Result, Ok, Err, IsErrOf, arith}
+use Rattle.std.proofs.Common.{◌≡◌, ◌∙◌, sym, ap, subst, refl, ℕ, ◌+◌, ◌<◌, ◌⊎◌, inl, inr, List, [], ◌∷◌, ◌++◌, length, take, get_or, append_assoc, append-nil, length-append, Result, Ok, Err, IsErrOf}
+use Rattle.std.proofs.Common.{arith}
 use Rattle.std.specs.Prelude.{IsOk}
 use Rattle.std.proofs.lemmas.List.{take_more, nil_from_length}
 use Rattle.record_codec.specs.declared.records.Record.{Record}
@@ -33,7 +34,8 @@ hands-append from r mid then xs ys h k = record {
 }
 
 -- one of them
-pub one_handed : (from : List ℕ) (r then : Replica) (new : Record) (answer : Received) → (IsErrOf (Ok answer) Memory ⊎ (Ok answer ≡ received r from new)) → then ≡ left_by_receive r new answer → HandsAll from r (new ∷ []) then
+pub one_handed : (from : List ℕ) (r then : Replica) (new : Record) (answer : Received) → (IsErrOf (Ok answer) Memory ⊎ (Ok answer ≡ received r from new)) → then ≡ left_by_receive r new answer →
+    HandsAll from r (new ∷ []) then
 one_handed from r then new answer (inl lacks) left = cc
 one_handed from r then new answer (inr is) left = record {
   taken = (subst (λ (a : Result Received ReplicaFault). IsOk a) is refl, tt);
@@ -41,7 +43,8 @@ one_handed from r then new answer (inr is) left = record {
 }
 
 -- the next of a list is handed on too
-pub next_handed : (from : List ℕ) (r mid then : Replica) (records : List Record) (n : ℕ) (new : Record) (answer : Received) → HandsAll from r (take n records) mid → n < length records → new ≡ get_or records n new
+pub next_handed : (from : List ℕ) (r mid then : Replica) (records : List Record) (n : ℕ) (new : Record) (answer : Received) → HandsAll from r (take n records) mid → n < length records →
+    new ≡ get_or records n new
     → (IsErrOf (Ok answer) Memory ⊎ (Ok answer ≡ received mid from new)) → then ≡ left_by_receive mid new answer → HandsAll from r (take (n + 1) records) then
 next_handed from r mid then records n new answer h lt is told left =
     let more : take (n + 1) records ≡ take n records ++ new ∷ [] = take_more records n new lt ∙ ap (λ (x : Record). take n records ++ x ∷ []) (sym is) in
@@ -101,7 +104,8 @@ told_of_piece before (Ok count) = Ok (before + count)
 told_of_piece before (Err fault) = Err (wire.Replica fault)
 
 -- the records that waited are handed on, then the piece is gathered, then what waits is handed on
-pub takes_gathered : (old held full new : Wire) (r mid then : Replica) (piece : List ℕ) (before : ℕ) (answer : Result ℕ ReplicaFault) → Hands old r (Ok before) held mid → Gathers held piece full → Hands full mid answer new then
+pub takes_gathered : (old held full new : Wire) (r mid then : Replica) (piece : List ℕ) (before : ℕ) (answer : Result ℕ ReplicaFault) → Hands old r (Ok before) held mid → Gathers held piece full →
+    Hands full mid answer new then
     → Takes old r piece (told_of_piece before answer) new then
 takes_gathered old held full new r mid then piece before answer first g last = record {
   source = last.source ∙ from;
@@ -140,7 +144,8 @@ takes_gathered old held full new r mid then piece before answer first g last = r
     }
 
 -- where none waited there is nothing to hand on before
-pub takes_first : (old full new : Wire) (r then : Replica) (piece : List ℕ) (answer : Result ℕ ReplicaFault) → old.waiting ≡ [] → Gathers old piece full → Hands full r answer new then → Takes old r piece (told_of_piece 0 answer) new then
+pub takes_first : (old full new : Wire) (r then : Replica) (piece : List ℕ) (answer : Result ℕ ReplicaFault) → old.waiting ≡ [] → Gathers old piece full → Hands full r answer new then →
+    Takes old r piece (told_of_piece 0 answer) new then
 takes_first old full new r then piece answer none g last =
     takes_gathered old old full new r r then piece 0 answer
     (record {
@@ -151,7 +156,8 @@ takes_first old full new r then piece answer none g last =
     g last
 
 -- nothing of a piece is taken behind the records that waited
-pub takes_nothing : (old held new : Wire) (r mid : Replica) (piece : List ℕ) (before : ℕ) (fault : CodecFault) → Hands old r (Ok before) held mid → IsCodecCause held piece fault → new ≡ held → Takes old r piece (Err (wire.Codec fault)) new mid
+pub takes_nothing : (old held new : Wire) (r mid : Replica) (piece : List ℕ) (before : ℕ) (fault : CodecFault) → Hands old r (Ok before) held mid → IsCodecCause held piece fault → new ≡ held →
+    Takes old r piece (Err (wire.Codec fault)) new mid
 takes_nothing old held new r mid piece before fault first cause same =
     subst (λ (w : Wire). Takes old r piece (Err (wire.Codec fault)) w mid) (sym same)
     (record {

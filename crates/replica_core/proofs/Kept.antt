@@ -1,5 +1,6 @@
 -- What a replica keeps, at each of its steps.
-use Rattle.std.proofs.Common.{◌≡◌, ◌∙◌, sym, ap, subst, refl, true≢false, ℕ, ◌+◌, ◌-◌, ◌<◌, ◌≤◌, Bool, true, false, ◌&&◌, ◌||◌, nat_le, eqb, if◌then◌else◌, inl, inr, List, [], ◌∷◌, ◌++◌, map, length, drop, Option, Some, arith, slice_get}
+use Rattle.std.proofs.Common.{◌≡◌, ◌∙◌, sym, ap, subst, refl, true≢false, ℕ, ◌+◌, ◌-◌, ◌<◌, ◌≤◌, Bool, true, false, ◌&&◌, ◌||◌, nat_le, eqb, if◌then◌else◌, inl, inr, List, [], ◌∷◌, ◌++◌, map, length}
+use Rattle.std.proofs.Common.{drop, Option, Some, arith, slice_get}
 use Rattle.std.specs.List.{remove}
 use Rattle.std.specs.Map.{keys_of}
 use Rattle.std.specs.Option.{option_map}
@@ -25,7 +26,8 @@ use Rattle.relay.specs.Relay.{AreAcceptable}
 use Rattle.relay.proofs.Acceptable.{empty_is_acceptable}
 use Rattle.scheduler.specs.Gnos.{has_gno, without, first_gnos, AreDistinct}
 use Rattle.scheduler.specs.Marks.{Marks, is_committed, none_committed}
-use Rattle.scheduler.proofs.Gnos.{has_gno_front, has_gno_behind, distinct_apart_behind, AreDistinct_behind, has_gno-without_same, has_gno_of_without, length-without, distinct_entered, has_gno_entered, distinct_moved_behind, has_gno_moved_behind, distinct_moved_front, has_gno_moved_front, first_gnos-next}
+use Rattle.scheduler.proofs.Gnos.{has_gno_front, has_gno_behind, distinct_apart_behind, AreDistinct_behind, has_gno-without_same, has_gno_of_without, length-without, distinct_entered, has_gno_entered}
+use Rattle.scheduler.proofs.Gnos.{distinct_moved_behind, has_gno_moved_behind, distinct_moved_front, has_gno_moved_front, first_gnos-next}
 use Rattle.scheduler.proofs.Marks.{none_is_committed, low_of_marks, marks_of_more}
 use Rattle.commit_order.specs.Turns.{Line, no_turns, entered, with_result, turn, passed}
 use Rattle.commit_order.proofs.Lines.{gnos_of, turn_has, turn_waits, turn_is_next, gnos-with_result, gnos-passed, all_with_result, all_passed}
@@ -62,7 +64,8 @@ up_to_next n gno = grind (arith, nat_tests)
 
 -- ---- a replica that has accepted nothing
 
-pub kept_new : (ts : List Table) (source : List ℕ) (base : List Entry) (workers : ℕ) (preserve : Bool) (rows : Database) (keys : Keys) → Fits ts rows → loaded base ≡ rows → (NoValueTwice ts (loaded base) → Indexes ts (loaded base) keys) → 1 ≤ workers → workers ≤ 64 →
+pub kept_new : (ts : List Table) (source : List ℕ) (base : List Entry) (workers : ℕ) (preserve : Bool) (rows : Database) (keys : Keys) → Fits ts rows → loaded base ≡ rows →
+    (NoValueTwice ts (loaded base) → Indexes ts (loaded base) keys) → 1 ≤ workers → workers ≤ 64 →
     ArePartsOf (new_over ts source base workers preserve) none_committed (no_turns preserve) [] rows keys []
 kept_new ts source base workers preserve rows keys fits loads indexed some few = record {
   set_up = record { some = some; few = few };
@@ -293,7 +296,8 @@ module _ (r : Replica) (marks : Marks) (line : Line) (handed : List HandedOut) (
 
   -- ---- a stop, or more published
 
-  kept_beside : (published : ℕ) (stopped : Option ℕ) (left : List Op) → IsLogKept (record r { published = published; stopped = stopped }) rows keys left → ArePartsOf r marks line handed rows keys ops →
+  kept_beside : (published : ℕ) (stopped : Option ℕ) (left : List Op) → IsLogKept (record r { published = published; stopped = stopped }) rows keys left →
+      ArePartsOf r marks line handed rows keys ops →
       ArePartsOf (record r { published = published; stopped = stopped }) marks line handed rows keys left
   kept_beside published stopped left log h = record {
     set_up = h.set_up;
@@ -401,7 +405,8 @@ module _ (r : Replica) (marks : Marks) (line : Line) (handed : List HandedOut) (
         }
 
     pub kept_committed : (marks_then : Marks) → ((g : ℕ) → is_committed marks_then g ≡ (is_committed marks g || eqb g result.job.gno)) → is_committed marks_then (marks_then.low + 1) ≡ false →
-        ArePartsOf (with_commit r result.job.gno) marks_then (passed line) handed (put_batch left rows) (moved r.tables (marks_at r.tables (keys_of left) rows) left keys) (ops ++ Commit result.job.gno left ∷ [])
+        ArePartsOf (with_commit r result.job.gno) marks_then (passed line) handed (put_batch left rows) (moved r.tables (marks_at r.tables (keys_of left) rows) left keys)
+        (ops ++ Commit result.job.gno left ∷ [])
     kept_committed marks_then exact greatest =
         let gno = result.job.gno in
         let more = length_push r.commits gno in

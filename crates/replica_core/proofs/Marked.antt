@@ -1,5 +1,6 @@
 -- The ids of the numbers that a scheduler has marked.
-use Rattle.std.proofs.Common.{◌≡◌, ◌∙◌, sym, ap, subst, refl, true≢false, ℕ, zero, suc, ◌+◌, ◌^◌, if◌then◌else◌, ◌==◌, ◌-◌, ◌<◌, ◌≤◌, Bool, true, false, ◌||◌, ◌&&◌, nat_le, eqb, inl, inr, List, [], ◌∷◌, ◌++◌, length, Option, Some, None, is_none, arith}
+use Rattle.std.proofs.Common.{◌≡◌, ◌∙◌, sym, ap, subst, refl, true≢false, ℕ, zero, suc, ◌+◌, ◌^◌, if◌then◌else◌, ◌==◌, ◌-◌, ◌<◌, ◌≤◌, Bool, true, false, ◌||◌, ◌&&◌, nat_le, eqb, inl, inr, List, []}
+use Rattle.std.proofs.Common.{◌∷◌, ◌++◌, length, Option, Some, None, is_none, arith}
 use Rattle.std.specs.Prelude.{IfSome}
 use Rattle.std.proofs.lemmas.Bool.{cases_Bool, cases_eq, and_parts, and_from, and_left, and_right, or_left, ne_eqb, leb-true, le-leb}
 use Rattle.std.proofs.lemmas.Bool.Decides.{nat_tests}
@@ -68,7 +69,8 @@ not_zero n = ne_eqb (suc n) 0 (λ e. omega arith)
 no_intervals : (numbers : List Interval) → AreNumbers numbers → ((n : ℕ) → has_number numbers n ≡ false) → numbers ≡ []
 no_intervals [] are none = refl
 no_intervals (i ∷ rest) are none =
-    absurd (true≢false (sym (or_left (is_within i i.first) (has_number rest i.first) (and_from (nat_le i.first i.first) (nat_le i.first i.last) (le-leb i.first i.first (omega arith)) (le-leb i.first i.last are.1))) ∙ none i.first))
+    absurd (true≢false (sym (or_left (is_within i i.first) (has_number rest i.first)
+    (and_from (nat_le i.first i.first) (nat_le i.first i.last) (le-leb i.first i.first (omega arith)) (le-leb i.first i.last are.1))) ∙ none i.first))
 
 -- so the source is told where there is one
 source_of_none : (ids : Ids) → IsSet ids → ((n : ℕ) → has_number ids.numbers n ≡ false) → ids.source ≡ None

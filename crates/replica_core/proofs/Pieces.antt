@@ -90,7 +90,8 @@ goes_on start now then bytes more old new h takes =
     ap relay_of hands.left ∙ goes.left ∙ ap relay_of (sym (handed-append old.source start h.gone gone)) in
     record {
       gone = h.gone ++ gone;
-      splits = subst (λ (l : List Record). Splits current (bytes ++ more) l new.rest) whole (cuts_do_not_matter current bytes more (h.gone ++ old.waiting) added old.rest new.rest h.splits takes.splits);
+      splits = subst (λ (l : List Record). Splits current (bytes ++ more) l new.rest) whole
+          (cuts_do_not_matter current bytes more (h.gone ++ old.waiting) added old.rest new.rest h.splits takes.splits);
       taken = subst (λ (s : List ℕ). AreTaken s start (h.gone ++ gone)) (sym source) taken;
       accepted = accepted ∙ ap (λ (s : List ℕ). relay_of (handed s start (h.gone ++ gone))) (sym source);
       runs = h.runs;
@@ -115,8 +116,24 @@ takes_on start now then bytes piece old new (Err (wire.Replica fault)) h t =
 takes_on start now then bytes piece old new (Err (wire.Codec fault)) h t =
     let is = t.is in
     goes_on start now then bytes [] old new h
-    (record { source = t.source; gone = old.waiting; hands = is.hands; added = []; split = ap (λ (l : List Record). old.waiting ++ l) (sym is.none); splits = none_more old.rest new.rest h.splits.partial is.rest })
+    (record {
+      source = t.source;
+      gone = old.waiting;
+      hands = is.hands;
+      added = [];
+      split = ap (λ (l : List Record). old.waiting ++ l) (sym is.none);
+      splits =
+          none_more old.rest new.rest h.splits.partial is.rest;
+    })
 takes_on start now then bytes piece old new (Err (wire.Waiting fault)) h t =
     let is = t.is in
     goes_on start now then bytes [] old new h
-    (record { source = t.source; gone = is.hands.gone; hands = is.hands.hands; added = []; split = append-nil old.waiting ∙ is.hands.split; splits = none_more old.rest new.rest h.splits.partial is.rest })
+    (record {
+      source = t.source;
+      gone = is.hands.gone;
+      hands = is.hands.hands;
+      added = [];
+      split = append-nil old.waiting ∙ is.hands.split;
+      splits =
+          none_more old.rest new.rest h.splits.partial is.rest;
+    })

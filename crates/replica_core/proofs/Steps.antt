@@ -1,5 +1,6 @@
 -- What a replica keeps, as each call leaves its parts.
-use Rattle.std.proofs.Common.{◌≡◌, ◌∙◌, sym, ap, subst, refl, ℕ, ◌+◌, ◌-◌, ◌<◌, ◌≤◌, ◌^◌, ◌⊎◌, ◌↔◌, inl, inr, Bool, true, false, not, true≢false, ◌&&◌, ◌||◌, eqb, List, [], ◌∷◌, ◌++◌, map, length, drop, Option, Some, None, is_some, Result, Ok, Err, IfOk, OnErr, IsErrOf, IsErrAnd, arith, slice_get, get_or, if◌then◌else◌, nat_le, nat_lt}
+use Rattle.std.proofs.Common.{◌≡◌, ◌∙◌, sym, ap, subst, refl, ℕ, ◌+◌, ◌-◌, ◌<◌, ◌≤◌, ◌^◌, ◌⊎◌, ◌↔◌, inl, inr, Bool, true, false, not, true≢false, ◌&&◌, ◌||◌, eqb, List, [], ◌∷◌, ◌++◌, map, length}
+use Rattle.std.proofs.Common.{drop, Option, Some, None, is_some, Result, Ok, Err, IfOk, OnErr, IsErrOf, IsErrAnd, arith, slice_get, get_or, if◌then◌else◌, nat_le, nat_lt}
 use Rattle.std.specs.List.{position_or_len, remove}
 use Rattle.std.specs.Map.{keys_of}
 use Rattle.std.specs.Option.{option_and_then, option_map, option_map_or, option_or}
@@ -88,7 +89,8 @@ pub ok_refuses_none : (fault : Option ReplicaFault) (u : Unit {0}) → Ok u ≡ 
 ok_refuses_none None u is = refl
 ok_refuses_none (Some fault) u is = cc
 
-pub judged_err : (r : Replica) (done : Finished) (told : ReplicaFault) (result : Result ℕ ReplicaFault) → IsErrAnd result (λ e. e ≡ told) → finish_fault r done.job.gno ≡ Some told → IsJudged r done result
+pub judged_err : (r : Replica) (done : Finished) (told : ReplicaFault) (result : Result ℕ ReplicaFault) → IsErrAnd result (λ e. e ≡ told) → finish_fault r done.job.gno ≡ Some told →
+    IsJudged r done result
 judged_err r done told (Ok u) is fault = absurd is
 judged_err r done told (Err e) is fault = inl (fault ∙ ap Some (sym is))
 
@@ -146,13 +148,15 @@ pub record AreNew (preserve : Bool) (marks : Marks) (order : List ℕ) (line : L
   pub handed_is : handed ≡ []
   pub ops_are : ops ≡ []
 
-module _ (v : relay.Relay) (base : List Entry) (workers : ℕ) (preserve : Bool) (marks : Marks) (order : List ℕ) (line : Line) (handed : List HandedOut) (rows : Database) (keys : Keys) (ops : List Op) where
+module _ (v : relay.Relay) (base : List Entry) (workers : ℕ) (preserve : Bool) (marks : Marks) (order : List ℕ) (line : Line) (handed : List HandedOut) (rows : Database) (keys : Keys)
+    (ops : List Op) where
   pub new_seen : AreNew preserve marks order line handed ops → v.accepted ≡ [] → seen_as v base marks order 0 line workers None ≡ new_over v.tables v.source base workers preserve
   new_seen are none =
       rw (are.marks_are, are.order_is, are.line_is, none)
       (ap (λ (l : List ℕ). record (new_over v.tables v.source base workers preserve) { commits = l; dispatched = length l + 0 }) (none_seen preserve))
 
-  pub new_kept : AreNew preserve marks order line handed ops → v.accepted ≡ [] → Fits v.tables rows → loaded base ≡ rows → (NoValueTwice v.tables (loaded base) → Indexes v.tables (loaded base) keys) → 1 ≤ workers → workers ≤ 64 →
+  pub new_kept : AreNew preserve marks order line handed ops → v.accepted ≡ [] → Fits v.tables rows → loaded base ≡ rows →
+      (NoValueTwice v.tables (loaded base) → Indexes v.tables (loaded base) keys) → 1 ≤ workers → workers ≤ 64 →
       ArePartsOf (seen_as v base marks order 0 line workers None) marks line handed rows keys ops
   new_kept are none fits loads indexed some few =
       subst (λ (q : Replica). ArePartsOf q marks line handed rows keys ops) (sym (new_seen are none))
@@ -188,7 +192,9 @@ any_order true false false false h = refl
 module _ (r : Replica) (marks : Marks) (line : Line) (handed : List HandedOut) (rows : Database) (keys : Keys) (ops : List Op) where
   -- ---- receive
 
-  pub received_kept : (from : List ℕ) (new : Record) (result : Result Received ReplicaFault) (left : relay.Relay) → ArePartsOf r marks line handed rows keys ops → (IsErrOf result NoMemory ⊎ (result ≡ relay.received (relay_of r) from new)) → IfOk result (λ answer. left ≡ relay.left_by_receive (relay_of r) new answer) → OnErr result (left ≡ relay_of r) → ArePartsOf (with_relay r left) marks line handed rows keys ops
+  pub received_kept : (from : List ℕ) (new : Record) (result : Result Received ReplicaFault) (left : relay.Relay) → ArePartsOf r marks line handed rows keys ops →
+      (IsErrOf result NoMemory ⊎ (result ≡ relay.received (relay_of r) from new)) → IfOk result (λ answer. left ≡ relay.left_by_receive (relay_of r) new answer) → OnErr result (left ≡ relay_of r) →
+      ArePartsOf (with_relay r left) marks line handed rows keys ops
   received_kept from new (Err fault) left h answer ok err = subst (λ (v : relay.Relay). ArePartsOf (with_relay r v) marks line handed rows keys ops) (sym err) h
   received_kept from new (Ok Skipped) left h answer ok err = subst (λ (v : relay.Relay). ArePartsOf (with_relay r v) marks line handed rows keys ops) (sym ok) h
   received_kept from new (Ok Accepted) left h (inl lacks) ok err = cc
@@ -251,7 +257,8 @@ module _ (r : Replica) (marks : Marks) (line : Line) (handed : List HandedOut) (
       ] in
       (found.0, record { got = found.1; parent = leb-true found.0.parent (low_water r) found.2; free = free; near = near })
 
-  pub dispatched_kept : (job : Job) (line_then : Line) (handed_then : List HandedOut) → ArePartsOf r marks line handed rows keys ops → is_eligible r ≡ true → job_of r (r.dispatched + 1) ≡ Some job → line_then ≡ entered line job.gno → handed_then ≡ handed ++ kept_of job ∷ [] →
+  pub dispatched_kept : (job : Job) (line_then : Line) (handed_then : List HandedOut) → ArePartsOf r marks line handed rows keys ops → is_eligible r ≡ true → job_of r (r.dispatched + 1) ≡ Some job →
+      line_then ≡ entered line job.gno → handed_then ≡ handed ++ kept_of job ∷ [] →
       ArePartsOf (dispatched_next r) marks line_then handed_then rows keys ops
   dispatched_kept job line_then handed_then h may made is_line is_handed =
       let next = eligible_next h may in
@@ -289,7 +296,8 @@ module _ (r : Replica) (marks : Marks) (line : Line) (handed : List HandedOut) (
       of_some (Some k) b is = same_Some (Some k) b is
 
   -- a job is the one that was handed out exactly where its record is that of its number, and it has what is kept
-  pub handed_is : (job : Job) (place : ℕ) (rec : Record) (kept : HandedOut) (schema : List Table) (told : Type 0) → ArePartsOf r marks line handed rows keys ops → has_gno r.out job.gno ≡ true → place ≡ place_in r.out job.gno →
+  pub handed_is : (job : Job) (place : ℕ) (rec : Record) (kept : HandedOut) (schema : List Table) (told : Type 0) → ArePartsOf r marks line handed rows keys ops → has_gno r.out job.gno ≡ true →
+      place ≡ place_in r.out job.gno →
       slice_get r.accepted (job.gno - 1) ≡ Some rec → slice_get handed place ≡ Some kept → schema ≡ r.tables →
       (told ↔ ((job.rec ≡ rec) × (job.input ≡ kept.input) × (job.holders ≡ kept.holders) × (job.schema ≡ schema))) → told ↔ (job_of r job.gno ≡ Some job)
   handed_is job place rec kept schema told h out at got there tables tells =
@@ -334,13 +342,15 @@ module _ (r : Replica) (marks : Marks) (line : Line) (handed : List HandedOut) (
   pub judged_within : (result : Finished) (place : ℕ) → ArePartsOf r marks line handed rows keys ops → IsJudged r result (Ok place) → place < length handed
   judged_within result place h judged = place_within result.job.gno place h (out_from r result.job.gno judged.0) judged.2
 
-  pub finished_kept : (result : Finished) (left : List Entry) (place : ℕ) (line_then : Line) (handed_then : List HandedOut) → ArePartsOf r marks line handed rows keys ops → IsJudged r result (Ok place) → IsResult result → result.outcome ≡ Output left → line_then ≡ with_result line result → handed_then ≡ remove handed place →
+  pub finished_kept : (result : Finished) (left : List Entry) (place : ℕ) (line_then : Line) (handed_then : List HandedOut) → ArePartsOf r marks line handed rows keys ops →
+      IsJudged r result (Ok place) → IsResult result → result.outcome ≡ Output left → line_then ≡ with_result line result → handed_then ≡ remove handed place →
       ArePartsOf (with_finished r result.job.gno) marks line_then handed_then rows keys ops
   finished_kept result left place line_then handed_then h judged made is is_line is_handed =
       rw (is_line, is_handed)
       (kept_finished r marks line handed rows keys ops result place h (out_from r result.job.gno judged.0) judged.2 (record { job = judged.1; left = left; output = is; came = made }))
 
-  pub published_kept : (upto : ℕ) (ops_then : List Op) → ArePartsOf r marks line handed rows keys ops → r.published ≤ upto → upto ≤ length r.commits → ops_then ≡ drop (upto - r.published) ops → ArePartsOf (with_published r upto) marks line handed rows keys ops_then
+  pub published_kept : (upto : ℕ) (ops_then : List Op) → ArePartsOf r marks line handed rows keys ops → r.published ≤ upto → upto ≤ length r.commits → ops_then ≡ drop (upto - r.published) ops →
+      ArePartsOf (with_published r upto) marks line handed rows keys ops_then
   published_kept upto ops_then h later done is_ops = rw is_ops (kept_published r marks line handed rows keys ops upto h later done)
 
   -- ---- the next commit
@@ -359,7 +369,9 @@ module _ (r : Replica) (marks : Marks) (line : Line) (handed : List HandedOut) (
   ]
 
   -- each result that was taken has rows
-  turn_told : ArePartsOf r marks line handed rows keys ops → (o : Option Finished) → o ≡ turn line → option_map (λ (ready : ℕ × List Entry). ready.0) (option_and_then (λ (result : Finished). option_map {U = ℕ × List Entry} (λ left. (result.job.gno, left)) (output_of result.outcome)) o) ≡ option_map (λ (result : Finished). result.job.gno) o
+  turn_told : ArePartsOf r marks line handed rows keys ops → (o : Option Finished) → o ≡ turn line →
+      option_map (λ (ready : ℕ × List Entry). ready.0) (option_and_then (λ (result : Finished). option_map {U = ℕ × List Entry} (λ left. (result.job.gno, left)) (output_of result.outcome)) o)
+      ≡ option_map (λ (result : Finished). result.job.gno) o
   turn_told h None is = refl
   turn_told h (Some result) is =
       let taken = turn_has (λ (other : Finished). IsTaken (job_of r other.job.gno) other) line result (sym is) h.results in
@@ -407,7 +419,8 @@ has_turn line gno left is =
     option_and_then_some (λ (result : Finished). option_map {U = ℕ × List Entry} (λ rows. (result.job.gno, rows)) (output_of result.outcome)) (turn line) (gno, left) is
     (λ result at made. of_output result at result.outcome refl made)
   where
-    of_output : (result : Finished) → turn line ≡ Some result → (o : Outcome) → o ≡ result.outcome → option_map {U = ℕ × List Entry} (λ rows. (result.job.gno, rows)) (output_of o) ≡ Some (gno, left) → HasTurn line gno left
+    of_output : (result : Finished) → turn line ≡ Some result → (o : Outcome) → o ≡ result.outcome →
+        option_map {U = ℕ × List Entry} (λ rows. (result.job.gno, rows)) (output_of o) ≡ Some (gno, left) → HasTurn line gno left
     of_output result at (Output entries) same made =
         let both = same_Some (result.job.gno, entries) (gno, left) made in
         record {
@@ -421,7 +434,8 @@ has_turn line gno left is =
     of_output result at Lacks same made = absurd (none-some (gno, left) made)
 
 -- the turn of a record: it was dispatched and is not committed, so it is behind the mark, and near it
-module _ (r : Replica) (marks : Marks) (handed : List HandedOut) (gno : ℕ) (old new : Parts) (h : ArePartsOf r marks old.line handed old.rows old.keys old.ops) (put : CommitsTurn r.tables gno old new) where
+module _ (r : Replica) (marks : Marks) (handed : List HandedOut) (gno : ℕ) (old new : Parts) (h : ArePartsOf r marks old.line handed old.rows old.keys old.ops)
+    (put : CommitsTurn r.tables gno old new) where
   turn_under_way : IsUnderWay r gno
   turn_under_way =
       let now = has_turn old.line gno put.left put.output in
@@ -452,7 +466,8 @@ module _ (r : Replica) (marks : Marks) (handed : List HandedOut) (gno : ℕ) (ol
       let mark = h.counted.low in
       omega arith
 
-module _ (r : Replica) (marks : Marks) (handed : List HandedOut) (gno : ℕ) (old new : Parts) (marks_then : Marks) (h : ArePartsOf r marks old.line handed old.rows old.keys old.ops) (put : CommitsTurn r.tables gno old new)
+module _ (r : Replica) (marks : Marks) (handed : List HandedOut) (gno : ℕ) (old new : Parts) (marks_then : Marks) (h : ArePartsOf r marks old.line handed old.rows old.keys old.ops)
+    (put : CommitsTurn r.tables gno old new)
     (exact : (g : ℕ) → is_committed marks_then g ≡ (is_committed marks g || eqb g gno)) (greatest : is_committed marks_then (marks_then.low + 1) ≡ false) where
   now : HasTurn old.line gno put.left
   now = has_turn old.line gno put.left put.output
@@ -460,8 +475,10 @@ module _ (r : Replica) (marks : Marks) (handed : List HandedOut) (gno : ℕ) (ol
   pub committed_step : ArePartsOf (with_commit r gno) marks_then new.line handed new.rows new.keys new.ops
   committed_step =
       rw (put.line_is, put.rows_are, put.keys_are, put.ops_are)
-      (subst (λ (n : ℕ). ArePartsOf (with_commit r n) marks_then (passed old.line) handed (put_batch put.left old.rows) (moved r.tables (marks_at r.tables (keys_of put.left) old.rows) put.left old.keys) (old.ops ++ Commit n put.left ∷ [])) now.number
-      (kept_committed r marks old.line handed old.rows old.keys old.ops now.result put.left h now.is now.output marks_then (λ g. exact g ∙ ap (λ (n : ℕ). is_committed marks g || eqb g n) (sym now.number)) greatest))
+      (subst (λ (n : ℕ). ArePartsOf (with_commit r n) marks_then (passed old.line) handed (put_batch put.left old.rows)
+      (moved r.tables (marks_at r.tables (keys_of put.left) old.rows) put.left old.keys) (old.ops ++ Commit n put.left ∷ [])) now.number
+      (kept_committed r marks old.line handed old.rows old.keys old.ops now.result put.left h now.is now.output marks_then
+      (λ g. exact g ∙ ap (λ (n : ℕ). is_committed marks g || eqb g n) (sym now.number)) greatest))
 
   -- in the order of the log the mark goes up by one
   goes_up : r.preserve ≡ true → (gno ≡ marks.low + 1) × (marks_then.low ≡ marks.low + 1)
@@ -484,9 +501,11 @@ module _ (r : Replica) (marks : Marks) (handed : List HandedOut) (gno : ℕ) (ol
   pub committed_kept : commits_seen old.line.preserve marks.low old.order ≡ r.commits → ArePartsOf (with_parts r marks_then new.order new.line) marks_then new.line handed new.rows new.keys new.ops
   committed_kept seen = parts_kept (with_commit r gno) marks_then new.order new.line handed new.rows new.keys new.ops committed_step (commits_are seen)
 
-  pub committed_gapped : commits_seen old.line.preserve marks.low old.order ≡ r.commits → ShowsGapped (with_parts r marks_then new.order new.line) (length (commits_seen new.line.preserve marks_then.low new.order))
+  pub committed_gapped : commits_seen old.line.preserve marks.low old.order ≡ r.commits →
+      ShowsGapped (with_parts r marks_then new.order new.line) (length (commits_seen new.line.preserve marks_then.low new.order))
   committed_gapped seen =
-      shows_gapped (with_parts r marks_then new.order new.line) marks_then new.line handed new.rows new.keys new.ops (length (commits_seen new.line.preserve marks_then.low new.order)) (committed_kept seen) (omega arith)
+      shows_gapped (with_parts r marks_then new.order new.line) marks_then new.line handed new.rows new.keys new.ops (length (commits_seen new.line.preserve marks_then.low new.order))
+      (committed_kept seen) (omega arith)
 
 -- what is looked up in a list
 pub got_there : {X : Type 0} (xs : List X) (n : ℕ) (x : X) → n < length xs → x ≡ get_or xs n x → slice_get xs n ≡ Some x

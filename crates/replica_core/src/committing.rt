@@ -22,8 +22,20 @@ pub fn commit_turn<S: RowStore>(
     turns: &mut Turns,
 ) -> Result<Option<u64>, Memory>
     ensures { TakesTurn schema.now result
-        (record { line = turns.old; rows = S.contents stored.old.store; keys = stored.old.index.keys; ops = waiting.old.items; order = order.old.items })
-        (record { line = turns.new; rows = S.contents stored.new.store; keys = stored.new.index.keys; ops = waiting.new.items; order = order.new.items }) }
+        (record {
+          line = turns.old;
+          rows = S.contents stored.old.store;
+          keys = stored.old.index.keys;
+          ops = waiting.old.items;
+          order = order.old.items;
+        })
+        (record {
+          line = turns.new;
+          rows = S.contents stored.new.store;
+          keys = stored.new.index.keys;
+          ops = waiting.new.items;
+          order = order.new.items;
+        }) }
 {
     let Some((gno, batch)) = ready_rows(turns) else {
         return Ok(None);

@@ -1,6 +1,8 @@
 //! What follows from the definitions alone. Each function states a law by its contract, and does nothing.
 
-ghost use Rattle.replica_core.specs.Laws.{OneCommitMore, OneCommitEach, FirstCommits, OperationsLeaveRows, PublishedIsGapped, JobIsOfItsRecord, EachHasJob, JobAgreesNow, JobAgrees, LegalStatesUpTo, JobStays, JobStaysInOrder, JobStaysBehind, OthersLeaveJobs};
+ghost use Rattle.replica_core.specs.Laws.{OneCommitMore, OneCommitEach, FirstCommits, OperationsLeaveRows, PublishedIsGapped};
+ghost use Rattle.replica_core.specs.Laws.{JobIsOfItsRecord, EachHasJob, JobAgreesNow, JobAgrees, LegalStatesUpTo, JobStays};
+ghost use Rattle.replica_core.specs.Laws.{JobStaysInOrder, JobStaysBehind, OthersLeaveJobs};
 ghost use Rattle.gapped.specs.Laws.{LegalIsGapped};
 ghost use Rattle.replica_core.specs.Wire.{NothingTaken, TakesOn};
 

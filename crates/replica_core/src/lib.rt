@@ -15,7 +15,8 @@
 //! value, on `record_codec` and `record_stream` for records, and on `gtid_set` for ids.
 #![tactic(auto)]
 
-ghost use Rattle.std.specs.Prelude.{◌≡◌, ◌+◌, ◌≤◌, ◌<◌, ◌⊎◌, ◌↔◌, IsTrue, length, IfOk, IfSome, OnOk, OnErr, IfErr, IsErrOf, IsSome, None, Some, Err, Ok, is_some, true, false, if◌then◌else◌};
+ghost use Rattle.std.specs.Prelude.{◌≡◌, ◌+◌, ◌≤◌, ◌<◌, ◌⊎◌, ◌↔◌, IsTrue, length, IfOk, IfSome, OnOk, OnErr, IfErr, IsErrOf, IsSome, None};
+ghost use Rattle.std.specs.Prelude.{Some, Err, Ok, is_some, true, false, if◌then◌else◌};
 ghost use Rattle.std.specs.Option.{option_map_or};
 ghost use Rattle.store_trait.specs.Batch.{all_rows};
 ghost use Rattle.store_trait.specs.Fits.{Fits};
@@ -24,7 +25,9 @@ ghost use Rattle.scheduler.specs.Gnos.{has_gno};
 ghost use Rattle.replica_core.specs.Replica.{low_water, working_rows, waiting, job_of};
 ghost use Rattle.replica_core.specs.Sound.{IsSound, ShowsGapped};
 ghost use Rattle.replica_core.specs.Core.{IsJudged, place_in};
-ghost use Rattle.replica_core.specs.Calls.{new_over, unless_stopped, received, left_by_receive, is_eligible, next_job, dispatched_next, finish_fault, IsHandedOut, taken_as, with_finished, left_by_fault, next_commit, with_commit, with_published, stop_fault, AreExecuted, executed_ids};
+ghost use Rattle.replica_core.specs.Calls.{new_over, unless_stopped, received, left_by_receive, is_eligible, next_job, dispatched_next};
+ghost use Rattle.replica_core.specs.Calls.{finish_fault, IsHandedOut, taken_as, with_finished, left_by_fault, next_commit, with_commit};
+ghost use Rattle.replica_core.specs.Calls.{with_published, stop_fault, AreExecuted, executed_ids};
 
 mod committing;
 mod dispatching;

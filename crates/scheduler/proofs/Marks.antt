@@ -102,7 +102,9 @@ module _ (low most : ℕ) (ring : List Bool) (then : ℕ) (left : List Bool) (is
       reached = omega (arith, more);
       above = λ other over within there. elim (cases_eq other (then + 4097)) [
         | inl last ↦ absurd (false≢true (sym (put_same left (then + 1) other false is.within.places (omega (arith, last))) ∙ there))
-        | inr near ↦ is.within.above other (omega (arith, over)) (omega (arith, within, near)) (sym (put_other left (then + 1) other false (λ e. omega (arith, over, same_place then other (then + 1) (omega (arith, over)) (omega (arith, within, near)) (omega arith) (omega arith) e))) ∙ there)
+        | inr near ↦ is.within.above other (omega (arith, over)) (omega (arith, within, near))
+            (sym (put_other left (then + 1) other false (λ e. omega (arith, over, same_place then other (then + 1) (omega (arith, over)) (omega (arith, within, near)) (omega arith) (omega arith) e)))
+            ∙ there)
       ];
     }
 
@@ -205,7 +207,8 @@ low_of_marks marks gnos next marked = sym (low_of_is gnos marks.low (record {
 }))
 
 -- one more
-pub marks_of_more : (old new : Marks) (gnos : List ℕ) (gno : ℕ) → ((g : ℕ) → is_committed new g ≡ (is_committed old g || eqb g gno)) → ((g : ℕ) → 1 ≤ g → is_committed old g ≡ has_gno gnos g) → (g : ℕ) → 1 ≤ g → is_committed new g ≡ has_gno (gnos ++ gno ∷ []) g
+pub marks_of_more : (old new : Marks) (gnos : List ℕ) (gno : ℕ) → ((g : ℕ) → is_committed new g ≡ (is_committed old g || eqb g gno)) → ((g : ℕ) → 1 ≤ g → is_committed old g ≡ has_gno gnos g) →
+    (g : ℕ) → 1 ≤ g → is_committed new g ≡ has_gno (gnos ++ gno ∷ []) g
 marks_of_more old new gnos gno exact marked g h =
     exact g
     ∙ ap (λ b. b || eqb g gno) (marked g h)

@@ -12,5 +12,7 @@ use Rattle.commit_order.proofs.first_behind.Goals as goal
 pub returns : goal.returns
 returns c =
     let first : c.position.result ≡ cond (ltb (first_of c.args.done.now (c.args.last + 1)) (length c.args.done.now)) (Some (first_of c.args.done.now (c.args.last + 1))) None =
-    position_from_yields_List (λ (r : Finished). eqb r.job.gno (c.args.last + 1)) _ _ c.position.result c.position.ensures.ran (YieldsList-from_slice c.args.done.now cc) (λ x b q k. search (rules, tests)) in
-    c.unwrap_or.ensures ∙ ap (λ (o : Option ℕ). unwrap_or o (length c.args.done.now)) first ∙ first_or_all _ _ (prefix_len-le-length (λ (r : Finished). not (eqb r.job.gno (c.args.last + 1))) c.args.done.now)
+    position_from_yields_List (λ (r : Finished). eqb r.job.gno (c.args.last + 1)) _ _ c.position.result c.position.ensures.ran (YieldsList-from_slice c.args.done.now cc)
+    (λ x b q k. search (rules, tests)) in
+    c.unwrap_or.ensures ∙ ap (λ (o : Option ℕ). unwrap_or o (length c.args.done.now)) first
+    ∙ first_or_all _ _ (prefix_len-le-length (λ (r : Finished). not (eqb r.job.gno (c.args.last + 1))) c.args.done.now)

@@ -11,7 +11,8 @@ use Rattle.commit_order.proofs.place_of.Goals as goal
 
 pub returns-clause-value : goal.returns-clause-value
 returns-clause-value c =
-    let first : c.position.result ≡ cond (ltb (position_or_len (λ (n : ℕ). eqb n c.args.gno) c.args.gnos.now) (length c.args.gnos.now)) (Some (position_or_len (λ (n : ℕ). eqb n c.args.gno) c.args.gnos.now)) None =
+    let first : c.position.result ≡ cond (ltb (position_or_len (λ (n : ℕ). eqb n c.args.gno) c.args.gnos.now) (length c.args.gnos.now))
+    (Some (position_or_len (λ (n : ℕ). eqb n c.args.gno) c.args.gnos.now)) None =
     position_from_yields_List (λ (n : ℕ). eqb n c.args.gno) _ _ c.position.result c.position.ensures.ran (YieldsList-from_slice c.args.gnos.now cc) (λ x b q k. search (rules, tests)) in
     c.unwrap_or.ensures ∙ ap (λ (o : Option ℕ). unwrap_or o (length c.args.gnos.now)) first ∙ first_or_all _ _ (prefix_len-le-length (λ (n : ℕ). not (eqb n c.args.gno)) c.args.gnos.now)
 

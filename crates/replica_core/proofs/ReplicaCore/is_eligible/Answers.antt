@@ -23,5 +23,6 @@ pub returns-in-None : goal.returns-in-None
 returns-in-None g c =
     let count = c.dispatched-dispatched.ensures ∙ ap (λ (r : Replica). r.dispatched) (sym c.self.view_is) in
     let none = slice_get_past c.accepted.result.now c.dispatched-dispatched.result c.in-None.ensures.lookup.3 in
-    let was : Replica = seen_as c.self.inside.relay c.self.inside.base c.self.inside.scheduler c.self.inside.order.items c.self.inside.published c.self.inside.turns c.self.inside.workers c.self.inside.stopped in
+    let was : Replica = seen_as c.self.inside.relay c.self.inside.base c.self.inside.scheduler c.self.inside.order.items c.self.inside.published c.self.inside.turns c.self.inside.workers
+    c.self.inside.stopped in
     not_eligible was ((λ i. slice_get (sym c.accepted.ensures.value i) (sym count i)) ∙ none) ∙ ap is_eligible c.self.view_is

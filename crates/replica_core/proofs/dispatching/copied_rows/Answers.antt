@@ -6,5 +6,6 @@ use Rattle.replica_core.proofs.dispatching.copied_rows.Goals as goal
 
 pub from_rising-requires : goal.from_rising-requires
 from_rising-requires g c =
-    subst IsRising (sym (c.in_ok-entries.ensures ∙ ap (map (λ id. (id, get (g.S.RowStore.contents c.args.store.now) id))) c.deref.ensures.value ∙ c.each_once-ids.ensures (g.S.RowStore.contents c.args.store.now)))
+    subst IsRising (sym (c.in_ok-entries.ensures ∙ ap (map (λ id. (id, get (g.S.RowStore.contents c.args.store.now) id))) c.deref.ensures.value
+    ∙ c.each_once-ids.ensures (g.S.RowStore.contents c.args.store.now)))
     (rows_in_rise c.args.ids.items (g.S.RowStore.contents c.args.store.now))

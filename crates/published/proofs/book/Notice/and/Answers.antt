@@ -19,7 +19,9 @@ compare_exchange-found-requires g c =
       ap (λ s. s.book) seen ∙ c.self.invariant.2 ∙ sym (ap (λ w. w.book) h),
       pen.0 ∙ (ap (λ s. s.book) seen ∙ c.self.invariant.2 ∙ sym (ap (λ w. w.book) h)),
       offer.0,
-      rw (ap (λ w. w.key) h, pen.1, offer.1, offer.3, ap (λ s. s.log) seen) (adds_moves c.self.inside.seen.log ops c.self.inside.count c.args.count _ (record { number = sym c.self.invariant.0; begun = begun _ _ c.self.invariant.3; size = size })),
+      rw (ap (λ w. w.key) h, pen.1, offer.1, offer.3, ap (λ s. s.log) seen)
+          (adds_moves c.self.inside.seen.log ops c.self.inside.count c.args.count _
+          (record { number = sym c.self.invariant.0; begun = begun _ _ c.self.invariant.3; size = size })),
     )
 
 pub invariant_of-result : goal.invariant_of-result

@@ -20,4 +20,5 @@ returns-clause-within g c =
 pub returns-clause-above : goal.returns-clause-above
 returns-clause-above g c =
     subst (λ (ops : List Op). count_above c.self.inside.upto (gnos_of ops) + c.self.inside.upto ≡ commits_in ops) c.self.view_is
-    (subst (λ n. count_above n (gnos_of (operations_of c.self.inside.seen.log)) + n ≡ commits_in (operations_of c.self.inside.seen.log)) (sym c.self.invariant.1) (history_above g.J.Naming.preserve (operations_of c.self.inside.seen.log) c.self.invariant.3))
+    (subst (λ n. count_above n (gnos_of (operations_of c.self.inside.seen.log)) + n ≡ commits_in (operations_of c.self.inside.seen.log)) (sym c.self.invariant.1)
+    (history_above g.J.Naming.preserve (operations_of c.self.inside.seen.log) c.self.invariant.3))

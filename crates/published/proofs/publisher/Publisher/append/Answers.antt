@@ -26,7 +26,8 @@ invariant_of-self-2 g c =
     let same : Commit c.in-Commit.gno c.in_ok-batch.batch ≡ op = ap (Commit c.in-Commit.gno) c.in_ok-batch.ensures ∙ sym c.in-Commit.is in
     let longer = ap puts_in c.in_ok-add.ensures.ok ∙ puts_in-put steps (Commit c.in-Commit.gno c.in_ok-batch.batch) ∙ ap (λ o. puts_in steps ++ o ∷ []) same in
     rw c.add.ensures.desk
-    (tied_put _ _ _ _ c.self.inside.appended.gnos c.add-2.new.self.gnos op c.in-Commit.gno c.in-Commit.batch c.self.invariant may c.in-Commit.is longer (rw (← c.room_for.ensures.same) c.add-2.ensures.has) (rw (← c.room_for.ensures.same) c.add-2.ensures.count))
+    (tied_put _ _ _ _ c.self.inside.appended.gnos c.add-2.new.self.gnos op c.in-Commit.gno c.in-Commit.batch c.self.invariant may c.in-Commit.is longer
+    (rw (← c.room_for.ensures.same) c.add-2.ensures.has) (rw (← c.room_for.ensures.same) c.add-2.ensures.count))
 
 pub returns-clause-ok : goal.returns-clause-ok
 returns-clause-ok g c =

@@ -46,4 +46,5 @@ invariant_of-self-2 g c =
     let left = ap (λ (h : Held). h.rows) done ∙ settled ∙ ap (λ (h : Held). left_by h.by) (sym done) in
     let by = ap (λ (h : Held). h.by) done ∙ published_after rows published c.again.result steps after c.in_ok-add.ensures.ok ∙ c.again.ensures in
     rw (ap puts_in c.in_ok-show.ensures.ok)
-    (tied_shown g.J.Naming.preserve rows _ (record p { history = c.in-Some.history }) _ c.self.inside.appended.gnos (tied_known g.J.Naming.preserve rows p c.in-Some.history c.self.inside.appended.gnos tied all) all left by)
+    (tied_shown g.J.Naming.preserve rows _ (record p { history = c.in-Some.history }) _ c.self.inside.appended.gnos
+    (tied_known g.J.Naming.preserve rows p c.in-Some.history c.self.inside.appended.gnos tied all) all left by)
