@@ -7,5 +7,6 @@ mod logs;
 mod makers;
 mod reader;
 mod records;
+mod rotations;
 mod streams;
 mod texts;

@@ -73,7 +73,8 @@ fn answers(device: &mut FileDevice<NotingFile>) -> [bool; 5] {
     ]
 }
 
-/// Makes these calls of a device whose `nth` fails. All before it are made, and none behind it; the file was asked the first `nth`, and holds this.
+/// Makes these calls of a device whose `nth` fails. All before it are made, and none behind it; the file was asked the first
+/// `nth`, and holds this.
 fn fails_at(rt: &(impl Abort + AllocGlobal), nth: usize, left: &[u8]) -> Result<(), Fail> {
     let calls = ["write 0 [1, 2, 3, 4]", "cut 3", "sync", "write 1 [9]"];
     let mut device = device(rt.alloc(), nth as u64, Outcome::Half)?;

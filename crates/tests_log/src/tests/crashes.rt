@@ -101,8 +101,8 @@ fn write_and_open(rt: &(impl Abort + AllocGlobal), device: Crashing) -> Result<(
 }
 
 /// A gate that is opened before its group is kept, or told of before it is kept itself; a group that is written over one that waits; an
-/// `open` that cuts before it has synced, or cuts too much: on a device that fails nowhere, or at a call whose step a crash may leave whole,
-/// in part or not.
+/// `open` that cuts before it has synced, or cuts too much: on a device that fails nowhere, or at a call of which a crash may leave all, a
+/// part or nothing.
 #[test]
 fn what_a_crash_leaves_of_a_log(rt: HostRuntime) -> Result<(), Fail> {
     for nth in 0..16 {

@@ -1,0 +1,220 @@
+//! Files of the form `Three`: what stands at their heads and ends, and a log that goes on in a next one, on devices that fail and
+//! of which a crash leaves a part.
+
+use crate::common::source;
+use crate::tests::logs::append_again;
+use log_device::{CrashDevice, Device, MemoryDevice};
+use log_file::{Form, LogFault, LogFile};
+use record_codec::CodecFault;
+use schema::Memory;
+use std::alloc::Global;
+use std::process::Abort;
+use std::test::Fail;
+use tests_stores::again;
+
+/// The header of a file whose first record is to have the gno 5.
+const HEADER: [u8; 32] = [
+    0x4d, 0x54, 0x52, 0x4c, 0x4f, 0x47, 0x30, 0x33, 0x6d, 0x74, 0x72, 0, 0, 0, 0x40, 0, 0x80, 0, 0,
+    0, 0, 0, 0, 1, 0, 0, 0, 0, 0, 0, 0, 5,
+];
+
+/// The moment behind the three calls that make a file, and the four that put a group on it.
+const AT_REST: usize = 7;
+
+/// The first gno of the file of these bytes, whether it is finished, and how many bytes are left of it.
+fn opened(alloc: Global, header: &[u8], behind: &[u8]) -> Result<(u64, bool, u64), LogFault> {
+    let mut bytes = Vec::with_capacity(alloc, header.len() + behind.len())?;
+    bytes.extend_from_slice(header)?;
+    bytes.extend_from_slice(behind)?;
+    match LogFile::open(alloc, MemoryDevice::of(bytes)) {
+        Ok(file) => Ok((file.first(), file.finished(), file.into_device().len())),
+        Err((fault, _)) => Err(fault),
+    }
+}
+
+/// A file that is finished by a closed gate, or by one behind which something stands; a header that is read in part.
+#[test]
+fn a_file_ends_with_its_last_gate_again(rt: HostRuntime) -> Result<(), Fail> {
+    let short = Err(LogFault::Codec(CodecFault::Short));
+    for (behind, wanted) in [
+        ([0].as_slice(), Ok((5, false, 33))),
+        ([0, 1].as_slice(), Ok((5, false, 33))),
+        ([1].as_slice(), Ok((5, true, 33))),
+        ([7].as_slice(), Ok((5, true, 33))),
+        ([1, 0].as_slice(), short),
+        ([].as_slice(), short),
+    ] {
+        assert_eq!(rt;
+            again!(LogFault::Memory => opened(rt.alloc(), &HEADER, behind)),
+            wanted
+        );
+    }
+    assert_eq!(rt;
+        again!(LogFault::Memory => opened(rt.alloc(), &HEADER[..31], &[])),
+        Err(LogFault::BadMagic)
+    );
+    Ok(())
+}
+
+/// An open gate that finishes a log of an older form.
+#[test]
+fn older_forms_know_no_finished_log_again(rt: HostRuntime) -> Result<(), Fail> {
+    for form in [b'1', b'2'] {
+        let mut header = HEADER;
+        header[7] = form;
+        let told = again!(LogFault::Memory => opened(rt.alloc(), &header[..24], &[1]));
+        assert_eq!(rt; told, Err(LogFault::Codec(CodecFault::Short)));
+    }
+    Ok(())
+}
+
+/// A finished file, without records, whose next record would have the gno 5.
+fn finished(alloc: Global) -> Result<LogFile<MemoryDevice>, LogFault> {
+    let mut bytes = Vec::with_capacity(alloc, 33)?;
+    bytes.extend_from_slice(&HEADER)?;
+    bytes.push(1)?;
+    LogFile::open(alloc, MemoryDevice::of(bytes)).map_err(|e| e.0)
+}
+
+/// A group that is put behind the gate that finishes a file, or one that is told of as closed.
+#[test]
+fn a_finished_file_takes_nothing_more_again(rt: HostRuntime) -> Result<(), Fail> {
+    let mut file = again!(LogFault::Memory => finished(rt.alloc()))?;
+    assert_eq!(rt;
+        append_again(rt.alloc(), &mut file, 5),
+        Err(LogFault::OutOfTurn)
+    );
+    assert_eq!(rt; file.sync(), Ok(()));
+    assert_eq!(rt; again!(file.text(rt.alloc()))?.last().copied(), Some(1));
+    Ok(())
+}
+
+/// Two devices, the last file's and the next one's, and why the log did not go on, where it did not.
+#[derive(Drop)]
+struct Rotated {
+    old: CrashDevice,
+    next: CrashDevice,
+    fault: Option<LogFault>,
+}
+
+/// Goes on in a next file on a device.
+fn rotate(log: LogFile<CrashDevice>, next: CrashDevice) -> Result<Rotated, Memory> {
+    if log.form() != Form::Three {
+        return Err(Memory);
+    }
+    let (_, writer) = log.split();
+    let mut writer = writer;
+    match writer.rotate(next) {
+        Ok(old) => Ok(Rotated {
+            old,
+            next: writer.into_device(),
+            fault: None,
+        }),
+        Err((fault, next)) => Ok(Rotated {
+            old: writer.into_device(),
+            next,
+            fault: Some(fault),
+        }),
+    }
+}
+
+/// A file of one record, on a device whose `nth` call fails.
+fn of_one(alloc: Global, nth: u64) -> Result<LogFile<CrashDevice>, LogFault> {
+    let device = CrashDevice::failing(alloc, nth);
+    match LogFile::create_from(alloc, device, source(), 1) {
+        Ok(log) => {
+            let mut log = log;
+            append_again(alloc, &mut log, 1)?;
+            log.sync()?;
+            Ok(log)
+        }
+        Err((fault, _)) => Err(fault),
+    }
+}
+
+/// Opens both files: the old one has its record, and where it is finished the next one goes on behind that.
+fn open_both(rt: &(impl Abort + AllocGlobal), old: Vec<u8>, next: &[u8]) -> Result<(), Fail> {
+    let alloc = rt.alloc();
+    let file = LogFile::open(alloc, MemoryDevice::of(old)).map_err(|e| e.0)?;
+    assert_eq!(rt; (file.first(), file.records().len()), (1, 1));
+    if file.finished() {
+        let next = MemoryDevice::of(next.to_vec(alloc)?);
+        let file = LogFile::open(alloc, next).map_err(|e| e.0)?;
+        assert_eq!(rt;
+            (file.first(), file.finished(), file.records().len()),
+            (2, false, 0)
+        );
+    }
+    Ok(())
+}
+
+/// Opens what a crash may have left at a moment of the old file, beside this content of the next one.
+fn open_olds(
+    rt: &(impl Abort + AllocGlobal),
+    old: &CrashDevice,
+    moment: usize,
+    next: &[u8],
+) -> Result<(), Fail> {
+    for image in old.images(moment)? {
+        open_both(rt, image, next)?;
+    }
+    Ok(())
+}
+
+/// The same, beside what a crash may have left at a moment of the next one.
+fn open_pairs(
+    rt: &(impl Abort + AllocGlobal),
+    rotated: &Rotated,
+    moment: usize,
+    next_moment: usize,
+) -> Result<(), Fail> {
+    for image in rotated.next.images(next_moment)? {
+        open_olds(rt, &rotated.old, moment, &image)?;
+    }
+    Ok(())
+}
+
+/// Opens what a crash may have left at each moment: as the next file is made the old one is at rest, and as that is finished the
+/// next one is.
+fn open_each_moment(rt: &(impl Abort + AllocGlobal), rotated: &Rotated) -> Result<(), Fail> {
+    let (moments, made) = (rotated.old.moments(), rotated.next.moments());
+    for next_moment in 0..made {
+        open_pairs(rt, rotated, AT_REST, next_moment)?;
+    }
+    for moment in AT_REST..moments {
+        open_pairs(rt, rotated, moment, made.saturating_sub(1))?;
+    }
+    Ok(())
+}
+
+/// A file that is finished before the next one is made and kept, or whose next one is not kept: on devices that fail nowhere, or at each
+/// call of the rotation.
+#[test]
+fn what_a_crash_leaves_of_a_rotation(rt: HostRuntime) -> Result<(), Fail> {
+    for (old, next) in [(0, 0), (8, 0), (9, 0), (0, 1), (0, 2), (0, 3)] {
+        let log = of_one(rt.alloc(), old)?;
+        let rotated = rotate(log, CrashDevice::failing(rt.alloc(), next))?;
+        let wanted = if old + next == 0 {
+            None
+        } else {
+            Some(LogFault::Device)
+        };
+        assert_eq!(rt; rotated.fault, wanted, "calls {old} and {next}");
+        open_each_moment(&rt, &rotated)?;
+    }
+    Ok(())
+}
+
+/// A log that goes on in a file that begins with another gno than the next.
+#[test]
+fn a_log_goes_on_in_a_next_file(rt: HostRuntime) -> Result<(), Fail> {
+    let log = of_one(rt.alloc(), 0)?;
+    let rotated = rotate(log, CrashDevice::new(rt.alloc()))?;
+    let mut file = LogFile::open(rt.alloc(), rotated.next).map_err(|e| e.0)?;
+    append_again(rt.alloc(), &mut file, 2)?;
+    file.sync()?;
+    assert_eq!(rt; (file.first(), file.records().len()), (2, 1));
+    let old = LogFile::open(rt.alloc(), rotated.old).map_err(|e| e.0)?;
+    assert_eq!(rt; (old.finished(), old.records().len()), (true, 1));
+    Ok(())
+}
