@@ -1,5 +1,39 @@
 -- Which commits are there of those that are waited for.
-use Rattle.std.proofs.Common.{◌≡◌, ◌∙◌, sym, ap, subst, refl, ℕ, zero, suc, ◌+◌, ◌-◌, ◌<◌, ◌≤◌, inl, inr, Bool, true, false, not, ◌&&◌, ◌||◌, nat_le, max, List, [], ◌∷◌, ◌++◌, take, drop, Option, Some, None, arith}
+use Rattle.std.proofs.Common.{
+  ◌≡◌,
+  ◌∙◌,
+  sym,
+  ap,
+  subst,
+  refl,
+  ℕ,
+  zero,
+  suc,
+  ◌+◌,
+  ◌-◌,
+  ◌<◌,
+  ◌≤◌,
+  inl,
+  inr,
+  Bool,
+  true,
+  false,
+  not,
+  ◌&&◌,
+  ◌||◌,
+  nat_le,
+  max,
+  List,
+  [],
+  ◌∷◌,
+  ◌++◌,
+  take,
+  drop,
+  Option,
+  Some,
+  None,
+  arith,
+}
 use Rattle.std.specs.List.{list_any, AllByRecursion}
 use Rattle.std.specs.Prelude.{MatchOption, unwrap_or}
 use Rattle.std.proofs.lemmas.Bool.{cases_eq, cases_Bool, true≢false, and_parts, and_from, or_cases, or_left, or_right, le-leb, leb-true, leb-false, eqb-true}
@@ -22,6 +56,7 @@ same_truth true b to from = sym (to refl)
 same_truth false true to from = from refl
 same_truth false false to from = refl
 
+-- what is not true is false
 pub not_true : (b : Bool) → (b ≡ true → ⊥) → b ≡ false
 not_true true never = absurd (never refl)
 not_true false never = refl
@@ -94,7 +129,8 @@ pub each_below_low : (gnos : List ℕ) (i : Interval) → 1 ≤ i.first → i.la
 each_below_low gnos i one below = each_of gnos i (λ gno low high. below_low gnos gno (omega arith) (omega arith))
 
 -- the numbers from the first that is not below another one on are enough, where all before that are there
-pub each_from : (gnos : List ℕ) (i : Interval) (from : ℕ) → ((gno : ℕ) → i.first ≤ gno → gno < from → has_gno gnos gno ≡ true) → ((gno : ℕ) → from ≤ gno → gno ≤ i.last → has_gno gnos gno ≡ true) → has_each gnos i ≡ true
+pub each_from : (gnos : List ℕ) (i : Interval) (from : ℕ) → ((gno : ℕ) → i.first ≤ gno → gno < from → has_gno gnos gno ≡ true)
+    → ((gno : ℕ) → from ≤ gno → gno ≤ i.last → has_gno gnos gno ≡ true) → has_each gnos i ≡ true
 each_from gnos i from front back = each_of gnos i (λ gno low high. elim (cases_Bool (nat_le from gno)) [
   | inl behind ↦ back gno (leb-true from gno behind) high
   | inr before ↦ front gno low (leb-false from gno before)
@@ -143,7 +179,8 @@ front_has gnos n i distinct one = same_truth (has_each (take n gnos) i) _ to fro
     to : has_each (take n gnos) i ≡ true → (nat_le i.last (low_of (take n gnos)) || (has_each gnos i && not (list_any (is_within i) (drop n gnos)))) ≡ true
     to is =
         let all = each_of gnos i (λ gno low high. has_gno-take n gnos gno (each_has (take n gnos) i gno is low high)) in
-        or_right (nat_le i.last (low_of (take n gnos))) (has_each gnos i && not (list_any (is_within i) (drop n gnos))) (and_from (has_each gnos i) (not (list_any (is_within i) (drop n gnos))) all (ap not (none is)))
+        or_right (nat_le i.last (low_of (take n gnos))) (has_each gnos i && not (list_any (is_within i) (drop n gnos)))
+        (and_from (has_each gnos i) (not (list_any (is_within i) (drop n gnos))) all (ap not (none is)))
 
     behind_too : (gno : ℕ) → is_within i gno ≡ true → list_any (is_within i) (drop n gnos) ≡ false → has_gno gnos gno ≡ true → has_gno (take n gnos) gno ≡ true
     behind_too gno within none_behind has = elim (has_gno_cases (take n gnos) (drop n gnos) gno (subst (λ l. has_gno l gno ≡ true) (sym both) has)) [
@@ -157,7 +194,9 @@ front_has gnos n i distinct one = same_truth (has_each (take n gnos) i) _ to fro
 
     all_in_front : (has_each gnos i ≡ true) × (not (list_any (is_within i) (drop n gnos)) ≡ true) → has_each (take n gnos) i ≡ true
     all_in_front parts =
-        each_of (take n gnos) i (λ gno low high. behind_too gno (and_from (nat_le i.first gno) (nat_le gno i.last) (le-leb i.first gno low) (le-leb gno i.last high)) (not_any _ parts.1) (each_has gnos i gno parts.0 low high))
+        each_of (take n gnos) i
+        (λ gno low high. behind_too gno (and_from (nat_le i.first gno) (nat_le gno i.last) (le-leb i.first gno low) (le-leb gno i.last high)) (not_any _ parts.1)
+        (each_has gnos i gno parts.0 low high))
 
     from : (nat_le i.last (low_of (take n gnos)) || (has_each gnos i && not (list_any (is_within i) (drop n gnos)))) ≡ true → has_each (take n gnos) i ≡ true
     from is = elim (or_cases (nat_le i.last (low_of (take n gnos))) _ is) [
@@ -169,9 +208,11 @@ front_has gnos n i distinct one = same_truth (has_each (take n gnos) i) _ to fro
 pub told_front : (a b c h : Bool) → h ≡ (a || (b && not c)) → a ≡ true → h ≡ true
 told_front a b c h is front = is ∙ ap (λ x. x || (b && not c)) front
 
+-- the test is the last part where the first fails and the second holds
 pub told_last : (a b c h : Bool) → h ≡ (a || (b && not c)) → a ≡ false → b ≡ true → h ≡ not c
 told_last a b c h is front whole = is ∙ ap (λ x. x || (b && not c)) front ∙ ap (λ x. x && not c) whole
 
+-- and false where both fail
 pub told_none : (a b c h : Bool) → h ≡ (a || (b && not c)) → a ≡ false → b ≡ false → h ≡ false
 told_none a b c h is front none = is ∙ ap (λ x. x || (b && not c)) front ∙ ap (λ x. x && not c) none
 
@@ -182,7 +223,8 @@ pub in_front : (gnos : List ℕ) (first low from : ℕ) → 1 ≤ first → low 
 in_front gnos first low from one is at gno above below = below_low gnos gno (omega arith) (omega (arith, is, at))
 
 -- with those that were looked at, and the last, all are there or one is not
-pub walked : (gnos : List ℕ) (i : Interval) (from : ℕ) (last : Bool) → ((gno : ℕ) → i.first ≤ gno → gno < from → has_gno gnos gno ≡ true) → ((gno : ℕ) → from ≤ gno → gno < i.last → has_gno gnos gno ≡ true) → i.first ≤ i.last
+pub walked : (gnos : List ℕ) (i : Interval) (from : ℕ) (last : Bool) → ((gno : ℕ) → i.first ≤ gno → gno < from → has_gno gnos gno ≡ true)
+    → ((gno : ℕ) → from ≤ gno → gno < i.last → has_gno gnos gno ≡ true) → i.first ≤ i.last
     → last ≡ has_gno gnos i.last → last ≡ has_each gnos i
 walked gnos i from false front between rising is = sym (each_not gnos i i.last rising (omega arith) (sym is))
 walked gnos i from true front between rising is = sym (each_from gnos i from front (λ gno low high. elim (cases_eq gno i.last) [
@@ -208,6 +250,7 @@ pub record AllLack (gnos : List ℕ) (is : List Interval) : Type 0 where
   pub has : has_number is gno ≡ true
   pub lacks : has_gno gnos gno ≡ false
 
+-- where not all numbers of the intervals are there, one of them is not
 pub all_lack : (gnos : List ℕ) (is : List Interval) → has_all gnos is ≡ false → AllLack gnos is
 all_lack gnos [] all = absurd (true≢false all)
 all_lack gnos (i ∷ is) all = by_first (has_each gnos i) refl all (λ rest. all_lack gnos is rest)
@@ -225,6 +268,7 @@ rise_from : (low : ℕ) (is : List Interval) → 1 ≤ low → RiseFrom low is �
 rise_from low [] one rise = tt
 rise_from low (i ∷ is) one rise = let first = rise.0 in (omega arith, rise_from (i.last + 2) is (omega arith) rise.3)
 
+-- the intervals of a set begin at 1 or above
 pub set_from_one : (ids : Ids) (is : List Interval) → is ≡ ids.numbers → IsSet ids → AllByRecursion (λ (i : Interval). 1 ≤ i.first) is
 set_from_one ids is same set = subst (AllByRecursion (λ (i : Interval). 1 ≤ i.first)) (sym same) (rise_from 1 ids.numbers (omega arith) set.numbers)
 
@@ -235,6 +279,7 @@ numbers_from_one (i ∷ is) gno ones has = elim (or_cases (is_within i gno) (has
   | inr behind ↦ numbers_from_one is gno ones.1 behind
 ]
 
+-- so do its numbers
 pub set_numbers_from_one : (ids : Ids) (gno : ℕ) → IsSet ids → has_number ids.numbers gno ≡ true → 1 ≤ gno
 set_numbers_from_one ids gno set has = numbers_from_one ids.numbers gno (rise_from 1 ids.numbers (omega arith) set.numbers) has
 
@@ -243,9 +288,11 @@ set_numbers_from_one ids gno set has = numbers_from_one ids.numbers gno (rise_fr
 first_all : (gnos : List ℕ) (n : ℕ) → has_all gnos (up_to n) ≡ true → (gno : ℕ) → 1 ≤ gno → gno ≤ n → has_gno gnos gno ≡ true
 first_all gnos n all gno low high = each_has gnos (record { first = 1; last = n }) gno (and_parts (has_each gnos (record { first = 1; last = n })) true all).0 low high
 
+-- where all numbers up to one are there, the mark is that one at least
 pub up_to_low : (gnos : List ℕ) (n : ℕ) → has_all gnos (up_to n) ≡ true → n ≤ low_of gnos
 up_to_low gnos n all = low_reaches gnos n (first_all gnos n all)
 
+-- and where not all are, the mark is below it
 pub not_up_to_low : (gnos : List ℕ) (n : ℕ) → has_all gnos (up_to n) ≡ false → low_of gnos < n
 not_up_to_low gnos n all = by_order (nat_le n (low_of gnos)) refl
   where
@@ -257,7 +304,8 @@ not_up_to_low gnos n all = by_order (nat_le n (low_of gnos)) refl
     by_order true under = absurd (true≢false (sym (and_from (has_each gnos i) true (each_below_low gnos i (omega arith) (leb-true n (low_of gnos) under)) refl) ∙ all))
 
 -- where they are there so are all of a set whose greatest it is
-pub set_among : (gnos : List ℕ) (ids : Ids) (greatest : Option ℕ) (n : ℕ) → IsSet ids → MatchOption greatest (ids ≡ no_ids) (IsGreatest ids.numbers) → n ≡ unwrap_or greatest 0 → has_all gnos (up_to n) ≡ true → AreAmong gnos ids
+pub set_among : (gnos : List ℕ) (ids : Ids) (greatest : Option ℕ) (n : ℕ) → IsSet ids → MatchOption greatest (ids ≡ no_ids) (IsGreatest ids.numbers) → n ≡ unwrap_or greatest 0
+    → has_all gnos (up_to n) ≡ true → AreAmong gnos ids
 set_among gnos ids (Some m) n set most is all gno has =
     let low = set_numbers_from_one ids gno set has in
     let high = most.most gno has in
@@ -282,4 +330,7 @@ in_order_behind preserve ops gno order h one lacks = by_order (nat_le gno (commi
 
     by_order : (b : Bool) → nat_le gno (commits_in ops) ≡ b → commits_in ops < gno
     by_order false over = leb-false gno (commits_in ops) over
-    by_order true under = absurd (true≢false (sym (ap (λ l. has_gno l gno) is ∙ has_first (commits_in ops) gno ∙ and_from (nat_le 1 gno) (nat_le gno (commits_in ops)) (le-leb 1 gno one) under) ∙ lacks))
+    by_order true under =
+        absurd
+        (true≢false
+        (sym (ap (λ l. has_gno l gno) is ∙ has_first (commits_in ops) gno ∙ and_from (nat_le 1 gno) (nat_le gno (commits_in ops)) (le-leb 1 gno one) under) ∙ lacks))

@@ -16,6 +16,7 @@ use Rattle.replica_core.proofs.Commits.{first_commits}
 
 -- ---- lists
 
+-- a beginning is no longer than the list
 pub prefix_length : (xs ys : List Op) → IsPrefix xs ys → length xs ≤ length ys
 prefix_length xs ys p = omega (arith, length-append xs p.0, ap length p.1)
 
@@ -45,9 +46,11 @@ prefix_of_longer (x ∷ xs) (y ∷ ys) [] p q le = absurd (cc (p.1))
 prefix_of_longer (x ∷ xs) (y ∷ ys) (z ∷ whole) p q le =
     let rest = prefix_of_longer xs ys whole (p.0, cc (p.1)) (q.0, cc (q.1)) (omega arith) in cc (p.1, q.1, rest)
 
+-- what begins a beginning begins the list
 pub front : (xs ys zs : List Op) → IsPrefix (xs ++ ys) zs → IsPrefix xs zs
 front xs ys zs p = (ys ++ p.0, sym (append_assoc xs ys p.0) ∙ p.1)
 
+-- behind so many the places are counted on from there
 pub slice_get-drop : (n k : ℕ) (xs : List Op) → slice_get (drop n xs) k ≡ slice_get xs (n + k)
 slice_get-drop zero k xs = ap (slice_get xs) (omega arith)
 slice_get-drop (suc n) k [] = refl
@@ -78,6 +81,7 @@ AreCommits [] = Unit {0}
 AreCommits (Load base ∷ ops) = ⊥
 AreCommits (Commit gno batch ∷ ops) = AreCommits ops
 
+-- the operations of records are commits alone
 pub commits_alone : (ts : List Table) (db : Database) (xs : List Record) → AreCommits (commits_from ts db xs)
 commits_alone ts db [] = tt
 commits_alone ts db (x ∷ xs) =
@@ -115,6 +119,7 @@ first_operations ts base records n m le =
     let number : suc n ≡ n + 1 = omega arith in
     ap (λ l. Load base ∷ l) same ∙ ap (λ k. take k (operations ts base records m)) number
 
+-- so they begin them
 pub prefix_operations : (ts : List Table) (base : List Entry) (records : List Record) (n m : ℕ) → n ≤ m → IsPrefix (operations ts base records n) (operations ts base records m)
 prefix_operations ts base records n m le =
     subst (λ l. IsPrefix l (operations ts base records m)) (sym (first_operations ts base records n m le)) (prefix_take (n + 1) (operations ts base records m))

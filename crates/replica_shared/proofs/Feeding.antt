@@ -1,5 +1,36 @@
 -- What the core, and what stands with it, are once a wire took a piece.
-use Rattle.std.proofs.Common.{◌≡◌, ◌∙◌, sym, ap, subst, refl, ℕ, ◌<◌, ◌≤◌, inl, Bool, true, false, ◌||◌, nat_eq, nat_lt, List, [], ◌∷◌, ◌++◌, length, length-append, append-nil, Option, Some, None, Result, Ok, Err, arith}
+use Rattle.std.proofs.Common.{
+  ◌≡◌,
+  ◌∙◌,
+  sym,
+  ap,
+  subst,
+  refl,
+  ℕ,
+  ◌<◌,
+  ◌≤◌,
+  inl,
+  Bool,
+  true,
+  false,
+  ◌||◌,
+  nat_eq,
+  nat_lt,
+  List,
+  [],
+  ◌∷◌,
+  ◌++◌,
+  length,
+  length-append,
+  append-nil,
+  Option,
+  Some,
+  None,
+  Result,
+  Ok,
+  Err,
+  arith,
+}
 use Rattle.std.specs.Prelude.{IsOk}
 use Rattle.std.specs.Option.{option_map_or}
 use Rattle.std.proofs.Math.Bool.{or-false}
@@ -54,12 +85,15 @@ hands_where_running : (from : List ℕ) (r then : Replica) (records : List Recor
 hands_where_running from r then [] h more = let same = ap (λ (q : Replica). length q.accepted) h.left in absurd (omega arith)
 hands_where_running from r then (x ∷ records) h more = runs r.stopped _ h.taken.0
 
-pub takes_where_running : (old new : Wire) (r then : Replica) (piece : List ℕ) (answer : Result ℕ WireFault) → Takes old r piece answer new then → length r.accepted < length then.accepted → r.stopped ≡ None
+-- a piece by which more is accepted met a replica that runs
+pub takes_where_running : (old new : Wire) (r then : Replica) (piece : List ℕ) (answer : Result ℕ WireFault) → Takes old r piece answer new then
+    → length r.accepted < length then.accepted → r.stopped ≡ None
 takes_where_running old new r then piece (Ok count) h more = let is = h.is in hands_where_running old.source r then (old.waiting ++ is.added) is.hands more
 takes_where_running old new r then piece (Err (wire.Replica fault)) h more = let is = h.is in hands_where_running old.source r then is.hands.gone is.hands.hands more
 takes_where_running old new r then piece (Err (wire.Codec fault)) h more = let is = h.is in hands_where_running old.source r then old.waiting is.hands more
 takes_where_running old new r then piece (Err (wire.Waiting fault)) h more = let is = h.is in hands_where_running old.source r then is.hands.gone is.hands.hands more
 
+-- so did records that waited and were handed on
 pub hands_where_running_as : (old new : Wire) (r then : Replica) (answer : Result ℕ WireFault) → HandsAs old r answer new then → length r.accepted < length then.accepted → r.stopped ≡ None
 hands_where_running_as old new r then (Ok count) h more = hands_where_running old.source r then old.waiting h.is.0 more
 hands_where_running_as old new r then (Err (wire.Replica fault)) h more = hands_where_running old.source r then h.is.gone h.is.hands more
@@ -67,12 +101,14 @@ hands_where_running_as old new r then (Err (wire.Codec fault)) h more = absurd h
 hands_where_running_as old new r then (Err (wire.Waiting fault)) h more = absurd h
 
 -- a replica that accepted more runs still
-pub still_running : (r then : Replica) (before : ℕ) → Grows r then → (length r.accepted < length then.accepted → r.stopped ≡ None) → before ≡ length r.accepted → before < length then.accepted → then.stopped ≡ None
+pub still_running : (r then : Replica) (before : ℕ) → Grows r then → (length r.accepted < length then.accepted → r.stopped ≡ None) → before ≡ length r.accepted
+    → before < length then.accepted → then.stopped ≡ None
 still_running r then before grows running was more =
     ap (λ (q : Replica). q.stopped) grows.is ∙ running (subst (λ n. n < length then.accepted) was more)
 
 -- ---- a piece that was gathered
 
+-- records that are handed on let a replica grow, and do nothing else to it
 pub hands_grow_as : (old new : Wire) (r then : Replica) (answer : Result ℕ WireFault) → HandsAs old r answer new then → Grows r then
 hands_grow_as old new r then (Ok count) h = hands_on_grow old new r then (Ok count) h
 hands_grow_as old new r then (Err (wire.Replica fault)) h = hands_on_grow old new r then (Err fault) h
@@ -80,7 +116,8 @@ hands_grow_as old new r then (Err (wire.Codec fault)) h = absurd h
 hands_grow_as old new r then (Err (wire.Waiting fault)) h = absurd h
 
 -- is taken as a whole piece is
-pub hands_take : (old full new : Wire) (r then : Replica) (piece : List ℕ) (answer : Result ℕ WireFault) → old.waiting ≡ [] → Gathers old piece full → HandsAs full r answer new then → Takes old r piece answer new then
+pub hands_take : (old full new : Wire) (r then : Replica) (piece : List ℕ) (answer : Result ℕ WireFault) → old.waiting ≡ [] → Gathers old piece full
+    → HandsAs full r answer new then → Takes old r piece answer new then
 hands_take old full new r then piece (Ok count) none g h = subst (λ n. Takes old r piece (Ok n) new then) (omega arith) (takes_first old full new r then piece (Ok count) none g h)
 hands_take old full new r then piece (Err (wire.Replica fault)) none g h = takes_first old full new r then piece (Err fault) none g h
 hands_take old full new r then piece (Err (wire.Codec fault)) none g h = absurd h
@@ -96,7 +133,8 @@ words_rise r then stored g words =
 
 module _ (tables : List Table) (source : List ℕ) (base : List Entry) (preserve : Bool) where
   -- more records are accepted, and the words are stored
-  pub whole_grown : (s : State) (r : Replica) (appended : ℕ) (before after : List Counts) → Grows s.core r → IsSound r → latest after ≡ words_of r → IsWhole tables source base preserve s appended before → IsWhole tables source base preserve (record s { core = r; behind = true }) appended after
+  pub whole_grown : (s : State) (r : Replica) (appended : ℕ) (before after : List Counts) → Grows s.core r → IsSound r → latest after ≡ words_of r
+      → IsWhole tables source base preserve s appended before → IsWhole tables source base preserve (record s { core = r; behind = true }) appended after
   whole_grown s r appended before after g sound words h =
       let more : Replica = record s.core { accepted = s.core.accepted ++ g.more } in
       let t = h.stand in
@@ -122,7 +160,8 @@ module _ (tables : List Table) (source : List ℕ) (base : List Entry) (preserve
       })
 
   -- the core is as it was
-  pub whole_same : (s : State) (r : Replica) (appended : ℕ) (stored : List Counts) → r ≡ s.core → IsWhole tables source base preserve s appended stored → IsWhole tables source base preserve (record s { core = r }) appended stored
+  pub whole_same : (s : State) (r : Replica) (appended : ℕ) (stored : List Counts) → r ≡ s.core → IsWhole tables source base preserve s appended stored
+      → IsWhole tables source base preserve (record s { core = r }) appended stored
   whole_same s r appended stored is h = subst (λ (x : Replica). IsWhole tables source base preserve (record s { core = x }) appended stored) (sym is) h
 
 -- ---- what a call is told
@@ -146,7 +185,9 @@ pub record SettlesPast (s mid : State) (taken answer : Result ℕ WireFault) (th
   pub some : before < length mid.core.accepted → SettlesOrLacks mid settled then
   pub told : answer ≡ told_behind taken settled
 
-pub takes_and_settles : (s mid then : State) (old new : Wire) (piece : List ℕ) (taken answer : Result ℕ WireFault) → Takes old s.core piece taken new mid.core → SettlesPast s mid taken answer then → TakesAndSettles s old piece answer new then
+-- a wire's take, and all done behind it where more was accepted, is what a piece does
+pub takes_and_settles : (s mid then : State) (old new : Wire) (piece : List ℕ) (taken answer : Result ℕ WireFault) → Takes old s.core piece taken new mid.core
+    → SettlesPast s mid taken answer then → TakesAndSettles s old piece answer new then
 takes_and_settles s mid then old new piece taken answer takes past = record {
   core = mid.core;
   taken = taken;
@@ -163,7 +204,8 @@ takes_and_settles s mid then old new piece taken answer takes past = record {
 -- ---- without the lock
 
 -- what needs no replica is as over any one
-pub feeds_without : (tables : List Table) (source : List ℕ) (base : List Entry) (preserve : Bool) (old new : Wire) (piece : List ℕ) (answer : Result ℕ WireFault) → ((r : Replica) → Takes old r piece answer new r) → Feeds tables source base preserve old piece answer new
+pub feeds_without : (tables : List Table) (source : List ℕ) (base : List Entry) (preserve : Bool) (old new : Wire) (piece : List ℕ) (answer : Result ℕ WireFault)
+    → ((r : Replica) → Takes old r piece answer new r) → Feeds tables source base preserve old piece answer new
 feeds_without tables source base preserve old new piece answer takes =
     let any : Replica = new_over tables source base 1 preserve in
     record { before = any; named = (refl, refl, refl, refl); core = any; taken = answer; takes = takes any; told = inl refl; bytes = refl }

@@ -1,5 +1,43 @@
 -- The jobs that are kept, at each step.
-use Rattle.std.proofs.Common.{◌≡◌, ◌∙◌, sym, ap, subst, refl, ℕ, ◌+◌, ◌≤◌, ◌⊎◌, inl, inr, Bool, true, false, true≢false, not, ◌&&◌, ◌==◌, ◌||◌, nat_le, cond, Result, Err, IfSome, if◌then◌else◌, List, [], ◌∷◌, ◌++◌, map, length, length-append, Option, Some, None, arith}
+use Rattle.std.proofs.Common.{
+  ◌≡◌,
+  ◌∙◌,
+  sym,
+  ap,
+  subst,
+  refl,
+  ℕ,
+  ◌+◌,
+  ◌≤◌,
+  ◌⊎◌,
+  inl,
+  inr,
+  Bool,
+  true,
+  false,
+  true≢false,
+  not,
+  ◌&&◌,
+  ◌==◌,
+  ◌||◌,
+  nat_le,
+  cond,
+  Result,
+  Err,
+  IfSome,
+  if◌then◌else◌,
+  List,
+  [],
+  ◌∷◌,
+  ◌++◌,
+  map,
+  length,
+  length-append,
+  Option,
+  Some,
+  None,
+  arith,
+}
 use Rattle.std.specs.List.{AllByRecursion}
 use Rattle.std.specs.Option.{option_map_or, option_or}
 use Rattle.std.proofs.lemmas.Bool.{cases_eq, and_parts, and_from, or_cases, or_left, or_right, eqb-true, ne_eqb}
@@ -22,7 +60,8 @@ module _ (r : Replica) (gno : ℕ) where
   is_out n = has_gno r.out n ≡ true
 
   -- whatever the test of the first says
-  out_with : (b : Bool) (job : Job) (kept : List Job) → is_out_beside r gno job ≡ b → AllByRecursion is_out (numbers_of (out_beside r gno kept)) → AllByRecursion is_out (numbers_of (cond b (job ∷ out_beside r gno kept) (out_beside r gno kept)))
+  out_with : (b : Bool) (job : Job) (kept : List Job) → is_out_beside r gno job ≡ b → AllByRecursion is_out (numbers_of (out_beside r gno kept))
+      → AllByRecursion is_out (numbers_of (cond b (job ∷ out_beside r gno kept) (out_beside r gno kept)))
   out_with true job kept is rest = ((and_parts (has_gno r.out job.gno) (not (job.gno == gno)) is).0, rest)
   out_with false job kept is rest = rest
 
@@ -37,7 +76,8 @@ module _ (r : Replica) (gno : ℕ) where
       by_test true other = absurd (true≢false (sym other))
       by_test false _ = refl
 
-  lacks_with : (b : Bool) (job : Job) (kept : List Job) → is_out_beside r gno job ≡ b → has_gno (numbers_of (out_beside r gno kept)) gno ≡ false → has_gno (numbers_of (cond b (job ∷ out_beside r gno kept) (out_beside r gno kept))) gno ≡ false
+  lacks_with : (b : Bool) (job : Job) (kept : List Job) → is_out_beside r gno job ≡ b → has_gno (numbers_of (out_beside r gno kept)) gno ≡ false
+      → has_gno (numbers_of (cond b (job ∷ out_beside r gno kept) (out_beside r gno kept))) gno ≡ false
   lacks_with true job kept is rest = (λ i. another job.gno (and_parts (has_gno r.out job.gno) (not (job.gno == gno)) is).1 i || rest i)
   lacks_with false job kept is rest = rest
 
@@ -46,7 +86,8 @@ module _ (r : Replica) (gno : ℕ) where
   lacks_number [] = refl
   lacks_number (job ∷ kept) = lacks_with (is_out_beside r gno job) job kept refl (lacks_number kept)
 
-  had_with : (b : Bool) (job : Job) (kept : List Job) (n : ℕ) → (has_gno (numbers_of (out_beside r gno kept)) n ≡ true → has_gno (numbers_of kept) n ≡ true) → has_gno (numbers_of (cond b (job ∷ out_beside r gno kept) (out_beside r gno kept))) n ≡ true
+  had_with : (b : Bool) (job : Job) (kept : List Job) (n : ℕ) → (has_gno (numbers_of (out_beside r gno kept)) n ≡ true → has_gno (numbers_of kept) n ≡ true)
+      → has_gno (numbers_of (cond b (job ∷ out_beside r gno kept) (out_beside r gno kept))) n ≡ true
       → has_gno (numbers_of (job ∷ kept)) n ≡ true
   had_with true job kept n rest has = elim (or_cases (job.gno == n) (has_gno (numbers_of (out_beside r gno kept)) n) has) [
     | inl here ↦ or_left (job.gno == n) (has_gno (numbers_of kept) n) here
@@ -59,7 +100,8 @@ module _ (r : Replica) (gno : ℕ) where
   were_kept [] n has = has
   were_kept (job ∷ kept) n has = had_with (is_out_beside r gno job) job kept n (were_kept kept n) has
 
-  distinct_with : (b : Bool) (job : Job) (kept : List Job) → AreDistinct (numbers_of (job ∷ kept)) → AreDistinct (numbers_of (out_beside r gno kept)) → AreDistinct (numbers_of (cond b (job ∷ out_beside r gno kept) (out_beside r gno kept)))
+  distinct_with : (b : Bool) (job : Job) (kept : List Job) → AreDistinct (numbers_of (job ∷ kept)) → AreDistinct (numbers_of (out_beside r gno kept))
+      → AreDistinct (numbers_of (cond b (job ∷ out_beside r gno kept) (out_beside r gno kept)))
   distinct_with true job kept h rest = (by_test (has_gno (numbers_of (out_beside r gno kept)) job.gno) refl, rest)
     where
       by_test : (b : Bool) → has_gno (numbers_of (out_beside r gno kept)) job.gno ≡ b → has_gno (numbers_of (out_beside r gno kept)) job.gno ≡ false
@@ -72,7 +114,8 @@ module _ (r : Replica) (gno : ℕ) where
   distinct_still (job ∷ kept) h = distinct_with (is_out_beside r gno job) job kept h (distinct_still kept h.1)
 
   -- one that is out, and of another number, stays
-  stays_with : (b : Bool) (job : Job) (kept : List Job) (n : ℕ) → is_out_beside r gno job ≡ b → has_gno r.out n ≡ true → (n ≡ gno → ⊥) → (has_gno (numbers_of kept) n ≡ true → has_gno (numbers_of (out_beside r gno kept)) n ≡ true) → has_gno (numbers_of (job ∷ kept)) n ≡ true
+  stays_with : (b : Bool) (job : Job) (kept : List Job) (n : ℕ) → is_out_beside r gno job ≡ b → has_gno r.out n ≡ true → (n ≡ gno → ⊥)
+      → (has_gno (numbers_of kept) n ≡ true → has_gno (numbers_of (out_beside r gno kept)) n ≡ true) → has_gno (numbers_of (job ∷ kept)) n ≡ true
       → has_gno (numbers_of (cond b (job ∷ out_beside r gno kept) (out_beside r gno kept))) n ≡ true
   stays_with true job kept n is out other rest has = elim (or_cases (job.gno == n) (has_gno (numbers_of kept) n) has) [
     | inl here ↦ or_left (job.gno == n) (has_gno (numbers_of (out_beside r gno kept)) n) here
@@ -110,12 +153,14 @@ few_laid r job kept sound out h =
     let places = sound.few in
     omega (arith, few, length-append others (job.gno ∷ []), length-map (out_beside r job.gno kept) (λ (j : Job). j.gno))
 
+-- a job that is out is kept in order with the others
 pub kept_laid : (r : Replica) (job : Job) (kept : List Job) → IsSound r → has_gno r.out job.gno ≡ true → AreKept kept → AreKept (laid r job kept)
 kept_laid r job kept sound out h = record {
   distinct = subst AreDistinct (sym (numbers_laid r job kept)) (distinct_laid r job kept h.distinct);
   few = (let few = few_laid r job kept sound out h in omega (arith, length-append (out_beside r job.gno kept) (job ∷ [])));
 }
 
+-- no kept job that is out is lost by that
 pub none_lost : (r : Replica) (job : Job) (kept : List Job) → NoneLost r kept (laid r job kept)
 none_lost r job kept gno out has = subst (λ l. has_gno l gno ≡ true) (sym (numbers_laid r job kept)) (elim (cases_eq gno job.gno) [
   | inl here ↦ subst (λ n. has_gno (others ++ n ∷ []) gno ≡ true) here (has_gno_last others gno)
@@ -160,6 +205,7 @@ abbrev pub cause : Option ℕ → Bool → Bool → Option ReplicaFault
 cause stopped known out =
     option_or (option_map_or (λ gno. Some (faults.Stopped gno)) stopped None) (if not known then Some faults.Stranger else if not out then Some faults.Double else None)
 
+-- where there is no cause to refuse a result the replica runs, and its record was dispatched and is out
 pub no_cause : (stopped : Option ℕ) (known out : Bool) → cause stopped known out ≡ None → (stopped ≡ None) × (known ≡ true) × (out ≡ true)
 no_cause None true true is = (refl, refl, refl)
 no_cause None true false is = absurd (cc (is))

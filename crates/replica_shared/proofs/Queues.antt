@@ -21,7 +21,8 @@ rise_push next (first ∷ jobs) last job lt h = (h.0, rise_push (first.gno + 1) 
 -- ---- the views
 
 -- there is a view at a place where one was set
-set_first : (views : List Hand) (port : ℕ) (v w pusher : Hand) → get_elem? views port ≡ some v → get_elem? views 0 ≡ some pusher → w.pushed ≡ v.pushed → (then : Hand) × (get_elem? (slice_set views port w) 0 ≡ some then) × (then.pushed ≡ pusher.pushed)
+set_first : (views : List Hand) (port : ℕ) (v w pusher : Hand) → get_elem? views port ≡ some v → get_elem? views 0 ≡ some pusher → w.pushed ≡ v.pushed
+    → (then : Hand) × (get_elem? (slice_set views port w) 0 ≡ some then) × (then.pushed ≡ pusher.pushed)
 set_first [] port v w pusher at is same = absurd (some-ne-none pusher (sym is))
 set_first (x ∷ views) zero v w pusher at is same =
     let one : v ≡ pusher = some-injective v pusher (sym at ∙ is) in (w, refl, same ∙ ap (λ (h : Hand). h.pushed) one)
@@ -29,6 +30,7 @@ set_first (x ∷ views) (suc port) v w pusher at is same = (pusher, is, refl)
 
 -- ---- the rule
 
+-- the empty queue, with the one pass that pushes, is in order
 pub begins : LieInOrder [] (empty_hand ∷ [])
 begins = record {
   pusher = empty_hand;
@@ -42,6 +44,7 @@ begins = record {
     stolen_by zero v at = subst (λ (h : Hand). AllBelow 0 h.stolen) (some-injective empty_hand v at) tt
     stolen_by (suc pass) v at = absurd (some-ne-none v (sym at))
 
+-- one more pass, which pushed and stole nothing, leaves it in order
 pub admits : Admits LieInOrder empty_hand
 admits jobs views h = record {
   pusher = h.pusher;
@@ -54,6 +57,7 @@ admits jobs views h = record {
   rise = h.rise;
 }
 
+-- the first pass may push a job whose gno is above all that it pushed
 pub pushes : (port : ℕ) (v : Hand) (job : Job) → port ≡ 0 → v.pushed < job.gno → MayPush LieInOrder port v (job ∷ []) (Pushes v (job ∷ []))
 pushes port v job one rises jobs views h at =
     let w : Hand = with_pushed v job.gno in
@@ -78,6 +82,7 @@ pushes port v job one rises jobs views h at =
     first_set (x ∷ views) zero v w one at = refl
     first_set (x ∷ views) (suc port) v w one at = absurd (omega arith)
 
+-- any pass may steal the first job, whose gno is above all that it stole
 pub steals : (port : ℕ) (v : Hand) → MayTake LieInOrder port v 1 (Steals v)
 steals port v [] jobs views some_ few h at = absurd (omega arith)
 steals port v (job ∷ next ∷ more) jobs views some_ few h at = absurd (omega arith)

@@ -41,7 +41,8 @@ own_told None true false false true false is = cc
 own_told None true false false true true is = cc
 
 -- a record of another source is refused as such, unless the replica is stopped
-pub refuses_foreign : (tables : List Table) (source : List ℕ) (base : List Entry) (preserve : Bool) (from : List ℕ) (new : Record) (answer : Result Received ReplicaFault) → Receives tables source base preserve from new answer → bytes_eq from source ≡ false
+pub refuses_foreign : (tables : List Table) (source : List ℕ) (base : List Entry) (preserve : Bool) (from : List ℕ) (new : Record) (answer : Result Received ReplicaFault)
+    → Receives tables source base preserve from new answer → bytes_eq from source ≡ false
     → IsErrAnd answer (λ fault. (fault ≡ faults.ForeignSource) ⊎ IsStop fault)
 refuses_foreign tables source base preserve from new answer h other = elim h.told [
   | inl lacks ↦ absurd (never_accepted r.stopped own (sym is ∙ h.memory lacks))
@@ -58,10 +59,13 @@ refuses_foreign tables source base preserve from new answer h other = elim h.tol
     is = ap (λ (b : Bool). told_of r.stopped b own) (ap (bytes_eq from) h.named.1 ∙ other)
 
 -- and one of its own never is
-pub refuses_no_own : (tables : List Table) (source : List ℕ) (base : List Entry) (preserve : Bool) (from : List ℕ) (new : Record) (answer : Result Received ReplicaFault) → Receives tables source base preserve from new answer → answer ≡ Err faults.ForeignSource → bytes_eq from source ≡ false
+pub refuses_no_own : (tables : List Table) (source : List ℕ) (base : List Entry) (preserve : Bool) (from : List ℕ) (new : Record) (answer : Result Received ReplicaFault)
+    → Receives tables source base preserve from new answer → answer ≡ Err faults.ForeignSource → bytes_eq from source ≡ false
 refuses_no_own tables source base preserve from new answer h is = elim h.told [
   | inl lacks ↦ absurd (never answer is lacks)
-  | inr told ↦ ap (bytes_eq from) (sym h.named.1) ∙ own_told r.stopped (bytes_eq from r.source) (is_malformed r.tables new) (nat_le new.gno (length r.accepted)) (new.gno == length r.accepted + 1) (is_covered r.accepted new) (sym told ∙ is)
+  | inr told ↦ ap (bytes_eq from) (sym h.named.1)
+      ∙ own_told r.stopped (bytes_eq from r.source) (is_malformed r.tables new) (nat_le new.gno (length r.accepted)) (new.gno == length r.accepted + 1)
+      (is_covered r.accepted new) (sym told ∙ is)
 ]
   where
     r : Replica

@@ -11,7 +11,8 @@ use Rattle.replica_shared.specs.Laws.{SeatsSeeGapped}
 use Rattle.replica_shared.proofs.Commits.{prefix_of_longer, first_operations}
 
 -- a beginning of what became known that is no longer than what was published: the operations of the first so many commits
-pub seen_is : (r : Replica) (published seen known : List Op) → published ≡ operations r.tables r.base (ran r) (commits_in published) → IsPrefix published known → IsPrefix seen known → IsHistory r.preserve seen → commits_in seen ≤ commits_in published
+pub seen_is : (r : Replica) (published seen known : List Op) → published ≡ operations r.tables r.base (ran r) (commits_in published) → IsPrefix published known
+    → IsPrefix seen known → IsHistory r.preserve seen → commits_in seen ≤ commits_in published
     → seen ≡ operations r.tables r.base (ran r) (commits_in seen)
 seen_is r published seen known are shown saw history le =
     let size = history_length r.preserve seen history in
@@ -21,6 +22,7 @@ seen_is r published seen known are shown saw history le =
     ∙ ap (take (commits_in seen + 1)) are
     ∙ sym (first_operations r.tables r.base (ran r) (commits_in seen) (commits_in published) le)
 
+-- so the rows that a seat saw are those of a gapped state, by the law of the replica's publications
 pub seats_see_gapped : PublishedIsGapped → SeatsSeeGapped
 seats_see_gapped law r published seen known sound are within shown saw history le =
     let shows = law r (commits_in seen) sound (omega (arith, le, within)) in

@@ -1,5 +1,44 @@
 -- What each step does to the publisher and the words that stand with a core.
-use Rattle.std.proofs.Common.{◌≡◌, ◌∙◌, sym, ap, subst, refl, ℕ, zero, suc, Bool, true, false, true≢false, not, ◌&&◌, ◌||◌, nat_le, is_some, ◌+◌, ◌-◌, ◌<◌, ◌≤◌, List, [], ◌∷◌, ◌++◌, length, take, drop, Option, Some, None, arith, slice_get, get_or, length-append, append_assoc, append-nil}
+use Rattle.std.proofs.Common.{
+  ◌≡◌,
+  ◌∙◌,
+  sym,
+  ap,
+  subst,
+  refl,
+  ℕ,
+  zero,
+  suc,
+  Bool,
+  true,
+  false,
+  true≢false,
+  not,
+  ◌&&◌,
+  ◌||◌,
+  nat_le,
+  is_some,
+  ◌+◌,
+  ◌-◌,
+  ◌<◌,
+  ◌≤◌,
+  List,
+  [],
+  ◌∷◌,
+  ◌++◌,
+  length,
+  take,
+  drop,
+  Option,
+  Some,
+  None,
+  arith,
+  slice_get,
+  get_or,
+  length-append,
+  append_assoc,
+  append-nil,
+}
 use Rattle.std.specs.List.{list_any}
 use Rattle.std.specs.Option.{option_map_or}
 use Rattle.std.proofs.lemmas.List.{length-drop, length-take-le, same_from_push, take_all}
@@ -29,7 +68,21 @@ use Rattle.replica_core.proofs.Showing.{sound_stands, commits_within, gnos_of_op
 use Rattle.replica_shared.specs.Together.{State, IsNamed, StandTogether, IsAppended, words_of}
 use Rattle.replica_shared.specs.Awaited.{has_each, is_commit_in}
 use Rattle.replica_shared.proofs.Awaiting.{any_commit_in, front_has}
-use Rattle.replica_shared.proofs.Commits.{prefix_length, prefix_is, prefix_next, prefix_operations, first_operations, same_operations, all_operations, few_operations, commits_alone, gnos_of-drop, front, slice_get-drop, looked_up}
+use Rattle.replica_shared.proofs.Commits.{
+  prefix_length,
+  prefix_is,
+  prefix_next,
+  prefix_operations,
+  first_operations,
+  same_operations,
+  all_operations,
+  few_operations,
+  commits_alone,
+  gnos_of-drop,
+  front,
+  slice_get-drop,
+  looked_up,
+}
 
 -- what is left where a number was answered
 pub left_committed : (r next : Replica) (gno : Option ℕ) → true ≡ is_some gno → next ≡ option_map_or (λ committed. with_commit r committed) gno r → (committed : ℕ) × (next ≡ with_commit r committed)
@@ -57,7 +110,8 @@ new_commit ops commits k gno more distinct =
     distinct_between (gnos_of ops) gno [] (subst AreDistinct (sym more) (AreDistinct-take (k + 1) commits distinct))
 
 -- one more operation, whose gno is the next of the commits
-pub may_append : (preserve : Bool) (ops : List Op) (op : Op) (r : Replica) (k : ℕ) → IsSound r → r.preserve ≡ preserve → k < length r.commits → length ops ≡ k + 1 → gnos_of ops ≡ take k r.commits → gnos_of (ops ++ op ∷ []) ≡ take (k + 1) r.commits
+pub may_append : (preserve : Bool) (ops : List Op) (op : Op) (r : Replica) (k : ℕ) → IsSound r → r.preserve ≡ preserve → k < length r.commits → length ops ≡ k + 1
+    → gnos_of ops ≡ take k r.commits → gnos_of (ops ++ op ∷ []) ≡ take (k + 1) r.commits
     → MayAppend preserve ops op
 may_append preserve ops (Load base) r k sound order less size were are =
     let same : take k r.commits ≡ take (k + 1) r.commits = sym were ∙ sym (append-nil (gnos_of ops)) ∙ sym (gnos_of-append ops (Load base ∷ [])) ∙ are in
@@ -78,7 +132,10 @@ may_append preserve ops (Commit gno batch) r k sound order less size were are = 
 
     by_order : (b : Bool) → r.preserve ≡ b → MayAppend b ops (Commit gno batch)
     by_order true kept = next kept
-    by_order false free = ((commits_within r (sound_stands r sound) gno among).0, new_commit ops r.commits k gno more (commits_are_distinct r.tables (loaded r.base) r.accepted r.commits sound.commits))
+    by_order false free = (
+      (commits_within r (sound_stands r sound) gno among).0,
+      new_commit ops r.commits k gno more (commits_are_distinct r.tables (loaded r.base) r.accepted r.commits sound.commits),
+    )
 
 module _ (tables : List Table) (source : List ℕ) (base : List Entry) (preserve : Bool) (r : Replica) (p : Publishing) (appended : ℕ) (stored : List Counts) where
   abbrev Stands : Type 0
@@ -91,12 +148,15 @@ module _ (tables : List Table) (source : List ℕ) (base : List Entry) (preserve
   whole_is t = all_operations r.tables r.base (ran r) (length r.commits) (length_ran r t.within)
 
   -- one more record is committed, and the words are stored
-  pub stand_committed : (gno : ℕ) (after : List Counts) → IsSound (with_commit r gno) → Stands → latest after ≡ words_of (with_commit r gno) → StandTogether tables source base preserve (with_commit r gno) p appended after
+  pub stand_committed : (gno : ℕ) (after : List Counts) → IsSound (with_commit r gno) → Stands → latest after ≡ words_of (with_commit r gno)
+      → StandTogether tables source base preserve (with_commit r gno) p appended after
   stand_committed gno after sound t words = record {
     named = t.named;
     within = commits_within (with_commit r gno) (sound_stands (with_commit r gno) sound);
     history = t.history;
-    begins = prefix_trans (p.published ++ p.waiting) (operations r.tables r.base (ran r) (length r.commits)) (operations r.tables r.base (ran (with_commit r gno)) (length (r.commits ++ gno ∷ []))) t.begins longer;
+    begins =
+        prefix_trans (p.published ++ p.waiting) (operations r.tables r.base (ran r) (length r.commits))
+        (operations r.tables r.base (ran (with_commit r gno)) (length (r.commits ++ gno ∷ []))) t.begins longer;
     shown = t.shown;
     words = words;
     number = t.number;
@@ -110,7 +170,8 @@ module _ (tables : List Table) (source : List ℕ) (base : List Entry) (preserve
       longer =
           let more = prefix_operations r.tables r.base (ran r ++ one) (length r.commits) (length (r.commits ++ gno ∷ [])) (omega (arith, length-append r.commits (gno ∷ []))) in
           let same = same_operations r.tables r.base (ran r) one (length r.commits) (omega (arith, length_ran r t.within)) in
-          subst (λ l. IsPrefix (operations r.tables r.base (ran r) (length r.commits)) (operations r.tables r.base l (length (r.commits ++ gno ∷ [])))) (sym (records_at_joined r.accepted r.commits (gno ∷ [])))
+          subst (λ l. IsPrefix (operations r.tables r.base (ran r) (length r.commits)) (operations r.tables r.base l (length (r.commits ++ gno ∷ []))))
+          (sym (records_at_joined r.accepted r.commits (gno ∷ [])))
           (subst (λ l. IsPrefix l (operations r.tables r.base (ran r ++ one) (length (r.commits ++ gno ∷ [])))) same more)
 
   -- no more is appended than committed
@@ -142,7 +203,9 @@ module _ (tables : List Table) (source : List ℕ) (base : List Entry) (preserve
       let number = t.number in
       omega (arith, length-drop r.published all, size)
 
-  pub next_operation : (pending : List Op) (op : Op) → IsSound r → appended < length r.commits → Stands → pending ≡ waiting r → op ≡ get_or pending (appended - r.published) op → slice_get all appended ≡ Some op
+  -- that one is the operation of the next commit that was not appended
+  pub next_operation : (pending : List Op) (op : Op) → IsSound r → appended < length r.commits → Stands → pending ≡ waiting r → op ≡ get_or pending (appended - r.published) op
+      → slice_get all appended ≡ Some op
   next_operation pending op sound more t are is =
       let shown = t.shown in
       let number = t.number in
@@ -158,7 +221,8 @@ module _ (tables : List Table) (source : List ℕ) (base : List Entry) (preserve
       (ap (λ l. slice_get l (length (p.published ++ p.waiting))) (whole_is t) ∙ ap (slice_get (Load r.base ∷ all)) place ∙ is)
 
   -- the gnos of a beginning are the first of those of the commits
-  gnos_of_prefix : (ops : List Op) (k : ℕ) → IsSound r → k ≤ length r.commits → length ops ≡ k + 1 → IsPrefix ops (operations r.tables r.base (ran r) (length r.commits)) → gnos_of ops ≡ take k r.commits
+  gnos_of_prefix : (ops : List Op) (k : ℕ) → IsSound r → k ≤ length r.commits → length ops ≡ k + 1 → IsPrefix ops (operations r.tables r.base (ran r) (length r.commits))
+      → gnos_of ops ≡ take k r.commits
   gnos_of_prefix ops k sound le size begins =
       let whole = operations r.tables r.base (ran r) (length r.commits) in
       ap gnos_of (prefix_is ops whole begins ∙ ap (λ n. take n whole) size ∙ sym (first_operations r.tables r.base (ran r) k (length r.commits) le))
@@ -187,6 +251,7 @@ module _ (tables : List Table) (source : List ℕ) (base : List Entry) (preserve
 
   -- ---- what is published
 
+  -- no more commits are published than there are
   pub published_within : Stands → commits_in p.published ≤ length r.commits
   published_within t =
       let most = appended_within t in
@@ -209,7 +274,8 @@ module _ (tables : List Table) (source : List ℕ) (base : List Entry) (preserve
   -- the gnos of the published operations are the first of the commits, and those that are to be published the others
   pub gnos_published : IsSound r → Stands → gnos_of p.published ≡ take r.published r.commits
   gnos_published sound t =
-      gnos_of_prefix p.published (commits_in p.published) sound (published_within t) (history_length preserve p.published t.history) (front p.published p.waiting (operations r.tables r.base (ran r) (length r.commits)) t.begins)
+      gnos_of_prefix p.published (commits_in p.published) sound (published_within t) (history_length preserve p.published t.history)
+      (front p.published p.waiting (operations r.tables r.base (ran r) (length r.commits)) t.begins)
       ∙ ap (λ n. take n r.commits) (sym t.shown)
 
   gnos_all : IsSound r → Stands → gnos_of all ≡ r.commits
@@ -226,16 +292,20 @@ module _ (tables : List Table) (source : List ℕ) (base : List Entry) (preserve
       let distinct = commits_are_distinct r.tables (loaded r.base) r.accepted r.commits sound.commits in
       let behind : list_any (is_commit_in i) (waiting r) ≡ list_any (is_within i) (drop r.published r.commits) = any_commit_in i (waiting r) ∙ ap (list_any (is_within i)) (gnos_waiting sound t) in
       subst (λ gnos. has_each gnos i ≡ (nat_le i.last (low_of gnos) || (has_each r.commits i && not (list_any (is_commit_in i) (waiting r))))) (sym (gnos_published sound t))
-      (subst (λ b. has_each (take r.published r.commits) i ≡ (nat_le i.last (low_of (take r.published r.commits)) || (has_each r.commits i && not b))) (sym behind) (front_has r.commits r.published i distinct one))
+      (subst (λ b. has_each (take r.published r.commits) i ≡ (nat_le i.last (low_of (take r.published r.commits)) || (has_each r.commits i && not b))) (sym behind)
+      (front_has r.commits r.published i distinct one))
 
 -- a new replica, of which the load is published
-pub new_stands : (tables : List Table) (source : List ℕ) (base : List Entry) (preserve : Bool) (r : Replica) (p : Publishing) (stored : List Counts) → r ≡ new_over r.tables r.source r.base r.workers r.preserve → IsNamed tables source base preserve r
+pub new_stands : (tables : List Table) (source : List ℕ) (base : List Entry) (preserve : Bool) (r : Replica) (p : Publishing) (stored : List Counts)
+    → r ≡ new_over r.tables r.source r.base r.workers r.preserve → IsNamed tables source base preserve r
     → p ≡ record { published = Load r.base ∷ []; waiting = []; history = Load r.base ∷ [] } → stored ≡ [] → StandTogether tables source base preserve r p 0 stored
 new_stands tables source base preserve r p stored fresh named is none = record {
   named = named;
   within = λ gno has. absurd (true≢false (sym has ∙ ap (λ (x : Replica). has_gno x.commits gno) fresh));
   history = subst (λ (q : Publishing). IsHistory preserve q.published) (sym is) (history_load preserve r.base);
-  begins = subst (λ (q : Publishing). IsPrefix (q.published ++ q.waiting) (operations r.tables r.base (ran r) (length r.commits))) (sym is) (commits_from r.tables (loaded r.base) (take (length r.commits) (ran r)), refl);
+  begins =
+      subst (λ (q : Publishing). IsPrefix (q.published ++ q.waiting) (operations r.tables r.base (ran r) (length r.commits))) (sym is)
+      (commits_from r.tables (loaded r.base) (take (length r.commits) (ran r)), refl);
   shown = ap (λ (x : Replica). x.published) fresh ∙ sym (ap (λ (q : Publishing). commits_in q.published) is);
   words = ap latest none ∙ sym (ap words_of fresh);
   number = sym (ap (λ (q : Publishing). commits_in q.published + length q.waiting) is);
@@ -247,7 +317,8 @@ new_stands tables source base preserve r p stored fresh named is none = record {
     first (suc n) le = absurd (omega arith)
 
 -- where as much is appended as committed, all is
-pub all_appended : (tables : List Table) (source : List ℕ) (base : List Entry) (preserve : Bool) (s : State) (appended : ℕ) (stored : List Counts) → length s.core.commits ≤ appended → StandTogether tables source base preserve s.core s.publication appended stored → IsAppended s
+pub all_appended : (tables : List Table) (source : List ℕ) (base : List Entry) (preserve : Bool) (s : State) (appended : ℕ) (stored : List Counts)
+    → length s.core.commits ≤ appended → StandTogether tables source base preserve s.core s.publication appended stored → IsAppended s
 all_appended tables source base preserve s appended stored enough t =
     let r = s.core in
     let p = s.publication in
@@ -262,5 +333,6 @@ all_appended tables source base preserve s appended stored enough t =
     }
 
 -- a new replica is new over what it shows
-pub new_is_new : (r : Replica) (ts : List Table) (source : List ℕ) (base : List Entry) (workers : ℕ) (preserve : Bool) → r ≡ new_over ts source base workers preserve → r ≡ new_over r.tables r.source r.base r.workers r.preserve
+pub new_is_new : (r : Replica) (ts : List Table) (source : List ℕ) (base : List Entry) (workers : ℕ) (preserve : Bool) → r ≡ new_over ts source base workers preserve
+    → r ≡ new_over r.tables r.source r.base r.workers r.preserve
 new_is_new r ts source base workers preserve is = subst (λ (x : Replica). x ≡ new_over x.tables x.source x.base x.workers x.preserve) (sym is) refl

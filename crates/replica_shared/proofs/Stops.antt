@@ -1,5 +1,34 @@
 -- Why a replica stopped stays true at each step.
-use Rattle.std.proofs.Common.{◌≡◌, ◌∙◌, sym, ap, subst, refl, ℕ, ◌-◌, ◌⊎◌, inl, inr, Bool, true, false, ◌&&◌, nat_le, List, ◌++◌, Option, Some, None, Result, Ok, Err, IfSome, IsErrOf, arith, slice_get}
+use Rattle.std.proofs.Common.{
+  ◌≡◌,
+  ◌∙◌,
+  sym,
+  ap,
+  subst,
+  refl,
+  ℕ,
+  ◌-◌,
+  ◌⊎◌,
+  inl,
+  inr,
+  Bool,
+  true,
+  false,
+  ◌&&◌,
+  nat_le,
+  List,
+  ◌++◌,
+  Option,
+  Some,
+  None,
+  Result,
+  Ok,
+  Err,
+  IfSome,
+  IsErrOf,
+  arith,
+  slice_get,
+}
 use Rattle.std.specs.Option.{option_map_or}
 use Rattle.std.proofs.lemmas.Bool.{cases_eq, and_parts, leb-true}
 use Rattle.std.proofs.lemmas.Option.{same_Some, slice_get_within}
@@ -51,6 +80,7 @@ may_grown r then at grows sound within may =
     let rows = ap (after r.tables (loaded r.base)) (longer_log r.accepted grows.more r.commits numbered (λ gno has. (within gno has).1)) ∙ none.rows_are in
     subst (λ (x : Replica). MayStopAt x at) (sym grows.is) (may.0, record { rec = none.rec; got = got; rows = none.rows; rows_are = rows; none = none.none })
 
+-- a replica that stopped rightly did so also where more is accepted
 pub stops_grown : (r then : Replica) → Grows r then → IsSound then → AreWithin r.commits r.accepted → StopsRightly r → StopsRightly then
 stops_grown r then grows sound within h =
     subst (λ (stopped : Option ℕ). IfSome stopped (MayStopAt then)) (sym (ap (λ (x : Replica). x.stopped) grows.is)) (each r.stopped h)
@@ -88,7 +118,8 @@ came o e (inl none) (inr same) = inl (sym same ∙ none)
 came o e (inr wrong) (inr same) = inr (sym same ∙ wrong)
 
 -- so over the working rows there is none either
-pub none_there : (r : Replica) (done : Finished) (rec : Record) (rows : Database) → IsSound r → IsUnderWay r done.job.gno → IsResult done → slice_get r.accepted (done.job.gno - 1) ≡ Some rec → working_rows r ≡ Some rows → IsHandedOut r done →
+pub none_there : (r : Replica) (done : Finished) (rec : Record) (rows : Database) → IsSound r → IsUnderWay r done.job.gno → IsResult done
+    → slice_get r.accepted (done.job.gno - 1) ≡ Some rec → working_rows r ≡ Some rows → IsHandedOut r done →
     (done.outcome ≡ outcomes.Undefined) ⊎ (done.outcome ≡ outcomes.WrongRefs) → (outcome_over r.tables rec rows ≡ outcomes.Undefined) ⊎ (outcome_over r.tables rec rows ≡ outcomes.WrongRefs)
 none_there r done rec rows sound under result got rows_are of none =
     let same = same_Some (job_over r.tables done.job.gno rec rows) done.job (sym (job_at r done.job.gno rec rows got rows_are) ∙ of) in
@@ -96,10 +127,17 @@ none_there r done rec rows sound under result got rows_are of none =
     let agrees = job_agrees_now r done.job.gno done.job rows sound under of rows_are in
     came done.outcome (outcome_over r.tables rec rows) none (elim result [ inl lacks ↦ inl lacks | inr each ↦ inr (each rows agrees ∙ sym there) ])
 
-no_output : (r : Replica) (done : Finished) → IsSound r → IsUnderWay r done.job.gno → IsResult done → ((IsHandedOut r done → ⊥) → ⊥) → (IsHandedOut r done → (done.outcome ≡ outcomes.Undefined) ⊎ (done.outcome ≡ outcomes.WrongRefs)) → HasNoOutput r done.job.gno
+no_output : (r : Replica) (done : Finished) → IsSound r → IsUnderWay r done.job.gno → IsResult done → ((IsHandedOut r done → ⊥) → ⊥)
+    → (IsHandedOut r done → (done.outcome ≡ outcomes.Undefined) ⊎ (done.outcome ≡ outcomes.WrongRefs)) → HasNoOutput r done.job.gno
 no_output r done sound under result handed told =
     let got = get_within r.accepted (done.job.gno - 1) (omega (arith, under.0, under.1, sound.dispatched)) in
-    record { rec = got.0; got = got.1; rows = sound.rows; rows_are = sound.rows_are; none = by_outcome (outcome_over r.tables got.0 sound.rows) (λ of. none_there r done got.0 sound.rows sound under result got.1 sound.rows_are of (told of)) }
+    record {
+      rec = got.0;
+      got = got.1;
+      rows = sound.rows;
+      rows_are = sound.rows_are;
+      none = by_outcome (outcome_over r.tables got.0 sound.rows) (λ of. none_there r done got.0 sound.rows sound under result got.1 sound.rows_are of (told of));
+    }
   where
     not_output : (e : Outcome) (batch : List Entry) → (e ≡ outcomes.Undefined) ⊎ (e ≡ outcomes.WrongRefs) → e ≡ outcomes.Output batch → ⊥
     not_output e batch (inl none) is = cc
@@ -137,7 +175,8 @@ stopped_from (Some gno) known out at is =
 told_so : (told fault : ReplicaFault) (done back : Finished) (result : Result (Unit {0}) (ReplicaFault × Finished)) → result ≡ Err (told, back) → result ≡ Err (fault, done) → fault ≡ told
 told_so told fault done back result is refused = sym (same_fault told fault back done (sym is ∙ refused))
 
-may_stop : (r : Replica) (done back : Finished) (at : ℕ) (result : Result (Unit {0}) (ReplicaFault × Finished)) → result ≡ Err (faults.Stopped at, back) → Finishes r done result → StopsRightly r → MayStopAt r at
+may_stop : (r : Replica) (done back : Finished) (at : ℕ) (result : Result (Unit {0}) (ReplicaFault × Finished)) → result ≡ Err (faults.Stopped at, back)
+    → Finishes r done result → StopsRightly r → MayStopAt r at
 may_stop r done back at result is f h = each (finish_fault r gno) refl f.refused
   where
     gno : ℕ
@@ -169,7 +208,9 @@ may_stop r done back at result is f h = each (finish_fault r gno) refl f.refused
         (stopped_from r.stopped (nat_le 1 gno && nat_le gno r.dispatched) (has_gno r.out gno) at (cause_is ∙ ap Some same))
         h
 
-pub stops_refused : (r : Replica) (done back : Finished) (told : ReplicaFault) (result : Result (Unit {0}) (ReplicaFault × Finished)) → result ≡ Err (told, back) → Finishes r done result → StopsRightly r → StopsRightly (left_by_fault r told)
+-- a replica that refuses a result stops rightly, if it stops
+pub stops_refused : (r : Replica) (done back : Finished) (told : ReplicaFault) (result : Result (Unit {0}) (ReplicaFault × Finished)) → result ≡ Err (told, back)
+    → Finishes r done result → StopsRightly r → StopsRightly (left_by_fault r told)
 stops_refused r done back (faults.Stopped at) result is f h =
     let may = may_stop r done back at result is f h in
     let none = may.1 in

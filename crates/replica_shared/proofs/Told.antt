@@ -16,19 +16,25 @@ use Rattle.replica_shared.specs.Together.{State, IsStopBehind, TellsStopBehind, 
 use Rattle.replica_shared.specs.Feeding.{TellsStopOf}
 use Rattle.replica_shared.proofs.Awaiting.{not_true, up_to_low, not_up_to_low, all_has, all_lack, set_numbers_from_one, in_order_upto, in_order_behind}
 
+-- what follows from a fact of each answer holds of it
 pub ok_weaker : {T E : Type 0} (P Q : T → Type 0) (result : Result T E) → ((x : T) → P x → Q x) → IfOk result P → IfOk result Q
 ok_weaker P Q (Ok x) weaker is = weaker x is
 ok_weaker P Q (Err e) weaker is = tt
 
+-- and what follows from two
 pub ok_both : {T E : Type 0} (P Q R : T → Type 0) (result : Result T E) → ((x : T) → P x → Q x → R x) → IfOk result P → IfOk result Q → IfOk result R
 ok_both P Q R (Ok x) both p q = both x p q
 ok_both P Q R (Err e) both p q = tt
 
+-- what follows from a fact of each fault holds of it
 pub err_weaker : {T E : Type 0} (P Q : E → Type 0) (result : Result T E) → ((e : E) → P e → Q e) → IfErr result P → IfErr result Q
 err_weaker P Q (Ok x) weaker is = tt
 err_weaker P Q (Err e) weaker is = weaker e is
 
-pub tells_stop : {T : Type 0} (tables : List Table) (source : List ℕ) (base : List Entry) (preserve : Bool) (wanted : List Interval) (s : State) (result : Result T ReplicaFault) → IfErr result (IsStopBehind tables source base preserve wanted s)
+-- a fault that tells of a stop behind which some wait tells of it whatever the state was
+pub tells_stop : {T : Type 0} (tables : List Table) (source : List ℕ) (base : List Entry) (preserve : Bool) (wanted : List Interval) (s : State)
+    (result : Result T ReplicaFault)
+    → IfErr result (IsStopBehind tables source base preserve wanted s)
     → IfErr result (TellsStopBehind tables source base preserve wanted)
 tells_stop tables source base preserve wanted s result stop = err_weaker _ _ result (λ fault is. record { state = s; stop = is }) stop
 
@@ -38,10 +44,13 @@ low_is preserve ops order h = low_in_order ops (subst (λ b. IsHistory b ops) or
 
 -- ---- the commits from 1 to one
 
+-- in the order of the log, where the commits from 1 to one are published, so many are
 pub upto_in_order : (preserve : Bool) (ops : List Op) (gno : ℕ) → preserve ≡ true → IsHistory preserve ops → has_all (gnos_of ops) (up_to gno) ≡ true → gno ≤ commits_in ops
 upto_in_order preserve ops gno order h all = subst (λ n. gno ≤ n) (low_is preserve ops order h) (up_to_low (gnos_of ops) gno all)
 
-pub told_upto : (tables : List Table) (source : List ℕ) (base : List Entry) (preserve : Bool) (gno : ℕ) (fault : ReplicaFault) → TellsStopBehind tables source base preserve (up_to gno) fault → TellsStop tables source base preserve gno fault
+-- a stop in front of one of the commits from 1 to a gno is told as one of that gno
+pub told_upto : (tables : List Table) (source : List ℕ) (base : List Entry) (preserve : Bool) (gno : ℕ) (fault : ReplicaFault)
+    → TellsStopBehind tables source base preserve (up_to gno) fault → TellsStop tables source base preserve gno fault
 told_upto tables source base preserve gno fault h =
     let ops = h.state.publication.published in
     let behind = not_up_to_low (gnos_of ops) gno h.stop.1 in
@@ -49,13 +58,17 @@ told_upto tables source base preserve gno fault h =
 
 -- ---- those of a set
 
+-- where each interval of a set is published, each number of it is
 pub among : (ids : Ids) (is : List Interval) (gnos : List ℕ) → is ≡ ids.numbers → has_all gnos is ≡ true → AreAmong gnos ids
 among ids is gnos same all gno has = all_has gnos is gno all (subst (λ l. has_number l gno ≡ true) (sym same) has)
 
+-- in the order of the log no number of it is then above the number of commits
 pub among_in_order : (preserve : Bool) (ops : List Op) (ids : Ids) → preserve ≡ true → IsHistory preserve ops → AreAmong (gnos_of ops) ids → AreUpTo (commits_in ops) ids
 among_in_order preserve ops ids order h are gno has = in_order_upto preserve ops gno order h (are gno has)
 
-pub told_set : (tables : List Table) (source : List ℕ) (base : List Entry) (preserve : Bool) (ids : Ids) (is : List Interval) (fault : ReplicaFault) → is ≡ ids.numbers → IsSet ids → TellsStopBehind tables source base preserve is fault → TellsStopOf tables source base preserve ids fault
+-- a stop in front of one of a set's intervals is told as one of the set
+pub told_set : (tables : List Table) (source : List ℕ) (base : List Entry) (preserve : Bool) (ids : Ids) (is : List Interval) (fault : ReplicaFault) → is ≡ ids.numbers
+    → IsSet ids → TellsStopBehind tables source base preserve is fault → TellsStopOf tables source base preserve ids fault
 told_set tables source base preserve ids is fault same set h =
     let ops = h.state.publication.published in
     let l = all_lack (gnos_of ops) is h.stop.1 in
@@ -70,7 +83,8 @@ told_set tables source base preserve ids is fault same set h =
     }
 
 -- where the order of the log is kept its greatest number is told
-pub told_greatest : (tables : List Table) (source : List ℕ) (base : List Entry) (preserve : Bool) (ids : Ids) (greatest : Option ℕ) (n : ℕ) (fault : ReplicaFault) → preserve ≡ true → MatchOption greatest (ids ≡ no_ids) (IsGreatest ids.numbers)
+pub told_greatest : (tables : List Table) (source : List ℕ) (base : List Entry) (preserve : Bool) (ids : Ids) (greatest : Option ℕ) (n : ℕ) (fault : ReplicaFault)
+    → preserve ≡ true → MatchOption greatest (ids ≡ no_ids) (IsGreatest ids.numbers)
     → n ≡ unwrap_or greatest 0 → TellsStopBehind tables source base preserve (up_to n) fault → TellsStopOf tables source base preserve ids fault
 told_greatest tables source base preserve ids None n fault order most is h =
     let low = not_up_to_low (gnos_of h.state.publication.published) n h.stop.1 in

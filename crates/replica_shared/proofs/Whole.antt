@@ -26,7 +26,8 @@ pub unsettled : (s : State) → s.behind ≡ true → IsBehindOrCaughtUp s
 unsettled s is running not = absurd (true≢false (sym is ∙ not))
 
 -- what a new replica has to do
-pub new_settled : (s : State) (ts : List Table) (source : List ℕ) (b : List Entry) (workers : ℕ) (preserve : Bool) → s.core ≡ new_over ts source b workers preserve → s.outlet ≡ empty_outlet → IsCaughtUp s
+pub new_settled : (s : State) (ts : List Table) (source : List ℕ) (b : List Entry) (workers : ℕ) (preserve : Bool) → s.core ≡ new_over ts source b workers preserve
+    → s.outlet ≡ empty_outlet → IsCaughtUp s
 new_settled s ts source b workers preserve core outlet = record {
   committed = subst (λ (r : Replica). next_commit r ≡ None) (sym core) (no_commit preserve);
   published = subst (λ (r : Replica). r.published ≡ length r.commits) (sym core) refl;
@@ -38,13 +39,16 @@ new_settled s ts source b workers preserve core outlet = record {
     no_commit true = refl
     no_commit false = refl
 
-pub new_line : (r : Replica) (q : Queued) (ts : List Table) (source : List ℕ) (b : List Entry) (workers : ℕ) (preserve : Bool) → r ≡ new_over ts source b workers preserve → q ≡ empty_outlet → AreInLine r.dispatched q
+-- nothing is dispatched in a new core, and nothing pushed in a new outlet
+pub new_line : (r : Replica) (q : Queued) (ts : List Table) (source : List ℕ) (b : List Entry) (workers : ℕ) (preserve : Bool) → r ≡ new_over ts source b workers preserve
+    → q ≡ empty_outlet → AreInLine r.dispatched q
 new_line r q ts source b workers preserve core outlet =
     subst (λ (x : Replica). AreInLine x.dispatched q) (sym core) (subst (λ (x : Queued). AreInLine 0 x) (sym outlet) refl)
 
 module _ (tables : List Table) (source : List ℕ) (base : List Entry) (preserve : Bool) where
   -- what is beside core, publisher and queue changes
-  pub whole_beside : (s : State) (closed : Bool) (kept : List Job) (claimed : ℕ) (told : Outlook) (appended : ℕ) (stored : List Counts) → AreKept kept → claimed ≤ s.outlet.pushed → IsWhole tables source base preserve s appended stored
+  pub whole_beside : (s : State) (closed : Bool) (kept : List Job) (claimed : ℕ) (told : Outlook) (appended : ℕ) (stored : List Counts) → AreKept kept
+      → claimed ≤ s.outlet.pushed → IsWhole tables source base preserve s appended stored
       → IsWhole tables source base preserve (record s { closed = closed; kept = kept; claimed = claimed; told = told }) appended stored
   whole_beside s closed kept claimed told appended stored places claims h = record {
     stand = h.stand;
@@ -56,7 +60,9 @@ module _ (tables : List Table) (source : List ℕ) (base : List Entry) (preserve
   }
 
 -- a result is refused
-pub whole_refused : (tables : List Table) (source : List ℕ) (base : List Entry) (preserve : Bool) (s : State) (r : Replica) (fault : ReplicaFault) (appended : ℕ) (stored : List Counts) → r ≡ left_by_fault s.core fault → StopsRightly (left_by_fault s.core fault) → IsWhole tables source base preserve s appended stored
+pub whole_refused : (tables : List Table) (source : List ℕ) (base : List Entry) (preserve : Bool) (s : State) (r : Replica) (fault : ReplicaFault) (appended : ℕ)
+    (stored : List Counts)
+    → r ≡ left_by_fault s.core fault → StopsRightly (left_by_fault s.core fault) → IsWhole tables source base preserve s appended stored
     → IsWhole tables source base preserve (record s { core = r }) appended stored
 whole_refused tables source base preserve s r fault appended stored left stops h =
     subst (λ (x : Replica). IsWhole tables source base preserve (record s { core = x }) appended stored) (sym left) (each fault stops)
@@ -84,7 +90,8 @@ whole_refused tables source base preserve s r fault appended stored left stops h
 -- ---- commits
 
 -- one more record is committed, and the words are stored
-pub whole_committed : (tables : List Table) (source : List ℕ) (base : List Entry) (preserve : Bool) (s : State) (gno : ℕ) (appended : ℕ) (before after : List Counts) → s.behind ≡ true → (with_commit s.core gno).stopped ≡ None → IsSound (with_commit s.core gno) → latest after ≡ words_of (with_commit s.core gno)
+pub whole_committed : (tables : List Table) (source : List ℕ) (base : List Entry) (preserve : Bool) (s : State) (gno : ℕ) (appended : ℕ) (before after : List Counts)
+    → s.behind ≡ true → (with_commit s.core gno).stopped ≡ None → IsSound (with_commit s.core gno) → latest after ≡ words_of (with_commit s.core gno)
     → IsWhole tables source base preserve s appended before → IsWhole tables source base preserve (record s { core = with_commit s.core gno }) appended after
 whole_committed tables source base preserve s gno appended before after behind running sound words h = record {
   stand = stand_committed tables source base preserve s.core s.publication appended before gno after sound h.stand words;
@@ -112,7 +119,8 @@ next_in_line r q job is line free =
     (omega arith, omega arith)
 
 -- one more is dispatched, and its job waits for its push
-pub whole_dispatched : (tables : List Table) (source : List ℕ) (base : List Entry) (preserve : Bool) (s new : State) (appended : ℕ) (stored : List Counts) → s.behind ≡ true → s.core.stopped ≡ None → s.outlet.aside ≡ None → DispatchesOne s new → IsWhole tables source base preserve s appended stored
+pub whole_dispatched : (tables : List Table) (source : List ℕ) (base : List Entry) (preserve : Bool) (s new : State) (appended : ℕ) (stored : List Counts) → s.behind ≡ true
+    → s.core.stopped ≡ None → s.outlet.aside ≡ None → DispatchesOne s new → IsWhole tables source base preserve s appended stored
     → IsWhole tables source base preserve new appended stored
 whole_dispatched tables source base preserve s new appended stored behind running free one h =
     let t = h.stand in
@@ -126,7 +134,8 @@ whole_dispatched tables source base preserve s new appended stored behind runnin
     }
 
 -- so few are pushed
-pub few_pushed : (tables : List Table) (source : List ℕ) (base : List Entry) (preserve : Bool) (s : State) (appended : ℕ) (stored : List Counts) → IsSound s.core → IsWhole tables source base preserve s appended stored → s.outlet.pushed < 2 ^ 63
+pub few_pushed : (tables : List Table) (source : List ℕ) (base : List Entry) (preserve : Bool) (s : State) (appended : ℕ) (stored : List Counts) → IsSound s.core
+    → IsWhole tables source base preserve s appended stored → s.outlet.pushed < 2 ^ 63
 few_pushed tables source base preserve s appended stored sound h =
     let few = few_accepted s.core.tables s.core.accepted sound.accepted in
     let all = sound.dispatched in

@@ -55,3 +55,7 @@ hand_of pass = injector_view pass
 -- the pass is of this queue
 abbrev pub IsPassOf : Jobs → InjectorPass Job Hand Global → Type 0
 IsPassOf jobs pass = IsInjectorPassOf jobs.queue pass
+
+-- the pass is the one that pushes to this queue, and pushed this gno last
+abbrev pub IsPusherOf : Jobs → InjectorPass Job Hand Global → ℕ → Type 0
+IsPusherOf jobs pass pushed = IsPassOf jobs pass × (pass.id ≡ 0) × ((hand_of pass).pushed ≡ pushed)

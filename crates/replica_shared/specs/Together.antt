@@ -1,5 +1,38 @@
 -- What lies under the lock of a shared replica, and what is true of it each time that the lock is taken.
-use Rattle.std.specs.Prelude.{◌≡◌, ◌⊎◌, ℕ, ◌+◌, ◌-◌, ◌<◌, ◌≤◌, Bool, true, false, not, ◌&&◌, ◌||◌, ◌==◌, nat_lt, IfErr, IfSome, MatchOption, List, [], ◌∷◌, ◌++◌, map, length, slice_get, Option, Some, None, is_some, Result, Ok, Err}
+use Rattle.std.specs.Prelude.{
+  ◌≡◌,
+  ◌⊎◌,
+  ℕ,
+  ◌+◌,
+  ◌-◌,
+  ◌<◌,
+  ◌≤◌,
+  Bool,
+  true,
+  false,
+  not,
+  ◌&&◌,
+  ◌||◌,
+  ◌==◌,
+  nat_lt,
+  IfErr,
+  IfSome,
+  MatchOption,
+  List,
+  [],
+  ◌∷◌,
+  ◌++◌,
+  map,
+  length,
+  slice_get,
+  Option,
+  Some,
+  None,
+  is_some,
+  Result,
+  Ok,
+  Err,
+}
 use Rattle.std.specs.List.{filter}
 use mathlib.Core.List.{IsPrefix}
 use Rattle.schema.specs.declared.Table.{Table}
@@ -269,9 +302,13 @@ answered gno outcomes.Undefined = Err (faults.Stopped gno)
 answered gno outcomes.WrongRefs = Err (faults.Stopped gno)
 answered gno outcomes.Memory = Err faults.Memory
 
+-- the publisher has these operations, and nothing else changes
+abbrev pub with_publication : State → Publishing → State
+with_publication s publication = record s { publication = publication }
+
 -- these operations are appended
 abbrev pub with_waiting : State → List Op → State
-with_waiting s waiting = record s { publication = record s.publication { waiting = waiting } }
+with_waiting s waiting = with_publication s (record s.publication { waiting = waiting })
 
 -- the operations of all committed records are published or appended
 pub record IsAppended (s : State) : Type 0 where

@@ -21,16 +21,15 @@ pub struct Outlet {
 }
 
 impl Model for Outlet {
-    ghost use Rattle.std.specs.Prelude.{◌≡◌};
     ghost use Rattle.std.specs.Arc.{arc_value};
-    ghost use Rattle.replica_shared.specs.Queue.{IsPassOf, hand_of};
+    ghost use Rattle.replica_shared.specs.Queue.{IsPusherOf};
     ghost use Rattle.replica_shared.specs.Outlet.{Queued, IsAbove};
 
     ghost Value = { Queued };
 
     ghost view = { λ o. record { pushed = o.pushed; aside = o.aside } };
 
-    ghost invariant = { λ o. IsPassOf (arc_value o.jobs) o.pass × (o.pass.id ≡ 0) × ((hand_of o.pass).pushed ≡ o.pushed) × IsAbove o.pushed o.aside };
+    ghost invariant = { λ o. IsPusherOf (arc_value o.jobs) o.pass o.pushed × IsAbove o.pushed o.aside };
 }
 
 impl Outlet {

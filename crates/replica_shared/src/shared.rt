@@ -276,7 +276,8 @@ impl<S: RowStore + Drop, J: ReplicaNaming> SharedReplica<S, J> {
         ensures in_order { J.preserve ≡ true → IfOk result (λ notice. AreUpTo (commits_in notice) set.now) }
         ensures history { IfOk result (λ notice. IsHistory J.preserve notice) }
         ensures begins { IfOk result (λ notice. IsPrefix (Load J.base ∷ []) notice) }
-        ensures stop { takes_source set.now.source J.source ≡ true → IfErr result (TellsStopOf J.tables J.source J.base J.preserve set.now) }
+        ensures stop { takes_source set.now.source J.source ≡ true
+            → IfErr result (TellsStopOf J.tables J.source J.base J.preserve set.now) }
     {
         let (own, preserve) = self.named(rt);
         match set.source() {
@@ -355,8 +356,8 @@ impl<S: RowStore + Drop, J: ReplicaNaming> SharedReplica<S, J> {
         looks
     }
 
-    /// How many records were accepted, and how many of these are committed and published, in whatever order. It does not wait for a worker that
-    /// holds the coordinator's lock.
+    /// How many records were accepted, and how many of these are committed and published, in whatever order. It does not wait for a
+    /// worker that holds the coordinator's lock.
     pub fn status(&self, rt: &impl Wait) -> Counts
         ensures { InOrder result }
     {
@@ -372,7 +373,8 @@ impl<S: RowStore + Drop, J: ReplicaNaming> SharedReplica<S, J> {
 
     /// The core and the publisher, over the tables and the rows that they were made with. What is published are the operations of
     /// the first commits of the core, in their order; where the order of the log is kept they are those of the first records that it
-    /// accepted. What was committed and not published, as behind want of memory, may wait in the publisher. The seats that are not out are dropped. It takes no memory, and waits for nobody.
+    /// accepted. What was committed and not published, as behind want of memory, may wait in the publisher. The seats that are not out
+    /// are dropped. It takes no memory, and waits for nobody.
     pub fn end(self) -> (ReplicaCore<S>, Publisher<S, J>)
         ensures tables { result.0.tables ≡ J.tables }
         ensures source { result.0.source ≡ J.source }
@@ -382,7 +384,8 @@ impl<S: RowStore + Drop, J: ReplicaNaming> SharedReplica<S, J> {
         ensures in_order { J.preserve ≡ true
             → result.1.published ≡ operations_in_order result.0.tables result.0.base result.0.accepted (commits_in result.1.published) }
         ensures within { commits_in result.1.published ≤ length result.0.commits }
-        ensures begins { IsPrefix (result.1.published ++ result.1.waiting) (operations result.0.tables result.0.base (ran result.0) (length result.0.commits)) }
+        ensures begins { IsPrefix (result.1.published ++ result.1.waiting)
+            (operations result.0.tables result.0.base (ran result.0) (length result.0.commits)) }
         ensures shown { result.0.published ≡ commits_in result.1.published }
     {
         let SharedReplica {

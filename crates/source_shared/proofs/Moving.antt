@@ -37,6 +37,7 @@ left_alone cs log kept =
     }
     )
 
+-- a step that makes a cell keeps the rule, and gives the right to make its word
 pub reserves_moves : (v : List Part) (nib : Nib) (state : Option ℕ) (ask : Part)
     → Moves IsLedger shown moved 0 (v, (nib, state)) (λ n. either (n == 1) 1 n) (Reserves (step 0 1 1 ask) (v, (nib, state)))
 reserves_moves v nib state ask cs log kept pre away =
@@ -60,6 +61,7 @@ reserves_moves v nib state ask cs log kept pre away =
       ),
     )
 
+-- a step that changes nothing keeps the rule, and tells that the cell of a pen to write was not brought home
 pub checks_moves : (v : List Part) (nib : Nib) (state : Option ℕ) (ask : Part) → nib.right ≡ may_write
     → Moves IsLedger shown moved 0 (v, (nib, state)) (λ n. either (n == 1) 1 n) (Checks (step 0 1 1 ask) (v, (nib, state)))
 checks_moves v nib state ask right cs log kept pre away = (
@@ -102,6 +104,7 @@ begins_goes (part ∷ parts) v nib state ask cs kept =
       subst (λ (m : ℕ). OnTrue (m == 0) ((part ∷ parts) ++ [] ≡ ask ∷ [])) (sym n) tt,
     )
 
+-- a step that begins keeps the rule, and is the first entry where the one word was 0
 pub begins_moves : (v : List Part) (nib : Nib) (state : Option ℕ) (ask : Part)
     → Moves IsLedger shown moved 0 (v, (nib, state)) (λ n. either (n == 0) 1 n) (Begins (step 0 0 1 ask) (v, (nib, state)))
 begins_moves v nib state ask cs log kept pre away = (kept.some, ap (λ (c : Cell). c.1) kept.word, begins_goes log v nib state ask cs kept)
@@ -111,6 +114,7 @@ begun-more : (log : List Part) (ask : Part) → 0 < length log → begun_word (l
 begun-more [] ask some = absurd (omega arith)
 begun-more (part ∷ parts) ask some = refl
 
+-- a step that adds, by the pen of the last entry's cell, keeps the rule, and goes behind all that had been seen
 pub adds_moves : (v : List Part) (nib : Nib) (state : Option ℕ) (ask : Part) → IsTurn nib v
     → Moves IsLedger shown moved 0 (v, (nib, state)) (λ n. either (n == 1) 1 n) (Adds (step 0 1 1 ask) (v, (nib, state)))
 adds_moves v nib state ask turn cs log kept pre away =

@@ -1,5 +1,36 @@
 -- Receipts in the places of their sessions.
-use Rattle.std.proofs.Common.{◌≡◌, ℕ, zero, suc, ◌+◌, ◌-◌, ◌<◌, ◌≤◌, List, [], ◌∷◌, ◌++◌, length, set, take, drop, replicate, Option, Some, None, slice_get, slice_index_or, refl, sym, ap, ◌∙◌, subst, inl, inr, arith}
+use Rattle.std.proofs.Common.{
+  ◌≡◌,
+  ℕ,
+  zero,
+  suc,
+  ◌+◌,
+  ◌-◌,
+  ◌<◌,
+  ◌≤◌,
+  List,
+  [],
+  ◌∷◌,
+  ◌++◌,
+  length,
+  set,
+  take,
+  drop,
+  replicate,
+  Option,
+  Some,
+  None,
+  slice_get,
+  slice_index_or,
+  refl,
+  sym,
+  ap,
+  ◌∙◌,
+  subst,
+  inl,
+  inr,
+  arith,
+}
 use Rattle.std.proofs.lemmas.Bool.Decides.{eqb_tells}
 use Rattle.std.proofs.lemmas.List.{length-take-le}
 use Rattle.record_codec.specs.declared.records.Record.{Record}
@@ -10,16 +41,20 @@ use Rattle.source_core.proofs.CommitLoops.{receipts-append}
 use Rattle.source_shared.proofs.Turns.{prefix_get}
 use Rattle.source_shared.specs.Engine.{ArePlaced, IsKnown, IsCommitted, committed_receipts}
 
+-- a place that is emptied leaves the others in order
 pub placed_none : (history : List Receipt) (n : ℕ) (places : List (Option Receipt)) (k : ℕ) → ArePlaced history n places → ArePlaced history n (set places k None)
 placed_none history n [] k h = tt
 placed_none history n (place ∷ places) zero h = (tt, h.1)
 placed_none history n (place ∷ places) (suc k) h = (h.0, placed_none history (n + 1) places k h.1)
 
-pub placed_some : (history : List Receipt) (n : ℕ) (places : List (Option Receipt)) (k : ℕ) (r : Receipt) → r.session ≡ n + k → IsKnown history r → ArePlaced history n places → ArePlaced history n (set places k (Some r))
+-- a receipt of a place's own session, of the history, may lie there
+pub placed_some : (history : List Receipt) (n : ℕ) (places : List (Option Receipt)) (k : ℕ) (r : Receipt) → r.session ≡ n + k → IsKnown history r → ArePlaced history n places
+    → ArePlaced history n (set places k (Some r))
 placed_some history n [] k r is known h = tt
 placed_some history n (place ∷ places) zero r is known h = ((omega (arith, is), known), h.1)
 placed_some history n (place ∷ places) (suc k) r is known h = (h.0, placed_some history (n + 1) places k r (omega (arith, is)) known h.1)
 
+-- places without receipts are in order
 pub none_placed : (history : List Receipt) (n m : ℕ) → ArePlaced history n (replicate m None)
 none_placed history n zero = tt
 none_placed history n (suc m) = (tt, none_placed history (n + 1) m)
@@ -28,6 +63,7 @@ none_placed history n (suc m) = (tt, none_placed history (n + 1) m)
 known_longer : (history more : List Receipt) (r : Receipt) → IsKnown history r → IsKnown (history ++ more) r
 known_longer history more r known = record { least = known.least; there = prefix_get history (history ++ more) (r.gno - 1) r (more, refl) known.there }
 
+-- receipts that lie in order do in a longer history too
 pub placed_longer : (history more : List Receipt) (n : ℕ) (places : List (Option Receipt)) → ArePlaced history n places → ArePlaced (history ++ more) n places
 placed_longer history more n [] h = tt
 placed_longer history more n (None ∷ places) h = (tt, placed_longer history more (n + 1) places h.1)
@@ -71,6 +107,7 @@ number_at s k made sound h =
     let at = split_at s.log k made h in
     (sound.legal at.0 made at.1 at.2).gno ∙ ap (λ n. n + 1) at.3
 
+-- within a list the element that a look-up gives stands in its place
 pub get_there : {A : Type 0} (xs : List A) (k : ℕ) (d : A) → k < length xs → slice_get xs k ≡ Some (slice_index_or xs k d)
 get_there [] k d h = absurd (omega arith)
 get_there (x ∷ xs) zero d h = refl
@@ -96,8 +133,10 @@ receipts_then s sound =
     let owners : take s.committed s.owners ++ drop s.committed (take s.synced s.owners) ≡ take s.synced s.owners = both_parts s.committed s.synced s.owners sound.committed_within in
     let log : take s.committed s.log ++ drop s.committed (take s.synced s.log) ≡ take s.synced s.log = both_parts s.committed s.synced s.log sound.committed_within in
     let long : length (take s.committed s.owners) ≡ length (take s.committed s.log) =
-    length-take-le s.committed s.owners (omega (arith, sound.committed_within, sound.synced_within, sound.owned)) ∙ sym (length-take-le s.committed s.log (omega (arith, sound.committed_within, sound.synced_within))) in
-    sym (λ i. receipts_for (owners i) (log i)) ∙ receipts-append (take s.committed s.owners) (drop s.committed (take s.synced s.owners)) (take s.committed s.log) (drop s.committed (take s.synced s.log)) long
+    length-take-le s.committed s.owners (omega (arith, sound.committed_within, sound.synced_within, sound.owned))
+    ∙ sym (length-take-le s.committed s.log (omega (arith, sound.committed_within, sound.synced_within))) in
+    sym (λ i. receipts_for (owners i) (log i))
+    ∙ receipts-append (take s.committed s.owners) (drop s.committed (take s.synced s.owners)) (take s.committed s.log) (drop s.committed (take s.synced s.log)) long
 
 -- a receipt of the synced records has the number of its place
 pub receipt_number : (s : Source) → IsSound s → (k : ℕ) (r : Receipt) → slice_get (receipts_for (take s.synced s.owners) (take s.synced s.log)) k ≡ Some r → r.gno ≡ k + 1
@@ -108,9 +147,11 @@ receipt_number s sound k r h =
 
 -- what a commit gives, and the history with that
 module _ (s : Source) (sound : IsSound s) (before given history : List Receipt) (was : before ≡ committed_receipts s) (gives : given ≡ receipts s) (is : history ≡ before ++ given) where
+  -- the history then has a receipt for each synced record, in log order
   pub then_all : history ≡ receipts_for (take s.synced s.owners) (take s.synced s.log)
   then_all = is ∙ (λ i. was i ++ gives i) ∙ sym (receipts_then s sound)
 
+  -- and each receipt that was given is one of it, at its number
   pub are_known : (k : ℕ) (d : Receipt) → k < length given → IsKnown history (slice_index_or given k d)
   are_known k d h =
       let r = slice_index_or given k d in
@@ -119,7 +160,8 @@ module _ (s : Source) (sound : IsSound s) (before given history : List Receipt) 
       let e : length before + k ≡ r.gno - 1 = omega (arith, gno) in record { least = omega (arith, gno); there = subst (λ (n : ℕ). slice_get history n ≡ Some r) e there }
 
 -- one more of these receipts is known
-pub known_more : (history rs : List Receipt) (i : ℕ) (r : Receipt) → i < length rs → r ≡ slice_index_or rs i r → IsKnown history r → ((k : ℕ) (d : Receipt) → k < i → IsKnown history (slice_index_or rs k d))
+pub known_more : (history rs : List Receipt) (i : ℕ) (r : Receipt) → i < length rs → r ≡ slice_index_or rs i r → IsKnown history r
+    → ((k : ℕ) (d : Receipt) → k < i → IsKnown history (slice_index_or rs k d))
     → (k : ℕ) (d : Receipt) → k < i + 1 → IsKnown history (slice_index_or rs k d)
 known_more history rs i r within is known before k d h =
     elim (eqb_tells k i) [

@@ -1,5 +1,42 @@
 -- What is true under the lock stays so, step by step.
-use Rattle.std.proofs.Common.{◌≡◌, ◌≢◌, ℕ, zero, suc, ◌+◌, ◌-◌, Bool, true, false, ◌||◌, ◌&&◌, ◌==◌, slice_index_or, slice_set, inl, inr, List, [], ◌∷◌, ◌++◌, length, take, drop, replicate, Option, Some, None, IfSome, is_some, refl, sym, ap, ◌∙◌, subst, arith}
+use Rattle.std.proofs.Common.{
+  ◌≡◌,
+  ◌≢◌,
+  ℕ,
+  zero,
+  suc,
+  ◌+◌,
+  ◌-◌,
+  Bool,
+  true,
+  false,
+  ◌||◌,
+  ◌&&◌,
+  ◌==◌,
+  slice_index_or,
+  slice_set,
+  inl,
+  inr,
+  List,
+  [],
+  ◌∷◌,
+  ◌++◌,
+  length,
+  take,
+  drop,
+  replicate,
+  Option,
+  Some,
+  None,
+  IfSome,
+  is_some,
+  refl,
+  sym,
+  ap,
+  ◌∙◌,
+  subst,
+  arith,
+}
 use Rattle.std.specs.Prelude.{slice_get, IsSomeAnd}
 use Rattle.std.specs.Str.{bytes_eq}
 use Rattle.std.proofs.lemmas.Bool.{false≢true, and_parts}
@@ -22,13 +59,36 @@ use Rattle.source_core.specs.Source.{Source, Open, IsSound, new_source}
 use Rattle.log_file.specs.Calls.{confirmed}
 use Rattle.source_core.proofs.FlushEnds.{group_ends, group_is_counted}
 use Rattle.source_core.specs.Calls.{flushed, Flushes, IsOldest, with_synced, all_committed, receipts, receipts_for}
-use Rattle.source_shared.specs.Engine.{State, Watch, NoneSleepsWithEnd, has_end, set_asleep, stirred_now, IsErrand, is_same, count, IsReady, AreLaidOut, IsSettled, ArePlaced, IsNewState, committed_receipts, emptied as emptied_at, failed, with_home, landed, given, laid}
+use Rattle.source_shared.specs.Engine.{
+  State,
+  Watch,
+  NoneSleepsWithEnd,
+  has_end,
+  set_asleep,
+  stirred_now,
+  IsErrand,
+  is_same,
+  count,
+  IsReady,
+  AreLaidOut,
+  IsSettled,
+  ArePlaced,
+  IsNewState,
+  committed_receipts,
+  emptied as emptied_at,
+  failed,
+  with_home,
+  landed,
+  given,
+  laid,
+}
 use Rattle.source_shared.proofs.Places.{placed_none, none_placed}
 
 -- ---- the groups that wait
 
 -- the oldest group
-oldest : (base : List Entry) (tables : List Table) (s : State) (group : GroupValue) (groups : List GroupValue) → s.unsynced ≡ group ∷ groups → IsSettled base tables s → Oldest s.core.log s.core.synced s.core.group_sizes group groups
+oldest : (base : List Entry) (tables : List Table) (s : State) (group : GroupValue) (groups : List GroupValue) → s.unsynced ≡ group ∷ groups → IsSettled base tables s
+    → Oldest s.core.log s.core.synced s.core.group_sizes group groups
 oldest base tables s group groups unsynced h = oldest_of s.core.log s.core.synced s.core.group_sizes s.kept s.unsynced group groups h.flushed unsynced
 
 -- is the next behind those that are synced
@@ -41,12 +101,24 @@ next_waits base tables s h = of s.unsynced refl where
 -- ---- steps
 
 -- other sessions, and another queue
-pub sessions_settled : (base : List Entry) (tables : List Table) (s : State) (sessions : List (Option Open)) (queue : List ℕ) → IsSettled base tables s → IsSettled base tables (record s { core = record s.core { sessions = sessions; queue = queue } })
-sessions_settled base tables s sessions queue h = record { base_is = h.base_is; tables_is = h.tables_is; flushed = h.flushed; ready = h.ready; out = h.out; receipts = h.receipts; watch = h.watch; calm = h.calm }
+pub sessions_settled : (base : List Entry) (tables : List Table) (s : State) (sessions : List (Option Open)) (queue : List ℕ) → IsSettled base tables s
+    → IsSettled base tables (record s { core = record s.core { sessions = sessions; queue = queue } })
+sessions_settled base tables s sessions queue h =
+    record { base_is = h.base_is; tables_is = h.tables_is; flushed = h.flushed; ready = h.ready; out = h.out; receipts = h.receipts; watch = h.watch; calm = h.calm }
 
 -- the source is halted
 pub failed_settled : (base : List Entry) (tables : List Table) (s : State) → IsSettled base tables s → IsSettled base tables (failed s)
-failed_settled base tables s h = record { base_is = h.base_is; tables_is = h.tables_is; flushed = h.flushed; ready = IfSome_then s.home h.ready (λ t ready e. absurd cc); out = h.out; receipts = h.receipts; watch = record { sessions = h.watch.sessions; asleep = h.watch.asleep }; calm = λ e. absurd (false≢true (sym e)) }
+failed_settled base tables s h =
+    record {
+      base_is = h.base_is;
+      tables_is = h.tables_is;
+      flushed = h.flushed;
+      ready = IfSome_then s.home h.ready (λ t ready e. absurd cc);
+      out = h.out;
+      receipts = h.receipts;
+      watch = record { sessions = h.watch.sessions; asleep = h.watch.asleep };
+      calm = λ e. absurd (false≢true (sym e));
+    }
 
 -- where there was no receipt there is none once a place is emptied
 none_in : (places : List (Option Receipt)) (k j : ℕ) → is_some (slice_index_or places j None) ≡ false → is_some (slice_index_or (slice_set places k None) j None) ≡ false
@@ -72,7 +144,9 @@ emptied base tables s k h =
       out = h.out;
       receipts = record { history_is = laid_.history_is; placed = placed_none s.history 1 s.places k laid_.placed; places = length-set s.places k None ∙ laid_.places; seats = laid_.seats };
       watch = h.watch;
-      calm = λ e place sleeps. no_end s.core.halted (is_some (slice_index_or s.places place None)) (is_some (slice_index_or (slice_set s.places k None) place None)) (none_in s.places k place) (h.calm e place sleeps);
+      calm =
+          λ e place sleeps. no_end s.core.halted (is_some (slice_index_or s.places place None)) (is_some (slice_index_or (slice_set s.places k None) place None))
+          (none_in s.places k place) (h.calm e place sleeps);
     }
 
 -- the writer is here, and ready unless the source is halted
@@ -105,11 +179,12 @@ flushed_settled base tables s c group sound f h =
 -- ---- what is prepared is the oldest
 
 -- the writer leaves with it
-pub leaves : (base : List Entry) (tables : List Table) (s : State) (t : Tail) (group : GroupValue) → s.home ≡ Some t → s.core.halted ≡ false → slice_get s.unsynced 0 ≡ Some group → IsSettled base tables s → IsErrand (record { tail = t; group = group })
+pub leaves : (base : List Entry) (tables : List Table) (s : State) (t : Tail) (group : GroupValue) → s.home ≡ Some t → s.core.halted ≡ false
+    → slice_get s.unsynced 0 ≡ Some group → IsSettled base tables s → IsErrand (record { tail = t; group = group })
 leaves base tables s t group home running at h =
     let o = oldest base tables s group (drop 1 s.unsynced) (first_of s.unsynced group at) h in
     let ready = subst (λ (w : Option Tail). IfSome w (λ x. s.core.halted ≡ false → IsReady s.core.synced x)) home h.ready running in
-    record { waiting = ready.waiting; next = o.first ∙ sym ready.next; version = o.version; form = ready.form }
+    record { waiting = ready.waiting; next = o.first ∙ sym ready.next; version = o.version; form = ready.form; goes = ready.goes }
 
 prepared_is : (prepared : Option GroupValue) (P : GroupValue → Type 0) → IsSomeAnd prepared P → (group : GroupValue) × (prepared ≡ Some group) × P group
 prepared_is None P some = absurd some
@@ -131,47 +206,59 @@ same_group p group is version =
       bytes = (bytes_eq-Decides p.bytes group.bytes).0 parts.1 i;
     }
 
-pub expected : (base : List Entry) (tables : List Table) (s : State) (p group : GroupValue) → s.kept.prepared ≡ Some p → IsSettled base tables s → group.version ≡ current → is_same p group ≡ true → s.kept.prepared ≡ Some group
+-- a group of the numbers and bytes of the prepared one is the prepared one
+pub expected : (base : List Entry) (tables : List Table) (s : State) (p group : GroupValue) → s.kept.prepared ≡ Some p → IsSettled base tables s → group.version ≡ current
+    → is_same p group ≡ true → s.kept.prepared ≡ Some group
 expected base tables s p group is h version same =
     let at = oldest base tables s p (drop 1 s.unsynced) (prepared_oldest base tables s p is h) h in
     is ∙ ap Some (same_group p group same (at.version ∙ sym version))
 
 -- the writer that was to write it is ready again
-pub taken_back : (base : List Entry) (tables : List Table) (s old : State) (t : Tail) → s ≡ old → IsSettled base tables s → IsSomeAnd old.kept.prepared (λ group. group.first ≡ t.next) → t.waiting ≡ None → records_of t.form ≡ current
+pub taken_back : (base : List Entry) (tables : List Table) (s old : State) (t : Tail) → s ≡ old → IsSettled base tables s
+    → IsSomeAnd old.kept.prepared (λ group. group.first ≡ t.next) → t.waiting ≡ None → records_of t.form ≡ current → t.finished ≡ false
     → IsSettled base tables (with_home t s)
-taken_back base tables s old t is h some waiting form =
+taken_back base tables s old t is h some waiting form goes =
     let p = prepared_is s.kept.prepared (λ group. group.first ≡ t.next) (subst (λ (x : State). IsSomeAnd x.kept.prepared (λ group. group.first ≡ t.next)) (sym is) some) in
     let at = oldest base tables s p.0 (drop 1 s.unsynced) (prepared_oldest base tables s p.0 p.1 h) h in
-    home_settled base tables s t (λ running. record { waiting = waiting; next = sym p.2 ∙ at.first; form = form }) h
+    home_settled base tables s t (λ running. record { waiting = waiting; next = sym p.2 ∙ at.first; form = form; goes = goes }) h
 
+-- the prepared group is the oldest that the core has flushed and not synced
 pub prepared_asks : (base : List Entry) (tables : List Table) (s : State) (group : GroupValue) → s.kept.prepared ≡ Some group → IsSettled base tables s → IsOldest s.core group
 prepared_asks base tables s group prepared h =
     let at = oldest base tables s group (drop 1 s.unsynced) (prepared_oldest base tables s group prepared h) h in
     record { are = at.are; whole = at.whole }
 
 -- the prepared group is synced
-module _ (base : List Entry) (tables : List Table) (s : State) (t : Tail) (group : GroupValue) (c : Source) (k : Kept) (unsynced : List GroupValue) (h : IsSettled base tables s) (prepared : s.kept.prepared ≡ Some group)
-    (core : c ≡ with_synced s.core group.last) (confirms : (g : GroupValue) (rs : List Record) → s.kept.prepared ≡ Some g → AreRecordsOf g rs → k ≡ confirmed g rs s.kept) (rest : unsynced ≡ drop 1 s.unsynced) where
+module _ (base : List Entry) (tables : List Table) (s : State) (t : Tail) (group : GroupValue) (c : Source) (k : Kept) (unsynced : List GroupValue)
+    (h : IsSettled base tables s) (prepared : s.kept.prepared ≡ Some group)
+    (core : c ≡ with_synced s.core group.last) (confirms : (g : GroupValue) (rs : List Record) → s.kept.prepared ≡ Some g → AreRecordsOf g rs → k ≡ confirmed g rs s.kept)
+    (rest : unsynced ≡ drop 1 s.unsynced) where
   at : Oldest s.core.log s.core.synced s.core.group_sizes group (drop 1 s.unsynced)
   at = oldest base tables s group (drop 1 s.unsynced) (prepared_oldest base tables s group prepared h) h
 
   all : s.kept.records ++ drop s.core.synced (take group.last s.core.log) ≡ take group.last s.core.log
   all = ap (λ (l : List Record). l ++ drop s.core.synced (take group.last s.core.log)) h.flushed.records ∙ sym at.front
 
+  -- what is left then is as `landed` says
   pub landed_is : record s { core = c; kept = k; home = Some t; unsynced = unsynced } ≡ landed group (with_home t s)
   landed_is =
       let kept = confirms group (drop s.core.synced (take group.last s.core.log)) prepared at.are ∙ (λ i. record s.kept { records = all i; groups = s.kept.groups ++ group ∷ []; prepared = None }) in
       λ i. record s { core = core i; kept = kept i; home = Some t; unsynced = rest i }
 
-  pub landed_settled : t.next ≡ group.last + 1 → t.waiting ≡ None → records_of t.form ≡ current → IsSettled base tables (record s { core = c; kept = k; home = Some t; unsynced = unsynced })
-  landed_settled next waiting form =
+  -- and it is settled, with a writer that is ready behind the group
+  pub landed_settled : t.next ≡ group.last + 1 → t.waiting ≡ None → records_of t.form ≡ current → t.finished ≡ false →
+      IsSettled base tables (record s { core = c; kept = k; home = Some t; unsynced = unsynced })
+  landed_settled next waiting form goes =
       subst (IsSettled base tables) (sym landed_is)
       (record {
         base_is = h.base_is;
         tables_is = h.tables_is;
-        flushed = subst (λ (rs : List Record). IsFlushedOf s.core.log group.last (drop 1 s.core.group_sizes) (record s.kept { records = rs; groups = s.kept.groups ++ group ∷ []; prepared = None }) (drop 1 s.unsynced)) all
+        flushed =
+            subst
+            (λ (rs : List Record). IsFlushedOf s.core.log group.last (drop 1 s.core.group_sizes)
+            (record s.kept { records = rs; groups = s.kept.groups ++ group ∷ []; prepared = None }) (drop 1 s.unsynced)) all
             (flushed_landed s.core.log s.core.synced s.core.group_sizes s.kept s.unsynced group (drop 1 s.unsynced) h.flushed at);
-        ready = λ running. record { waiting = waiting; next = next; form = form };
+        ready = λ running. record { waiting = waiting; next = next; form = form; goes = goes };
         out = tt;
         receipts = h.receipts;
         watch = h.watch;
@@ -179,8 +266,10 @@ module _ (base : List Entry) (tables : List Table) (s : State) (t : Tail) (group
       })
 
 -- a commit
-pub given_settled : (base : List Entry) (tables : List Table) (s : State) (c : Source) (places : List (Option Receipt)) (history : List Receipt) → c ≡ all_committed s.core → ArePlaced history 1 places → length places ≡ length s.places
-    → history ≡ receipts_for (take s.core.synced s.core.owners) (take s.core.synced s.core.log) → IsSettled base tables s → IsSettled base tables (stirred_now (record s { core = c; places = places; history = history }))
+pub given_settled : (base : List Entry) (tables : List Table) (s : State) (c : Source) (places : List (Option Receipt)) (history : List Receipt) → c ≡ all_committed s.core
+    → ArePlaced history 1 places → length places ≡ length s.places
+    → history ≡ receipts_for (take s.core.synced s.core.owners) (take s.core.synced s.core.log) → IsSettled base tables s
+    → IsSettled base tables (stirred_now (record s { core = c; places = places; history = history }))
 given_settled base tables s c places history is placed long history_is h =
     subst (λ (k : Source). IsSettled base tables (stirred_now (record s { core = k; places = places; history = history }))) (sym is)
     (record {
@@ -194,7 +283,9 @@ given_settled base tables s c places history is placed long history_is h =
       calm = λ e. absurd (false≢true (sym e));
     })
 
-pub given_is : (s old : State) (c : Source) (places : List (Option Receipt)) (history : List Receipt) → s ≡ old → c ≡ all_committed s.core → places ≡ laid (receipts s.core) s.places → history ≡ receipts_for (take s.core.synced s.core.owners) (take s.core.synced s.core.log)
+-- what a commit leaves is as `given` says
+pub given_is : (s old : State) (c : Source) (places : List (Option Receipt)) (history : List Receipt) → s ≡ old → c ≡ all_committed s.core
+    → places ≡ laid (receipts s.core) s.places → history ≡ receipts_for (take s.core.synced s.core.owners) (take s.core.synced s.core.log)
     → stirred_now (record s { core = c; places = places; history = history }) ≡ given old
 given_is s old c places history same is places_are history_is = (λ i. stirred_now (record s { core = is i; places = places_are i; history = history_is i })) ∙ ap (λ (x : State). given x) same
 
@@ -230,18 +321,28 @@ set_settled s k sleeps may none place e =
     there (x ∷ l) (suc j) (suc i) apart e = there l j i (λ same. apart (ap suc same)) e
 
 -- a source that was just made, over a new log file
-pub new_settled : (log : Log) (s : State) (t : Tail) → s.core ≡ new_source s.core.tables s.core.base s.core.limit s.core.kind → IsNew log → s.home ≡ Some t → AreHalves s.kept t → IsNewState s.core log s
+pub new_settled : (log : Log) (s : State) (t : Tail) → s.core ≡ new_source s.core.tables s.core.base s.core.limit s.core.kind → IsNew log → s.home ≡ Some t → AreHalves s.kept t
+    → IsNewState s.core log s
     → IsSettled s.core.base s.core.tables s
 new_settled log s t core is_new home halves new =
     let both : log_of s.kept t ≡ log = subst (λ (o : Option Tail). IfSome o (λ x. log_of s.kept x ≡ log)) home new.home in
     let file : IsNew (log_of s.kept t) = subst IsNew (sym both) is_new in
     let synced : s.core.synced ≡ 0 = ap (λ (c : Source). c.synced) core in
-    let flushed = new_flushed (log_of s.kept t) s.core.log s.core.synced s.core.group_sizes s.unsynced file (ap (λ (c : Source). c.log) core) synced (ap (λ (c : Source). c.group_sizes) core) new.unsynced in
+    let flushed =
+    new_flushed (log_of s.kept t) s.core.log s.core.synced s.core.group_sizes s.unsynced file (ap (λ (c : Source). c.log) core) synced
+    (ap (λ (c : Source). c.group_sizes) core) new.unsynced in
     record {
       base_is = refl;
       tables_is = refl;
       flushed = flushed;
-      ready = rw home (λ running. record { waiting = halves.waits ∙ ap (option_map waiting_of) file.waiting; next = omega (arith, halves.next, flushed.first, flushed.many); form = ap records_of halves.form ∙ flushed.version });
+      ready =
+          rw home
+          (λ running. record {
+            waiting = halves.waits ∙ ap (option_map waiting_of) file.waiting;
+            next = omega (arith, halves.next, flushed.first, flushed.many);
+            form = ap records_of halves.form ∙ flushed.version;
+            goes = file.unfinished;
+          });
       out = rw home tt;
       receipts = record {
         history_is = new.history ∙ sym (ap committed_receipts core);

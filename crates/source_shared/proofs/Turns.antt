@@ -6,6 +6,7 @@ use Rattle.logbook.specs.Pages.{Cell, cell}
 use Rattle.source_core.specs.declared.transaction.Receipt.{Receipt}
 use Rattle.source_shared.specs.Book.{Part, receipts_in, turn_of, ArePast, IsNotPast}
 
+-- a cell that is at home stays so where another, or it, is brought home
 pub home_set : (cs : List Cell) (q n k : ℕ) → (cell cs k).1 ≡ true → (cell (set cs q (n, true)) k).1 ≡ true
 home_set [] q n k h = absurd (cc (h))
 home_set (c ∷ cs) zero n zero h = refl
@@ -13,29 +14,35 @@ home_set (c ∷ cs) zero n (suc k) h = h
 home_set (c ∷ cs) (suc q) n zero h = h
 home_set (c ∷ cs) (suc q) n (suc k) h = home_set cs q n k h
 
+-- and where more cells are made
 pub home_more : (cs more : List Cell) (k : ℕ) → (cell cs k).1 ≡ true → (cell (cs ++ more) k).1 ≡ true
 home_more [] more k h = absurd (cc (h))
 home_more (c ∷ cs) more zero h = h
 home_more (c ∷ cs) more (suc k) h = home_more cs more k h
 
+-- a cell that is brought home is at home
 pub home_now : (cs : List Cell) (q n : ℕ) → q < length cs → (cell (set cs q (n, true)) q).1 ≡ true
 home_now [] q n h = absurd (omega arith)
 home_now (c ∷ cs) zero n h = refl
 home_now (c ∷ cs) (suc q) n h = home_now cs q n (omega arith)
 
+-- a word that is written to the first cell stands there
 pub first_set : (cs : List Cell) (x : Cell) → 0 < length cs → cell (set cs 0 x) 0 ≡ x
 first_set [] x h = absurd (omega arith)
 first_set (c ∷ cs) x h = refl
 
+-- more cells leave the first
 pub first_more : (cs more : List Cell) → 0 < length cs → cell (cs ++ more) 0 ≡ cell cs 0
 first_more [] more h = absurd (omega arith)
 first_more (c ∷ cs) more h = refl
 
+-- what is written to another cell leaves the first
 pub first_other : (cs : List Cell) (q : ℕ) (x : Cell) → q ≢ 0 → cell (set cs q x) 0 ≡ cell cs 0
 first_other [] q x h = refl
 first_other (c ∷ cs) zero x h = absurd (h refl)
 first_other (c ∷ cs) (suc q) x h = refl
 
+-- where all cells at home stay so, those that the entries name are at home still
 pub past_still : (cs ds : List Cell) → ((k : ℕ) → (cell cs k).1 ≡ true → (cell ds k).1 ≡ true) → (log : List Part) → ArePast cs log → ArePast ds log
 past_still cs ds still [] past = tt
 past_still cs ds still (part ∷ []) past = tt
@@ -47,6 +54,7 @@ past_more cs [] more home past = tt
 past_more cs (part ∷ []) more home past = (home, tt)
 past_more cs (part ∷ next ∷ parts) more home past = (past.0, past_more cs (next ∷ parts) more home past.1)
 
+-- a cell that is not at home is named by no entry but the last
 pub not_past : (cs : List Cell) (key : ℕ) → (cell cs key).1 ≡ false → (log : List Part) → ArePast cs log → IsNotPast key log
 not_past cs key away [] past = tt
 not_past cs key away (part ∷ []) past = tt
@@ -62,6 +70,7 @@ whole (x ∷ u ∷ v) (y ∷ []) pre some away = absurd (cc (pre.1))
 whole (x ∷ u ∷ v) (y ∷ z ∷ log) pre some away =
     let rest = whole (u ∷ v) (z ∷ log) (pre.0, cc (pre.1)) (omega arith) away.1 in cc (pre.1, rest)
 
+-- a beginning of a beginning is a beginning
 pub prefix_trans : (xs ys zs : List Part) → IsPrefix xs ys → IsPrefix ys zs → IsPrefix xs zs
 prefix_trans xs ys zs p q = (p.0 ++ q.0, sym (append_assoc xs p.0 q.0) ∙ (ap (λ w. w ++ q.0) p.1 ∙ q.1))
 

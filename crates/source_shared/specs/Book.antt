@@ -1,6 +1,6 @@
 -- The rule of the history of receipts, and what each step on it tells. An entry of the history is what one commit gave: the
 -- receipts, and the key of the cell that the next entry brings home. Only who has that cell's pen can add it.
-use Rattle.std.specs.Prelude.{ℕ, ◌≡◌, ◌≢◌, ◌<◌, ◌==◌, true, List, [], ◌∷◌, ◌++◌, length}
+use Rattle.std.specs.Prelude.{ℕ, ◌≡◌, ◌≢◌, ◌-◌, ◌<◌, ◌≤◌, ◌==◌, true, List, [], ◌∷◌, ◌++◌, length, slice_get, Some}
 use Rattle.std.specs.Bool.{OnTrue}
 use Rattle.std.specs.List.{flat_map}
 use Rattle.logbook.specs.Pages.{Cell, cell, Step, View, Book, Named, Nib, may_write, may_make}
@@ -12,6 +12,10 @@ Part = ℕ × List Receipt
 -- the receipts of all entries
 abbrev pub receipts_in : List Part → List Receipt
 receipts_in parts = flat_map (λ part. part.1) parts
+
+-- the receipt is one of these, at its number
+abbrev pub IsEntered : List Part → Receipt → Type 0
+IsEntered parts r = (1 ≤ r.gno) × (slice_get (receipts_in parts) (r.gno - 1) ≡ Some r)
 
 -- the key that the last entry names
 abbrev pub turn_of : List Part → ℕ

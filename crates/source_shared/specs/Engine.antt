@@ -1,7 +1,54 @@
 -- What lies under the engine lock, and what is true of it each time that the lock is taken.
-use Rattle.std.specs.Prelude.{◌≡◌, ◌≢◌, ◌⊎◌, ℕ, ◌+◌, ◌-◌, ◌≤◌, nat_le, nat_lt, count_by, find, ◌==◌, ◌&&◌, ◌||◌, not, if◌then◌else◌, Bool, true, false, List, [], ◌∷◌, ◌++◌, length, take, drop, replicate, slice_get, slice_set, slice_index_or, Option, Some, None, is_some, is_none, IfSome, IfNone, IsSome, Result, Ok, Err, OnOk, OnErr, IsErrOf}
+use Rattle.std.specs.Prelude.{
+  ◌≡◌,
+  ◌≢◌,
+  ◌⊎◌,
+  ℕ,
+  ◌+◌,
+  ◌-◌,
+  ◌≤◌,
+  nat_le,
+  nat_lt,
+  count_by,
+  find,
+  ◌==◌,
+  ◌&&◌,
+  ◌||◌,
+  not,
+  if◌then◌else◌,
+  Bool,
+  true,
+  false,
+  List,
+  [],
+  ◌∷◌,
+  ◌++◌,
+  length,
+  take,
+  drop,
+  replicate,
+  slice_get,
+  slice_set,
+  slice_index_or,
+  Option,
+  Some,
+  None,
+  is_some,
+  is_none,
+  IfSome,
+  IfNone,
+  IsSome,
+  Result,
+  Ok,
+  Err,
+  OnOk,
+  OnErr,
+  IsErrOf,
+}
 use Rattle.std.specs.List.{flat_map, AllByRecursion}
 use Rattle.std.specs.Str.{bytes_eq}
+use Rattle.commit_stages.specs.Queues.{IsSession}
+use Rattle.rows.specs.declared.Change.{Change}
 use Rattle.schema.specs.declared.Table.{Table}
 use Rattle.store_trait.specs.Batch.{Entry}
 use Rattle.record_codec.specs.declared.records.Record.{Record}
@@ -14,10 +61,10 @@ use Rattle.log_file.specs.Flushed.{IsFlushedOf}
 use Rattle.log_file.specs.declared.fault.LogFault.{LogFault}
 use Rattle.log_file.specs.declared.fault.LogFault.TheVariants as logs
 use Rattle.source_core.specs.declared.fault.SourceFault.{SourceFault}
-use Rattle.source_core.specs.declared.fault.SourceFault.TheVariants.{AlreadyOpen, Halted, Memory}
+use Rattle.source_core.specs.declared.fault.SourceFault.TheVariants.{AlreadyOpen, Halted, Memory, NoSession}
 use Rattle.source_core.specs.declared.transaction.Receipt.{Receipt}
 use Rattle.source_core.specs.Source.{Source}
-use Rattle.source_core.specs.Calls.{session_fault, queue_fault, queued, cause, receipts_for, receipts, receipt_as, begun, with_synced, all_committed, halted, Flushes}
+use Rattle.source_core.specs.Calls.{session_fault, write_fault, written, queue_fault, queued, cause, receipts_for, receipts, receipt_as, begun, with_synced, all_committed, halted, Flushes}
 use Rattle.source_shared.specs.declared.engine.Due.{Due}
 use Rattle.source_shared.specs.declared.engine.Due.TheVariants.{Ended, Lead, Wait}
 use Rattle.source_shared.specs.Seat.{Seat}
@@ -51,11 +98,29 @@ pub record State : Type 0 where
   -- who waits, and for what
   pub watch : Watch
 
--- it waits for no group, and writes behind so many records, in the form that sources write
+-- those who wait, of these parts
+abbrev pub watch_of : List Bool → ℕ → Bool → ℕ × Bool → Bool → Watch
+watch_of sleeping asleep closed told stirred = record { sleeping = sleeping; asleep = asleep; closed = closed; told = told; stirred = stirred }
+
+-- a state of these parts
+abbrev pub state_of : Source → Kept → Option Tail → List GroupValue → List (Option Receipt) → List Bool → List Receipt → Watch → State
+state_of core kept home unsynced places out history watch = record {
+  core = core;
+  kept = kept;
+  home = home;
+  unsynced = unsynced;
+  places = places;
+  out = out;
+  history = history;
+  watch = watch;
+}
+
+-- it waits for no group, and writes behind so many records, in the form that sources write, a log that is not finished
 pub record IsReady (synced_ : ℕ) (t : Tail) : Type 0 where
   pub waiting : t.waiting ≡ None
   pub next : t.next ≡ synced_ + 1
   pub form : records_of t.form ≡ current
+  pub goes : t.finished ≡ false
 
 -- the receipt is one of these, at its number
 pub record IsKnown (history : List Receipt) (r : Receipt) : Type 0 where
@@ -116,6 +181,10 @@ pub record IsSettled (base : List Entry) (tables : List Table) (s : State) : Typ
 abbrev pub seat_fault : State → ℕ → Option SourceFault
 seat_fault s session = session_fault s.core session (cause (slice_index_or s.out (session - 1) false) AlreadyOpen None)
 
+-- why a session gets no seat: one was given out only to a session that there is
+abbrev pub IsSeatRefusal : ℕ → SourceFault → Type 0
+IsSeatRefusal session fault = (fault ≡ Halted) ⊎ (fault ≡ NoSession) ⊎ (IsSession session × (fault ≡ AlreadyOpen))
+
 -- the receipt of the committed record of its gno, which came from its session
 pub record IsCommitted (s : Source) (r : Receipt) : Type 0 where
   pub least : 1 ≤ r.gno
@@ -150,6 +219,10 @@ seated s session = record s { out = slice_set s.out (session - 1) true }
 -- the session begins, and a receipt that it did not take is dropped
 abbrev pub begun_by : State → ℕ → State
 begun_by s session = record s { core = begun s.core session; places = slice_set s.places (session - 1) None }
+
+-- the core takes the session's change, and nothing else changes
+abbrev pub Writes : State → ℕ → Change → State → Type 0
+Writes old session change new = (write_fault old.core session change ≡ None) × (new ≡ record old { core = written old.core session change })
 
 -- why a seat's transaction is not queued; one that is queued already is not asked about
 abbrev pub enqueue_fault : State → Seat → Option SourceFault
@@ -331,17 +404,18 @@ pub record Trip : Type 0 where
   pub tail : Tail
   pub group : GroupValue
 
--- the group is the next, and of the form that sources write, as what the writer writes is
+-- the group is the next of a log that is not finished, and of the form that sources write, as what the writer writes is
 pub record IsErrand (e : Trip) : Type 0 where
   pub waiting : e.tail.waiting ≡ None
   pub next : e.group.first ≡ e.tail.next
   pub version : e.group.version ≡ current
   pub form : records_of e.tail.form ≡ current
+  pub goes : e.tail.finished ≡ false
 
 -- It was written, and the writer is behind it; or memory lacked, and all is as it was.
 pub record IsBack (e : Trip) (done : Result (Unit {0}) LogFault) : Type 0 where
   pub version : e.group.version ≡ current
-  pub written : OnOk done ((e.tail.waiting ≡ None) × (e.tail.next ≡ e.group.last + 1) × (records_of e.tail.form ≡ current))
+  pub written : OnOk done ((e.tail.waiting ≡ None) × (e.tail.next ≡ e.group.last + 1) × (records_of e.tail.form ≡ current) × (e.tail.finished ≡ false))
   pub lacked : IsErrOf done logs.Memory → IsErrand e
 
 -- the writer leaves with the oldest group, which is prepared
@@ -392,6 +466,10 @@ pub record Lands (old : State) (t : Tail) (result : Result (Unit {0}) SourceFaul
   pub prepared : old.kept.prepared ≡ Some group
   pub committed : OnOk result (new ≡ given (landed group (with_home t old)))
   pub lacked : OnErr result (new ≡ landed group (with_home t old))
+
+-- the writer is here, and the source halted
+abbrev pub Fails : State → Tail → Result (Unit {0}) SourceFault → State → Type 0
+Fails old t result new = (result ≡ Err Halted) × (new ≡ failed (with_home t old))
 
 -- why a transaction does not come to its end; it stays where it is then, or the source is halted
 abbrev pub IsOnTheWay : SourceFault → Type 0

@@ -1,5 +1,5 @@
 -- What a session's seat is seen as.
-use Rattle.std.specs.Prelude.{◌≡◌, ℕ, ◌<◌, Bool, false, List, [], ◌∷◌, ◌++◌}
+use Rattle.std.specs.Prelude.{◌≡◌, ℕ, ◌<◌, Bool, false, MatchBool, List, [], ◌∷◌, ◌++◌}
 use Rattle.rows.specs.declared.Change.{Change}
 use Rattle.source_core.specs.declared.transaction.Receipt.{Receipt}
 
@@ -33,3 +33,7 @@ pub record IsFor (seat : Seat) (receipt : Receipt) : Type 0 where
 -- it has this receipt
 abbrev pub given_to : Seat → Receipt → Seat
 given_to seat receipt = record seat { last = receipt.gno; underway = false }
+
+-- the seat takes the receipt just where it may be given it, and has it then
+abbrev pub Takes : Seat → Receipt → Bool → Seat → Type 0
+Takes old receipt taken new = MatchBool taken (IsFor old receipt × (new ≡ given_to old receipt)) ((¬ IsFor old receipt) × (new ≡ old))

@@ -259,15 +259,15 @@ pub struct Receipt<J: SourceNaming> {
 }
 
 impl<J: SourceNaming> Model for Receipt<J> {
-    ghost use Rattle.std.specs.Prelude.{◌≡◌, ◌-◌, ◌≤◌, Some, slice_get};
+    ghost use Rattle.std.specs.Prelude.{◌≡◌};
     ghost use Rattle.source_core.specs.declared.transaction.Receipt.{Receipt};
-    ghost use Rattle.source_shared.specs.Book.{receipts_in};
+    ghost use Rattle.source_shared.specs.Book.{IsEntered};
 
     ghost Value = { Receipt };
 
     ghost view = { λ r. r.given };
 
-    ghost invariant = { λ r. (r.seen.book ≡ J.book) × (1 ≤ r.given.gno) × (slice_get (receipts_in r.seen.log) (r.given.gno - 1) ≡ Some r.given) };
+    ghost invariant = { λ r. (r.seen.book ≡ J.book) × IsEntered r.seen.log r.given };
 }
 
 impl<J: SourceNaming> Receipt<J> {

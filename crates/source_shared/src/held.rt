@@ -1,7 +1,7 @@
 //! The engine's lock, and the hold of it.
 //!
-//! Who takes the lock has a `Held`, which is not `Drop`: it ends by `let_go`, or for a while by one of the waits, and by nothing else. Each of
-//! these wakes those who are due by what was done under the lock. So no way out of a function leaves a change untold.
+//! Who takes the lock has a `Held`, which is not `Drop`: it ends by `let_go`, or for a while by one of the waits, and by nothing else.
+//! Each of these wakes those who are due by what was done under the lock. So no way out of a function leaves a change untold.
 ghost use Rattle.std.specs.Prelude.{◌≡◌, ◌<◌, false, slice_index_or};
 ghost use Rattle.std.specs.Sync.Mutex.{mutex_guard_value};
 ghost use Rattle.source_shared.specs.Engine.{is_awaited, IsTold};

@@ -1,6 +1,6 @@
 //! Seats: what a session calls by.
-ghost use Rattle.std.specs.Prelude.{◌≡◌, ◌↔◌, ◌≤◌, ◌-◌, IsTrue, true, length, take, OnOk, OnErr, MatchBool};
-ghost use Rattle.source_shared.specs.Seat.{new_seat, begun_seat, wrote, aborted_seat, given_to, IsFor};
+ghost use Rattle.std.specs.Prelude.{◌≡◌, ◌↔◌, ◌≤◌, ◌-◌, IsTrue, true, length, take, OnOk, OnErr};
+ghost use Rattle.source_shared.specs.Seat.{new_seat, begun_seat, wrote, aborted_seat, IsFor, Takes};
 
 use crate::book::{Receipt, SourceNaming};
 use record_codec::same_changes;
@@ -103,7 +103,7 @@ impl<J: SourceNaming> SessionSeat<J> {
 
     // Whether the receipt is one that it may be given. If so, it is given.
     pub(crate) fn takes(&mut self, receipt: &Receipt<J>) -> bool
-        ensures { MatchBool result (IsFor self.old receipt.now × (self.new ≡ given_to self.old receipt.now)) ((¬ IsFor self.old receipt.now) × (self.new ≡ self.old)) }
+        ensures { Takes self.old receipt.now result self.new }
     {
         let fits = self.fits(receipt.given());
         if fits {

@@ -11,7 +11,9 @@ returns-then-not-has_committed g c =
     let low = c.loop-gno.auto.gno in
     let high = c.loop-gno-test.true in
     subst (λ (s : State). false ≡ has_each s.core.commits c.args.interval) c.self.view_is
-    (sym (each_not c.self.inside.core.commits c.args.interval c.loop-gno.gno (omega (arith, c.max-from.ensures, low)) (omega (arith, high)) (sym c.has_committed.ensures ∙ c.if-not-has_committed.true)))
+    (sym
+    (each_not c.self.inside.core.commits c.args.interval c.loop-gno.gno (omega (arith, c.max-from.ensures, low)) (omega (arith, high))
+    (sym c.has_committed.ensures ∙ c.if-not-has_committed.true)))
 
 pub returns-then-interval-from : goal.returns-then-interval-from
 returns-then-interval-from g c =

@@ -18,10 +18,14 @@ returns-then-not-preserve-clause-stop g c =
 
 pub returns-clause-has : goal.returns-clause-has
 returns-clause-has g c =
-    ok_weaker _ _ c.wait_for_each-2.result (λ ops all. set_among (gnos_of ops) c.args.set.now c.greatest.result c.unwrap_or-last.result c.intervals-ids.ensures.valid c.greatest.ensures c.unwrap_or-last.ensures all)
+    ok_weaker _ _ c.wait_for_each-2.result
+    (λ ops all. set_among
+    (gnos_of ops) c.args.set.now c.greatest.result c.unwrap_or-last.result c.intervals-ids.ensures.valid c.greatest.ensures c.unwrap_or-last.ensures all)
     c.wait_for_each-2.ensures.all
 
 pub returns-clause-stop : goal.returns-clause-stop
 returns-clause-stop g c =
-    err_weaker _ _ c.wait_for_each-2.result (λ fault stop. told_greatest _ _ _ _ c.args.set.now c.greatest.result c.unwrap_or-last.result fault (sym c.requires ∙ c.if-not-preserve.false) c.greatest.ensures c.unwrap_or-last.ensures stop)
+    err_weaker _ _ c.wait_for_each-2.result
+    (λ fault stop. told_greatest _ _ _ _ c.args.set.now c.greatest.result c.unwrap_or-last.result fault
+    (sym c.requires ∙ c.if-not-preserve.false) c.greatest.ensures c.unwrap_or-last.ensures stop)
     c.wait_for_each-2.ensures.stop

@@ -21,5 +21,7 @@ returns-clause-found g c =
     let all = c.learn.new.self.log in
     let mine : IsPrefix c.self.inside.seen.log all = subst (λ (l : List Part). IsPrefix l all) (ap (λ s. s.log) c.again-seen.ensures) c.learn.ensures.2 in
     let told = c.compare_exchange.ensures.7.1 in
-    rw (← c.self.view_is, ← c.receipt.view_is)
-    (c.receipt.invariant.1, found c.self.inside.seen.log all _ c.receipt.inside.seen.log c.self.inside.pen.nib _ _ c.self.invariant.3 mine c.learn.ensures.3 c.compare_exchange.ensures.6 told c.receipt.invariant.2)
+    rw (← c.self.view_is, ← c.receipt.view_is) (
+      c.receipt.invariant.1.0,
+      found c.self.inside.seen.log all _ c.receipt.inside.seen.log c.self.inside.pen.nib _ _ c.self.invariant.3 mine c.learn.ensures.3 c.compare_exchange.ensures.6 told c.receipt.invariant.1.1,
+    )

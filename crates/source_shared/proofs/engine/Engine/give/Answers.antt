@@ -6,7 +6,8 @@ use Rattle.source_shared.proofs.engine.Engine.give.Goals as goal
 
 pub place_all-requires-clause-known : goal.place_all-requires-clause-known
 place_all-requires-clause-known g c = λ k d h.
-    are_known _ c.in_ok-given.ensures.sound _ _ _ c.self.invariant.receipts.history_is (c.add-given.ensures.given ∙ c.in_ok-given.ensures.receipts) (c.add-given.ensures.history ∙ ap (λ l. c.self.inside.history ++ l) (sym c.add-given.ensures.given)) k d h
+    are_known _ c.in_ok-given.ensures.sound _ _ _ c.self.invariant.receipts.history_is (c.add-given.ensures.given ∙ c.in_ok-given.ensures.receipts)
+    (c.add-given.ensures.history ∙ ap (λ l. c.self.inside.history ++ l) (sym c.add-given.ensures.given)) k d h
 
 pub place_all-requires-clause-placed : goal.place_all-requires-clause-placed
 place_all-requires-clause-placed g c = rw c.add-given.ensures.history (placed_longer _ _ _ _ c.self.invariant.receipts.placed)

@@ -1,5 +1,5 @@
 use Rattle.std.proofs.Common.{arith, ◌≡◌, ◌∙◌, ap, None, replicate}
-use Rattle.source_shared.proofs.engine.empty_places.Goals as goal
+use Rattle.source_shared.proofs.engine.rooms.empty_places.Goals as goal
 
 pub returns : goal.returns
 returns g c =

@@ -1,5 +1,5 @@
 use Rattle.std.proofs.Common.{arith, ◌≡◌, ◌∙◌, ap, false, replicate}
-use Rattle.source_shared.proofs.engine.no_flags.Goals as goal
+use Rattle.source_shared.proofs.engine.rooms.no_flags.Goals as goal
 
 pub returns : goal.returns
 returns c =

@@ -1,0 +1,182 @@
+//! Who sleeps, and whom who lets go of the lock, or waits under it, has to tell.
+ghost use Rattle.std.specs.Prelude.{
+  ◌≡◌,
+  ◌⊎◌,
+  ◌<◌,
+  ◌≢◌,
+  MatchBool,
+  true,
+  false,
+  length,
+  slice_index_or,
+  is_some,
+  slice_set,
+  if◌then◌else◌,
+  ◌&&◌,
+  ◌||◌,
+};
+ghost use Rattle.source_shared.specs.Engine.{
+  due_of,
+  set_asleep,
+  has_end,
+  called_by,
+  awoken,
+  has_news,
+  with_told,
+  with_calm,
+  NoneSleepsWithEnd,
+  NobodyIsCalled,
+  IsTold,
+  count,
+};
+
+use super::{Due, Engine, SESSIONS};
+use crate::book::SourceNaming;
+use crate::calls::{Called, News};
+use log_device::Device;
+use store_trait::RowStore;
+use tracker_trait::Tracker;
+
+impl<S: RowStore, T: Tracker, D: Device + Drop, J: SourceNaming> Engine<S, T, D, J> {
+    // Whom who lets go of the lock, or waits under it, has to tell: those who sleep and are due, and those who wait for records, where they
+    // were told of fewer, or not that no more come. They know then.
+    pub(crate) fn news(&mut self, leads: bool) -> News
+        ensures called { result.called.all ≡ called_by self.old leads }
+        ensures followers { result.followers ≡ has_news self.old }
+        ensures left { self.new ≡ with_told (with_calm (awoken self.old result.called.all)) }
+        ensures told { IsTold self.new }
+    {
+        let called = self.call_due(leads);
+        self.settle();
+        let followers = self.has_news();
+        News { called, followers }
+    }
+
+    // Whether nobody is to be told. It looks at no place.
+    pub(crate) fn is_quiet(&self, leads: bool) -> bool
+        ensures told { result ≡ true → IsTold self.now }
+        ensures nobody { result ≡ true → NobodyIsCalled self.now leads }
+    {
+        !self.may_call(leads) && self.is_calm()
+    }
+
+    // Whether nobody sleeps who has its end, and those who wait for records know of all.
+    fn is_calm(&self) -> bool
+        ensures { result ≡ true → IsTold self.now }
+    {
+        !self.stirred && (self.flushed.synced().records().len(), self.is_over()) == self.told
+    }
+
+    // Whether somebody sleeps who may be called to lead.
+    fn may_call(&self, leads: bool) -> bool
+        ensures { result ≡ false → ((leads && is_some self.now.home) ≡ false) ⊎ (count self.now.watch.sleeping ≡ 0) }
+    {
+        self.may_lead(leads) && self.asleep() > 0
+    }
+
+    // Calls those who sleep and are due: each who has its end, and, where `leads` says so and the writer is here, the first of the others,
+    // who has to lead. Who is called sleeps no more, and so is called once, unless it finds that it has to wait still. It looks at no more
+    // places than up to the last who sleeps.
+    fn call_due(&mut self, leads: bool) -> Called
+        ensures called { result.all ≡ called_by self.old leads }
+        ensures left { self.new ≡ awoken self.old result.all }
+        ensures ended { NoneSleepsWithEnd self.new }
+    {
+        let mut called = Called::nobody();
+        let mut lead = self.may_lead(leads);
+        let mut left = self.asleep();
+        for place in 0..SESSIONS {
+            if left == 0 {
+                break;
+            }
+            if self.sleeps(place) {
+                left -= 1;
+                lead = self.call_one(place, lead, &mut called);
+            }
+        }
+        called
+    }
+
+    // Calls the session of this place, if it has its end or is to lead. It answers whether another is to lead.
+    fn call_one(&mut self, place: usize, lead: bool, called: &mut Called) -> bool
+        requires { place < 256 }
+        ensures lead { result ≡ (lead && has_end self.old place) }
+        ensures called { called.new.all ≡ (if has_end self.old place || lead then slice_set called.old.all place true else called.old.all) }
+        ensures left { self.new ≡ (if has_end self.old place || lead then set_asleep self.old place false else self.old) }
+    {
+        let ends = self.has_end(place);
+        if ends || lead {
+            self.set_sleeping(place, false);
+            called.add(place);
+        }
+        lead && ends
+    }
+
+    // Whether one is to lead: where this says so, and the writer is here.
+    fn may_lead(&self, leads: bool) -> bool
+        ensures { result ≡ (leads && is_some self.now.home) }
+    {
+        leads && self.writer.is_some()
+    }
+
+    // How many sessions sleep.
+    fn asleep(&self) -> usize
+        ensures count { result ≡ count self.now.watch.sleeping }
+        ensures sessions { length self.now.watch.sleeping ≡ 256 }
+        ensures places { length self.now.places ≡ 256 }
+        ensures noted { self.now.watch.asleep ≡ count self.now.watch.sleeping }
+    {
+        self.asleep
+    }
+
+    // Whether the session of this place sleeps.
+    fn sleeps(&self, place: usize) -> bool
+        requires { place < 256 }
+        ensures { result ≡ slice_index_or self.now.watch.sleeping place false }
+    {
+        self.sleeping[place]
+    }
+
+    // The session of this place sleeps from now on, or no more.
+    pub(crate) fn set_sleeping(&mut self, place: usize, sleeps: bool)
+        requires place { place < 256 }
+        requires waits { sleeps ≡ true → has_end self.old place ≡ false }
+        ensures { self.new ≡ set_asleep self.old place sleeps }
+    {
+        let slept = self.sleeping[place];
+        self.sleeping[place] = sleeps;
+        self.asleep = self.asleep + usize::from(sleeps) - usize::from(slept);
+    }
+
+    // Whether the session of this place has to wait. Its thread sleeps then, and else no more.
+    pub(crate) fn waits(&mut self, place: usize) -> bool
+        requires place { place < 256 }
+        ensures tells { MatchBool result (due_of self.old place ≡ Due.Wait) (due_of self.old place ≢ Due.Wait) }
+        ensures left { self.new ≡ set_asleep self.old place result }
+    {
+        let waits = self.due(place) == Due::Wait;
+        self.set_sleeping(place, waits);
+        waits
+    }
+
+    // Whether those who wait for records were told of fewer, or not that no more come. They are told then.
+    fn has_news(&mut self) -> bool
+        ensures news { result ≡ has_news self.old }
+        ensures told { self.new ≡ with_told self.old }
+        ensures known { has_news self.new ≡ false }
+        ensures ended { NoneSleepsWithEnd self.old → NoneSleepsWithEnd self.new }
+    {
+        let (synced, over) = (self.flushed.synced().records().len(), self.is_over());
+        let news = synced != self.told.0 || over && !self.told.1;
+        self.told = (synced, over);
+        news
+    }
+
+    // Nobody sleeps who has its end: those who do were called.
+    fn settle(&mut self)
+        requires { NoneSleepsWithEnd self.old }
+        ensures { self.new ≡ with_calm self.old }
+    {
+        self.stirred = false;
+    }
+}
