@@ -1,6 +1,7 @@
 -- Batches that load the same rows, and beginnings of logs.
 use mathlib.Core.List.{IsPrefix}
-use Rattle.std.proofs.Common.{◌≡◌, ◌∙◌, sym, ap, subst, refl, ℕ, ℤ, zero, suc, ◌<◌, ◌≤◌, Bool, true, false, cond, ◌↔◌, IsTrue, get_or, unwrap_or, List, [], ◌∷◌, ◌++◌, length, take, drop, Option, Some, None, Ordering, Less, Equal, Greater, is_lt, is_eq, arith, inl, inr, eq-or-lt_of_le}
+use Rattle.std.proofs.Common.{◌≡◌, ◌∙◌, sym, ap, subst, refl, ℕ, ℤ, zero, suc, ◌<◌, ◌≤◌, Bool, true, false, cond, ◌↔◌, IsTrue, get_or, unwrap_or, List, [], ◌∷◌, ◌++◌, length, take, drop, Option, Some}
+use Rattle.std.proofs.Common.{None, Ordering, Less, Equal, Greater, is_lt, is_eq, arith, inl, inr, eq-or-lt_of_le}
 use Rattle.std.specs.Ordering.{ordering_index, ordering_reverse}
 use Rattle.std.specs.List.{AllByRecursion}
 use Rattle.std.specs.List.Sorted.{IsNonDecreasingBy, IsPartitionPoint}
@@ -93,9 +94,11 @@ loads es q rising = get-put_batch es _ q rising ∙ ap (unwrap_or (find row_cmp 
 -- the row at the place that was found
 pub loads_found : (es : List Entry) (id : RowId) (i : ℕ) (d : Entry) → IsRising es → i < length es → row_cmp (get_or es i d).0 id ≡ Equal → (get_or es i d).1 ≡ get (loaded es) id
 loads_found es id i d rising within is =
-    sym (loads es id rising ∙ ap (λ (found : Option (Option (List ℤ))). unwrap_or found None) (ap (λ (q : RowId). find row_cmp q es) (sym (exact_row (get_or es i d).0 id is)) ∙ found_at es i d rising within))
+    sym (loads es id rising ∙ ap (λ (found : Option (Option (List ℤ))). unwrap_or found None)
+    (ap (λ (q : RowId). find row_cmp q es) (sym (exact_row (get_or es i d).0 id is)) ∙ found_at es i d rising within))
 
-pub loads_none : (es : List Entry) (id : RowId) (at : ℕ) → IsRising es → IsPartitionPoint (λ (y : Entry). row_cmp y.0 id ≡ Less) (λ (y : Entry). row_cmp y.0 id ≡ Greater) es at → None ≡ get (loaded es) id
+pub loads_none : (es : List Entry) (id : RowId) (at : ℕ) → IsRising es → IsPartitionPoint (λ (y : Entry). row_cmp y.0 id ≡ Less) (λ (y : Entry). row_cmp y.0 id ≡ Greater) es at →
+    None ≡ get (loaded es) id
 loads_none es id at rising parted = sym (loads es id rising ∙ ap (λ (found : Option (Option (List ℤ))). unwrap_or found None) (none_between es id at parted))
 
 -- ---- two batches
@@ -138,7 +141,8 @@ the_same_loads one other rises same = by one (own_loaded one rises) where
   by (e ∷ es) all = (ap (λ (db : Database). get db e.0) (sym same) ∙ all.0, by es all.1)
 
 -- as two walks find them, where the first finds all
-pub alike_then : (one other : List Entry) (a b : Bool) → IsRising one → IsRising other → IsTrue a ↔ AreLoaded one other → IsTrue b ↔ AreLoaded other one → a ≡ true → IsTrue b ↔ (loaded one ≡ loaded other)
+pub alike_then : (one other : List Entry) (a b : Bool) → IsRising one → IsRising other → IsTrue a ↔ AreLoaded one other → IsTrue b ↔ AreLoaded other one → a ≡ true →
+    IsTrue b ↔ (loaded one ≡ loaded other)
 alike_then one other a b rises rises_too here there found =
     (λ t. load_the_same one other rises rises_too (here.0 found) (there.0 t), λ same. there.1 (the_same_loads other one rises_too (sym same)))
 

@@ -1,5 +1,6 @@
 -- Commits that are appended to the rows that readers see: their numbers, and that they may be.
-use Rattle.std.proofs.Common.{◌≡◌, ◌∙◌, sym, ap, subst, refl, ℕ, zero, suc, ◌+◌, ◌-◌, ◌<◌, ◌≤◌, Bool, true, false, ◌||◌, ◌==◌, List, [], ◌∷◌, ◌++◌, append_assoc, length, length-append, map, get_or, take, drop, Some, None, arith, add-zero}
+use Rattle.std.proofs.Common.{◌≡◌, ◌∙◌, sym, ap, subst, refl, ℕ, zero, suc, ◌+◌, ◌-◌, ◌<◌, ◌≤◌, Bool, true, false, ◌||◌, ◌==◌, List, [], ◌∷◌, ◌++◌, append_assoc, length, length-append, map, get_or}
+use Rattle.std.proofs.Common.{take, drop, Some, None, arith, add-zero}
 use Rattle.std.specs.Prelude.{option_and_then, slice_get}
 use Rattle.std.specs.Option.{option_map_or}
 use Rattle.std.proofs.Math.Bool.{or-false, or_assoc}
@@ -63,10 +64,12 @@ have_are (Load base ∷ ops) (g ∷ gnos) h = absurd h
 have_are (Commit gno batch ∷ ops) (g ∷ gnos) h = (λ i. h.0 i ∷ have_are ops gnos h.1 i)
 
 -- the commits of records that apply have the records' numbers
-pub commits_have : (ts : List Table) (db : Database) (records : List Record) (left : Database) → after ts db records ≡ Some left → HaveGnos (commits_from ts db records) (map (λ (r : Record). r.gno) records)
+pub commits_have : (ts : List Table) (db : Database) (records : List Record) (left : Database) → after ts db records ≡ Some left →
+    HaveGnos (commits_from ts db records) (map (λ (r : Record). r.gno) records)
 commits_have ts db [] left e = tt
 commits_have ts db (r ∷ records) left e =
-    elim (effect ts r.changes db) as (λ o. option_and_then (λ d. after ts d records) o ≡ Some left → HaveGnos (option_map_or (λ leaves. Commit r.gno (rows_in (writes r.changes) leaves) ∷ commits_from ts leaves records) o []) (map (λ (x : Record). x.gno) (r ∷ records))) [
+    elim (effect ts r.changes db) as (λ o. option_and_then (λ d. after ts d records) o ≡ Some left →
+    HaveGnos (option_map_or (λ leaves. Commit r.gno (rows_in (writes r.changes) leaves) ∷ commits_from ts leaves records) o []) (map (λ (x : Record). x.gno) (r ∷ records))) [
       | None ↦ λ h. absurd (none-some left h)
       | Some leaves ↦ λ h. (refl, commits_have ts leaves records left h)
     ] e
@@ -126,7 +129,8 @@ new_same gone others (Commit gno batch ∷ ops) same h = (
 )
 
 -- the one whose turn it is has a number that none has of those before it
-new_at : {R : Type 0} (now : Shown R) (gone : List ℕ) (ops : List Op) (i : ℕ) (op : Op) → AreNew gone ops → slice_get ops i ≡ Some op → ((gno : ℕ) → has_gno now.gnos gno ≡ (has_gno gone gno || has_gno (gnos_of (take i ops)) gno)) → MayFollow false now op
+new_at : {R : Type 0} (now : Shown R) (gone : List ℕ) (ops : List Op) (i : ℕ) (op : Op) → AreNew gone ops → slice_get ops i ≡ Some op →
+    ((gno : ℕ) → has_gno now.gnos gno ≡ (has_gno gone gno || has_gno (gnos_of (take i ops)) gno)) → MayFollow false now op
 new_at now gone [] i op h at are = absurd (none-some op at)
 new_at now gone (Load base ∷ ops) i op h at are = absurd h
 new_at now gone (Commit gno batch ∷ ops) zero op h at are =
@@ -145,7 +149,8 @@ appends_none shown = record {
   gnos = λ gno. sym (or-false (has_gno shown.gnos gno));
 }
 
-pub appends_more : {R : Type 0} (old now new : Shown R) (ops : List Op) (i : ℕ) (op : Op) → AppendsAll old now (take i ops) → op ≡ get_or ops i op → i < length ops → new ≡ record now { gnos = new.gnos; waiting = now.waiting ++ batch_of op ∷ [] } → HasAdded now.gnos op new.gnos →
+pub appends_more : {R : Type 0} (old now new : Shown R) (ops : List Op) (i : ℕ) (op : Op) → AppendsAll old now (take i ops) → op ≡ get_or ops i op → i < length ops →
+    new ≡ record now { gnos = new.gnos; waiting = now.waiting ++ batch_of op ∷ [] } → HasAdded now.gnos op new.gnos →
     AppendsAll old new (take (i + 1) ops)
 appends_more old now new ops i op so_far here within leaves added =
     let taken : take (i + 1) ops ≡ take i ops ++ op ∷ [] = take_more ops i op within ∙ ap (λ (o : Op). take i ops ++ o ∷ []) (sym here) in
@@ -157,11 +162,13 @@ appends_more old now new ops i op so_far here within leaves added =
       gnos = λ gno.
           added gno ∙ ap (λ (b : Bool). b || has_gno (gnos_of (op ∷ [])) gno) (so_far.gnos gno)
           ∙ or_assoc (has_gno old.gnos gno) (has_gno (gnos_of (take i ops)) gno) (has_gno (gnos_of (op ∷ [])) gno)
-          ∙ ap (λ (b : Bool). has_gno old.gnos gno || b) (sym (has_gno-append (gnos_of (take i ops)) (gnos_of (op ∷ [])) gno) ∙ ap (λ (l : List ℕ). has_gno l gno) (sym (gnos_of-append (take i ops) (op ∷ [])) ∙ ap gnos_of (sym taken)));
+          ∙ ap (λ (b : Bool). has_gno old.gnos gno || b) (sym (has_gno-append (gnos_of (take i ops)) (gnos_of (op ∷ [])) gno)
+          ∙ ap (λ (l : List ℕ). has_gno l gno) (sym (gnos_of-append (take i ops) (op ∷ [])) ∙ ap gnos_of (sym taken)));
     }
 
 -- what an append asks of the operation whose turn it is
-pub append_asks : {R : Type 0} (old now : Shown R) (ops : List Op) (i : ℕ) (op : Op) → MayAppendAll old.preserve old ops → AppendsAll old now (take i ops) → op ≡ get_or ops i op → i < length ops → MayFollow now.preserve now op
+pub append_asks : {R : Type 0} (old now : Shown R) (ops : List Op) (i : ℕ) (op : Op) → MayAppendAll old.preserve old ops → AppendsAll old now (take i ops) → op ≡ get_or ops i op → i < length ops →
+    MayFollow now.preserve now op
 append_asks {R} old now ops i op may so_far here within = subst (λ (b : Bool). MayFollow b now op) (sym order) (by old.preserve may) where
   order : now.preserve ≡ old.preserve
   order = ap (λ (s : Shown R). s.preserve) so_far.leaves

@@ -41,7 +41,8 @@ out_apart r gno other sound out_ done same =
 -- ---- jobs that wait
 
 -- where each number has the same job, they are the same
-jobs_alike : (f g : ℕ → Option Job) (jobs : List Job) → ((gno : ℕ) → has_gno (numbers_of jobs) gno ≡ true → g gno ≡ f gno) → AllByRecursion (λ (job : Job). f job.gno ≡ Some job) jobs → AllByRecursion (λ (job : Job). g job.gno ≡ Some job) jobs
+jobs_alike : (f g : ℕ → Option Job) (jobs : List Job) → ((gno : ℕ) → has_gno (numbers_of jobs) gno ≡ true → g gno ≡ f gno) → AllByRecursion (λ (job : Job). f job.gno ≡ Some job) jobs →
+    AllByRecursion (λ (job : Job). g job.gno ≡ Some job) jobs
 jobs_alike f g [] same all = tt
 jobs_alike f g (job ∷ jobs) same all =
     (same job.gno (has_gno_first job.gno (numbers_of jobs)) ∙ all.0, jobs_alike f g jobs (λ gno is. same gno (or_right (job.gno == gno) (has_gno (numbers_of jobs) gno) is)) all.1)
@@ -110,7 +111,8 @@ jobs_finished r gno place old new job h t =
     })
 
 -- the jobs of the others stay, whatever record is committed that is good over the working rows
-pub jobs_committed : (r : Replica) (jobs : List Job) (gno : ℕ) (rec : Record) (rows : Database) → IsSound r → has_gno r.finished gno ≡ true → slice_get r.accepted (gno - 1) ≡ Some rec → working_rows r ≡ Some rows → IsGood r.tables rec rows →
+pub jobs_committed : (r : Replica) (jobs : List Job) (gno : ℕ) (rec : Record) (rows : Database) → IsSound r → has_gno r.finished gno ≡ true → slice_get r.accepted (gno - 1) ≡ Some rec →
+    working_rows r ≡ Some rows → IsGood r.tables rec rows →
     HasJobs r jobs → HasJobs (with_commit r gno) jobs
 jobs_committed r jobs gno rec rows sound done got are good h = have_alike r (with_commit r gno) jobs h refl (λ other is.
     job_stays r other gno rec rows sound (out_under r other sound is) (finished_under r gno sound done) (out_apart r other gno sound is done) got are good)

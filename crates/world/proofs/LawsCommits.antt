@@ -1,5 +1,6 @@
 -- What the pairs say of the commits at the replica: whatever the order, the records of which they are make a closed set of the log.
-use Rattle.std.proofs.Common.{◌≡◌, ◌∙◌, sym, ap, subst, refl, ℕ, ◌+◌, ◌-◌, ◌≤◌, Bool, true, false, ◌&&◌, ◌||◌, ◌==◌, nat_le, if◌then◌else◌, List, [], ◌∷◌, ◌++◌, append_assoc, length, length-append, map, take, Option, Some, inl, inr, arith}
+use Rattle.std.proofs.Common.{◌≡◌, ◌∙◌, sym, ap, subst, refl, ℕ, ◌+◌, ◌-◌, ◌≤◌, Bool, true, false, ◌&&◌, ◌||◌, ◌==◌, nat_le, if◌then◌else◌, List, [], ◌∷◌, ◌++◌, append_assoc, length, length-append}
+use Rattle.std.proofs.Common.{map, take, Option, Some, inl, inr, arith}
 use Rattle.std.specs.Prelude.{ℤ, option_and_then, slice_get}
 use Rattle.std.specs.FinMap.{get}
 use Rattle.std.proofs.lemmas.Bool.{false≢true, and_parts, leb-true, cases_lt}
@@ -14,7 +15,8 @@ use Rattle.record_codec.specs.Group.{AreNumbered}
 use Rattle.record_codec.specs.Log.{after, touched, place_of, IsLegalLog}
 use Rattle.record_codec.proofs.Logs.{part_is_numbered}
 use Rattle.scheduler.specs.Gnos.{has_gno, AreDistinct, low_of, first_gnos}
-use Rattle.scheduler.proofs.Gnos.{has_gno_behind, distinct_entered, has_gno_entered, distinct_moved_behind, has_gno_moved_behind, distinct_moved_front, has_gno_moved_front, AreDistinct_front, AreDistinct-take, low_is_low, low_rises, low_is_few, low_of_first, first_gnos-next, take-first_gnos}
+use Rattle.scheduler.proofs.Gnos.{has_gno_behind, distinct_entered, has_gno_entered, distinct_moved_behind, has_gno_moved_behind, distinct_moved_front, has_gno_moved_front, AreDistinct_front}
+use Rattle.scheduler.proofs.Gnos.{AreDistinct-take, low_is_low, low_rises, low_is_few, low_of_first, first_gnos-next, take-first_gnos}
 use Rattle.gapped.specs.Gapped.{gapped, AreChosen, IsClosed}
 use Rattle.gapped.proofs.Choosing.{among_pushed, are_chosen_more, first_are_chosen, record_at_number}
 use Rattle.world.specs.declared.events.Event.{Event}
@@ -56,7 +58,8 @@ committed_first setup log = record {
   none gno = grind (arith, nat_tests)
 
 -- one more number, of a record that waited for those that conflict with it
-closed_push : (log : List Record) (gnos : List ℕ) (gno : ℕ) → IsClosed gnos log → ((front : List Record) (rec : Record) (rest : List Record) → log ≡ front ++ rec ∷ rest → rec.gno ≡ gno → rec.parent ≤ low_of gnos) →
+closed_push : (log : List Record) (gnos : List ℕ) (gno : ℕ) → IsClosed gnos log →
+    ((front : List Record) (rec : Record) (rest : List Record) → log ≡ front ++ rec ∷ rest → rec.gno ≡ gno → rec.parent ≤ low_of gnos) →
     ((front : List Record) (rec : Record) (rest : List Record) → log ≡ front ++ rec ∷ rest → rec.parent ≤ low_of gnos → AreChosen gnos front rec) → IsClosed (gnos ++ gno ∷ []) log
 closed_push log gnos gno closed parent waits = λ front next rest e is.
     are_chosen_more gnos (gno ∷ []) front next
@@ -70,7 +73,8 @@ module _ (setup : Setup) (log : List Record) (legal : IsLegalLog setup.tables (l
   numbered = part_is_numbered setup.tables (loaded setup.base) [] log legal
 
   -- where the mark has reached a record's parent, each earlier record is among the numbers that conflicts with it
-  covered : (gnos : List ℕ) (rec : Record) → rec.parent ≤ low_of gnos → (before front behind : List Record) → log ≡ before ++ (front ++ behind) → Covers (map place_of front) (touched rec) rec.parent → AreChosen gnos front rec
+  covered : (gnos : List ℕ) (rec : Record) → rec.parent ≤ low_of gnos → (before front behind : List Record) → log ≡ before ++ (front ++ behind) →
+      Covers (map place_of front) (touched rec) rec.parent → AreChosen gnos front rec
   covered gnos rec low before [] behind e covers = tt
   covered gnos rec low before (r ∷ front) behind e covers =
       let its = legal before r (front ++ behind) e in (
@@ -120,7 +124,8 @@ module _ (setup : Setup) (log : List Record) (legal : IsLegalLog setup.tables (l
     in_order = c.in_order;
   }
 
-  commit_more : (past : Past) (event : Event) (gno : ℕ) → Says setup log past event (replies.Commit gno) → Holds log past → Committed setup log past → Committed setup log ((event, replies.Commit gno) ∷ past)
+  commit_more : (past : Past) (event : Event) (gno : ℕ) → Says setup log past event (replies.Commit gno) → Holds log past → Committed setup log past →
+      Committed setup log ((event, replies.Commit gno) ∷ past)
   commit_more past event gno s h c =
       let bounds = and_parts _ _ (sym (c.each gno) ∙ has_gno_behind (commits past) (out past ++ finished past) gno (has_gno_behind (out past) (finished past) gno s.done)) in
       let some = leb-true 1 gno bounds.0 in
@@ -171,7 +176,8 @@ module _ (setup : Setup) (log : List Record) (legal : IsLegalLog setup.tables (l
   same_parts : (a b c d : ℕ) (x y : Option (List ℤ)) → replies.Read a b x ≡ replies.Read c d y → (a ≡ c) × (b ≡ d) × (x ≡ y)
   same_parts a b c d x y e = (cc e, cc e, cc e)
 
-  pub is_read : (past : Past) (id : RowId) (upto more : ℕ) (row : Option (List ℤ)) → Holds log past → Committed setup log past → replies.Read upto more row ≡ read_reply setup log past id → IsRead past id upto more row
+  pub is_read : (past : Past) (id : RowId) (upto more : ℕ) (row : Option (List ℤ)) → Holds log past → Committed setup log past → replies.Read upto more row ≡ read_reply setup log past id →
+      IsRead past id upto more row
   is_read past id upto more row h c is = by setup.preserve refl is where
     p : ℕ
     p = published past
@@ -182,7 +188,8 @@ module _ (setup : Setup) (log : List Record) (legal : IsLegalLog setup.tables (l
     row_of : Option Database → Option (List ℤ)
     row_of rows = option_and_then (λ db. get db id) rows
 
-    by : (b : Bool) → setup.preserve ≡ b → replies.Read upto more row ≡ (if b then replies.Read p 0 (row_of (rows_after setup log p)) else replies.Read (low_of gnos) (p - low_of gnos) (row_of (gapped setup.tables (loaded setup.base) log gnos))) →
+    by : (b : Bool) → setup.preserve ≡ b → replies.Read upto more row ≡ (if b then replies.Read p 0 (row_of (rows_after setup log p))
+        else replies.Read (low_of gnos) (p - low_of gnos) (row_of (gapped setup.tables (loaded setup.base) log gnos))) →
         IsRead past id upto more row
     by true e k =
         let same = same_parts upto more p 0 row (row_of (rows_after setup log p)) k in

@@ -16,7 +16,8 @@ use Rattle.world.specs.State.{World, IsWorld, Stands}
 use Rattle.world.specs.Crash.{FindsLog, FindsTold, RunsSafely, LeaveTold, SyncedOutlives}
 use Rattle.world.proofs.Parts.{take_longer}
 
-same_between : (head told_head : Head) (least told_least most told_most : List Record) (left : List ℕ) → head ≡ told_head → least ≡ told_least → most ≡ told_most → FindsBetween head least most left → FindsBetween told_head told_least told_most left
+same_between : (head told_head : Head) (least told_least most told_most : List Record) (left : List ℕ) → head ≡ told_head → least ≡ told_least → most ≡ told_most → FindsBetween head least most left →
+    FindsBetween told_head told_least told_most left
 same_between head told_head least told_least most told_most left heads leasts mosts finds = record {
   found = finds.found;
   begins = finds.begins;
@@ -29,7 +30,8 @@ same_between head told_head least told_least most told_most left heads leasts mo
 }
 
 -- the log of a world is the one that the pairs tell of
-finds_told : {D R : Type 0} (contents : R → Database) (setup : Setup) (past : Past) (w : World D R) (log : List Record) (left : List ℕ) → IsWorld contents w → Stands setup past w → IsPrefix w.source.log log → FindsLog w left → FindsTold setup.identifier log past left
+finds_told : {D R : Type 0} (contents : R → Database) (setup : Setup) (past : Past) (w : World D R) (log : List Record) (left : List ℕ) → IsWorld contents w → Stands setup past w →
+    IsPrefix w.source.log log → FindsLog w left → FindsTold setup.identifier log past left
 finds_told contents setup past w log left h st longer finds =
     let number : w.source.synced ≡ synced past = ap (λ (s : Source). s.synced) st.source.is in
     let least = ap (λ n. take n w.source.log) number ∙ sym (take_longer w.source.log log longer (synced past) (omega (arith, number, h.source.sound.synced_within))) in
@@ -43,7 +45,8 @@ module _ {D R : Type 0} (contents : R → Database) (may_leave : D → List ℕ 
   log_grows old new (e ∷ es) [] run = absurd run
   log_grows old new (e ∷ es) (r ∷ rs) run = prefix_trans old.source.log run.0.source.log new.source.log run.1.goes.grows (log_grows run.0 new es rs run.2)
 
-  leave_told : (setup : Setup) (past : Past) (old new : World D R) (es : List Event) (rs : List Reply) → IsWorld contents old → Stands setup past old → RunsSafely contents may_leave moment left_since old es rs new →
+  leave_told : (setup : Setup) (past : Past) (old new : World D R) (es : List Event) (rs : List Reply) → IsWorld contents old → Stands setup past old →
+      RunsSafely contents may_leave moment left_since old es rs new →
       LeaveTold may_leave moment left_since setup.identifier new.source.log past old.wire.device es rs new.wire.device
   leave_told setup past old new [] [] h st run = ap (λ (w : World D R). w.wire.device) run
   leave_told setup past old new [] (r ∷ rs) h st run = absurd run
@@ -55,7 +58,8 @@ module _ {D R : Type 0} (contents : R → Database) (may_leave : D → List ℕ 
       let longer = log_grows next new es rs run.2 in
       let whole = prefix_trans old.source.log next.source.log log run.1.goes.grows longer in (
         next.wire.device,
-        weakened moment left_since old.wire.device next.wire.device (FindsLog old) (FindsTold setup.identifier log past) run.1.any_moment (λ left finds. finds_told contents setup past old log left h st whole finds),
+        weakened moment left_since old.wire.device next.wire.device (FindsLog old) (FindsTold setup.identifier log past) run.1.any_moment
+            (λ left finds. finds_told contents setup past old log left h st whole finds),
         λ left may. finds_told contents setup ((e, r) ∷ past) next log left run.1.goes.world stands longer (run.1.behind.left left may),
         leave_told setup ((e, r) ∷ past) next new es rs run.1.goes.world stands run.2,
       )

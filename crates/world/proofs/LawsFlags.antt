@@ -1,5 +1,6 @@
 -- In the order of the log one flag for each record that is dispatched and not committed tells which jobs are out, and which are finished.
-use Rattle.std.proofs.Common.{◌≡◌, ◌∙◌, sym, ap, refl, ℕ, zero, suc, ◌+◌, ◌-◌, ◌<◌, ◌≤◌, Bool, true, false, not, ◌&&◌, ◌||◌, nat_le, nat_lt, List, [], ◌∷◌, ◌++◌, length, length-append, get_or, set, take, inl, inr, arith}
+use Rattle.std.proofs.Common.{◌≡◌, ◌∙◌, sym, ap, refl, ℕ, zero, suc, ◌+◌, ◌-◌, ◌<◌, ◌≤◌, Bool, true, false, not, ◌&&◌, ◌||◌, nat_le, nat_lt, List, [], ◌∷◌, ◌++◌, length, length-append, get_or, set}
+use Rattle.std.proofs.Common.{take, inl, inr, arith}
 use Rattle.std.proofs.Math.Bool.{or-false}
 use Rattle.std.proofs.lemmas.Bool.{false≢true, both_ways, cases_lt, cases_eq, and_from, and_left, and_right, le-leb, lt-leb, lt-ltb, le-ltb, ne_eqb}
 use Rattle.std.proofs.lemmas.List.{length-set, length-drop, get_or-set_same, get_or-set_other, get_or-drop, get_or_default, get_or_past}
@@ -7,7 +8,8 @@ use Rattle.store_trait.specs.Operation.{loaded}
 use Rattle.record_codec.specs.declared.records.Record.{Record}
 use Rattle.record_codec.specs.Log.{IsLegalLog}
 use Rattle.scheduler.specs.Gnos.{has_gno}
-use Rattle.scheduler.proofs.Gnos.{has_gno_front, has_gno_behind, has_gno_last, has_gno-push, has_gno-append, has_gno-without_other, has_first, distinct_apart, lacks_front, lacks_behind, parts_of_three}
+use Rattle.scheduler.proofs.Gnos.{has_gno_front, has_gno_behind, has_gno_last, has_gno-push, has_gno-append, has_gno-without_other, has_first, distinct_apart, lacks_front, lacks_behind}
+use Rattle.scheduler.proofs.Gnos.{parts_of_three}
 use Rattle.world.specs.declared.events.Event.{Event}
 use Rattle.world.specs.declared.events.Reply.{Reply}
 use Rattle.world.specs.declared.events.Reply.TheVariants as replies

@@ -18,7 +18,8 @@ use Rattle.world.specs.Laws.{pairs_after, past_at, asks_source, HaltsForGood}
 use Rattle.world.proofs.LawsRuns.{answered_at}
 
 -- a halted source stays so
-halted_on : (setup : Setup) (log : List Record) (past : Past) (es : List Event) (rs : List Reply) → AreAllowed setup log past es rs → halted past ≡ true → (n : ℕ) → halted (pairs_after past (take n es) (take n rs)) ≡ true
+halted_on : (setup : Setup) (log : List Record) (past : Past) (es : List Event) (rs : List Reply) → AreAllowed setup log past es rs → halted past ≡ true → (n : ℕ) →
+    halted (pairs_after past (take n es) (take n rs)) ≡ true
 halted_on setup log past es rs allowed h zero = h
 halted_on setup log past [] [] allowed h (suc n) = h
 halted_on setup log past [] (r ∷ rs) allowed h (suc n) = absurd allowed
@@ -26,7 +27,8 @@ halted_on setup log past (e ∷ es) [] allowed h (suc n) = absurd allowed
 halted_on setup log past (e ∷ es) (r ∷ rs) allowed h (suc n) = halted_on setup log ((e, r) ∷ past) es rs allowed.1 (or_right (is_failure r) (halted past) h) n
 
 -- it is, behind a failure
-halted_behind : (setup : Setup) (log : List Record) (past : Past) (es : List Event) (rs : List Reply) → AreAllowed setup log past es rs → (before later : ℕ) → before < later → slice_get rs before ≡ Some (replies.Log log_file.Device) →
+halted_behind : (setup : Setup) (log : List Record) (past : Past) (es : List Event) (rs : List Reply) → AreAllowed setup log past es rs → (before later : ℕ) → before < later →
+    slice_get rs before ≡ Some (replies.Log log_file.Device) →
     halted (pairs_after past (take later es) (take later rs)) ≡ true
 halted_behind setup log past es rs allowed before zero lt got = absurd (omega (arith, lt))
 halted_behind setup log past [] [] allowed before (suc later) lt got = absurd (none-some _ got)
@@ -62,7 +64,8 @@ no_memory setup log past (events.Queue session) h asks lacks = false≢true lack
 no_memory setup log past (events.Abort session) h asks lacks = false≢true lacks
 no_memory setup log past event h asks lacks = false≢true asks
 
-refuses : (setup : Setup) (log : List Record) (past : Past) (event : Event) (reply : Reply) → halted past ≡ true → asks_source event ≡ true → Answers setup log past event reply → reply ≡ replies.Source source.Halted
+refuses : (setup : Setup) (log : List Record) (past : Past) (event : Event) (reply : Reply) → halted past ≡ true → asks_source event ≡ true → Answers setup log past event reply →
+    reply ≡ replies.Source source.Halted
 refuses setup log past (events.Begin session) reply h asks is = first_cause (halted past) _ reply _ h is
 refuses setup log past (events.Write session change) reply h asks is = first_cause (halted past) _ reply _ h is
 refuses setup log past (events.See session id) reply h asks is = first_cause (halted past) _ reply _ h is
@@ -78,4 +81,8 @@ pub for_good : HaltsForGood
 for_good setup log es rs legal before later event lt failed asked asks =
     let at = answered_at setup log [] es rs legal.allowed later event asked in
     let h = halted_behind setup log [] es rs legal.allowed before later lt failed in
-    at.1 ∙ ap Some (elim at.2 [ inl lacks ↦ absurd (no_memory setup log (past_at es rs later) event h asks (and_parts _ _ lacks).0) | inr is ↦ refuses setup log (past_at es rs later) event at.0 h asks is ])
+    at.1 ∙ ap Some (elim at.2 [
+      | inl lacks ↦ absurd (no_memory setup log (past_at es rs later) event h asks (and_parts _ _ lacks).0)
+      | inr is ↦ refuses setup log
+          (past_at es rs later) event at.0 h asks is
+    ])

@@ -1,5 +1,6 @@
 -- What a run began with and its events fix its replies.
-use Rattle.std.proofs.Common.{◌≡◌, ◌∙◌, sym, ap, subst, refl, ℕ, zero, suc, ◌+◌, ◌-◌, ◌<◌, ◌≤◌, Bool, true, false, ◌&&◌, ◌||◌, nat_le, List, [], ◌∷◌, ◌++◌, length, map, take, drop, Option, slice_get, inl, inr, if◌then◌else◌, arith}
+use Rattle.std.proofs.Common.{◌≡◌, ◌∙◌, sym, ap, subst, refl, ℕ, zero, suc, ◌+◌, ◌-◌, ◌<◌, ◌≤◌, Bool, true, false, ◌&&◌, ◌||◌, nat_le, List, [], ◌∷◌, ◌++◌, length, map, take, drop, Option, slice_get}
+use Rattle.std.proofs.Common.{inl, inr, if◌then◌else◌, arith}
 use Rattle.std.specs.Prelude.{ℤ, Ok, option_and_then, nat_lt, ◌⊎◌}
 use Rattle.std.specs.List.{AllByRecursion, list_any, flat_map}
 use Rattle.std.specs.Option.{option_map_or}
@@ -34,8 +35,10 @@ use Rattle.world.specs.declared.events.Event.TheVariants as events
 use Rattle.world.specs.declared.events.Reply.{Reply}
 use Rattle.world.specs.declared.events.Reply.TheVariants as replies
 use Rattle.world.specs.Replies.{prepared_reply}
-use Rattle.world.specs.Past.{Past, flushed, unsynced, synced, synced_groups, is_failure, halted, queue, accepted, dispatched, commits, replica_committed, low_water, out, finished, published, published_gnos}
-use Rattle.world.specs.Legal.{Setup, rows_after, source_at, refused_or, stamp_of, next_records, FlushAnswers, SyncAnswers, commit_reply, group_between, log_text, is_due, may_dispatch, ExecutedAnswers, read_reply, Answers, is_source_memory, is_replica_memory, is_codec_memory, is_log_memory, asks_memory, tells_memory, Allowed, AreAllowed, AreLegal}
+use Rattle.world.specs.Past.{Past, flushed, unsynced, synced, synced_groups, is_failure, halted, queue, accepted, dispatched, commits, replica_committed, low_water, out, finished, published}
+use Rattle.world.specs.Past.{published_gnos}
+use Rattle.world.specs.Legal.{Setup, rows_after, source_at, refused_or, stamp_of, next_records, FlushAnswers, SyncAnswers, commit_reply, group_between, log_text, is_due, may_dispatch, ExecutedAnswers}
+use Rattle.world.specs.Legal.{read_reply, Answers, is_source_memory, is_replica_memory, is_codec_memory, is_log_memory, asks_memory, tells_memory, Allowed, AreAllowed, AreLegal}
 use Rattle.world.specs.Laws.{pairs_after, is_memory, FailAlike, OneAnswer, OneLog}
 use Rattle.world.proofs.LawsReplies.{Says, says}
 use Rattle.world.proofs.LawsSteps.{Follow, Follow-le, Holds, at_first, step, in_order}
@@ -144,7 +147,8 @@ module _ (setup : Setup) (log other : List Record) (past : Past) (agree : Agree 
   chosen_front l numbered long =
       let f = flushed past in
       let parts = sym (take-append-drop f l) in
-      ap (chosen (published_gnos past)) parts ∙ longer_log (take f l) (drop f l) (published_gnos past) (subst (λ (x : List Record). AreNumbered 1 x) parts numbered) (λ gno is. omega (arith, shown_flushed gno is, long))
+      ap (chosen (published_gnos past)) parts ∙ longer_log (take f l) (drop f l) (published_gnos past) (subst (λ (x : List Record). AreNumbered 1 x) parts numbered)
+      (λ gno is. omega (arith, shown_flushed gno is, long))
 
   same_gapped : gapped setup.tables (loaded setup.base) log (published_gnos past) ≡ gapped setup.tables (loaded setup.base) other (published_gnos past)
   same_gapped =
@@ -155,12 +159,13 @@ module _ (setup : Setup) (log other : List Record) (past : Past) (agree : Agree 
       ap (after setup.tables (loaded setup.base)) (here ∙ ap (chosen (published_gnos past)) agree.same ∙ sym there)
 
   same_read : (id : RowId) → read_reply setup log past id ≡ read_reply setup other past id
-  same_read id = (λ i. if setup.preserve then replies.Read (published past) 0 (row_of (same_rows (published past) read_below i)) else replies.Read (low_of gnos) (published past - low_of gnos) (row_of (same_gapped i))) where
-    gnos : List ℕ
-    gnos = published_gnos past
+  same_read id = (λ i. if setup.preserve then replies.Read (published past) 0 (row_of (same_rows (published past) read_below i))
+      else replies.Read (low_of gnos) (published past - low_of gnos) (row_of (same_gapped i))) where
+        gnos : List ℕ
+        gnos = published_gnos past
 
-    row_of : Option Database → Option (List ℤ)
-    row_of rows = option_and_then (λ db. get db id) rows
+        row_of : Option Database → Option (List ℤ)
+        row_of rows = option_and_then (λ db. get db id) rows
 
   -- ---- the ids that are executed
 
@@ -234,7 +239,8 @@ module _ (setup : Setup) (log other : List Record) (past : Past) (agree : Agree 
 
   -- ---- one more pair
 
-  still_alike : (event : Event) (reply answer : Reply) → Says setup log past event reply → Answers setup log past event reply → Answers setup other past event answer → FlushedAlike log other ((event, reply) ∷ past)
+  still_alike : (event : Event) (reply answer : Reply) → Says setup log past event reply → Answers setup log past event reply → Answers setup other past event answer →
+      FlushedAlike log other ((event, reply) ∷ past)
   still_alike event (replies.Flushed first stamps) answer s a b =
       let here : Answers setup log past events.Flush (replies.Flushed first stamps) = subst (λ (e : Event). Answers setup log past e (replies.Flushed first stamps)) s.2 a in
       let there : Answers setup other past events.Flush answer = subst (λ (e : Event). Answers setup other past e answer) s.2 b in
@@ -251,7 +257,8 @@ module _ (setup : Setup) (log other : List Record) (past : Past) (agree : Agree 
       AllByRecursion-push (λ (group : ℕ × ℕ). group.1 ≤ flushed past) (synced_groups past) (first, last) agree.groups (Follow-le last s.0 (flushed past) all.2)
   still_within event reply s = agree.groups
 
-  agree_on : (event : Event) (reply answer : Reply) → Allowed setup log past event reply → Answers setup log past event reply → Answers setup other past event answer → Agree setup log other ((event, reply) ∷ past)
+  agree_on : (event : Event) (reply answer : Reply) → Allowed setup log past event reply → Answers setup log past event reply → Answers setup other past event answer →
+      Agree setup log other ((event, reply) ∷ past)
   agree_on event reply answer allowed a b =
       let s = says setup log past event reply allowed in
       record {
@@ -302,7 +309,8 @@ answers setup log past event reply allowed enough =
 heads : (a b : Bool) (xs ys : List Bool) → a ∷ xs ≡ b ∷ ys → (a ≡ b) × (xs ≡ ys)
 heads a b xs ys e = (cc, cc)
 
-from : (setup : Setup) (log other : List Record) (past : Past) → Agree setup log other past → (es : List Event) (rs os : List Reply) → AreAllowed setup log past es rs → AreAllowed setup other past es os →
+from : (setup : Setup) (log other : List Record) (past : Past) → Agree setup log other past → (es : List Event) (rs os : List Reply) → AreAllowed setup log past es rs →
+    AreAllowed setup other past es os →
     FailAlike rs os → (rs ≡ os) × FlushedAlike log other (pairs_after past es rs)
 from setup log other past agree [] [] [] left right alike = (refl, agree.same)
 from setup log other past agree [] [] (o ∷ os) left right alike = absurd right

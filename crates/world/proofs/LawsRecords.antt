@@ -31,7 +31,8 @@ spelled_at [] next rest all = all.0
 spelled_at (r ∷ front) next rest all = spelled_at front next rest all.1
 
 -- the next record behind one log, of one session
-one_record : (s : Source) (front : List Record) (before : List Seen) (session : ℕ) (made other : Record) → IsLegalNext s.tables (loaded s.base) front made → IsLegalNext s.tables (loaded s.base) front other →
+one_record : (s : Source) (front : List Record) (before : List Seen) (session : ℕ) (made other : Record) → IsLegalNext s.tables (loaded s.base) front made →
+    IsLegalNext s.tables (loaded s.base) front other →
     HasSpelling current made → HasSpelling current other → IsNextRecord s before session made → IsNextRecord s before session other → made ≡ other
 one_record s front before session made other a b spelled other_spelled m o =
     let t : m.t ≡ o.t = same_Some m.t o.t (sym m.is ∙ o.is) in
@@ -54,7 +55,8 @@ one_record s front before session made other a b spelled other_spelled m o =
 
 -- the next records behind one log, of one queue
 pub one_group : (s : Source) (front : List Record) (before : List Seen) (sessions : List ℕ) (records others rest other_rest : List Record) →
-    MayStand s.tables s.base (front ++ (records ++ rest)) → MayStand s.tables s.base (front ++ (others ++ other_rest)) → AreNextRecords s before sessions records → AreNextRecords s before sessions others → records ≡ others
+    MayStand s.tables s.base (front ++ (records ++ rest)) → MayStand s.tables s.base (front ++ (others ++ other_rest)) → AreNextRecords s before sessions records →
+    AreNextRecords s before sessions others → records ≡ others
 one_group s front before [] [] [] rest other_rest left right m o = refl
 one_group s front before [] [] (y ∷ others) rest other_rest left right m o = absurd o
 one_group s front before [] (x ∷ records) others rest other_rest left right m o = absurd m

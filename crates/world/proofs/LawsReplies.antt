@@ -26,7 +26,8 @@ use Rattle.world.specs.declared.events.Reply.TheVariants as replies
 use Rattle.world.specs.Replies.{prepared_reply}
 use Rattle.world.specs.Past.{Past, flushed, unsynced, synced, halted, source_committed, queue, accepted, dispatched, commits, replica_committed, low_water, out, published, published_gnos}
 use Rattle.world.proofs.Next.{IsNext, is_next, next_at}
-use Rattle.world.specs.Legal.{Setup, rows_after, source_at, replica_at, refused_or, stamp_of, next_records, FlushAnswers, SyncAnswers, commit_reply, log_text, is_due, may_dispatch, is_out, next_reply, ExecutedAnswers, read_reply, Answers, is_source_memory, is_replica_memory, is_codec_memory, is_log_memory, asks_memory, tells_memory, Allowed}
+use Rattle.world.specs.Legal.{Setup, rows_after, source_at, replica_at, refused_or, stamp_of, next_records, FlushAnswers, SyncAnswers, commit_reply, log_text, is_due, may_dispatch, is_out, next_reply}
+use Rattle.world.specs.Legal.{ExecutedAnswers, read_reply, Answers, is_source_memory, is_replica_memory, is_codec_memory, is_log_memory, asks_memory, tells_memory, Allowed}
 
 -- a job that is handed out is the next, of a record that is accepted, and its parent is committed: in the order of the log it is one
 -- of the commits so far, in any order all up to it are committed
@@ -92,7 +93,8 @@ telling setup log past event reply h = absurd (false≢true h)
 by : (setup : Setup) (log : List Record) (past : Past) (event : Event) (reply answer : Reply) → reply ≡ answer → Says setup log past event answer → Says setup log past event reply
 by setup log past event reply answer is says = subst (Says setup log past event) (sym is) says
 
-refused_says : (setup : Setup) (log : List Record) (past : Past) (event : Event) (fault : Option SourceFault) (reply : Reply) → Says setup log past event reply → Says setup log past event (refused_or fault reply)
+refused_says : (setup : Setup) (log : List Record) (past : Past) (event : Event) (fault : Option SourceFault) (reply : Reply) → Says setup log past event reply →
+    Says setup log past event (refused_or fault reply)
 refused_says setup log past event None reply says = says
 refused_says setup log past event (Some fault) reply says = tt
 
@@ -100,12 +102,14 @@ prepare_says : (setup : Setup) (log : List Record) (past : Past) (event : Event)
 prepare_says setup log past event (answers.Parent parent) = tt
 prepare_says setup log past event answers.Empty = tt
 
-flush_says : (setup : Setup) (log : List Record) (past : Past) (halts : Bool) (waiting : List ℕ) (reply : Reply) → FlushAnswers setup log past halts waiting reply → Says setup log past events.Flush reply
+flush_says : (setup : Setup) (log : List Record) (past : Past) (halts : Bool) (waiting : List ℕ) (reply : Reply) → FlushAnswers setup log past halts waiting reply →
+    Says setup log past events.Flush reply
 flush_says setup log past true waiting reply h = by setup log past events.Flush reply (replies.Source source.Halted) h tt
 flush_says setup log past false [] reply h = by setup log past events.Flush reply replies.Nothing h tt
 flush_says setup log past false (session ∷ waiting) reply h = by setup log past events.Flush reply _ h.0 (refl, refl, refl)
 
-sync_says : (setup : Setup) (log : List Record) (past : Past) (halts : Bool) (groups : List (ℕ × ℕ)) (reply : Reply) → unsynced past ≡ groups → SyncAnswers halts groups reply → Says setup log past events.Sync reply
+sync_says : (setup : Setup) (log : List Record) (past : Past) (halts : Bool) (groups : List (ℕ × ℕ)) (reply : Reply) → unsynced past ≡ groups → SyncAnswers halts groups reply →
+    Says setup log past events.Sync reply
 sync_says setup log past true groups reply e h = by setup log past events.Sync reply (replies.Source source.Halted) h tt
 sync_says setup log past false [] reply e h = by setup log past events.Sync reply replies.Nothing h tt
 sync_says setup log past false (group ∷ groups) reply e h =
@@ -114,7 +118,8 @@ sync_says setup log past false (group ∷ groups) reply e h =
       | inr failed ↦ by setup log past events.Sync reply (replies.Log log_file.Device) failed tt
     ]
 
-commit_says : (setup : Setup) (log : List Record) (past : Past) (all : Bool) → Says setup log past events.Commit (if all then replies.Nothing else replies.Committed (source_committed past + 1) (synced past))
+commit_says : (setup : Setup) (log : List Record) (past : Past) (all : Bool) → Says setup log past events.Commit
+    (if all then replies.Nothing else replies.Committed (source_committed past + 1) (synced past))
 commit_says setup log past true = tt
 commit_says setup log past false = (refl, refl)
 
@@ -127,7 +132,8 @@ deliver_says setup log past gno true false true within is = (gno, refl, within r
 deliver_says setup log past gno true false false within is = inr (refl, gno, refl)
 
 -- a record that is due is accepted, and its parent is at most the mark
-due_tells : (setup : Setup) (log : List Record) (past : Past) (mark : ℕ) → is_due setup log past mark ≡ true → (dispatched past < accepted past) × ((rec : Record) → slice_get log (dispatched past) ≡ Some rec → rec.parent ≤ mark)
+due_tells : (setup : Setup) (log : List Record) (past : Past) (mark : ℕ) → is_due setup log past mark ≡ true →
+    (dispatched past < accepted past) × ((rec : Record) → slice_get log (dispatched past) ≡ Some rec → rec.parent ≤ mark)
 due_tells setup log past mark t =
     let parts = and_parts _ _ (and_parts _ _ t).0 in (
       ltb-true (dispatched past) (accepted past) parts.0,
@@ -136,7 +142,8 @@ due_tells setup log past mark t =
 
 is_job : (setup : Setup) (log : List Record) (past : Past) → may_dispatch setup log past ≡ true → IsJob setup log past (dispatched past + 1)
 is_job setup log past t = by setup.preserve refl t where
-  by : (b : Bool) → setup.preserve ≡ b → (if b then is_due setup log past (replica_committed past) else is_due setup log past (low_water past) && nat_le (dispatched past + 1) (low_water past + 4096)) ≡ true → IsJob setup log past (dispatched past + 1)
+  by : (b : Bool) → setup.preserve ≡ b → (if b then is_due setup log past (replica_committed past) else is_due setup log past (low_water past) && nat_le (dispatched past + 1) (low_water past + 4096))
+      ≡ true → IsJob setup log past (dispatched past + 1)
   by true e due =
       let tells = due_tells setup log past (replica_committed past) due in
       record { number = refl; within = tells.0; in_order = λ _. tells.1; in_any = λ other. absurd (false≢true (sym other ∙ e)) }
@@ -144,19 +151,23 @@ is_job setup log past t = by setup.preserve refl t where
       let tells = due_tells setup log past (low_water past) (and_parts _ _ due).0 in
       record { number = refl; within = tells.0; in_order = λ other. absurd (false≢true (sym e ∙ other)); in_any = λ _. tells.1 }
 
-dispatch_says : (setup : Setup) (log : List Record) (past : Past) (may : Bool) → may_dispatch setup log past ≡ may → Says setup log past events.Dispatch (if may then replies.Job (dispatched past + 1) else replies.Nothing)
+dispatch_says : (setup : Setup) (log : List Record) (past : Past) (may : Bool) → may_dispatch setup log past ≡ may →
+    Says setup log past events.Dispatch (if may then replies.Job (dispatched past + 1) else replies.Nothing)
 dispatch_says setup log past false e = tt
 dispatch_says setup log past true e = is_job setup log past e
 
-finish_says : (setup : Setup) (log : List Record) (past : Past) (gno : ℕ) (out_ : Bool) → is_out past gno ≡ out_ → Says setup log past (events.Finish gno) (if out_ then replies.Finished gno else replies.Nothing)
+finish_says : (setup : Setup) (log : List Record) (past : Past) (gno : ℕ) (out_ : Bool) → is_out past gno ≡ out_ →
+    Says setup log past (events.Finish gno) (if out_ then replies.Finished gno else replies.Nothing)
 finish_says setup log past gno false e = tt
 finish_says setup log past gno true e = e
 
 next_says : (setup : Setup) (log : List Record) (past : Past) (reply : Reply) → reply ≡ next_reply setup past → Says setup log past events.Next reply
 next_says setup log past reply h = of_next (next_commit (replica_at setup log past)) refl (h ∙ next_at setup log past) where
-  of_next : (o : Option ℕ) → next_commit (replica_at setup log past) ≡ o → reply ≡ option_map_or replies.Commit (next_commit (replica_at setup log past)) replies.Nothing → Says setup log past events.Next reply
+  of_next : (o : Option ℕ) → next_commit (replica_at setup log past) ≡ o → reply ≡ option_map_or replies.Commit (next_commit (replica_at setup log past)) replies.Nothing →
+      Says setup log past events.Next reply
   of_next None e k = by setup log past events.Next reply replies.Nothing (k ∙ ap (λ (o : Option ℕ). option_map_or replies.Commit o replies.Nothing) e) tt
-  of_next (Some gno) e k = by setup log past events.Next reply (replies.Commit gno) (k ∙ ap (λ (o : Option ℕ). option_map_or replies.Commit o replies.Nothing) e) (is_next (replica_at setup log past) gno e)
+  of_next (Some gno) e k = by setup log past events.Next reply (replies.Commit gno) (k ∙ ap (λ (o : Option ℕ). option_map_or replies.Commit o replies.Nothing) e)
+      (is_next (replica_at setup log past) gno e)
 
 executed_says : (setup : Setup) (log : List Record) (past : Past) (b : Bool) (reply : Reply) → ExecutedAnswers b setup past reply → Says setup log past events.Executed reply
 executed_says setup log past true reply h = by setup log past events.Executed reply (replies.Executed (first_ids setup.identifier (replica_committed past))) h tt
@@ -185,14 +196,16 @@ answers_say setup log past (events.Write session change) reply h =
 answers_say setup log past (events.See session id) reply h =
     by setup log past _ reply _ h (refused_says setup log past _ (read_fault (source_at setup log past) session id) (replies.Seen (seen_row (source_at setup log past) session id)) tt)
 answers_say setup log past (events.Prepare session) reply h =
-    by setup log past _ reply _ h (refused_says setup log past _ (prepare_fault (source_at setup log past) session) _ (prepare_says setup log past _ (prepare_answer (source_at setup log past) session)))
+    by setup log past _ reply _ h (refused_says setup log past _ (prepare_fault (source_at setup log past) session) _
+    (prepare_says setup log past _ (prepare_answer (source_at setup log past) session)))
 answers_say setup log past (events.Queue session) reply h =
     by setup log past _ reply _ h (refused_says setup log past _ (queue_fault (source_at setup log past) session) replies.Done tt)
 answers_say setup log past (events.Abort session) reply h =
     by setup log past _ reply _ h (refused_says setup log past _ (abort_fault (source_at setup log past) session) replies.Done tt)
 answers_say setup log past events.Flush reply h = flush_says setup log past (halted past) (queue past) reply h
 answers_say setup log past events.Sync reply h = sync_says setup log past (halted past) (unsynced past) reply refl h
-answers_say setup log past events.Commit reply h = by setup log past _ reply _ h (refused_says setup log past _ (halted_fault (source_at setup log past)) (commit_reply past) (commit_says setup log past (source_committed past == synced past)))
+answers_say setup log past events.Commit reply h = by setup log past _ reply _ h
+    (refused_says setup log past _ (halted_fault (source_at setup log past)) (commit_reply past) (commit_says setup log past (source_committed past == synced past)))
 answers_say setup log past (events.Deliver gno) reply h =
     by setup log past _ reply _ h (deliver_says setup log past gno (nat_le 1 gno && nat_le gno (synced past)) (nat_le gno (accepted past)) (gno == accepted past + 1)
     (λ t. leb-true gno (synced past) (and_parts _ _ t).1) (eqb-true gno (accepted past + 1)))

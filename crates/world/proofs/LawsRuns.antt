@@ -1,7 +1,8 @@
 -- The laws of runs with legal replies.
 use mathlib.Core.List.{IsPrefix}
 use base.Growing.{prefix_refl, prefix_trans}
-use Rattle.std.proofs.Common.{◌≡◌, ◌∙◌, sym, ap, subst, refl, ℕ, zero, suc, ◌+◌, ◌-◌, ◌<◌, ◌≤◌, Bool, true, false, if◌then◌else◌, List, [], ◌∷◌, ◌++◌, length, length-append, take, drop, Option, Some, slice_get, inl, inr, arith, cond, count_by}
+use Rattle.std.proofs.Common.{◌≡◌, ◌∙◌, sym, ap, subst, refl, ℕ, zero, suc, ◌+◌, ◌-◌, ◌<◌, ◌≤◌, Bool, true, false, if◌then◌else◌, List, [], ◌∷◌, ◌++◌, length, length-append, take, drop, Option, Some}
+use Rattle.std.proofs.Common.{slice_get, inl, inr, arith, cond, count_by}
 use Rattle.std.specs.Prelude.{ℤ, option_and_then}
 use Rattle.std.specs.FinMap.{get}
 use Rattle.std.proofs.lemmas.Bool.{false≢true, cases_lt, and_parts, leb-true}
@@ -22,14 +23,16 @@ use Rattle.world.specs.declared.events.Reply.{Reply}
 use Rattle.world.specs.declared.events.Reply.TheVariants as replies
 use Rattle.world.specs.Past.{Past, flushed, synced, dispatched, commits, replica_committed, out, finished, published, published_gnos}
 use Rattle.world.specs.Legal.{Setup, rows_after, is_commit, read_reply, Allowed, AreAllowed, AreLegal}
-use Rattle.world.specs.Laws.{pairs_after, past_at, TellsPublished, ReadsArePrefixes, ReadsAreGapped, ReadsAreAnswered, ReadsAreSynced, ReadsNeverGoBack, PublishedWithin, NumbersNeverFall, NoneFalls, CommittedAreSynced, EachCommitOnceInOrder, EachCommitOnce, NothingUnsyncedIsAccepted, RefusesOnlyGaps, OperationsLeaveRows}
+use Rattle.world.specs.Laws.{pairs_after, past_at, TellsPublished, ReadsArePrefixes, ReadsAreGapped, ReadsAreAnswered, ReadsAreSynced, ReadsNeverGoBack, PublishedWithin, NumbersNeverFall, NoneFalls}
+use Rattle.world.specs.Laws.{CommittedAreSynced, EachCommitOnceInOrder, EachCommitOnce, NothingUnsyncedIsAccepted, RefusesOnlyGaps, OperationsLeaveRows}
 use Rattle.world.proofs.ReplicaEvents.{ordered_leave_rows}
 use Rattle.world.proofs.LawsReplies.{Says, says}
 use Rattle.world.proofs.LawsSteps.{Follow, Holds, at_first, step, in_order, same, onward, grows}
 use Rattle.world.proofs.LawsCommits.{Committed, committed_first, committed_step, IsRead, is_read}
 
 -- each reply has its event, and is allowed behind the pairs before it
-pub allowed_at : (setup : Setup) (log : List Record) (past : Past) (es : List Event) (rs : List Reply) → AreAllowed setup log past es rs → (place : ℕ) (reply : Reply) → slice_get rs place ≡ Some reply →
+pub allowed_at : (setup : Setup) (log : List Record) (past : Past) (es : List Event) (rs : List Reply) → AreAllowed setup log past es rs → (place : ℕ) (reply : Reply) →
+    slice_get rs place ≡ Some reply →
     (event : Event) × (slice_get es place ≡ Some event) × Allowed setup log (pairs_after past (take place es) (take place rs)) event reply
 allowed_at setup log past [] [] allowed place reply got = absurd (none-some reply got)
 allowed_at setup log past [] (r ∷ rs) allowed place reply got = absurd allowed
@@ -38,7 +41,8 @@ allowed_at setup log past (e ∷ es) (r ∷ rs) allowed zero reply got = (e, ref
 allowed_at setup log past (e ∷ es) (r ∷ rs) allowed (suc place) reply got = allowed_at setup log ((e, r) ∷ past) es rs allowed.1 place reply got
 
 -- each event has its reply
-pub answered_at : (setup : Setup) (log : List Record) (past : Past) (es : List Event) (rs : List Reply) → AreAllowed setup log past es rs → (place : ℕ) (event : Event) → slice_get es place ≡ Some event →
+pub answered_at : (setup : Setup) (log : List Record) (past : Past) (es : List Event) (rs : List Reply) → AreAllowed setup log past es rs → (place : ℕ) (event : Event) →
+    slice_get es place ≡ Some event →
     (reply : Reply) × (slice_get rs place ≡ Some reply) × Allowed setup log (pairs_after past (take place es) (take place rs)) event reply
 answered_at setup log past [] [] allowed place event got = absurd (none-some event got)
 answered_at setup log past [] (r ∷ rs) allowed place event got = absurd allowed
@@ -48,7 +52,8 @@ answered_at setup log past (e ∷ es) (r ∷ rs) allowed (suc place) event got =
 
 -- ---- each moment
 
-holds_from : (setup : Setup) (log : List Record) (past : Past) (es : List Event) (rs : List Reply) → AreAllowed setup log past es rs → Holds log past → (moment : ℕ) → Holds log (pairs_after past (take moment es) (take moment rs))
+holds_from : (setup : Setup) (log : List Record) (past : Past) (es : List Event) (rs : List Reply) → AreAllowed setup log past es rs → Holds log past → (moment : ℕ) →
+    Holds log (pairs_after past (take moment es) (take moment rs))
 holds_from setup log past es rs allowed h zero = h
 holds_from setup log past [] [] allowed h (suc moment) = h
 holds_from setup log past [] (r ∷ rs) allowed h (suc moment) = absurd allowed
@@ -67,7 +72,8 @@ said_at setup log es rs legal place reply got =
     (at.0, at.1, says setup log (past_at es rs place) at.0 reply at.2)
 
 -- and what is committed
-committed_from : (setup : Setup) (log : List Record) (legal : IsLegalLog setup.tables (loaded setup.base) log) (past : Past) (es : List Event) (rs : List Reply) → AreAllowed setup log past es rs → Holds log past → Committed setup log past → (moment : ℕ) →
+committed_from : (setup : Setup) (log : List Record) (legal : IsLegalLog setup.tables (loaded setup.base) log) (past : Past) (es : List Event) (rs : List Reply) → AreAllowed setup log past es rs →
+    Holds log past → Committed setup log past → (moment : ℕ) →
     Committed setup log (pairs_after past (take moment es) (take moment rs))
 committed_from setup log legal past es rs allowed h c zero = c
 committed_from setup log legal past [] [] allowed h c (suc moment) = c
@@ -83,7 +89,8 @@ committed_at setup log es rs legal moment = committed_from setup log legal.legal
 -- ---- reads
 
 -- what a read says
-read_at : (setup : Setup) (log : List Record) (es : List Event) (rs : List Reply) → (legal : AreLegal setup log es rs) → (place upto more : ℕ) (row : Option (List ℤ)) → slice_get rs place ≡ Some (replies.Read upto more row) →
+read_at : (setup : Setup) (log : List Record) (es : List Event) (rs : List Reply) → (legal : AreLegal setup log es rs) → (place upto more : ℕ) (row : Option (List ℤ)) →
+    slice_get rs place ≡ Some (replies.Read upto more row) →
     (id : RowId) × (slice_get es place ≡ Some (events.Read id)) × IsRead setup log legal.legal (past_at es rs place) id upto more row
 read_at setup log es rs legal place upto more row got =
     let at = said_at setup log es rs legal place (replies.Read upto more row) got in
@@ -105,7 +112,8 @@ prefixes setup log es rs legal preserve place id upto more row read answer =
     first.2 ∙ ap (λ n. option_and_then (λ db. get db id) (rows_after setup log n)) (sym first.0)
 
 -- the commits are of records that are dispatched
-committed_within : (setup : Setup) (log : List Record) (es : List Event) (rs : List Reply) → AreLegal setup log es rs → (place gno : ℕ) → has_gno (commits (past_at es rs place)) gno ≡ true → (1 ≤ gno) × (gno ≤ dispatched (past_at es rs place))
+committed_within : (setup : Setup) (log : List Record) (es : List Event) (rs : List Reply) → AreLegal setup log es rs → (place gno : ℕ) → has_gno (commits (past_at es rs place)) gno ≡ true →
+    (1 ≤ gno) × (gno ≤ dispatched (past_at es rs place))
 committed_within setup log es rs legal place gno is =
     let past = past_at es rs place in
     let c = committed_at setup log es rs legal place in
@@ -195,7 +203,8 @@ commits_on past (e ∷ es) [] = prefix_refl (commits past)
 commits_on past (e ∷ es) (r ∷ rs) = prefix_trans (commits past) (commits ((e, r) ∷ past)) (commits (pairs_after ((e, r) ∷ past) es rs)) (commits_grow past e r) (commits_on ((e, r) ∷ past) es rs)
 
 -- those of a moment begin those of a later one
-commits_between : (past : Past) (es : List Event) (rs : List Reply) (before later : ℕ) → before ≤ later → IsPrefix (commits (pairs_after past (take before es) (take before rs))) (commits (pairs_after past (take later es) (take later rs)))
+commits_between : (past : Past) (es : List Event) (rs : List Reply) (before later : ℕ) → before ≤ later →
+    IsPrefix (commits (pairs_after past (take before es) (take before rs))) (commits (pairs_after past (take later es) (take later rs)))
 commits_between past es rs zero later le = commits_on past (take later es) (take later rs)
 commits_between past es rs (suc before) zero le = absurd (omega (arith, le))
 commits_between past [] rs (suc before) (suc later) le = prefix_refl (commits past)
@@ -203,7 +212,8 @@ commits_between past (e ∷ es) [] (suc before) (suc later) le = prefix_refl (co
 commits_between past (e ∷ es) (r ∷ rs) (suc before) (suc later) le = commits_between ((e, r) ∷ past) es rs before later (omega (arith, le))
 
 -- behind a commit it is among them
-commits_then : (past : Past) (es : List Event) (rs : List Reply) (place gno : ℕ) → length rs ≡ length es → slice_get rs place ≡ Some (replies.Commit gno) → has_gno (commits (pairs_after past (take (suc place) es) (take (suc place) rs))) gno ≡ true
+commits_then : (past : Past) (es : List Event) (rs : List Reply) (place gno : ℕ) → length rs ≡ length es → slice_get rs place ≡ Some (replies.Commit gno) →
+    has_gno (commits (pairs_after past (take (suc place) es) (take (suc place) rs))) gno ≡ true
 commits_then past [] [] place gno each got = absurd (none-some _ got)
 commits_then past [] (r ∷ rs) place gno each got = absurd (omega (arith, each))
 commits_then past (e ∷ es) [] place gno each got = absurd (omega (arith, each))
@@ -231,7 +241,8 @@ once setup log es rs legal before later gno lt first second =
 -- ---- what is synced
 
 -- a reply by which this record is one of the synced ones says so
-synced_by : (setup : Setup) (log : List Record) (past : Past) (event : Event) (reply : Reply) (gno : ℕ) → Says setup log past event reply → Holds log past → synced past < gno → gno ≤ synced ((event, reply) ∷ past) →
+synced_by : (setup : Setup) (log : List Record) (past : Past) (event : Event) (reply : Reply) (gno : ℕ) → Says setup log past event reply → Holds log past → synced past < gno →
+    gno ≤ synced ((event, reply) ∷ past) →
     (from to : ℕ) × (reply ≡ replies.Synced from to) × (from ≤ gno) × (gno ≤ to)
 synced_by setup log past event (replies.Synced first last) gno s h behind within =
     let all : Follow (synced past) ((first, last) ∷ s.0) (flushed past) = subst (λ g. Follow (synced past) g (flushed past)) s.1 h.source.follow in
@@ -291,7 +302,8 @@ pub numbers_in_order : PublishedWithin
 numbers_in_order setup log es rs legal moment = in_order log (past_at es rs moment) (holds_at setup log es rs legal moment)
 
 -- from the beginning of these pairs on
-grown_from : (setup : Setup) (log : List Record) (past : Past) (es : List Event) (rs : List Reply) → AreAllowed setup log past es rs → Holds log past → (moment : ℕ) → NoneFalls past (pairs_after past (take moment es) (take moment rs))
+grown_from : (setup : Setup) (log : List Record) (past : Past) (es : List Event) (rs : List Reply) → AreAllowed setup log past es rs → Holds log past → (moment : ℕ) →
+    NoneFalls past (pairs_after past (take moment es) (take moment rs))
 grown_from setup log past es rs allowed h zero = same past
 grown_from setup log past [] [] allowed h (suc moment) = same past
 grown_from setup log past [] (r ∷ rs) allowed h (suc moment) = absurd allowed

@@ -84,7 +84,8 @@ step setup log past event (replies.Synced first last) s h =
 step setup log past event (replies.Committed first last) s h =
     record { source = record { follow = h.source.follow; in_log = h.source.in_log; committed_within = omega (arith, s.1) }; delivered = h.delivered; jobs = h.jobs; shown = h.shown }
 step setup log past event replies.Accepted s h =
-    let jobs : JobsInOrder (accepted past + 1) (dispatched past) (commits past) (out past) (finished past) = record { dispatched_within = omega (arith, h.jobs.dispatched_within); counted = h.jobs.counted } in
+    let jobs : JobsInOrder (accepted past + 1) (dispatched past) (commits past) (out past) (finished past) =
+    record { dispatched_within = omega (arith, h.jobs.dispatched_within); counted = h.jobs.counted } in
     record { source = h.source; delivered = omega (arith, s.2, s.3); jobs = jobs; shown = h.shown }
 step setup log past event (replies.Job gno) s h =
     let jobs : JobsInOrder (accepted past) (dispatched past + 1) (commits past) (out past ++ gno ∷ []) (finished past) =

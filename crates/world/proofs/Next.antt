@@ -1,7 +1,8 @@
 -- The next commit of the replica.
 use base.Growing.{prefix_refl}
 use mathlib.Core.List.{IsPrefix}
-use Rattle.std.proofs.Common.{◌≡◌, ◌∙◌, sym, ap, subst, refl, ℕ, ◌+◌, ◌≤◌, Bool, true, false, if◌then◌else◌, List, [], ◌∷◌, ◌++◌, length, length-append, take, drop, map, Option, Some, None, arith, inr}
+use Rattle.std.proofs.Common.{◌≡◌, ◌∙◌, sym, ap, subst, refl, ℕ, ◌+◌, ◌≤◌, Bool, true, false, if◌then◌else◌, List, [], ◌∷◌, ◌++◌, length, length-append, take, drop, map, Option, Some, None, arith}
+use Rattle.std.proofs.Common.{inr}
 use Rattle.std.specs.Prelude.{slice_get}
 use Rattle.std.specs.Option.{option_map_or, IsSome}
 use Rattle.std.proofs.lemmas.Bool.{false≢true}
@@ -72,7 +73,8 @@ next_at setup log past = by setup.preserve where
   by true = first (has_gno (finished past) k)
   by false = refl
 
-next_as : {D R : Type 0} (contents : R → Database) (setup : Setup) (past : Past) (w : World D R) (log : List Record) (next : Option ℕ) → IsWorld contents w → Stands setup past w → IsPrefix w.source.log log → next_commit w.replica ≡ next →
+next_as : {D R : Type 0} (contents : R → Database) (setup : Setup) (past : Past) (w : World D R) (log : List Record) (next : Option ℕ) → IsWorld contents w → Stands setup past w →
+    IsPrefix w.source.log log → next_commit w.replica ≡ next →
     next_reply setup past ≡ option_map_or replies.Commit next replies.Nothing
 next_as contents setup past w log next h st longer e =
     next_at setup log past ∙ ap (λ (o : Option ℕ). option_map_or replies.Commit o replies.Nothing) (ap next_commit (replica_is contents setup past w log h st longer) ∙ e)
@@ -104,11 +106,13 @@ shown_commits contents w gno h sound =
     }
 
 -- in the order of the log the first records are committed still
-first_commits : (r : Replica) (gno : ℕ) → IsNext r gno → (r.preserve ≡ true → r.commits ≡ first_gnos (length r.commits)) → r.preserve ≡ true → r.commits ++ gno ∷ [] ≡ first_gnos (length (r.commits ++ gno ∷ []))
+first_commits : (r : Replica) (gno : ℕ) → IsNext r gno → (r.preserve ≡ true → r.commits ≡ first_gnos (length r.commits)) → r.preserve ≡ true →
+    r.commits ++ gno ∷ [] ≡ first_gnos (length (r.commits ++ gno ∷ []))
 first_commits r gno next first preserve =
     (λ i. first preserve i ++ next.in_order preserve i ∷ []) ∙ sym (first_gnos-next (length r.commits)) ∙ ap first_gnos (sym (length-append r.commits (gno ∷ [])))
 
-pub next_goes : {D R : Type 0} (contents : R → Database) (w : World D R) (gno : ℕ) (next : Replica) → IsWorld contents w → IsSound w.replica → next_commit w.replica ≡ Some gno → next ≡ with_commit w.replica gno →
+pub next_goes : {D R : Type 0} (contents : R → Database) (w : World D R) (gno : ℕ) (next : Replica) → IsWorld contents w → IsSound w.replica → next_commit w.replica ≡ Some gno →
+    next ≡ with_commit w.replica gno →
     Goes contents w events.Next (replies.Commit gno) (with_replica w next)
 next_goes {R} contents w gno next h sound is leaves =
     let r = w.replica in
@@ -136,7 +140,8 @@ next_goes {R} contents w gno next h sound is leaves =
       allowed = λ setup past log st longer numbered. inr (sym (next_as contents setup past w log (Some gno) h st longer is));
     })
 
-pub next_nothing : {D R : Type 0} (contents : R → Database) (w : World D R) (next : Replica) → IsWorld contents w → next_commit w.replica ≡ None → next ≡ w.replica → Goes contents w events.Next replies.Nothing (with_replica w next)
+pub next_nothing : {D R : Type 0} (contents : R → Database) (w : World D R) (next : Replica) → IsWorld contents w → next_commit w.replica ≡ None → next ≡ w.replica →
+    Goes contents w events.Next replies.Nothing (with_replica w next)
 next_nothing {R} contents w next h is same =
     subst (λ (r : Replica). Goes {R = R} contents w events.Next replies.Nothing (with_replica w r)) (sym same)
     (stays contents w events.Next replies.Nothing h refl (λ setup past st. untold setup past w events.Next replies.Nothing (λ k. refl) st)
@@ -147,8 +152,10 @@ some_is : (o : Option ℕ) → IsSome o → (n : ℕ) × (o ≡ Some n)
 some_is None h = absurd (false≢true h)
 some_is (Some n) h = (n, refl)
 
-pub next_lacks : {D R : Type 0} (contents : R → Database) (w : World D R) (next : Replica) → IsWorld contents w → IsSome (next_commit w.replica) → next ≡ w.replica → Goes contents w events.Next (replies.Replica faults.Memory) (with_replica w next)
+pub next_lacks : {D R : Type 0} (contents : R → Database) (w : World D R) (next : Replica) → IsWorld contents w → IsSome (next_commit w.replica) → next ≡ w.replica →
+    Goes contents w events.Next (replies.Replica faults.Memory) (with_replica w next)
 next_lacks contents w next h due same =
     let one = some_is (next_commit w.replica) due in
     no_memory contents w events.Next next h
-    (λ setup past log st longer. ap is_commit (next_as contents setup past w log (Some one.0) h st longer one.1)) refl (λ setup past st. untold setup past w events.Next (replies.Replica faults.Memory) (λ k. refl) st) same
+    (λ setup past log st longer. ap is_commit (next_as contents setup past w log (Some one.0) h st longer one.1)) refl
+    (λ setup past st. untold setup past w events.Next (replies.Replica faults.Memory) (λ k. refl) st) same

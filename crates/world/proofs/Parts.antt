@@ -31,7 +31,8 @@ source_is setup past w log st longer =
     let same : take (flushed past) log ≡ take (flushed past) w.source.log = take_longer w.source.log log longer (flushed past) (omega (arith, st.source.flushed)) in
     ap (λ (l : List Record). record (source_at setup log past) { log = l }) same ∙ sym st.source.is
 
-pub replica_is : {D R : Type 0} (contents : R → Database) (setup : Setup) (past : Past) (w : World D R) (log : List Record) → IsWorld contents w → Stands setup past w → IsPrefix w.source.log log → replica_at setup log past ≡ w.replica
+pub replica_is : {D R : Type 0} (contents : R → Database) (setup : Setup) (past : Past) (w : World D R) (log : List Record) → IsWorld contents w → Stands setup past w → IsPrefix w.source.log log →
+    replica_at setup log past ≡ w.replica
 replica_is contents setup past w log h st longer =
     let within : accepted past ≤ length w.source.log = omega (arith, st.replica.accepted, h.wire.within, h.source.sound.synced_within) in
     let same : take (accepted past) log ≡ take (accepted past) w.source.log = take_longer w.source.log log longer (accepted past) within in
@@ -48,7 +49,15 @@ unfailed reply log none = record {
 pub stays : {D R : Type 0} (contents : R → Database) (w : World D R) (event : Event) (reply : Reply) → IsWorld contents w → is_failure reply ≡ false →
     ((setup : Setup) (past : Past) → Stands setup past w → Stands setup ((event, reply) ∷ past) w) →
     ((setup : Setup) (past : Past) (log : List Record) → Stands setup past w → IsPrefix w.source.log log → AreNumbered 1 log → Allowed setup log past event reply) → Goes contents w event reply w
-stays contents w event reply h none stands allowed = record { world = h; grows = prefix_refl w.source.log; device = unfailed reply w.wire.log none; still = λ _. refl; stands = stands; allowed = allowed }
+stays contents w event reply h none stands allowed = record {
+  world = h;
+  grows = prefix_refl w.source.log;
+  device = unfailed reply w.wire.log none;
+  still = λ _. refl;
+  stands = stands;
+  allowed =
+      allowed;
+}
 
 -- the pairs say that the source runs where it does, and that it is halted where it is
 pub halted_as : {D R : Type 0} (setup : Setup) (past : Past) (w : World D R) (b : Bool) → Stands setup past w → w.source.halted ≡ b → halted past ≡ b
@@ -59,7 +68,8 @@ pub asks_of : {D R : Type 0} (setup : Setup) (past : Past) (w : World D R) (b : 
 asks_of setup past w b st runs is = and_from _ b (ap not (halted_as setup past w false st runs)) is
 
 -- a call that lacks memory was made of a source that runs
-pub runs_if_lacking : {T : Type 0} (halts : Bool) (later : Option SourceFault) (answer : Result T SourceFault) → (IsSome (cause halts faults.Halted later) → result_err answer ≡ cause halts faults.Halted later) → IsErrOf answer faults.Memory → halts ≡ false
+pub runs_if_lacking : {T : Type 0} (halts : Bool) (later : Option SourceFault) (answer : Result T SourceFault) →
+    (IsSome (cause halts faults.Halted later) → result_err answer ≡ cause halts faults.Halted later) → IsErrOf answer faults.Memory → halts ≡ false
 runs_if_lacking true later answer refused memory = absurd (other (sym (ap result_err memory) ∙ refused refl)) where
   other : Some faults.Memory ≡ Some faults.Halted → ⊥
   other e = cc e
@@ -81,7 +91,8 @@ abbrev pub with_transactions : Setup → List Record → Past → List (Option O
 with_transactions setup log past ts = record (source_at setup log past) { sessions = ts }
 
 -- a pair of which the source has nothing
-pub source_untold : (setup : Setup) (past : Past) (log : List Record) (s : Source) (event : Event) (reply : Reply) → ((k : ℕ) → transaction_after past k event reply (transaction_of past k) ≡ transaction_of past k) →
+pub source_untold : (setup : Setup) (past : Past) (log : List Record) (s : Source) (event : Event) (reply : Reply) →
+    ((k : ℕ) → transaction_after past k event reply (transaction_of past k) ≡ transaction_of past k) →
     SourceIs (source_at setup log past) (flushed past) s → SourceIs (with_transactions setup log past (transactions ((event, reply) ∷ past))) (flushed past) s
 source_untold setup past log s event reply says is = record {
   flushed = is.flushed;
@@ -89,8 +100,10 @@ source_untold setup past log s event reply says is = record {
 }
 
 -- a pair of which no side has anything
-pub untold : {D R : Type 0} (setup : Setup) (past : Past) (w : World D R) (event : Event) (reply : Reply) → ((k : ℕ) → transaction_after past k event reply (transaction_of past k) ≡ transaction_of past k) → Stands setup past w →
-    SidesAre (with_transactions setup w.source.log past (transactions ((event, reply) ∷ past))) (flushed past) setup.identifier (unsynced past) (synced_groups past) (replica_at setup w.source.log past) (accepted past) w.source w.wire w.replica
+pub untold : {D R : Type 0} (setup : Setup) (past : Past) (w : World D R) (event : Event) (reply : Reply) →
+    ((k : ℕ) → transaction_after past k event reply (transaction_of past k) ≡ transaction_of past k) → Stands setup past w →
+    SidesAre (with_transactions setup w.source.log past (transactions ((event, reply) ∷ past))) (flushed past) setup.identifier (unsynced past) (synced_groups past)
+    (replica_at setup w.source.log past) (accepted past) w.source w.wire w.replica
 untold setup past w event reply says st = record {
   source = source_untold setup past w.source.log w.source event reply says st.source;
   wire = st.wire;

@@ -1,7 +1,8 @@
 -- The events of the replica.
 use mathlib.Core.List.{IsPrefix}
 use base.Growing.{prefix_refl}
-use Rattle.std.proofs.Common.{◌≡◌, ◌∙◌, sym, ap, subst, refl, ℕ, zero, suc, ◌+◌, ◌-◌, ◌<◌, ◌≤◌, Bool, true, false, ◌&&◌, ◌||◌, if◌then◌else◌, nat_le, nat_lt, List, [], ◌∷◌, ◌++◌, length, take, drop, Option, Some, None, Result, Ok, Err, arith, inl, inr, ◌⊎◌}
+use Rattle.std.proofs.Common.{◌≡◌, ◌∙◌, sym, ap, subst, refl, ℕ, zero, suc, ◌+◌, ◌-◌, ◌<◌, ◌≤◌, Bool, true, false, ◌&&◌, ◌||◌, if◌then◌else◌, nat_le, nat_lt, List, [], ◌∷◌, ◌++◌, length, take, drop}
+use Rattle.std.proofs.Common.{Option, Some, None, Result, Ok, Err, arith, inl, inr, ◌⊎◌}
 use Rattle.std.specs.Prelude.{ℤ, option_and_then, slice_get}
 use Rattle.std.specs.Option.{option_map_or}
 use Rattle.std.specs.Result.{IsErrOf}
@@ -47,7 +48,8 @@ running_answer : {T : Type 0} (r : Replica) (answer : T) → r.stopped ≡ None 
 running_answer r answer e = ap (λ (o : Option ℕ). option_map_or (λ gno. Err (faults.Stopped gno)) o (Ok answer)) e
 
 -- so what a call answers that does not lack memory is this
-pub answered : {T : Type 0} (r : Replica) (asked given : T) → r.stopped ≡ None → (answer : Result T ReplicaFault) → IsErrOf answer faults.Memory ⊎ (answer ≡ unless_stopped r asked) → answer ≡ Ok given → asked ≡ given
+pub answered : {T : Type 0} (r : Replica) (asked given : T) → r.stopped ≡ None → (answer : Result T ReplicaFault) → IsErrOf answer faults.Memory ⊎ (answer ≡ unless_stopped r asked) →
+    answer ≡ Ok given → asked ≡ given
 answered {T} r asked given going answer (inl memory) is = absurd (other (sym memory ∙ is)) where
   other : ◌≡◌ {A = Result T ReplicaFault} (Err faults.Memory) (Ok given) → ⊥
   other e = cc e
@@ -58,7 +60,8 @@ answered {T} r asked given going answer (inr told) is = same (sym (running_answe
     ok_same k = cc k
 
 -- and what refuses it is want of memory
-pub only_memory : {T : Type 0} (r : Replica) (asked : T) (fault : ReplicaFault) → r.stopped ≡ None → (answer : Result T ReplicaFault) → IsErrOf answer faults.Memory ⊎ (answer ≡ unless_stopped r asked) → answer ≡ Err fault → fault ≡ faults.Memory
+pub only_memory : {T : Type 0} (r : Replica) (asked : T) (fault : ReplicaFault) → r.stopped ≡ None → (answer : Result T ReplicaFault) →
+    IsErrOf answer faults.Memory ⊎ (answer ≡ unless_stopped r asked) → answer ≡ Err fault → fault ≡ faults.Memory
 only_memory {T} r asked fault going answer (inl memory) is = same (sym is ∙ memory) where
   same : ◌≡◌ {A = Result T ReplicaFault} (Err fault) (Err faults.Memory) → fault ≡ faults.Memory
   same e = cc e
@@ -75,8 +78,10 @@ abbrev pub Asks : {D R : Type 0} → World D R → Event → Type 0
 Asks w event = (setup : Setup) (past : Past) (log : List Record) → Stands setup past w → IsPrefix w.source.log log → asks_memory setup log past event ≡ true
 
 -- a call that was refused for want of memory leaves the world as it was
-pub lacks : {D R : Type 0} (contents : R → Database) (w : World D R) (event : Event) (next : Replica) (jobs : List Job) → IsWorld contents w → Asks w event → tells_memory event (replies.Replica faults.Memory) ≡ true →
-    ((setup : Setup) (past : Past) → Stands setup past w → Stands setup ((event, replies.Replica faults.Memory) ∷ past) w) → next ≡ w.replica → jobs ≡ w.jobs → Goes contents w event (replies.Replica faults.Memory) (with_jobs w next jobs)
+pub lacks : {D R : Type 0} (contents : R → Database) (w : World D R) (event : Event) (next : Replica) (jobs : List Job) → IsWorld contents w → Asks w event →
+    tells_memory event (replies.Replica faults.Memory) ≡ true →
+    ((setup : Setup) (past : Past) → Stands setup past w → Stands setup ((event, replies.Replica faults.Memory) ∷ past) w) → next ≡ w.replica → jobs ≡ w.jobs →
+    Goes contents w event (replies.Replica faults.Memory) (with_jobs w next jobs)
 lacks {R} contents w event next jobs h asks tells stands same kept =
     subst (λ (r : Replica). Goes {R = R} contents w event (replies.Replica faults.Memory) (with_jobs w r jobs)) (sym same)
     (subst (λ (l : List Job). Goes {R = R} contents w event (replies.Replica faults.Memory) (with_jobs w w.replica l)) (sym kept)
@@ -98,7 +103,8 @@ front_has (suc a) (suc d) (r ∷ log) test = ap (λ (b : Bool). b && option_map_
   both m n = grind (arith, nat_tests)
 
 -- the replica of the pairs finds the next record eligible where they say that it may be dispatched
-eligible_at : (setup : Setup) (log : List Record) (past : Past) → (setup.preserve ≡ true → low_water past ≡ replica_committed past) → may_dispatch setup log past ≡ is_eligible (replica_at setup log past)
+eligible_at : (setup : Setup) (log : List Record) (past : Past) → (setup.preserve ≡ true → low_water past ≡ replica_committed past) →
+    may_dispatch setup log past ≡ is_eligible (replica_at setup log past)
 eligible_at setup log past low = by setup.preserve refl where
   free : Bool
   free = nat_lt (dispatched past - replica_committed past) setup.workers
@@ -112,19 +118,22 @@ eligible_at setup log past low = by setup.preserve refl where
   due : (mark : ℕ) → is_due setup log past mark ≡ (found mark && free)
   due mark = ap (λ (b : Bool). b && free) (front_has (accepted past) (dispatched past) log (λ (next : Record). nat_le next.parent mark))
 
-  by : (b : Bool) → setup.preserve ≡ b → (if b then is_due setup log past (replica_committed past) else is_due setup log past (low_water past) && near) ≡ (found (low_water past) && free && (b || near))
+  by : (b : Bool) → setup.preserve ≡ b → (if b then is_due setup log past (replica_committed past) else is_due setup log past (low_water past) && near)
+      ≡ (found (low_water past) && free && (b || near))
   by true e = due (replica_committed past) ∙ ap (λ (mark : ℕ). found mark && free) (sym (low e)) ∙ sym (and-true (found (low_water past) && free))
   by false e = ap (λ (b : Bool). b && near) (due (low_water past))
 
 -- in the order of the log the mark is the number of commits
-low_as : {D R : Type 0} (contents : R → Database) (setup : Setup) (past : Past) (w : World D R) → IsWorld contents w → Stands setup past w → setup.preserve ≡ true → low_water past ≡ replica_committed past
+low_as : {D R : Type 0} (contents : R → Database) (setup : Setup) (past : Past) (w : World D R) → IsWorld contents w → Stands setup past w → setup.preserve ≡ true →
+    low_water past ≡ replica_committed past
 low_as contents setup past w h st preserve =
     let same = sym st.replica.is in
     let first = h.replica.in_order (sym (ap (λ (r : Replica). r.preserve) same) ∙ preserve) in
     ap (λ (r : Replica). low_of r.commits) same ∙ ap low_of first ∙ low_of_first (length w.replica.commits) ∙ ap (λ (r : Replica). length r.commits) (sym same)
 
 -- the pairs say that the next record may be dispatched where the replica finds it so
-eligible_as : {D R : Type 0} (contents : R → Database) (setup : Setup) (past : Past) (w : World D R) (log : List Record) → IsWorld contents w → Stands setup past w → IsPrefix w.source.log log → may_dispatch setup log past ≡ is_eligible w.replica
+eligible_as : {D R : Type 0} (contents : R → Database) (setup : Setup) (past : Past) (w : World D R) (log : List Record) → IsWorld contents w → Stands setup past w → IsPrefix w.source.log log →
+    may_dispatch setup log past ≡ is_eligible w.replica
 eligible_as contents setup past w log h st longer =
     eligible_at setup log past (low_as contents setup past w h st) ∙ ap is_eligible (replica_is contents setup past w log h st longer)
 
@@ -132,7 +141,8 @@ eligible_as contents setup past w log h st longer =
 dispatched_as : {D R : Type 0} (setup : Setup) (past : Past) (w : World D R) → Stands setup past w → dispatched past ≡ w.replica.dispatched
 dispatched_as setup past w st = ap (λ (r : Replica). r.dispatched) (sym st.replica.is)
 
-reply_as : {D R : Type 0} (contents : R → Database) (setup : Setup) (past : Past) (w : World D R) (log : List Record) (b : Bool) → IsWorld contents w → Stands setup past w → IsPrefix w.source.log log → is_eligible w.replica ≡ b →
+reply_as : {D R : Type 0} (contents : R → Database) (setup : Setup) (past : Past) (w : World D R) (log : List Record) (b : Bool) → IsWorld contents w → Stands setup past w →
+    IsPrefix w.source.log log → is_eligible w.replica ≡ b →
     dispatch_reply setup log past ≡ (if b then replies.Job (w.replica.dispatched + 1) else replies.Nothing)
 reply_as contents setup past w log b h st longer e =
     (λ i. if (eligible_as contents setup past w log h st longer ∙ e) i then replies.Job (dispatched_as setup past w st i + 1) else replies.Nothing)
@@ -144,7 +154,8 @@ handed_out r job is = by (is_eligible r) refl is where
   by true e k = (e, k)
   by false e k = absurd (none-some job k)
 
-pub dispatch_goes : {D R : Type 0} (contents : R → Database) (w : World D R) (job : Job) (next : Replica) (jobs : List Job) → IsWorld contents w → next_job w.replica ≡ Some job → next ≡ dispatched_next w.replica → jobs ≡ w.jobs ++ job ∷ [] →
+pub dispatch_goes : {D R : Type 0} (contents : R → Database) (w : World D R) (job : Job) (next : Replica) (jobs : List Job) → IsWorld contents w → next_job w.replica ≡ Some job →
+    next ≡ dispatched_next w.replica → jobs ≡ w.jobs ++ job ∷ [] →
     Goes contents w events.Dispatch (replies.Job job.gno) (with_jobs w next jobs)
 dispatch_goes {R} contents w job next jobs h is leaves kept =
     let out = handed_out w.replica job is in
@@ -163,14 +174,17 @@ dispatch_goes {R} contents w job next jobs h is leaves kept =
             wire = st.wire;
             replica = record {
               accepted = st.replica.accepted;
-              is = ap dispatched_next st.replica.is ∙ ap (λ (n : ℕ). record (replica_at setup w.source.log past) { dispatched = dispatched past + 1; out = (replica_at setup w.source.log past).out ++ n ∷ [] }) number;
+              is = ap dispatched_next st.replica.is ∙ ap (λ (n : ℕ). record (replica_at setup w.source.log past)
+                  { dispatched = dispatched past + 1; out = (replica_at setup w.source.log past).out ++ n ∷ [] }) number;
             };
           };
       allowed = λ setup past log st longer numbered. inr (ap replies.Job its ∙ sym (reply_as contents setup past w log true h st longer out.0));
     }))
 
-pub dispatch_lacks : {D R : Type 0} (contents : R → Database) (w : World D R) (next : Replica) (jobs : List Job) → IsWorld contents w → is_eligible w.replica ≡ true → next ≡ w.replica → jobs ≡ w.jobs → Goes contents w events.Dispatch (replies.Replica faults.Memory) (with_jobs w next jobs)
-dispatch_lacks contents w next jobs h eligible same kept = lacks contents w events.Dispatch next jobs h (λ setup past log st longer. eligible_as contents setup past w log h st longer ∙ eligible) refl (λ setup past st. untold setup past w events.Dispatch (replies.Replica faults.Memory) (λ k. refl) st) same kept
+pub dispatch_lacks : {D R : Type 0} (contents : R → Database) (w : World D R) (next : Replica) (jobs : List Job) → IsWorld contents w → is_eligible w.replica ≡ true → next ≡ w.replica →
+    jobs ≡ w.jobs → Goes contents w events.Dispatch (replies.Replica faults.Memory) (with_jobs w next jobs)
+dispatch_lacks contents w next jobs h eligible same kept = lacks contents w events.Dispatch next jobs h (λ setup past log st longer. eligible_as contents setup past w log h st longer ∙ eligible) refl
+    (λ setup past st. untold setup past w events.Dispatch (replies.Replica faults.Memory) (λ k. refl) st) same kept
 
 pub dispatch_idle : {D R : Type 0} (contents : R → Database) (w : World D R) → IsWorld contents w → is_eligible w.replica ≡ false → Goes contents w events.Dispatch replies.Nothing w
 dispatch_idle contents w h idle =
@@ -183,11 +197,14 @@ dispatch_idle contents w h idle =
 pub accepted_front : {D R : Type 0} (contents : R → Database) (w : World D R) (n : ℕ) → IsWorld contents w → n ≤ length w.replica.accepted → take n w.replica.accepted ≡ take n w.source.log
 accepted_front contents w n h within = ap (take n) h.wire.front ∙ take-take n (length w.replica.accepted) w.source.log within
 
-pub read_goes : {D R : Type 0} (contents : R → Database) (w : World D R) (id : RowId) (row : Option (List ℤ)) (upto more : ℕ) → IsWorld contents w → IsSound w.replica → row ≡ get (contents w.shown.store) id → upto ≡ w.shown.upto → more ≡ w.shown.more →
+pub read_goes : {D R : Type 0} (contents : R → Database) (w : World D R) (id : RowId) (row : Option (List ℤ)) (upto more : ℕ) → IsWorld contents w → IsSound w.replica →
+    row ≡ get (contents w.shown.store) id → upto ≡ w.shown.upto → more ≡ w.shown.more →
     Goes contents w (events.Read id) (replies.Read upto more row) w
-read_goes {R} contents w id row upto more h sound row_is upto_is more_is = stays contents w _ _ h refl (λ setup past st. untold setup past w (events.Read id) (replies.Read upto more row) (λ k. refl) st) (λ setup past log st longer numbered.
+read_goes {R} contents w id row upto more h sound row_is upto_is more_is = stays contents w _ _ h refl
+    (λ setup past st. untold setup past w (events.Read id) (replies.Read upto more row) (λ k. refl) st) (λ setup past log st longer numbered.
     inr ((λ i. replies.Read (upto_is i) (more_is i) (row_is i)) ∙ read_as setup past log (shows_state contents setup past w log h sound st longer numbered))) where
-      read_as : (setup : Setup) (past : Past) (log : List Record) → ShowsState contents setup past log w.shown → replies.Read w.shown.upto w.shown.more (get (contents w.shown.store) id) ≡ read_reply setup log past id
+      read_as : (setup : Setup) (past : Past) (log : List Record) → ShowsState contents setup past log w.shown →
+          replies.Read w.shown.upto w.shown.more (get (contents w.shown.store) id) ≡ read_reply setup log past id
       read_as setup past log s = by setup.preserve refl where
         gnos : List ℕ
         gnos = published_gnos past
@@ -201,7 +218,8 @@ read_goes {R} contents w id row upto more h sound row_is upto_is more_is = stays
             (λ i. replies.Read (s.mark i) (rest i) (option_and_then (λ db. get db id) (sym s.rows i)))
 
 -- in the order of a legal log the operations leave what its records do
-pub ordered_leave_rows : (ts : List Table) (base : List Entry) (log : List Record) (n : ℕ) (left : Database) → IsLegalLog ts (loaded base) log → after ts (loaded base) (take n log) ≡ Some left → left_by (operations_in_order ts base log n) ≡ left
+pub ordered_leave_rows : (ts : List Table) (base : List Entry) (log : List Record) (n : ℕ) (left : Database) → IsLegalLog ts (loaded base) log → after ts (loaded base) (take n log) ≡ Some left →
+    left_by (operations_in_order ts base log n) ≡ left
 ordered_leave_rows ts base log n left legal is =
     ap left_by (sym (ops_in_order ts base log n n (part_is_numbered ts (loaded base) [] log legal) (omega arith)))
     ∙ operations_leave_rows ts base (take n log) n left (ap (after ts (loaded base)) (take-take n n log (omega arith)) ∙ is)
@@ -221,8 +239,10 @@ shows_operations contents w h = record {
 -- ---- the ids that are executed
 
 -- in the order of the log, and in any
-pub executed_goes : {D R : Type 0} (contents : R → Database) (w : World D R) (ids : Ids) → IsWorld contents w → AreExecuted w.replica ids → (w.replica.preserve ≡ true → executed_ids w.replica ≡ ids) → Goes contents w events.Executed (replies.Executed ids) w
-executed_goes contents w ids h are in_order = stays contents w _ _ h refl (λ setup past st. untold setup past w events.Executed (replies.Executed ids) (λ k. refl) st) (λ setup past log st longer numbered.
+pub executed_goes : {D R : Type 0} (contents : R → Database) (w : World D R) (ids : Ids) → IsWorld contents w → AreExecuted w.replica ids →
+    (w.replica.preserve ≡ true → executed_ids w.replica ≡ ids) → Goes contents w events.Executed (replies.Executed ids) w
+executed_goes contents w ids h are in_order = stays contents w _ _ h refl (λ setup past st. untold setup past w events.Executed (replies.Executed ids) (λ k. refl) st)
+    (λ setup past log st longer numbered.
     inr (told setup past log (replica_is contents setup past w log h st longer) setup.preserve refl)) where
       told : (setup : Setup) (past : Past) (log : List Record) → replica_at setup log past ≡ w.replica → (b : Bool) → setup.preserve ≡ b → ExecutedAnswers b setup past (replies.Executed ids)
       told setup past log same true e = ap replies.Executed (sym (in_order (sym (ap (λ (r : Replica). r.preserve) same) ∙ e)) ∙ ap executed_ids (sym same))
@@ -232,7 +252,8 @@ executed_goes contents w ids h are in_order = stays contents w _ _ h refl (λ se
 
 -- memory lacks only where there are some
 pub executed_lacks : {D R : Type 0} (contents : R → Database) (w : World D R) → IsWorld contents w → 0 < length w.replica.commits → Goes contents w events.Executed (replies.Replica faults.Memory) w
-executed_lacks contents w h some = stays contents w _ _ h refl (λ setup past st. untold setup past w events.Executed (replies.Replica faults.Memory) (λ k. refl) st) (λ setup past log st longer numbered.
+executed_lacks contents w h some = stays contents w _ _ h refl (λ setup past st. untold setup past w events.Executed (replies.Replica faults.Memory) (λ k. refl) st)
+    (λ setup past log st longer numbered.
     let said : replica_committed past ≡ length w.replica.commits = ap (λ (r : Replica). length r.commits) (sym st.replica.is) in
     inl (and_from _ true (lt-ltb 0 (replica_committed past) (omega (arith, said, some))) refl))
 
@@ -242,8 +263,10 @@ lacks_only r fault going (inl memory) = memory
 lacks_only r fault going (inr stop) = absurd (none-some fault (sym (stop ∙ ap (λ (o : Option ℕ). option_map_or (λ gno. Some (faults.Stopped gno)) o None) going)))
 
 -- want of memory leaves the replica as it was
-pub no_memory : {D R : Type 0} (contents : R → Database) (w : World D R) (event : Event) (next : Replica) → IsWorld contents w → Asks w event → tells_memory event (replies.Replica faults.Memory) ≡ true →
-    ((setup : Setup) (past : Past) → Stands setup past w → Stands setup ((event, replies.Replica faults.Memory) ∷ past) w) → next ≡ w.replica → Goes contents w event (replies.Replica faults.Memory) (with_replica w next)
+pub no_memory : {D R : Type 0} (contents : R → Database) (w : World D R) (event : Event) (next : Replica) → IsWorld contents w → Asks w event →
+    tells_memory event (replies.Replica faults.Memory) ≡ true →
+    ((setup : Setup) (past : Past) → Stands setup past w → Stands setup ((event, replies.Replica faults.Memory) ∷ past) w) → next ≡ w.replica →
+    Goes contents w event (replies.Replica faults.Memory) (with_replica w next)
 no_memory contents w event next h asks tells stands same = lacks contents w event next w.jobs h asks tells stands same refl
 
 -- what was accepted is a legal log over the replica's own tables and base

@@ -70,7 +70,8 @@ none_told past event reply says =
     counted.2 ((event, reply) ∷ past) ∙ same_each (transaction_of ((event, reply) ∷ past)) (transaction_of past) 1 counted.0 (λ k le. says k) ∙ sym (counted.2 past)
 
 -- a pair that says this of one
-pub one_told : (past : Past) (event : Event) (reply : Reply) (session : ℕ) (h : Option Open → Option Open) → ((k : ℕ) → transaction_after past k event reply (transaction_of past k) ≡ (if session == k then h (transaction_of past k) else transaction_of past k)) →
+pub one_told : (past : Past) (event : Event) (reply : Reply) (session : ℕ) (h : Option Open → Option Open) →
+    ((k : ℕ) → transaction_after past k event reply (transaction_of past k) ≡ (if session == k then h (transaction_of past k) else transaction_of past k)) →
     1 ≤ session → session ≤ 256 → transactions ((event, reply) ∷ past) ≡ set (transactions past) (session - 1) (h (get_or (transactions past) (session - 1) None))
 one_told past event reply session h says least greatest =
     counted.2 ((event, reply) ∷ past)
@@ -86,7 +87,8 @@ all_told past event reply h says =
     ∙ sym (map_each (transaction_of past) h 1 counted.0) ∙ ap (map h) (sym (counted.2 past))
 
 -- a pair that says of each what its number tells
-pub each_told : (past : Past) (event : Event) (reply : Reply) (h : ℕ → Option Open → Option Open) → ((k : ℕ) → transaction_after past k event reply (transaction_of past k) ≡ h k (transaction_of past k)) →
+pub each_told : (past : Past) (event : Event) (reply : Reply) (h : ℕ → Option Open → Option Open) →
+    ((k : ℕ) → transaction_after past k event reply (transaction_of past k) ≡ h k (transaction_of past k)) →
     transactions ((event, reply) ∷ past) ≡ each_session h 1 (transactions past)
 each_told past event reply h says =
     counted.2 ((event, reply) ∷ past) ∙ same_each (transaction_of ((event, reply) ∷ past)) (λ k. h k (transaction_of past k)) 1 counted.0 (λ k le. says k)

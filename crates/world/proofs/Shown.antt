@@ -96,7 +96,8 @@ accepted_begins contents w log h longer =
     take_longer w.source.log log longer n (omega (arith, h.wire.within, h.source.sound.synced_within)) ∙ sym h.wire.front in
     (drop n log, ap (λ (l : List Record). l ++ drop n log) (sym front) ∙ take-append-drop n log)
 
-pub shows_state : {D R : Type 0} (contents : R → Database) (setup : Setup) (past : Past) (w : World D R) (log : List Record) → IsWorld contents w → IsSound w.replica → Stands setup past w → IsPrefix w.source.log log → AreNumbered 1 log →
+pub shows_state : {D R : Type 0} (contents : R → Database) (setup : Setup) (past : Past) (w : World D R) (log : List Record) → IsWorld contents w → IsSound w.replica → Stands setup past w →
+    IsPrefix w.source.log log → AreNumbered 1 log →
     ShowsState contents setup past log w.shown
 shows_state contents setup past w log h sound st longer numbered =
     let same : replica_at setup w.source.log past ≡ w.replica = sym st.replica.is in

@@ -46,7 +46,8 @@ found_behind gno j jobs from place t behind =
 first_from : (gno : ℕ) (jobs : List Job) (from place : ℕ) → position_from (has_number gno) from jobs ≡ Some place → Found gno jobs from place
 first_from gno [] from place e = absurd (none-some place e)
 first_from gno (j ∷ jobs) from place e = by (j.gno == gno) refl e (first_from gno jobs (from + 1) place) where
-  by : (b : Bool) → (j.gno == gno) ≡ b → cond b (Some from) (position_from (has_number gno) (from + 1) jobs) ≡ Some place → (position_from (has_number gno) (from + 1) jobs ≡ Some place → Found gno jobs (from + 1) place) →
+  by : (b : Bool) → (j.gno == gno) ≡ b → cond b (Some from) (position_from (has_number gno) (from + 1) jobs) ≡ Some place →
+      (position_from (has_number gno) (from + 1) jobs ≡ Some place → Found gno jobs (from + 1) place) →
       Found gno (j ∷ jobs) from place
   by true t k behind =
       let same : from ≡ place = same_Some from place k in
@@ -56,7 +57,8 @@ first_from gno (j ∷ jobs) from place e = by (j.gno == gno) refl e (first_from 
 none_from : (gno : ℕ) (jobs : List Job) (from : ℕ) → position_from (has_number gno) from jobs ≡ None → has_gno (numbers_of jobs) gno ≡ false
 none_from gno [] from e = refl
 none_from gno (j ∷ jobs) from e = by (j.gno == gno) refl e (none_from gno jobs (from + 1)) where
-  by : (b : Bool) → (j.gno == gno) ≡ b → cond b (Some from) (position_from (has_number gno) (from + 1) jobs) ≡ None → (position_from (has_number gno) (from + 1) jobs ≡ None → has_gno (numbers_of jobs) gno ≡ false) →
+  by : (b : Bool) → (j.gno == gno) ≡ b → cond b (Some from) (position_from (has_number gno) (from + 1) jobs) ≡ None →
+      (position_from (has_number gno) (from + 1) jobs ≡ None → has_gno (numbers_of jobs) gno ≡ false) →
       ((j.gno == gno) || has_gno (numbers_of jobs) gno) ≡ false
   by true t k behind = absurd (none-some from (sym k))
   by false t k behind = (λ i. t i || behind k i)
@@ -66,7 +68,8 @@ remove_between [] rest job = refl
 remove_between (j ∷ front) rest job = ap (λ (l : List Job). j ∷ l) (remove_between front rest job)
 
 -- what is removed at the place of the first is taken out
-pub takes_out : (gno : ℕ) (old : List Job) (place : ℕ) (job : Job) (new : List Job) → Some place ≡ position (has_number gno) old → job ≡ get_or old place job → new ≡ remove old place → TakesOut gno old place job new
+pub takes_out : (gno : ℕ) (old : List Job) (place : ℕ) (job : Job) (new : List Job) → Some place ≡ position (has_number gno) old → job ≡ get_or old place job → new ≡ remove old place →
+    TakesOut gno old place job new
 takes_out gno old place job new found got left =
     let it = first_from gno old 0 place (sym (position_from-zero (has_number gno) old) ∙ sym found) in
     let f = it.2 in

@@ -31,7 +31,8 @@ pub under_there : (r : Replica) (gno : ℕ) → IsSound r → IsUnderWay r gno �
 under_there r gno sound under = get_within r.accepted (gno - 1) (omega (arith, under.0, under.1, sound.dispatched))
 
 -- So the result of its job is an output, unless memory lacked.
-pub gives_output : {D R : Type 0} (contents : R → Database) (w : World D R) (gno : ℕ) (result : Finished) → IsWorld contents w → IsSound w.replica → IsUnderWay w.replica gno → job_of w.replica gno ≡ Some result.job → IsResult result →
+pub gives_output : {D R : Type 0} (contents : R → Database) (w : World D R) (gno : ℕ) (result : Finished) → IsWorld contents w → IsSound w.replica → IsUnderWay w.replica gno →
+    job_of w.replica gno ≡ Some result.job → IsResult result →
     (result.outcome ≡ outcomes.Memory) ⊎ ((rows : List Entry) × (result.outcome ≡ outcomes.Output rows))
 gives_output contents w gno result h sound under is came =
     let r = w.replica in

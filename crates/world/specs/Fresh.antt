@@ -10,7 +10,16 @@ use Rattle.store_trait.specs.Operation.{loaded}
 
 -- what the world began with
 abbrev pub setup_of : {D R : Type 0} → World D R → Setup
-setup_of w = record { identifier = w.wire.log.head.source; tables = w.source.tables; base = w.source.base; limit = w.source.limit; kind = w.source.kind; workers = w.replica.workers; preserve = w.replica.preserve }
+setup_of w = record {
+  identifier = w.wire.log.head.source;
+  tables = w.source.tables;
+  base = w.source.base;
+  limit = w.source.limit;
+  kind = w.source.kind;
+  workers = w.replica.workers;
+  preserve =
+      w.replica.preserve;
+}
 
 -- a new log file, and a new source and a new replica over one schema and equal rows, which readers see
 pub record IsFresh {D R : Type 0} (contents : R → Database) (w : World D R) : Type 0 where

@@ -1,5 +1,6 @@
 -- Legal replies: each reply is the one that the pairs before it and one legal log allow.
-use Rattle.std.specs.Prelude.{◌≡◌, ℕ, ◌+◌, ◌-◌, Bool, true, false, not, ◌&&◌, ◌||◌, ◌==◌, nat_le, nat_lt, if◌then◌else◌, List, [], ◌∷◌, length, map, take, drop, slice_get, Option, Some, None, Ok, option_and_then, ◌⊎◌}
+use Rattle.std.specs.Prelude.{◌≡◌, ℕ, ◌+◌, ◌-◌, Bool, true, false, not, ◌&&◌, ◌||◌, ◌==◌, nat_le, nat_lt, if◌then◌else◌, List, [], ◌∷◌, length, map, take, drop, slice_get, Option, Some, None, Ok}
+use Rattle.std.specs.Prelude.{option_and_then, ◌⊎◌}
 use Rattle.std.specs.List.{flat_map, AllByRecursion}
 use Rattle.std.specs.Option.{option_map_or, is_none}
 use Rattle.std.specs.FinMap.{get}
@@ -32,7 +33,8 @@ use Rattle.world.specs.declared.events.Event.TheVariants as events
 use Rattle.world.specs.declared.events.Reply.{Reply}
 use Rattle.world.specs.declared.events.Reply.TheVariants as replies
 use Rattle.world.specs.Replies.{prepared_reply}
-use Rattle.world.specs.Past.{Past, flushed, unsynced, synced_groups, synced, halted, source_committed, queue, owners, transactions, accepted, dispatched, commits, replica_committed, low_water, out, finished, published, published_gnos}
+use Rattle.world.specs.Past.{Past, flushed, unsynced, synced_groups, synced, halted, source_committed, queue, owners, transactions, accepted, dispatched, commits, replica_committed, low_water, out}
+use Rattle.world.specs.Past.{finished, published, published_gnos}
 use Rattle.store_trait.specs.Operation.{loaded}
 
 -- what a run begins with: the source's identifier, the schema, the rows that both sides hold, the greatest number of

@@ -1,23 +1,18 @@
 -- What each answer of the two sides is replied.
-use Rattle.std.specs.Prelude.{ℕ, ℤ, List, [], ◌∷◌, Option, Result, Ok, Err}
+use Rattle.std.specs.Prelude.{ℕ, ℤ, List, Option, Some, None, Result, Ok, Err}
 use Rattle.source_core.specs.declared.fault.SourceFault.{SourceFault}
 use Rattle.source_core.specs.declared.transaction.Prepared.{Prepared as Answer}
 use Rattle.source_core.specs.declared.transaction.Prepared.TheVariants as answers
-use Rattle.source_core.specs.declared.transaction.Receipt.{Receipt}
 use Rattle.relay.specs.declared.Received.{Received}
 use Rattle.relay.specs.declared.Received.TheVariants.{Accepted, Skipped}
 use Rattle.relay.specs.declared.ReplicaFault.{ReplicaFault}
 use Rattle.world.specs.declared.events.Reply.{Reply}
 use Rattle.world.specs.declared.events.Reply.TheVariants as replies
 
-abbrev pub last_gno : Receipt → List Receipt → ℕ
-last_gno first [] = first.gno
-last_gno first (next ∷ rest) = last_gno next rest
-
--- what a commit with these receipts is replied
-abbrev pub receipts_reply : List Receipt → Reply
-receipts_reply [] = replies.Nothing
-receipts_reply (first ∷ rest) = replies.Committed first.gno (last_gno first rest)
+-- what a commit of the records from the first to the last of these numbers is replied
+abbrev pub ends_reply : Option (ℕ × ℕ) → Reply
+ends_reply None = replies.Nothing
+ends_reply (Some (first, last)) = replies.Committed first last
 
 -- what a record that was received is replied
 abbrev pub received_reply : Result Received ReplicaFault → Reply

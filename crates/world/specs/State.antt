@@ -53,19 +53,21 @@ pub record IsSource (s : Source) : Type 0 where
 
 -- The wire of a source with this log, of which so many records are synced: the log file and the groups that are not synced are what was
 -- flushed of it, and the log file's groups hold the synced records, in the form that sources write. The source is halted where the log file failed; where it did not,
--- no group is in it that waits for its sync. What came over the wire is a beginning of the synced log.
+-- no group is in it that waits for its sync. The log file is not finished. What came over the wire is a beginning of the synced log.
 pub record IsWire (log : List Record) (synced_ : ℕ) (sizes_ : List ℕ) (halted_ : Bool) (accepted_ : List Record) (file : Log) (unsynced_ : List GroupValue) : Type 0 where
   pub flushed : IsFlushedOf log synced_ sizes_ (kept_of file) unsynced_
   pub on_log : Hold file.groups (take synced_ log)
   pub versions : AllByRecursion (λ g. g.version ≡ current) file.groups
   pub failed : file.failed ≡ halted_
   pub ready : file.failed ≡ false → file.waiting ≡ None
+  pub goes : file.finished ≡ false
   pub front : accepted_ ≡ take (length accepted_) log
   pub within : length accepted_ ≤ synced_
 
 -- The replica is over the source's schema and base, takes the records of the log's source, and did not stop. In the order of the log it
 -- has committed the first records.
-pub record IsReplica (ts : List Table) (start : List Entry) (identifier_ : List ℕ) (its_tables : List Table) (its_base : List Entry) (its_source : List ℕ) (stopped_ : Option ℕ) (preserve_ : Bool) (commits_ : List ℕ) : Type 0 where
+pub record IsReplica (ts : List Table) (start : List Entry) (identifier_ : List ℕ) (its_tables : List Table) (its_base : List Entry) (its_source : List ℕ) (stopped_ : Option ℕ) (preserve_ : Bool)
+    (commits_ : List ℕ) : Type 0 where
   pub tables : its_tables ≡ ts
   pub base : its_base ≡ start
   pub source : its_source ≡ identifier_
@@ -79,7 +81,8 @@ pub record HasJobs (r : Replica) (jobs : List Job) : Type 0 where
 
 -- Readers see what the replica's published commits left, one after another, and are told up to which record all are among them, and how
 -- many others are. Of the commits behind these, all up to some committed one were appended to those rows.
-pub record IsShown {R : Type 0} (contents : R → Database) (ts : List Table) (base : List Entry) (accepted_ : List Record) (preserve_ : Bool) (commits_ : List ℕ) (published_ : ℕ) (shown : Shown R) : Type 0 where
+pub record IsShown {R : Type 0} (contents : R → Database) (ts : List Table) (base : List Entry) (accepted_ : List Record) (preserve_ : Bool) (commits_ : List ℕ) (published_ : ℕ)
+    (shown : Shown R) : Type 0 where
   pub order : shown.preserve ≡ preserve_
   pub mark : shown.upto ≡ low_of (take published_ commits_)
   pub counted : shown.upto + shown.more ≡ published_
@@ -116,7 +119,8 @@ pub record ReplicaIs (said : Replica) (accepted_ : ℕ) (r : Replica) : Type 0 w
   pub is : r ≡ said
 
 -- Each side is as it is said to be. What readers see follows from the replica's side.
-pub record SidesAre {D : Type 0} (source_ : Source) (flushed_ : ℕ) (identifier_ : List ℕ) (unsynced_ synced_ : List (ℕ × ℕ)) (replica_ : Replica) (accepted_ : ℕ) (s : Source) (wire_ : Wire D) (r : Replica) : Type 0 where
+pub record SidesAre {D : Type 0} (source_ : Source) (flushed_ : ℕ) (identifier_ : List ℕ) (unsynced_ synced_ : List (ℕ × ℕ)) (replica_ : Replica) (accepted_ : ℕ) (s : Source) (wire_ : Wire D)
+    (r : Replica) : Type 0 where
   pub source : SourceIs source_ flushed_ s
   pub wire : WireIs identifier_ unsynced_ synced_ wire_
   pub replica : ReplicaIs replica_ accepted_ r

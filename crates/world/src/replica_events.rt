@@ -1,6 +1,7 @@
 //! What the events of the replica need: the jobs that wait, and the operations that are appended.
 
-ghost use Rattle.std.specs.Prelude.{◌≡◌, ◌≤◌, ◌<◌, ◌==◌, false, [], ◌∷◌, ◌++◌, length, drop, vec_len, vec_capacity, IsOk, OnOk, IfSome, IfNone};
+ghost use Rattle.std.specs.Prelude.{◌≡◌, ◌≤◌, ◌<◌, ◌==◌, false, [], ◌∷◌, ◌++◌, length, drop, vec_len, vec_capacity, IsOk, OnOk, IfSome};
+ghost use Rattle.std.specs.Prelude.{IfNone};
 ghost use Rattle.std.specs.List.{position, insert};
 ghost use Rattle.executor.specs.declared.Job.{Job as AJob};
 ghost use Rattle.scheduler.specs.Gnos.{has_gno};

@@ -3,12 +3,12 @@
 ghost use Rattle.std.specs.Prelude.{◌≡◌};
 ghost use Rattle.std.specs.Result.{result_err};
 ghost use Rattle.world.specs.Legal.{refused_or};
-ghost use Rattle.world.specs.Replies.{receipts_reply, received_reply, seen_reply, prepared_reply};
+ghost use Rattle.world.specs.Replies.{ends_reply, received_reply, seen_reply, prepared_reply};
 
 use crate::events::Reply;
 use relay::{Received, ReplicaFault};
 use rows::Row;
-use source_core::{Prepared, Receipt, SourceFault};
+use source_core::{Prepared, SourceFault};
 
 /// What a call that answers nothing is replied.
 pub(crate) fn done(answer: Result<(), SourceFault>) -> Reply
@@ -41,20 +41,13 @@ pub(crate) fn prepared(answer: Result<Prepared, SourceFault>) -> Reply
     }
 }
 
-/// What a commit with these receipts is replied.
-pub(crate) fn committed(receipts: &[Receipt]) -> Reply
-    ensures { result ≡ receipts_reply receipts.now }
+/// What a commit of the records from the first to the last of these numbers is replied.
+pub(crate) fn committed(ends: Option<(u64, u64)>) -> Reply
+    ensures { result ≡ ends_reply ends }
 {
-    match receipts {
-        [] => Reply::Nothing,
-        [only] => Reply::Committed {
-            first: only.gno,
-            last: only.gno,
-        },
-        [first, .., last] => Reply::Committed {
-            first: first.gno,
-            last: last.gno,
-        },
+    match ends {
+        Some((first, last)) => Reply::Committed { first, last },
+        None => Reply::Nothing,
     }
 }
 

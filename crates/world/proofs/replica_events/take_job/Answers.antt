@@ -8,4 +8,5 @@ returns-in_err-place-clause-none c =
 
 pub returns-clause-some : goal.returns-clause-some
 returns-clause-some c =
-    takes_out c.args.gno c.args.jobs.now.items c.in_ok-place.place c.remove.result c.remove.new.self.items (rw c.deref.ensures.value at (sym c.in_ok-place.was ∙ c.place_of.ensures)) c.remove.ensures.value c.remove.ensures.items
+    takes_out c.args.gno c.args.jobs.now.items c.in_ok-place.place c.remove.result c.remove.new.self.items
+    (rw c.deref.ensures.value at (sym c.in_ok-place.was ∙ c.place_of.ensures)) c.remove.ensures.value c.remove.ensures.items
