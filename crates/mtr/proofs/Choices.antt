@@ -43,7 +43,11 @@ three_there P a b c choices are there = go choices.now are
         let last : third.now ≡ c = cc in
         let Q : Text → Type 0 = λ t. P (record { ref_ptr = choices.ref_ptr; now = record { ref_ptr = first.ref_ptr; now = t } ∷ second ∷ third ∷ [] }) in
         let R : Text → Type 0 = λ t. P (record { ref_ptr = choices.ref_ptr; now = record { ref_ptr = first.ref_ptr; now = a } ∷ record { ref_ptr = second.ref_ptr; now = t } ∷ third ∷ [] }) in
-        let S : Text → Type 0 = λ t. P (record { ref_ptr = choices.ref_ptr; now = record { ref_ptr = first.ref_ptr; now = a } ∷ record { ref_ptr = second.ref_ptr; now = b } ∷ record { ref_ptr = third.ref_ptr; now = t } ∷ [] }) in
+        let S : Text → Type 0 = λ t. P (record {
+          ref_ptr = choices.ref_ptr;
+          now =
+              record { ref_ptr = first.ref_ptr; now = a } ∷ record { ref_ptr = second.ref_ptr; now = b } ∷ record { ref_ptr = third.ref_ptr; now = t } ∷ [];
+        }) in
         subst Q (sym one) (subst R (sym two) (subst S (sym last) (there choices.ref_ptr first.ref_ptr second.ref_ptr third.ref_ptr)))
     go [] e = absurd (cc)
     go (first ∷ []) e = absurd (cc)
@@ -69,13 +73,16 @@ lies_there P names are there =
 
 -- ---- what is named by the word that was found
 
-found_is : {A : Type 0} (read : Text → Option A) (found : Found) (name : Text) (text : Option (Bor Text)) → option_map (λ w. w.now) text ≡ first_value found name → option_and_then read (option_map (λ w. w.now) text) ≡ option_and_then read (first_of name (rows_of found))
+found_is : {A : Type 0} (read : Text → Option A) (found : Found) (name : Text) (text : Option (Bor Text)) → option_map (λ w. w.now) text ≡ first_value found name →
+    option_and_then read (option_map (λ w. w.now) text) ≡ option_and_then read (first_of name (rows_of found))
 found_is read found name text is = ap (option_and_then read) (is ∙ first_value-rows found name)
 
 -- none, where the option has no text
-pub none_found : {A : Type 0} (read : Text → Option A) (found : Found) (name : Text) (text : Option (Bor Text)) (given : Option A) → option_map (λ w. w.now) text ≡ first_value found name → text ≡ None → given ≡ None → given ≡ option_and_then read (first_of name (rows_of found))
+pub none_found : {A : Type 0} (read : Text → Option A) (found : Found) (name : Text) (text : Option (Bor Text)) (given : Option A) → option_map (λ w. w.now) text ≡ first_value found name →
+    text ≡ None → given ≡ None → given ≡ option_and_then read (first_of name (rows_of found))
 none_found read found name text given is none nothing = nothing ∙ ap (λ o. option_and_then read (option_map (λ (w : Bor Text). w.now) o)) (sym none) ∙ found_is read found name text is
 
 -- what has this word for its name
-pub some_found : {A : Type 0} (read : Text → Option A) (found : Found) (name : Text) (text : Option (Bor Text)) (given : Option A) (word : Bor Text) → option_map (λ w. w.now) text ≡ first_value found name → text ≡ Some word → given ≡ read word.now → given ≡ option_and_then read (first_of name (rows_of found))
+pub some_found : {A : Type 0} (read : Text → Option A) (found : Found) (name : Text) (text : Option (Bor Text)) (given : Option A) (word : Bor Text) →
+    option_map (λ w. w.now) text ≡ first_value found name → text ≡ Some word → given ≡ read word.now → given ≡ option_and_then read (first_of name (rows_of found))
 some_found read found name text given word is some named = named ∙ ap (λ o. option_and_then read (option_map (λ (w : Bor Text). w.now) o)) (sym some) ∙ found_is read found name text is

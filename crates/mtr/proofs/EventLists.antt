@@ -14,7 +14,8 @@ nothing [] e = refl
 nothing (c ∷ cs) e = absurd (omega arith)
 
 -- an event more, with its columns
-pub events_more : (kept : List Kept) (k : Kept) (columns own : List ℤ) → sum_by width_of kept ≡ length columns → width_of k ≡ length own → events_of (kept ++ k ∷ []) (columns ++ own) ≡ events_of kept columns ++ event_of k own ∷ []
+pub events_more : (kept : List Kept) (k : Kept) (columns own : List ℤ) → sum_by width_of kept ≡ length columns → width_of k ≡ length own →
+    events_of (kept ++ k ∷ []) (columns ++ own) ≡ events_of kept columns ++ event_of k own ∷ []
 events_more [] k columns own sum width =
     let none : columns ≡ [] = nothing columns sum in
     let mine : take (width_of k) own ≡ own = take_all (width_of k) own (omega (arith, width)) in
@@ -29,7 +30,8 @@ events_more (x ∷ xs) k columns own sum width =
     ∙ ap (λ events. event_of x (take w columns) ∷ events) (events_more xs k (drop w columns) own left width)
 
 -- what is kept of an event that was tried, behind others
-pub kept_more : (kept : List Kept) (columns new : List ℤ) (event : Option Event) (k : Kept) → AreWhole kept columns → Keeps event (Some k) columns new → events_of (kept ++ k ∷ []) new ≡ events_of kept columns ++ one_or_none event
+pub kept_more : (kept : List Kept) (columns new : List ℤ) (event : Option Event) (k : Kept) → AreWhole kept columns → Keeps event (Some k) columns new →
+    events_of (kept ++ k ∷ []) new ≡ events_of kept columns ++ one_or_none event
 kept_more kept columns new event k h keeps =
     ap (events_of (kept ++ k ∷ [])) keeps.2 ∙ events_more kept k columns keeps.0 h.width keeps.4 ∙ ap (λ e. events_of kept columns ++ one_or_none e) (sym keeps.1)
 
@@ -41,6 +43,7 @@ events_in_set (p ∷ []) (suc i) d new more e h = absurd (omega arith)
 events_in_set (p ∷ (q ∷ qs)) zero d new more e h = absurd (omega arith)
 events_in_set (p ∷ (q ∷ qs)) (suc i) d new more e h = ap (λ x. p ++ x) (events_in_set (q ∷ qs) i d new more (omega arith) h) ∙ sym (append_assoc p (events_in (q ∷ qs)) more)
 
-pub last_grown : {T E : Type 0} (r : Result T E) (pieces : List (List Event)) (n : ℕ) (piece new more : List Event) → n ≡ length pieces → 1 ≤ n → piece ≡ get_or pieces (n - 1) piece → OnOk r (new ≡ piece ++ more) → OnOk r (events_in (set pieces (n - 1) new) ≡ events_in pieces ++ more)
+pub last_grown : {T E : Type 0} (r : Result T E) (pieces : List (List Event)) (n : ℕ) (piece new more : List Event) → n ≡ length pieces → 1 ≤ n → piece ≡ get_or pieces (n - 1) piece →
+    OnOk r (new ≡ piece ++ more) → OnOk r (events_in (set pieces (n - 1) new) ≡ events_in pieces ++ more)
 last_grown (Ok v) pieces n piece new more e some is h = events_in_set pieces (n - 1) piece new more (omega arith) (h ∙ ap (λ p. p ++ more) is)
 last_grown (Err x) pieces n piece new more e some is h = h

@@ -1,5 +1,6 @@
 -- Hexadecimal text, a piece behind another.
-use Rattle.std.proofs.Common.{◌≡◌, ◌∙◌, sym, ap, ap₂, refl, ℕ, ◌+◌, ◌*◌, ◌/◌, ◌%◌, ◌<◌, Bool, true, false, not, List, [], ◌∷◌, ◌++◌, length, length-append, take, drop, get_or, map, append_assoc, append-nil, Option, Some, None, option_to_list, arith, Contains, subst, take-append-drop, zero, suc}
+use Rattle.std.proofs.Common.{◌≡◌, ◌∙◌, sym, ap, ap₂, refl, ℕ, ◌+◌, ◌*◌, ◌/◌, ◌%◌, ◌<◌, Bool, true, false, not, List, [], ◌∷◌, ◌++◌, length, length-append, take, drop, get_or, map, append_assoc}
+use Rattle.std.proofs.Common.{append-nil, Option, Some, None, option_to_list, arith, Contains, subst, take-append-drop, zero, suc}
 use Rattle.std.specs.List.{filter, flat_map}
 use Rattle.std.specs.Prelude.{IfSome}
 use Rattle.std.specs.Io.KnownBytes.{Consumes, IsAtEnd}

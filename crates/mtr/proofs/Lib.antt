@@ -1,5 +1,7 @@
 pub mod NumberTexts
 pub mod WordLists
+pub mod Verbs
+pub mod ShortTexts
 pub mod ScriptLines
 pub mod Pieces
 pub mod Splits

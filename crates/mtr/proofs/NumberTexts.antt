@@ -1,5 +1,6 @@
 -- The texts of numbers are those that `decimal` writes, and what `parse` reads of them.
-use Rattle.std.proofs.Common.{◌≡◌, ◌∙◌, sym, ap, refl, ℕ, ◌+◌, ◌^◌, ◌<◌, ◌≤◌, ℤ, pos, Bool, true, false, cond, ◌&&◌, eqb, ltb, List, [], ◌∷◌, length, get_or, Option, Some, None, Result, Ok, Err, OkIff, arith, inl, inr, ◌⊎◌, zero, suc, neg_ℤ, negsuc, codes, ◌≢◌, FitsSigned}
+use Rattle.std.proofs.Common.{◌≡◌, ◌∙◌, sym, ap, refl, ℕ, ◌+◌, ◌^◌, ◌<◌, ◌≤◌, ℤ, pos, Bool, true, false, cond, ◌&&◌, eqb, ltb, List, [], ◌∷◌, length, get_or, Option, Some, None, Result, Ok, Err}
+use Rattle.std.proofs.Common.{OkIff, arith, inl, inr, ◌⊎◌, zero, suc, neg_ℤ, negsuc, codes, ◌≢◌, FitsSigned}
 use Rattle.std.specs.Char.{is_ascii_digit}
 use Rattle.std.specs.List.{list_all}
 use Rattle.std.specs.Result.{result_ok}
@@ -162,7 +163,8 @@ integer_positive (c ∷ cs) h =
     ]
 
 -- a text that is
-pub negative_parsed : {E : Type 0} (digits : List ℕ) (r : Result ℤ E) → ParsesSigned w64 10 (45 ∷ digits) r → bytes_eq digits (codes "0") ≡ false → is_number digits ≡ true → result_ok r ≡ integer (45 ∷ digits)
+pub negative_parsed : {E : Type 0} (digits : List ℕ) (r : Result ℤ E) → ParsesSigned w64 10 (45 ∷ digits) r → bytes_eq digits (codes "0") ≡ false → is_number digits ≡ true →
+    result_ok r ≡ integer (45 ∷ digits)
 unfolding integer number
 negative_parsed digits r h z e =
     let v : ℕ = digits_value 10 digits in
@@ -243,7 +245,8 @@ integer_again (pos n) h =
     integer_positive (decimal n) (λ rest. unsigned n rest (omega arith)) ∙ ap (option_map pos) (number_again (2 ^ 63) n (omega arith) fits)
 integer_again (negsuc m) h =
     let fits : suc m ≤ 2 ^ 63 = negative_fits m h in
-    let again : option_map (λ n. neg_ℤ (pos n)) (number (2 ^ 63 + 1) (decimal (suc m))) ≡ Some (negsuc m) = ap (option_map (λ n. neg_ℤ (pos n))) (number_again (2 ^ 63 + 1) (suc m) (omega arith) (omega arith)) in
+    let again : option_map (λ n. neg_ℤ (pos n)) (number (2 ^ 63 + 1) (decimal (suc m))) ≡ Some (negsuc m) =
+    ap (option_map (λ n. neg_ℤ (pos n))) (number_again (2 ^ 63 + 1) (suc m) (omega arith) (omega arith)) in
     ap (λ b. cond b None (option_map (λ n. neg_ℤ (pos n)) (number (2 ^ 63 + 1) (decimal (suc m))))) (not_zero m (omega arith)) ∙ again
 
 pub integer_reads : (text : List ℕ) (r : Option ℤ) → r ≡ integer text → ReadsInteger text r

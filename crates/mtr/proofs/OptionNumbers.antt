@@ -35,16 +35,20 @@ no_number text least greatest true is_number never =
     absurd (never (h.0, h.1))
 no_number text least greatest false is_number never = rw is_number refl
 
-reads : {E : Type 0} (G : List ℕ → Result ℕ E → Type 0) (least greatest : ℕ) (o : Option Text) (r : Option ℕ) → ((u : List ℕ) (x : Result ℕ E) → G u x → ParsesUnsigned 64 10 u x) → (o ≡ None → r ≡ None) → ((t : Text) → o ≡ Some t → ReadsOne G t r) → (o >>= number_in least greatest) ≡ (r >>= within least greatest)
+reads : {E : Type 0} (G : List ℕ → Result ℕ E → Type 0) (least greatest : ℕ) (o : Option Text) (r : Option ℕ) → ((u : List ℕ) (x : Result ℕ E) → G u x → ParsesUnsigned 64 10 u x) →
+    (o ≡ None → r ≡ None) → ((t : Text) → o ≡ Some t → ReadsOne G t r) → (o >>= number_in least greatest) ≡ (r >>= within least greatest)
 reads G least greatest None r only none some = rw (none refl) refl
 reads G least greatest (Some t) (Some n) only none some = let h = only t (Ok n) (some t refl) in a_number t n least greatest h.0 h.1
 reads G least greatest (Some t) None only none some = let h = some t refl in no_number t least greatest (is_unsigned_in least greatest t) refl (only t (Err h.0) h.1)
 
 -- the number of an option is what its text is read as, where that is in the range
-pub number_read : (found : Found) (name : Text) (least greatest : ℕ) (r : Option ℕ) → (one_text found name ≡ None → r ≡ None) → ((t : Text) → one_text found name ≡ Some t → ReadsOne (λ u x. ParsesUnsigned 64 10 u x × ExplainsUnsignedError 10 u x × HasUnsignedDigitsIfOk u x) t r) → number_of name least greatest (rows_of found) ≡ (r >>= within least greatest)
+pub number_read : (found : Found) (name : Text) (least greatest : ℕ) (r : Option ℕ) → (one_text found name ≡ None → r ≡ None) →
+    ((t : Text) → one_text found name ≡ Some t → ReadsOne (λ u x. ParsesUnsigned 64 10 u x × ExplainsUnsignedError 10 u x × HasUnsignedDigitsIfOk u x) t r) →
+    number_of name least greatest (rows_of found) ≡ (r >>= within least greatest)
 number_read found name least greatest r none some =
     let same = one_text-rows found name in
-    ap (λ o. o >>= number_in least greatest) (sym same) ∙ reads (λ u x. ParsesUnsigned 64 10 u x × ExplainsUnsignedError 10 u x × HasUnsignedDigitsIfOk u x) least greatest (one_text found name) r (λ u x g. g.0) none some
+    ap (λ o. o >>= number_in least greatest) (sym same) ∙ reads (λ u x. ParsesUnsigned 64 10 u x × ExplainsUnsignedError 10 u x × HasUnsignedDigitsIfOk u x) least greatest (one_text found name) r
+    (λ u x g. g.0) none some
 
 -- and where the number is outside
 pub outside : (least greatest n : ℕ) → (n < least) ⊎ (greatest < n) → within least greatest n ≡ None

@@ -17,7 +17,8 @@ text_more f xs i d x below is =
     rw (front, flat_map-append f (take i xs) (get_or xs i d ∷ []), append-nil (f (get_or xs i d)), ← is) refl
 
 -- it is appended behind theirs
-pub piece_more : {X : Type 0} (f : X → List ℕ) (xs : List X) (i : ℕ) (d x : X) (a b c : Option (List ℕ)) → i < length xs → x ≡ get_or xs i d → Appends a b (flat_map f (take i xs)) → Appends b c (f x) → Appends a c (flat_map f (take (i + 1) xs))
+pub piece_more : {X : Type 0} (f : X → List ℕ) (xs : List X) (i : ℕ) (d x : X) (a b c : Option (List ℕ)) → i < length xs → x ≡ get_or xs i d → Appends a b (flat_map f (take i xs)) →
+    Appends b c (f x) → Appends a c (flat_map f (take (i + 1) xs))
 piece_more f xs i d x a b c below is so_far one = along a c _ _ (text_more f xs i d x below is) (Appends-trans a b c _ _ so_far one)
 
 -- all of them

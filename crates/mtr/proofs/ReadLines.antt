@@ -1,5 +1,6 @@
 -- Lines as a reader gives them.
-use Rattle.std.proofs.Common.{◌≡◌, ◌∙◌, sym, ap, refl, ℕ, Bool, true, false, cond, eqb, ◌-◌, ◌≢◌, List, [], ◌∷◌, ◌++◌, take, inl, inr, arith, length, length-append, Option, Some, None, append_assoc, subst}
+use Rattle.std.proofs.Common.{◌≡◌, ◌∙◌, sym, ap, refl, ℕ, Bool, true, false, cond, eqb, ◌-◌, ◌≢◌, List, [], ◌∷◌, ◌++◌, take, inl, inr, arith, length, length-append, Option, Some, None, append_assoc}
+use Rattle.std.proofs.Common.{subst}
 use Rattle.std.specs.List.{slice_split, All}
 use Rattle.std.specs.Prelude.{IfSome}
 use Rattle.std.specs.Io.{StopsAt}
@@ -49,7 +50,8 @@ through_all : (text : List ℕ) → take_through 10 text ++ drop_through 10 text
 through_all [] = refl
 through_all (x ∷ xs) = through_case x xs (eqb x 10) (through_all xs)
 
-no_end_case : (x : ℕ) (xs : List ℕ) (b : Bool) → eqb x 10 ≡ b → (IsLine (take_through 10 xs) → take_through 10 xs ≡ xs) → IsLine (cond b (x ∷ []) (x ∷ take_through 10 xs)) → cond b (x ∷ []) (x ∷ take_through 10 xs) ≡ x ∷ xs
+no_end_case : (x : ℕ) (xs : List ℕ) (b : Bool) → eqb x 10 ≡ b → (IsLine (take_through 10 xs) → take_through 10 xs ≡ xs) → IsLine (cond b (x ∷ []) (x ∷ take_through 10 xs)) →
+    cond b (x ∷ []) (x ∷ take_through 10 xs) ≡ x ∷ xs
 no_end_case x xs true e more h = let one : eqb x 10 ≡ false = All-head (λ b. eqb b 10 ≡ false) x [] h in cc
 no_end_case x xs false e more h = ap (λ l. x ∷ l) (more (All-tail (λ b. eqb b 10 ≡ false) x (take_through 10 xs) h))
 
@@ -58,7 +60,8 @@ no_end : (text : List ℕ) → IsLine (take_through 10 text) → take_through 10
 no_end [] h = refl
 no_end (x ∷ xs) h = no_end_case x xs (eqb x 10) refl (no_end xs) h
 
-leaves : (text read line : List ℕ) (ended : Bool) (rest : Option (List ℕ)) → IsLine line → TakesEnd read line ended → read ≡ take_through 10 text → rest ≡ Some (drop_through 10 text) → LeavesLines text line ended rest
+leaves : (text read line : List ℕ) (ended : Bool) (rest : Option (List ℕ)) → IsLine line → TakesEnd read line ended → read ≡ take_through 10 text → rest ≡ Some (drop_through 10 text) →
+    LeavesLines text line ended rest
 leaves text read line true rest one end took left =
     let parts : text ≡ line ++ (10 ∷ drop_through 10 text) =
     sym (through_all text) ∙ ap (λ l. l ++ drop_through 10 text) (sym took ∙ end) ∙ append_assoc line (10 ∷ []) (drop_through 10 text) in
@@ -69,6 +72,7 @@ leaves text read line false rest one end took left =
     ap (slice_split (is_byte 10)) whole ∙ slice_split_none (is_byte 10) line one
 
 -- where the text is known
-pub known_line : (known rest : Option (List ℕ)) (read line : List ℕ) (ended : Bool) → IsLine line → TakesEnd read line ended → IfSome known (λ text. read ≡ [] ++ take_through 10 text) → DropsThrough known rest 10 → IfSome known (λ text. LeavesLines text line ended rest)
+pub known_line : (known rest : Option (List ℕ)) (read line : List ℕ) (ended : Bool) → IsLine line → TakesEnd read line ended → IfSome known (λ text. read ≡ [] ++ take_through 10 text) →
+    DropsThrough known rest 10 → IfSome known (λ text. LeavesLines text line ended rest)
 known_line None rest read line ended one end took left = took
 known_line (Some text) rest read line ended one end took left = leaves text read line ended rest one end took left

@@ -18,7 +18,8 @@ use Rattle.mtr.specs.Pair.{BeginsWith, GoesOn, Prints, setup_of}
 use Rattle.mtr.specs.Printing.{line_of}
 use Rattle.mtr.proofs.Pieces.{along}
 
-run_along : {D R : Type 0} (contents : R → Database) (setup : Setup) (es fs : List Event) (rs ss : List Reply) (w : World D R) → es ≡ fs → rs ≡ ss → HasRun contents setup es rs w → HasRun contents setup fs ss w
+run_along : {D R : Type 0} (contents : R → Database) (setup : Setup) (es fs : List Event) (rs ss : List Reply) (w : World D R) → es ≡ fs → rs ≡ ss → HasRun contents setup es rs w →
+    HasRun contents setup fs ss w
 run_along contents setup es fs rs ss w e r h =
     let P : List Event → Type 0 = λ x. HasRun contents setup x ss w in
     let Q : List Reply → Type 0 = λ x. HasRun contents setup es x w in
@@ -48,7 +49,8 @@ pub behind_piece : (events rest piece behind all : List Event) → events ++ res
 behind_piece events rest piece behind all e cut = append_assoc events piece behind ∙ ap (λ r. events ++ r) (sym cut) ∙ e
 
 -- what a new world prints that goes on by the events of a script
-pub prints : {D R : Type 0} (contents : R → Database) (script : Said) (kind : Kind) (workers : ℕ) (preserve : Bool) (old new : World D R) (before after : Option (List ℕ)) → BeginsWith contents kind workers preserve script.tables script.base old → GoesOn contents old new script.events before after → Prints kind workers preserve script before after
+pub prints : {D R : Type 0} (contents : R → Database) (script : Said) (kind : Kind) (workers : ℕ) (preserve : Bool) (old new : World D R) (before after : Option (List ℕ)) →
+    BeginsWith contents kind workers preserve script.tables script.base old → GoesOn contents old new script.events before after → Prints kind workers preserve script before after
 prints contents script kind workers preserve old new before after begins goes =
     let setup = setup_of kind script.tables begins.base workers preserve in
     let legal = (goes.goes_on setup [] [] begins.starts).legal in

@@ -33,7 +33,8 @@ pub said_with_text : (s : Said) (line text : List ℕ) → IsUtf8 line → text 
 said_with_text s line text h same = ap (λ o. o >>= added s) (sym (line_of_text line h)) ∙ ap (λ l. text_line l >>= added s) (sym same)
 
 -- where its first word tells what the line is about
-pub line_said : (s : Said) (line text : List ℕ) (found : Option Line) (told about : Line) → IsUtf8 line → text ≡ line → found ≡ text_line text → found ≡ Some told → told ≡ about → said_with s line ≡ added s about
+pub line_said : (s : Said) (line text : List ℕ) (found : Option Line) (told about : Line) → IsUtf8 line → text ≡ line → found ≡ text_line text → found ≡ Some told → told ≡ about →
+    said_with s line ≡ added s about
 line_said s line text found told about h same e some is = said_with_text s line text h same ∙ ap (λ o. o >>= added s) (sym e ∙ some) ∙ ap (added s) is
 
 pub said_with_bytes : (s : Said) (line : List ℕ) → ¬ (IsUtf8 line) → said_with s line ≡ None
@@ -53,30 +54,36 @@ pub all_said : (s : Said) (n : ℕ) → said_by s n [] ≡ Ok s
 unfolding said_by
 all_said s n = refl
 
-refused_at : (s : Said) (n : ℕ) (rest line : List ℕ) (is_more : Bool) (left : Option (List ℕ)) → LeavesLines rest line is_more left → said_with s line ≡ None → said_by s n (slice_split (λ b. eqb b 10) rest) ≡ Err n
+refused_at : (s : Said) (n : ℕ) (rest line : List ℕ) (is_more : Bool) (left : Option (List ℕ)) → LeavesLines rest line is_more left → said_with s line ≡ None →
+    said_by s n (slice_split (λ b. eqb b 10) rest) ≡ Err n
 refused_at s n rest line true left lines none = ap (said_by s n) lines.2 ∙ line_refused s n line _ none
 refused_at s n rest line false left lines none = ap (said_by s n) lines ∙ line_refused s n line [] none
 
 -- where the text is known: its first bad line,
-pub known_refused : (known now left : Option (List ℕ)) (s : Said) (n : ℕ) (line : List ℕ) (is_more : Bool) → Knows known now (λ text rest. said_by s n (slice_split (λ b. eqb b 10) rest) ≡ script_of text) → IfSome now (λ rest. LeavesLines rest line is_more left) → said_with s line ≡ None → IfSome known (λ text. script_of text ≡ Err n)
+pub known_refused : (known now left : Option (List ℕ)) (s : Said) (n : ℕ) (line : List ℕ) (is_more : Bool) →
+    Knows known now (λ text rest. said_by s n (slice_split (λ b. eqb b 10) rest) ≡ script_of text) → IfSome now (λ rest. LeavesLines rest line is_more left) → said_with s line ≡ None →
+    IfSome known (λ text. script_of text ≡ Err n)
 known_refused None now left s n line is_more so_far lines none = tt
 known_refused (Some text) None left s n line is_more so_far lines none = absurd so_far
 known_refused (Some text) (Some rest) left s n line is_more so_far lines none = sym so_far ∙ refused_at s n rest line is_more left lines none
 
 -- its last line,
-pub known_last : (known now left : Option (List ℕ)) (s after : Said) (n : ℕ) (line : List ℕ) → Knows known now (λ text rest. said_by s n (slice_split (λ b. eqb b 10) rest) ≡ script_of text) → IfSome now (λ rest. LeavesLines rest line false left) → said_with s line ≡ Some after → IfSome known (λ text. script_of text ≡ Ok after)
+pub known_last : (known now left : Option (List ℕ)) (s after : Said) (n : ℕ) (line : List ℕ) → Knows known now (λ text rest. said_by s n (slice_split (λ b. eqb b 10) rest) ≡ script_of text) →
+    IfSome now (λ rest. LeavesLines rest line false left) → said_with s line ≡ Some after → IfSome known (λ text. script_of text ≡ Ok after)
 known_last None now left s after n line so_far lines taken = tt
 known_last (Some text) None left s after n line so_far lines taken = absurd so_far
 known_last (Some text) (Some rest) left s after n line so_far lines taken =
     sym so_far ∙ ap (said_by s n) lines ∙ line_taken s after n line [] taken ∙ all_said after (n + 1)
 
-left_known : (text more : List ℕ) (left : Option (List ℕ)) (s after : Said) (n : ℕ) → left ≡ Some more → said_by after (n + 1) (slice_split (λ b. eqb b 10) more) ≡ script_of text → Knows (Some text) left (λ text rest. said_by after (n + 1) (slice_split (λ b. eqb b 10) rest) ≡ script_of text)
+left_known : (text more : List ℕ) (left : Option (List ℕ)) (s after : Said) (n : ℕ) → left ≡ Some more → said_by after (n + 1) (slice_split (λ b. eqb b 10) more) ≡ script_of text →
+    Knows (Some text) left (λ text rest. said_by after (n + 1) (slice_split (λ b. eqb b 10) rest) ≡ script_of text)
 left_known text more left s after n e h =
     let P : Option (List ℕ) → Type 0 = λ o. Knows (Some text) o (λ text rest. said_by after (n + 1) (slice_split (λ b. eqb b 10) rest) ≡ script_of text) in
     subst P (sym e) h
 
 -- and another
-pub known_more : (known now left : Option (List ℕ)) (s after : Said) (n : ℕ) (line : List ℕ) → Knows known now (λ text rest. said_by s n (slice_split (λ b. eqb b 10) rest) ≡ script_of text) → IfSome now (λ rest. LeavesLines rest line true left) → said_with s line ≡ Some after → Knows known left (λ text rest. said_by after (n + 1) (slice_split (λ b. eqb b 10) rest) ≡ script_of text)
+pub known_more : (known now left : Option (List ℕ)) (s after : Said) (n : ℕ) (line : List ℕ) → Knows known now (λ text rest. said_by s n (slice_split (λ b. eqb b 10) rest) ≡ script_of text) →
+    IfSome now (λ rest. LeavesLines rest line true left) → said_with s line ≡ Some after → Knows known left (λ text rest. said_by after (n + 1) (slice_split (λ b. eqb b 10) rest) ≡ script_of text)
 known_more None now left s after n line so_far lines taken = tt
 known_more (Some text) None left s after n line so_far lines taken = absurd so_far
 known_more (Some text) (Some rest) left s after n line so_far lines taken =
@@ -96,7 +103,8 @@ tried s (Some e) good events is h =
     ap (λ es. Some (record { tables = s.tables; base = s.base; events = es })) (sym h) ∙ ap (λ b. then_some b (record { tables = s.tables; base = s.base; events = events })) (sym is)
 
 -- an event is added where there is one
-pub event_added : {E : Type 0} (r : Result Bool E) (s : Said) (verb : Verb) (words : List Word) (events : List Event) → IfOk r (λ good. good ≡ is_some (event_of verb words)) → OnOk r (events ≡ s.events ++ one_or_none (event_of verb words))
+pub event_added : {E : Type 0} (r : Result Bool E) (s : Said) (verb : Verb) (words : List Word) (events : List Event) → IfOk r (λ good. good ≡ is_some (event_of verb words)) →
+    OnOk r (events ≡ s.events ++ one_or_none (event_of verb words))
     → IfOk r (λ good. added s (lines.Event verb words) ≡ then_some good (record { tables = s.tables; base = s.base; events = events }))
 unfolding added
 event_added (Ok good) s verb words events is h = tried s (event_of verb words) good events is h

@@ -17,7 +17,8 @@ pub first_place : {X : Type 0} (p : X → Bool) (xs : List X) (at : ℕ) → pos
 first_place p xs at e = let found = cond_some (ltb (position_or_len p xs) (length xs)) (position_or_len p xs) at e in (found.1, omega (arith, found.1, ltb-true _ _ found.0))
 
 -- at the first such byte
-pub cut_there : (c : ℕ) (text front behind : List ℕ) (at : ℕ) → position (is_byte c) text ≡ Some at → front ≡ slice_range text 0 at → behind ≡ drop (at + 1) text → slice_split (is_byte c) text ≡ front ∷ slice_split (is_byte c) behind
+pub cut_there : (c : ℕ) (text front behind : List ℕ) (at : ℕ) → position (is_byte c) text ≡ Some at → front ≡ slice_range text 0 at → behind ≡ drop (at + 1) text →
+    slice_split (is_byte c) text ≡ front ∷ slice_split (is_byte c) behind
 cut_there c text front behind at e f b =
     let here = first_place (is_byte c) text at e in
     let whole : at - 0 ≡ at = omega arith in

@@ -1,5 +1,6 @@
 -- Words taken off the front of a text.
-use Rattle.std.proofs.Common.{◌≡◌, ◌∙◌, sym, ap, refl, ℕ, ◌+◌, ◌<◌, ◌≤◌, Bool, true, false, eqb, List, [], ◌∷◌, length, Option, Some, None, is_some, not, ℤ, ◌++◌, take, append_assoc, append-nil, length-append, cond, leb, ◌&&◌, add-one, arith}
+use Rattle.std.proofs.Common.{◌≡◌, ◌∙◌, sym, ap, refl, ℕ, ◌+◌, ◌<◌, ◌≤◌, Bool, true, false, eqb, List, [], ◌∷◌, length, Option, Some, None, is_some, not, ℤ, ◌++◌, take, append_assoc, append-nil}
+use Rattle.std.proofs.Common.{length-append, cond, leb, ◌&&◌, add-one, arith}
 use Rattle.std.specs.Borrow.{Bor}
 use Rattle.std.specs.List.{slice_split}
 use Rattle.std.proofs.lemmas.List.Splits.{length-slice_split}
@@ -40,11 +41,13 @@ abbrev pub then_rest : {A : Type 0} → (Word → Option A) → List A → List 
 then_rest {A} read front words = option_map (λ (r : List A). front ++ r) (all_in read words)
 
 -- the same once the first of these was taken off
-then_first : {A : Type 0} (read : Word → Option A) (front : List A) (words rest : List Word) (word : Word) → first_word words ≡ Some (word, rest) → then_rest read front (word ∷ rest) ≡ then_rest read front words
+then_first : {A : Type 0} (read : Word → Option A) (front : List A) (words rest : List Word) (word : Word) → first_word words ≡ Some (word, rest) →
+    then_rest read front (word ∷ rest) ≡ then_rest read front words
 then_first read front words rest word first = ap (λ (ws : List Word). then_rest read front ws) (sym (words_are words rest word first))
 
 -- one item more
-pub item_more : {A : Type 0} (read : Word → Option A) (items : List A) (count : ℕ) (words rest : List Word) (word : Word) (x written : A) → count < length items → written ≡ x → first_word words ≡ Some (word, rest) → read word ≡ Some x → then_rest read (take (count + 1) (set items count written)) rest ≡ then_rest read (take count items) words
+pub item_more : {A : Type 0} (read : Word → Option A) (items : List A) (count : ℕ) (words rest : List Word) (word : Word) (x written : A) → count < length items → written ≡ x →
+    first_word words ≡ Some (word, rest) → read word ≡ Some x → then_rest read (take (count + 1) (set items count written)) rest ≡ then_rest read (take count items) words
 unfolding all_in
 item_more {A} read items count words rest word x written below same first e =
     let front : take (count + 1) (set items count written) ≡ take count items ++ x ∷ [] = rw (same, add-one, take-suc-set items count x below) refl in
@@ -54,13 +57,15 @@ item_more {A} read items count words rest word x written below same first e =
     ∙ then_first read (take count items) words rest word first
 
 -- a word that is no item
-pub no_item : {A : Type 0} (read : Word → Option A) (front : List A) (initial words rest : List Word) (word : Word) → read word ≡ None → first_word words ≡ Some (word, rest) → then_rest read front words ≡ all_in read initial → all_in read initial ≡ None
+pub no_item : {A : Type 0} (read : Word → Option A) (front : List A) (initial words rest : List Word) (word : Word) → read word ≡ None → first_word words ≡ Some (word, rest) →
+    then_rest read front words ≡ all_in read initial → all_in read initial ≡ None
 unfolding all_in
 no_item {A} read front initial words rest word none first e =
     let refused : all_in read (word ∷ rest) ≡ None = rw none refl in
     sym e ∙ sym (then_first read front words rest word first) ∙ ap (option_map (λ (r : List A). front ++ r)) refused
 
-past : {A : Type 0} (front : List A) (first : Option A) (o : Option (List A)) (all : List A) → option_map (λ r. front ++ r) (first >>= λ x. o >>= λ xs. Some (x ∷ xs)) ≡ Some all → length front < length all
+past : {A : Type 0} (front : List A) (first : Option A) (o : Option (List A)) (all : List A) → option_map (λ r. front ++ r) (first >>= λ x. o >>= λ xs. Some (x ∷ xs)) ≡ Some all →
+    length front < length all
 past front None o all e = cc
 past front (Some x) None all e = cc
 past {A} front (Some x) (Some r) all e =
@@ -69,7 +74,8 @@ past {A} front (Some x) (Some r) all e =
     omega (arith, length-append front (x ∷ r), wide)
 
 -- an item behind these
-pub item_past : {A : Type 0} (read : Word → Option A) (front : List A) (initial words rest : List Word) (word : Word) (all : List A) → first_word words ≡ Some (word, rest) → then_rest read front words ≡ all_in read initial → all_in read initial ≡ Some all → length front < length all
+pub item_past : {A : Type 0} (read : Word → Option A) (front : List A) (initial words rest : List Word) (word : Word) (all : List A) → first_word words ≡ Some (word, rest) →
+    then_rest read front words ≡ all_in read initial → all_in read initial ≡ Some all → length front < length all
 unfolding all_in
 item_past read front initial words rest word all first e is =
     past front (read word) (all_in read rest) all (then_first read front words rest word first ∙ e ∙ is)
@@ -105,7 +111,8 @@ not_rising : (all : List (ℕ × ℤ)) (b : Bool) → rise_from 0 all ≡ b → 
 not_rising all true e wide = absurd (omega (arith, rising_few 0 all (omega arith) e))
 not_rising all false e wide = refl
 
-wide_naming : (o : Option (List (ℕ × ℤ))) → ((all : List (ℕ × ℤ)) → o ≡ Some all → 16 < length all) → (o >>= λ pairs. cond (leb 1 (length pairs) && rise_from 0 pairs) (Some (naming_from pairs)) None) ≡ None
+wide_naming : (o : Option (List (ℕ × ℤ))) → ((all : List (ℕ × ℤ)) → o ≡ Some all → 16 < length all) →
+    (o >>= λ pairs. cond (leb 1 (length pairs) && rise_from 0 pairs) (Some (naming_from pairs)) None) ≡ None
 wide_naming None wide = refl
 wide_naming (Some all) wide =
     ap (λ b. cond b (Some (naming_from all)) None) (and_right (leb 1 (length all)) (rise_from 0 all) (not_rising all (rise_from 0 all) refl (wide all refl)))
@@ -133,7 +140,8 @@ unfolding pair_of_sides
 third_side left middle rest k e = rw (not_nothing (length rest) k e) refl
 
 -- two `=`
-pub many_sides : (word left right middle rest : Word) → slice_split (is_byte 61) word ≡ left ∷ slice_split (is_byte 61) right → slice_split (is_byte 61) right ≡ middle ∷ slice_split (is_byte 61) rest → None ≡ sides_of word
+pub many_sides : (word left right middle rest : Word) → slice_split (is_byte 61) word ≡ left ∷ slice_split (is_byte 61) right →
+    slice_split (is_byte 61) right ≡ middle ∷ slice_split (is_byte 61) rest → None ≡ sides_of word
 unfolding sides_of pair_of_sides
 many_sides word left right middle rest h more =
     sym (ap pair_of_sides (h ∙ ap (λ (parts : List Word). left ∷ parts) more)

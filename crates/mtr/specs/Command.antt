@@ -75,7 +75,8 @@ event_of verbs.Read words = option_map (λ id. events.Read id) (alone (row_id_in
 event_of verbs.Log words = bare events.Log words
 
 abbrev pub all_verbs : List Verb
-all_verbs = verbs.Begin ∷ verbs.Insert ∷ verbs.Set ∷ verbs.Delete ∷ verbs.See ∷ verbs.Prepare ∷ verbs.Queue ∷ verbs.Abort ∷ verbs.Flush ∷ verbs.Sync ∷ verbs.Commit ∷ verbs.Deliver ∷ verbs.Dispatch ∷ verbs.Finish ∷ verbs.Next ∷ verbs.Publish ∷ verbs.Executed ∷ verbs.Read ∷ verbs.Log ∷ []
+all_verbs = verbs.Begin ∷ verbs.Insert ∷ verbs.Set ∷ verbs.Delete ∷ verbs.See ∷ verbs.Prepare ∷ verbs.Queue ∷ verbs.Abort ∷ verbs.Flush ∷ verbs.Sync ∷ verbs.Commit ∷ verbs.Deliver ∷ verbs.Dispatch ∷
+    verbs.Finish ∷ verbs.Next ∷ verbs.Publish ∷ verbs.Executed ∷ verbs.Read ∷ verbs.Log ∷ []
 
 -- the verb of this name
 unfoldable pub verb_of : Word → Option Verb

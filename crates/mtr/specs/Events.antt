@@ -21,27 +21,27 @@ has_columns _ = false
 
 -- how many columns are kept of an event
 abbrev pub width_of : Kept → ℕ
-width_of (kepts.Insert session table key count) = count
-width_of (kepts.Update session table key mask) = count_ones mask
+width_of (kepts.Insert session table count key) = count
+width_of (kepts.Update session table mask key) = count_ones mask
 width_of _ = 0
 
 -- an event may have so many columns
 abbrev pub IsWhole : Kept → Type 0
-IsWhole (kepts.Insert session table key count) = (1 ≤ count) × (count ≤ 16)
-IsWhole (kepts.Update session table key mask) = 1 ≤ mask
+IsWhole (kepts.Insert session table count key) = (1 ≤ count) × (count ≤ 16)
+IsWhole (kepts.Update session table mask key) = 1 ≤ mask
 IsWhole _ = Unit {0}
 
 -- it has none
 abbrev pub IsBare : Kept → Type 0
-IsBare (kepts.Insert session table key count) = ⊥
-IsBare (kepts.Update session table key mask) = ⊥
+IsBare (kepts.Insert session table count key) = ⊥
+IsBare (kepts.Update session table mask key) = ⊥
 IsBare _ = Unit {0}
 
 -- what is kept is this event, with these columns
 abbrev pub event_of : Kept → List ℤ → Event
 event_of (kepts.Begin session) columns = events.Begin session
-event_of (kepts.Insert session table key count) columns = events.Write session (Insert (record { table = table; key = key }) columns)
-event_of (kepts.Update session table key mask) columns = events.Write session (Update (record { table = table; key = key }) (record { mask = mask; values = columns }))
+event_of (kepts.Insert session table count key) columns = events.Write session (Insert (record { table = table; key = key }) columns)
+event_of (kepts.Update session table mask key) columns = events.Write session (Update (record { table = table; key = key }) (record { mask = mask; values = columns }))
 event_of (kepts.Delete session table key) columns = events.Write session (Delete (record { table = table; key = key }))
 event_of (kepts.See session table key) columns = events.See session (record { table = table; key = key })
 event_of (kepts.Prepare session) columns = events.Prepare session

@@ -1,6 +1,7 @@
 //! The event that a line's words are, as it is kept.
 
-ghost use Rattle.std.specs.Prelude.{◌≡◌, ◌^◌, ◌==◌, [], false, if◌then◌else◌, length, option_map, IfOk, IfSome, OnErr, Some, None};
+ghost use Rattle.std.specs.Prelude.{◌≡◌, ◌^◌, ◌==◌, [], false, if◌then◌else◌, length, option_map, slice_get, IfOk, IfSome, OnErr, Some};
+ghost use Rattle.std.specs.Prelude.{None};
 ghost use Rattle.mtr.specs.Words.{alone, number_in, row_id_in};
 ghost use Rattle.mtr.specs.Command.{verb_of, at_row, event_of};
 ghost use Rattle.mtr.specs.Events.{IsBare, Keeps, has_columns, event_of as whole};
@@ -36,35 +37,54 @@ pub enum Verb {
 }
 
 impl Verb {
-    /// The verb of this name.
-    #[tactic(auto, unfolding(crate::specs::Command::verb_of))]
+    /// The verb of this name. It is compared with those alone that begin with its first letter.
     #[inline(always)]
     pub fn of(name: &str) -> Option<Verb>
         ensures { result ≡ verb_of name.now }
     {
-        match name {
-            "begin" => Some(Verb::Begin),
-            "insert" => Some(Verb::Insert),
-            "set" => Some(Verb::Set),
-            "delete" => Some(Verb::Delete),
-            "see" => Some(Verb::See),
-            "prepare" => Some(Verb::Prepare),
-            "queue" => Some(Verb::Queue),
-            "abort" => Some(Verb::Abort),
-            "flush" => Some(Verb::Flush),
-            "sync" => Some(Verb::Sync),
-            "commit" => Some(Verb::Commit),
-            "deliver" => Some(Verb::Deliver),
-            "dispatch" => Some(Verb::Dispatch),
-            "finish" => Some(Verb::Finish),
-            "next" => Some(Verb::Next),
-            "publish" => Some(Verb::Publish),
-            "executed" => Some(Verb::Executed),
-            "read" => Some(Verb::Read),
-            "log" => Some(Verb::Log),
+        match letter(name)? {
+            b'a' => (name == "abort").then_some(Verb::Abort),
+            b'b' => (name == "begin").then_some(Verb::Begin),
+            b'c' => (name == "commit").then_some(Verb::Commit),
+            b'd' => match name {
+                "delete" => Some(Verb::Delete),
+                "deliver" => Some(Verb::Deliver),
+                "dispatch" => Some(Verb::Dispatch),
+                _ => None,
+            },
+            b'e' => (name == "executed").then_some(Verb::Executed),
+            b'f' => match name {
+                "flush" => Some(Verb::Flush),
+                "finish" => Some(Verb::Finish),
+                _ => None,
+            },
+            b'i' => (name == "insert").then_some(Verb::Insert),
+            b'l' => (name == "log").then_some(Verb::Log),
+            b'n' => (name == "next").then_some(Verb::Next),
+            b'p' => match name {
+                "prepare" => Some(Verb::Prepare),
+                "publish" => Some(Verb::Publish),
+                _ => None,
+            },
+            b'q' => (name == "queue").then_some(Verb::Queue),
+            b'r' => (name == "read").then_some(Verb::Read),
+            b's' => match name {
+                "set" => Some(Verb::Set),
+                "see" => Some(Verb::See),
+                "sync" => Some(Verb::Sync),
+                _ => None,
+            },
             _ => None,
         }
     }
+}
+
+/// The first letter of a name; `None` where it has none.
+#[inline(always)]
+fn letter(name: &str) -> Option<u8>
+    ensures { result ≡ slice_get name.now 0 }
+{
+    name.as_bytes().first().copied()
 }
 
 /// What was read, where no word stands behind it.

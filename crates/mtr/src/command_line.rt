@@ -1,9 +1,12 @@
 //! The command line.
 
-ghost use Rattle.std.specs.Prelude.{◌≡◌, [], ◌∷◌, false, map, codes, option_map, option_and_then, Some, IfOk, IfErr, IfSome, IfNone, MatchResult};
+ghost use Rattle.std.specs.Prelude.{◌≡◌, [], ◌∷◌, false, map, codes, option_map, option_and_then, Some, IfOk, IfErr, IfSome, IfNone};
+ghost use Rattle.std.specs.Prelude.{MatchResult};
 ghost use Rattle.clap.specs.Words.{Text, app_of, rule_of, rows_of, found_of, kind_of, fault_of, subcommand_rows_of};
 ghost use Rattle.clap.specs.declared.builder.command.Command.TheViews.{out-Command as fields_of};
-ghost use Rattle.mtr.specs.Options.{program, run_app, source_app, sides_app, threads_app, decode_app, choice_rule, number_rule, AreNames, mode_of, store_of, preserve_of, number_of, most_calls, IsWithin, AreSides, sides_of, threads_options, options_for, AsksFor, TellsFaults, IsInRange, IsByDefault, IsOfKind};
+ghost use Rattle.mtr.specs.Options.{program, run_app, source_app, sides_app, threads_app, decode_app, choice_rule, number_rule, AreNames};
+ghost use Rattle.mtr.specs.Options.{mode_of, store_of, preserve_of, number_of, most_calls, IsWithin, AreSides, sides_of, threads_options};
+ghost use Rattle.mtr.specs.Options.{options_for, AsksFor, TellsFaults, IsInRange, IsByDefault, IsOfKind};
 
 use crate::options::{LineFault, Options, Plan, Sides, Store, mode_named, preserve_named};
 use clap::error::ErrorKind;
@@ -109,7 +112,8 @@ pub fn options<'a>(alloc: Global, words: &'a [&'a str]) -> Result<Options, LineF
     // Help and the version are told where the words ask for them, and faults of the command line where they don't.
     ensures told { TellsFaults (map (λ w. w.now) words.entry.now) result }
     // The name of a subcommand alone asks for its defaults, and is refused for want of memory only.
-    ensures alone { (name : Text) (asked : Options) → IsByDefault name asked → map (λ w. w.now) words.entry.now ≡ name ∷ [] → MatchResult result (λ given. given ≡ asked) (λ fault. fault ≡ LineFault.Memory) }
+    ensures alone { (name : Text) (asked : Options) → IsByDefault name asked → map (λ w. w.now) words.entry.now ≡ name ∷ []
+        → MatchResult result (λ given. given ≡ asked) (λ fault. fault ≡ LineFault.Memory) }
 {
     let matches = match command(alloc, choices())?.try_get_matches_from(words) {
         Ok(matches) => matches,

@@ -7,7 +7,8 @@ ghost use Rattle.std.specs.List.{slice_split, position};
 /// is ASCII, so both are text. The time is that of a walk to it.
 pub fn cut_at(text: &str, mark: u8) -> Option<(&str, &str)>
     requires { mark < 128 }
-    ensures parts { MatchOption result (slice_split (λ b. b == mark) text.now ≡ text.now ∷ []) (λ x. slice_split (λ b. b == mark) text.now ≡ x.0.now ∷ slice_split (λ b. b == mark) x.1.now) }
+    ensures parts { MatchOption result (slice_split (λ b. b == mark) text.now ≡ text.now ∷ [])
+        (λ x. slice_split (λ b. b == mark) text.now ≡ x.0.now ∷ slice_split (λ b. b == mark) x.1.now) }
     ensures shorter { IfSome result (λ x. length x.1.now < length text.now) }
 {
     let at = place_of(text.as_bytes(), mark)?;

@@ -7,6 +7,7 @@ ghost use Rattle.mtr.specs.Ending.{status_of, ending_of, stop_text};
 use log_file::LogFault;
 use record_codec::CodecFault;
 use schema::{Memory, SchemaFault};
+use std::alloc::AllocError;
 use std::io;
 use std::io::{ErrorKind, Write};
 
@@ -73,6 +74,17 @@ impl From<Memory> for Stop {
     ghost from_gives = { λ _ stop. stop ≡ stops.Memory };
 
     fn from(_memory: Memory) -> Stop {
+        Stop::Memory
+    }
+}
+
+impl From<AllocError> for Stop {
+    ghost use Rattle.std.specs.Prelude.{◌≡◌};
+    ghost use Rattle.mtr.specs.declared.ending.Stop.TheVariants as stops;
+
+    ghost from_gives = { λ _ stop. stop ≡ stops.Memory };
+
+    fn from(_error: AllocError) -> Stop {
         Stop::Memory
     }
 }

@@ -1,6 +1,6 @@
 //! The events of a script, kept short (`kept`) and in pieces until they are run.
 
-ghost use Rattle.std.specs.Prelude.{◌≡◌, ◌≤◌, ◌++◌, [], ◌==◌, length, is_some, IfOk, OnOk, OnErr};
+ghost use Rattle.std.specs.Prelude.{◌≡◌, ◌≤◌, ◌+◌, ◌++◌, [], ◌==◌, length, vec_len, vec_capacity, is_some, IfOk, OnOk, OnErr};
 ghost use Rattle.mtr.specs.Command.{event_of};
 ghost use Rattle.mtr.specs.Events.{AreWhole, events_of, one_or_none, events_in};
 
@@ -67,28 +67,26 @@ impl Piece {
         ensures err { OnErr result (events.new.items ≡ []) }
     {
         events.clear();
-        let put = put_all(&self.kept, &self.columns, events);
-        if put.is_err() {
-            events.clear();
-        }
-        put
+        events.reserve(self.kept.len())?;
+        put_all(&self.kept, &self.columns, events);
+        Ok(())
     }
 }
 
-/// Puts events behind others.
-fn put_all(kept: &[Kept], columns: &[i64], events: &mut Vec<Event>) -> Result<(), Memory>
-    requires { AreWhole kept.now columns.now }
-    ensures { OnOk result (events.new.items ≡ events.old.items ++ events_of kept.now columns.now) }
+/// Puts events behind others, where there is room for them.
+fn put_all(kept: &[Kept], columns: &[i64], events: &mut Vec<Event>)
+    requires whole { AreWhole kept.now columns.now }
+    requires room { vec_len events.old + length kept.now ≤ vec_capacity events.old }
+    ensures { events.new.items ≡ events.old.items ++ events_of kept.now columns.now }
 {
     // So the check knows the types within an event.
     let _named: Option<Change> = None;
     let mut columns = columns;
     for one in kept {
         let (own, rest) = columns.split_at(one.width());
-        events.push(one.with(own))?;
+        events.push_reserved(one.with(own));
         columns = rest;
     }
-    Ok(())
 }
 
 /// The events, in order, in pieces: so that each piece's memory is given back once its events were run.

@@ -19,15 +19,15 @@ pub enum Kept {
     Insert {
         session: u16,
         table: u16,
-        key: i64,
         count: u8,
+        key: i64,
     },
     /// A write of the columns that the mask names.
     Update {
         session: u16,
         table: u16,
-        key: i64,
         mask: u16,
+        key: i64,
     },
     Delete {
         session: u16,
@@ -84,8 +84,8 @@ impl Kept {
                     Kept::Insert {
                         session,
                         table,
-                        key,
                         count,
+                        key,
                     },
                     columns,
                 )
@@ -96,8 +96,8 @@ impl Kept {
                     Kept::Update {
                         session,
                         table,
-                        key,
                         mask,
+                        key,
                     },
                     columns.values(),
                 )
@@ -141,8 +141,8 @@ impl Kept {
             Kept::Update {
                 session,
                 table,
-                key,
                 mask,
+                key,
             } => updated(session, RowId { table, key }, mask, columns),
             Kept::Delete {
                 session,

@@ -3,7 +3,7 @@
 //!
 //! `command_line` reads what the words ask for. To run a script, `script` reads the whole of it, and `pair` makes the
 //! two sides; so nothing is done before all is read and checked. `run` runs the events, which are kept short (`kept`),
-//! piece by piece (`events`), and what they print stands in `printing`. `threads` runs both sides in many threads. To
+//! piece by piece (`events`), and what they print stands in `printing`, over `short`. `threads` runs both sides in many threads. To
 //! print a log file, `decode` reads it by `hex` and prints the lines of `log_lines`. Each fault and its exit status stand
 //! in `ending`; `serve` does it all over any reader and two writers.
 #![tactic(auto)]
@@ -24,6 +24,7 @@ mod printing;
 mod run;
 mod script;
 mod serve;
+mod short;
 mod threads;
 mod words;
 

@@ -34,9 +34,12 @@ use writeset_trackers::{WriteSetSession, WriteSetTracker};
 /// As many bytes of a script are read at once.
 const CHUNK: usize = 65536;
 
-/// Reads a script, and runs it over a new pair that is made of these parts, with its log on this device. The whole of it is read and checked before the
-/// first event: the first bad line, then the tables, then the rows at the start. Each event's reply is a line of the output;
-/// where the work stops after a beginning of the events, so does the output, after a whole line.
+/// There is room for so many bytes of lines at first.
+const TEXT: usize = 1024;
+
+/// Reads a script, and runs it over a new pair that is made of these parts, with its log on this device. The whole of it is read
+/// and checked before the first event: the first bad line, then the tables, then the rows at the start. Each event's reply is a
+/// line of the output; where the work stops after a beginning of the events, so does the output, after a whole line.
 pub fn run_text<D: Device + Drop, R: Read, W: Write>(
     alloc: Global,
     sides: Sides,
@@ -45,7 +48,8 @@ pub fn run_text<D: Device + Drop, R: Read, W: Write>(
     output: &mut W,
 ) -> Result<(), Stop>
     requires { AreSides sides }
-    ensures prints { OnOk result (IfSome (R.remaining input.old) (λ text. PrintsText (kind_for sides) sides.workers sides.preserve text (W.contents output.old) (W.contents output.new))) }
+    ensures prints { OnOk result (IfSome (R.remaining input.old)
+        (λ text. PrintsText (kind_for sides) sides.workers sides.preserve text (W.contents output.old) (W.contents output.new))) }
     ensures refused { IfErr result (PrintsNoReply (W.contents output.old) (W.contents output.new)) }
 {
     let mut input = BufReader::with_capacity(alloc, CHUNK, input)?;
@@ -67,7 +71,8 @@ fn run_by_mode<D: Device + Drop, W: Write>(
     output: &mut W,
 ) -> Result<(), Stop>
     requires { AreSides sides }
-    ensures prints { OnOk result (Prints (kind_for sides) sides.workers sides.preserve (said script) (W.contents output.old) (W.contents output.new)) }
+    ensures prints { OnOk result (Prints (kind_for sides) sides.workers sides.preserve (said script) (W.contents output.old)
+        (W.contents output.new)) }
     ensures refused { IfErr result (PrintsNoReply (W.contents output.old) (W.contents output.new)) }
 {
     let limit = sides.history as u32;
@@ -95,7 +100,8 @@ fn run_by<T: Tracker + Drop, D: Device + Drop, W: Write>(
 ) -> Result<(), Stop>
     requires tracker { IsNewTracker T.agrees tracker }
     requires sides { AreSides sides }
-    ensures prints { OnOk result (Prints (T.kind tracker) sides.workers sides.preserve (said script) (W.contents output.old) (W.contents output.new)) }
+    ensures prints { OnOk result (Prints (T.kind tracker) sides.workers sides.preserve (said script) (W.contents output.old)
+        (W.contents output.new)) }
     ensures refused { IfErr result (PrintsNoReply (W.contents output.old) (W.contents output.new)) }
 {
     let (workers, preserve) = (sides.workers, sides.preserve);
@@ -181,11 +187,12 @@ fn run_pieces<S: RowStore, T: Tracker, D: Device, R: RowStore, W: Write>(
     output: &mut W,
 ) -> Result<(), Stop>
     requires { IsWorld R.contents (seen world.old) }
-    ensures goes_on { OnOk result (GoesOn R.contents (seen world.old) (seen world.new) (events_in pieces.items) (W.contents output.old) (W.contents output.new)) }
+    ensures goes_on { OnOk result (GoesOn R.contents (seen world.old) (seen world.new) (events_in pieces.items) (W.contents output.old)
+        (W.contents output.new)) }
     ensures stop { IfErr result IsCutOff }
 {
     let mut events = Vec::new(alloc);
-    let mut text = Vec::new(alloc);
+    let mut text = Vec::with_capacity(alloc, TEXT)?;
     for piece in pieces {
         piece.put_into(&mut events)?;
         let replies = world.run(alloc, &events)?;

@@ -21,6 +21,9 @@ use std::alloc::Global;
 use std::io;
 use std::io::BufRead;
 
+/// There is room for a line of so many bytes at first.
+const LINE: usize = 64;
+
 /// What a script says.
 #[derive(Drop)]
 pub struct Script {
@@ -65,7 +68,7 @@ impl Script {
         requires { said self.old ≡ nothing }
         ensures { IfSome (R.remaining input.old) (λ text. SaysIn text self.new result) }
     {
-        let mut line = Vec::new(alloc);
+        let mut line = Vec::with_capacity(alloc, LINE)?;
         for number in 1..usize::MAX {
             let is_more = read_line(input, &mut line)?;
             if !self.add(&line)? {
@@ -135,7 +138,8 @@ impl Script {
 
 /// Reads a line in the place of another. `false` where it is the last, as no LF ends it.
 fn read_line<R: BufRead>(input: &mut R, line: &mut Vec<u8>) -> io::Result<bool>
-    ensures known { IfOk result (λ is_more. IfSome (R.remaining input.old) (λ text. LeavesLines text line.new.items is_more (R.remaining input.new))) }
+    ensures known { IfOk result (λ is_more. IfSome (R.remaining input.old)
+        (λ text. LeavesLines text line.new.items is_more (R.remaining input.new))) }
 {
     line.clear();
     input.read_until(b'\n', line)?;
@@ -184,10 +188,13 @@ fn command_of(words: Words) -> Option<Line>
     ensures { result ≡ command_of words.entry }
 {
     let (name, words) = words.first()?;
+    if let Some(verb) = Verb::of(name) {
+        return Some(Line::Event(verb, words));
+    }
     match name {
         "table" => Some(Line::Table(words)),
         "base" => Some(Line::Base(words)),
-        _ => Some(Line::Event(Verb::of(name)?, words)),
+        _ => None,
     }
 }
 

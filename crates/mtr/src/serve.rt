@@ -147,7 +147,8 @@ fn threads_by<T: Tracker + Drop + Send + Sync, H: Threads + Wait + Sync, W: Writ
 fn tell_ending<S: Drop, E: Write>(came: Result<(Ending, S), Stop>, errors: &mut E) -> Ending
     ensures ended { IfOk came (λ came. result ≡ came.0) }
     ensures stopped { IfErr came (λ stop. result ≢ Ending.Stream → result ≡ ending_of stop) }
-    ensures told { IfErr came (λ stop. result ≢ Ending.Stream → Appends (E.contents errors.old) (E.contents errors.new) (stop_text stop ++ 10 ∷ [])) }
+    ensures told { IfErr came (λ stop. result ≢ Ending.Stream
+        → Appends (E.contents errors.old) (E.contents errors.new) (stop_text stop ++ 10 ∷ [])) }
 {
     match came {
         Ok((ending, _)) => ending,
@@ -159,7 +160,8 @@ fn tell_ending<S: Drop, E: Write>(came: Result<(Ending, S), Stop>, errors: &mut 
 fn tell<E: Write>(done: Result<(), Stop>, errors: &mut E) -> Ending
     ensures done { OnOk done (result ≡ Ending.Done) }
     ensures stopped { IfErr done (λ stop. result ≢ Ending.Stream → result ≡ ending_of stop) }
-    ensures told { IfErr done (λ stop. result ≢ Ending.Stream → Appends (E.contents errors.old) (E.contents errors.new) (stop_text stop ++ 10 ∷ [])) }
+    ensures told { IfErr done (λ stop. result ≢ Ending.Stream
+        → Appends (E.contents errors.old) (E.contents errors.new) (stop_text stop ++ 10 ∷ [])) }
 {
     match done {
         Ok(()) => Ending::Done,

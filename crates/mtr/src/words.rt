@@ -4,7 +4,8 @@
 //! makes a word without a character, which is no number and no name.
 
 ghost use Rattle.std.specs.Prelude.{◌≡◌, ◌^◌, option_map, length, ◌==◌, is_some};
-ghost use Rattle.mtr.specs.Words.{words_of, first_word, behind_name, number_in, integer_in, row_id_in, row_in, naming_in, sides_of, assignment, AreAll};
+ghost use Rattle.mtr.specs.Words.{words_of, first_word, behind_name, number_in, integer_in, row_id_in, row_in, naming_in, sides_of};
+ghost use Rattle.mtr.specs.Words.{assignment, AreAll};
 ghost use Rattle.mtr.specs.Number.{integer};
 
 use crate::cut::cut_at;

@@ -103,7 +103,7 @@ fn commit_session<S: NewStore, T: Tracker + Drop + Send + Sync, J: SourceNaming,
 {
     let session = place as u16 + 1;
     let mut seat = source.session(rt, session)?;
-    let mut receipts = Vec::new(alloc);
+    let mut receipts = Vec::with_capacity(alloc, transactions as usize)?;
     for transaction in 1..=transactions {
         receipts.push(commit_one(rt, source, &mut seat, transaction)?)?;
     }

@@ -94,7 +94,8 @@ fn new_cores<S: NewStore, T: Tracker + Drop>(
     requires few { workers ≤ 64 }
     ensures source { IfOk result (λ made. made.source ≡ new_source made.source.tables made.source.base made.source.limit made.source.kind) }
     ensures log { IfOk result (λ made. IsNew made.log.log) }
-    ensures replica { IfOk result (λ made. made.replica ≡ new_over made.replica.tables made.replica.source made.replica.base made.replica.workers made.replica.preserve) }
+    ensures replica { IfOk result (λ made. made.replica ≡ new_over made.replica.tables made.replica.source made.replica.base
+        made.replica.workers made.replica.preserve) }
     ensures order { IfOk result (λ made. made.replica.preserve ≡ preserve) }
     ensures tables { IfOk result (λ made. made.replica.tables ≡ made.source.tables) }
 {
@@ -138,7 +139,8 @@ fn run_named<
     requires plan { IsInRange (Options.Threads plan.now) }
     requires source { cores.source ≡ new_source cores.source.tables cores.source.base cores.source.limit cores.source.kind }
     requires log { IsNew cores.log.log }
-    requires replica { cores.replica ≡ new_over cores.replica.tables cores.replica.source cores.replica.base cores.replica.workers cores.replica.preserve }
+    requires replica { cores.replica ≡ new_over cores.replica.tables cores.replica.source cores.replica.base cores.replica.workers
+        cores.replica.preserve }
     requires order { cores.replica.preserve ≡ plan.now.sides.preserve }
     requires tables { cores.replica.tables ≡ cores.source.tables }
     requires source_base { cores.source.base ≡ J.base }

@@ -9,7 +9,7 @@ use published::{Answer, Notice, ReadSeat};
 use replica_shared::ReplicaNaming;
 use rows::Row;
 use schema::RowId;
-use std::alloc::Global;
+use std::alloc::{AllocError, Global};
 use std::marker::Model;
 use store_trait::RowStore;
 
@@ -50,19 +50,20 @@ impl<S: RowStore + Drop, K: ReplicaNaming> Model for Reader<S, K> {
 }
 
 impl<S: RowStore + Drop, K: ReplicaNaming> Reader<S, K> {
-    /// Nothing was read by the seat yet.
-    pub fn new(alloc: Global, seat: ReadSeat<S, K>) -> Reader<S, K>
-        ensures { result.shown ≡ [] }
+    /// Nothing was read by the seat yet. There is room for so many answers.
+    pub fn new(alloc: Global, seat: ReadSeat<S, K>, room: usize) -> Result<Reader<S, K>, AllocError>
+        ensures { IfOk result (λ reader. reader.shown ≡ []) }
     {
-        Reader {
+        Ok(Reader {
             seat,
-            shown: Vec::new(alloc),
-        }
+            shown: Vec::with_capacity(alloc, room)?,
+        })
     }
 
     /// Reads the row. The answer is kept.
     pub fn read(&mut self, id: RowId) -> Result<Option<Row>, Trouble>
-        ensures kept { IfOk result (λ row. (upto : ℕ) × (more : ℕ) × (self.new.shown ≡ self.old.shown ++ record { id = id; answer = record { row = row; upto = upto; more = more } } ∷ [])) }
+        ensures kept { IfOk result (λ row. (upto : ℕ) × (more : ℕ)
+            × (self.new.shown ≡ self.old.shown ++ record { id = id; answer = record { row = row; upto = upto; more = more } } ∷ [])) }
         ensures err { OnErr result (self.new.shown ≡ self.old.shown) }
     {
         match self.seat.read(id) {

@@ -57,7 +57,8 @@ fn read_many<S: NewStore, K: ReplicaNaming, H: Wait>(
     alloc: Global,
     replica: &Replica<S, K>,
 ) -> Result<Reader<S, K>, Trouble> {
-    let mut reader = Reader::new(alloc, replica.seat(rt).ok_or(Trouble::Different)?);
+    let seat = replica.seat(rt).ok_or(Trouble::Different)?;
+    let mut reader = Reader::new(alloc, seat, READS as usize)?;
     for _ in 0..READS {
         reader.read(row_of(1, 1))?;
     }

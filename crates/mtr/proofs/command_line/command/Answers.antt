@@ -14,4 +14,5 @@ returns c =
     c.in_ok-subcommand.ensures.shape c.in_ok-run_command.ensures.local ∙ ap₂ with_subcommand top (ap (λ (a : App). a.top) c.in_ok-run_command.ensures.shape) in
     let threads : app_of c.in_ok-subcommand-2.field-0 ≡ with_subcommand (with_subcommand (top_of (new_app (codes "mtr"))) (run_app c.args.names).top) (threads_app c.args.names).top =
     c.in_ok-subcommand-2.ensures.shape c.in_ok-threads_command.ensures.local ∙ ap₂ with_subcommand run (ap (λ (a : App). a.top) c.in_ok-threads_command.ensures.shape) in
-    IfOk-weaker c.subcommand-3.result _ _ (λ command added. added.shape c.decode_command.ensures.local ∙ ap₂ with_subcommand threads (ap (λ (a : App). a.top) c.decode_command.ensures.shape)) c.subcommand-3.ensures
+    IfOk-weaker c.subcommand-3.result _ _ (λ command added. added.shape c.decode_command.ensures.local ∙ ap₂ with_subcommand threads (ap (λ (a : App). a.top) c.decode_command.ensures.shape))
+    c.subcommand-3.ensures

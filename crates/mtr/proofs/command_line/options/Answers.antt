@@ -64,7 +64,8 @@ run_alone : (p q r s t u v w x y : Place) → options_of (at p q r s t u v w x y
 unfolding clap_on_literals
 run_alone p q r s t u v w x y = refl
 
-threads_alone : (p q r s t u v w x y : Place) → options_of (at p q r s t u v w x y) (codes "threads" ∷ []) ≡ Some (Threads (record { sides = default_sides; sessions = 4; transactions = 10; seats = 2 }))
+threads_alone : (p q r s t u v w x y : Place) → options_of (at p q r s t u v w x y) (codes "threads" ∷ [])
+    ≡ Some (Threads (record { sides = default_sides; sessions = 4; transactions = 10; seats = 2 }))
 unfolding clap_on_literals
 threads_alone p q r s t u v w x y = refl
 
@@ -73,7 +74,8 @@ unfolding clap_on_literals
 decode_alone p q r s t u v w x y = refl
 
 by_default_at : (p q r s t u v w x y : Place) (name : Text) (asked : Options) → IsByDefault name asked → options_of (at p q r s t u v w x y) (name ∷ []) ≡ Some asked
-by_default_at p q r s t u v w x y name (Run sides fail) h = ap (λ n. options_of (at p q r s t u v w x y) (n ∷ [])) h.0 ∙ run_alone p q r s t u v w x y ∙ ap₂ (λ sides fail. Some (Run sides fail)) (sym h.1) (sym h.2)
+by_default_at p q r s t u v w x y name (Run sides fail) h = ap (λ n. options_of (at p q r s t u v w x y) (n ∷ [])) h.0 ∙ run_alone p q r s t u v w x y
+    ∙ ap₂ (λ sides fail. Some (Run sides fail)) (sym h.1) (sym h.2)
 by_default_at p q r s t u v w x y name (Threads plan) h = ap (λ n. options_of (at p q r s t u v w x y) (n ∷ [])) h.0 ∙ threads_alone p q r s t u v w x y ∙ ap (λ plan. Some (Threads plan)) (sym h.1)
 by_default_at p q r s t u v w x y name Decode h = ap (λ n. options_of (at p q r s t u v w x y) (n ∷ [])) h ∙ decode_alone p q r s t u v w x y
 
@@ -91,7 +93,8 @@ is_among p kind [] h e = absurd h
 is_among p kind (k ∷ ks) (inl same) e = ap (λ b. b || list_any p ks) (ap p (sym same) ∙ e)
 is_among p kind (k ∷ ks) (inr rest) e = ap (λ b. p k || b) (is_among p kind ks rest e) ∙ or-true (p k)
 
-fault_told : (names : Names) (words : List Text) (kind : ErrorKind) (fault : LineFault) → IsOfKind kind fault → (kind ≡ kinds.OutOfMemory → fault ≡ faults.Memory) → (kind ≡ kinds.OutOfMemory) ⊎ IsAmong kind (fault_of (program names) words) → IsOfWords names words fault
+fault_told : (names : Names) (words : List Text) (kind : ErrorKind) (fault : LineFault) → IsOfKind kind fault → (kind ≡ kinds.OutOfMemory → fault ≡ faults.Memory) →
+    (kind ≡ kinds.OutOfMemory) ⊎ IsAmong kind (fault_of (program names) words) → IsOfWords names words fault
 fault_told names words kind (faults.Line text) of memory (inl none) = let bad : faults.Line text ≡ faults.Memory = memory none in cc
 fault_told names words kind (faults.Line text) of memory (inr among) = inr (is_among is_mistake kind (fault_of (program names) words) among (ap not of))
 fault_told names words kind (faults.Asked text) of memory (inl none) = let bad : faults.Asked text ≡ faults.Memory = memory none in cc
@@ -102,11 +105,13 @@ among_along : (kind : ErrorKind) (ks ls : List ErrorKind) → ks ≡ ls → (kin
 among_along kind ks ls e h = let P : List ErrorKind → Type 0 = λ l. (kind ≡ kinds.OutOfMemory) ⊎ IsAmong kind l in subst P e h
 
 -- what was found is what the words name
-asks : (names : Names) (app : App) (words : List Text) (found : Option (Text × List Row)) → app ≡ program names → found ≡ subcommand_of app words → option_and_then options_for found ≡ options_of names words
+asks : (names : Names) (app : App) (words : List Text) (found : Option (Text × List Row)) → app ≡ program names → found ≡ subcommand_of app words →
+    option_and_then options_for found ≡ options_of names words
 asks names app words found is h = ap (option_and_then options_for) (h ∙ ap (λ a. subcommand_of a words) is)
 
 -- the options found are those by default
-same_default : (names : Names) (asked given : Options) (words : List Text) (name : Text) → AreNames names → Some given ≡ options_of names words → words ≡ name ∷ [] → IsByDefault name asked → given ≡ asked
+same_default : (names : Names) (asked given : Options) (words : List Text) (name : Text) → AreNames names → Some given ≡ options_of names words → words ≡ name ∷ [] → IsByDefault name asked →
+    given ≡ asked
 same_default names asked given words name are is alone default =
     let same : Some given ≡ Some asked = is ∙ ap (options_of names) alone ∙ by_default names name asked are default in
     cc
@@ -117,7 +122,8 @@ none_by_default names asked words name are is alone default =
     cc
 
 pub returns-in-Err-clause-alone : goal.returns-in-Err-clause-alone
-returns-in-Err-clause-alone c = λ name asked default alone. c.fault_of.ensures.memory (c.in-Err.ensures.passes (ap₂ takes c.in_ok-command.ensures alone ∙ is_taken c.choices.result name asked c.choices.ensures default))
+returns-in-Err-clause-alone c = λ name asked default alone. c.fault_of.ensures.memory
+    (c.in-Err.ensures.passes (ap₂ takes c.in_ok-command.ensures alone ∙ is_taken c.choices.result name asked c.choices.ensures default))
 
 pub returns-in-Err-clause-told : goal.returns-in-Err-clause-told
 returns-in-Err-clause-told c =
@@ -157,7 +163,8 @@ returns-in-Some-clause-alone c = λ name asked default alone.
     let words = map (λ w. w.now) c.args.words.now in
     let names = c.choices.result in
     let found = c.in-Ok.ensures.matches (ap is_simple c.in_ok-command.ensures ∙ is_simple_program names c.choices.ensures) in
-    same_default names asked c.in-Some.asked words name c.choices.ensures (sym c.in-Some.is ∙ c.options_in.ensures.named ∙ asks names (app_of c.in_ok-command.field-0) words (subcommand_rows_of c.in-Ok.matches) c.in_ok-command.ensures found.1) alone default
+    same_default names asked c.in-Some.asked words name c.choices.ensures (sym c.in-Some.is ∙ c.options_in.ensures.named
+    ∙ asks names (app_of c.in_ok-command.field-0) words (subcommand_rows_of c.in-Ok.matches) c.in_ok-command.ensures found.1) alone default
 
 pub returns-clause-told : goal.returns-clause-told
 returns-clause-told c =
@@ -178,4 +185,5 @@ returns-clause-alone c = λ name asked default alone.
     let words = map (λ w. w.now) c.args.words.now in
     let names = c.choices.result in
     let found = c.in-Ok.ensures.matches (ap is_simple c.in_ok-command.ensures ∙ is_simple_program names c.choices.ensures) in
-    absurd (none_by_default names asked words name c.choices.ensures (sym c.in-None.is ∙ c.options_in.ensures.named ∙ asks names (app_of c.in_ok-command.field-0) words (subcommand_rows_of c.in-Ok.matches) c.in_ok-command.ensures found.1) alone default)
+    absurd (none_by_default names asked words name c.choices.ensures (sym c.in-None.is ∙ c.options_in.ensures.named
+    ∙ asks names (app_of c.in_ok-command.field-0) words (subcommand_rows_of c.in-Ok.matches) c.in_ok-command.ensures found.1) alone default)

@@ -6,7 +6,8 @@ pub returns-then-eq : goal.returns-then-eq
 returns-then-eq c = rw c.requires (minus_zero _ (sym c.eq.ensures ∙ c.if-eq.true))
 
 pub returns-then-is_number : goal.returns-then-is_number
-returns-then-is_number c = rw c.requires (c.ok.ensures.value ∙ negative_parsed _ c.parse.result (rw c.requires at c.parse.ensures.value.0) (sym c.eq.ensures ∙ c.if-eq.false) (sym c.is_number.ensures ∙ c.if-is_number.true))
+returns-then-is_number c = rw c.requires (c.ok.ensures.value ∙ negative_parsed _ c.parse.result (rw c.requires at c.parse.ensures.value.0) (sym c.eq.ensures ∙ c.if-eq.false)
+    (sym c.is_number.ensures ∙ c.if-is_number.true))
 
 pub returns-else-is_number : goal.returns-else-is_number
 returns-else-is_number c = rw c.requires (no_negative _ (sym c.is_number.ensures ∙ c.if-is_number.false))

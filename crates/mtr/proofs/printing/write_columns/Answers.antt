@@ -13,5 +13,6 @@ loop-column-preserved g c = piece_more column_text _ c.loop-column.column-index 
 pub returns : goal.returns
 returns g c =
     let contents = g.W.Write.contents in
-    let all = pieces_all column_text c.columns-column-items.result.now c.loop-column.column-index (contents c.args.out.now) (contents c.loop-column.out) c.loop-column-test.false c.loop-column.invariant in
+    let all = pieces_all column_text c.columns-column-items.result.now c.loop-column.column-index (contents c.args.out.now)
+    (contents c.loop-column.out) c.loop-column-test.false c.loop-column.invariant in
     along _ _ _ _ (ap columns_text c.columns-column-items.ensures.value) all

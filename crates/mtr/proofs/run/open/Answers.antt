@@ -53,7 +53,8 @@ returns-in_ok-into_world-in-Some-2 g c =
       given = subst (λ o. IfSome o (λ batch. IsPermutation (map present c.args.rows.now) batch)) c.in-Some.is c.in_ok-base.ensures.rows;
       starts = subst (λ setup. HasRun g.S.RowStore.contents setup [] [] (seen c.in_ok-into_world-in-Some-2.field-0))
           (c.in_ok-into_world-in-Some-2.ensures.setup
-          ∙ set_up c.in-Some-2.pair.source c.in-Some-2.pair.replica c.in-Some-2.pair.log.log.head.source identifier own schema c.args.tables.items rows 9223372036854775807 kind (g.T.Tracker.kind c.args.tracker) c.args.workers c.args.preserve
+          ∙ set_up c.in-Some-2.pair.source c.in-Some-2.pair.replica c.in-Some-2.pair.log.log.head.source identifier own schema c.args.tables.items rows 9223372036854775807 kind
+          (g.T.Tracker.kind c.args.tracker) c.args.workers c.args.preserve
           source named replica c.from_bytes-from.ensures c.in_ok-schema.ensures.value (ap g.T.Tracker.kind c.parts_over-parts.ensures.tracker))
           c.in_ok-into_world-in-Some-2.ensures.starts;
     }

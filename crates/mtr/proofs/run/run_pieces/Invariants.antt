@@ -11,5 +11,6 @@ use Rattle.mtr.proofs.run.run_pieces.Given as goal
 abbrev pub invariant-loop-piece : goal.invariant-loop-piece
 invariant-loop-piece g l = record {
   world : IsWorld g.R.RowStore.contents (seen l.world);
-  done : (events : List Event) × (events ++ events_in (into_iter_items l.piece-iterator) ≡ events_in l.fn.pieces.items) × GoesOn g.R.RowStore.contents (seen l.fn.world) (seen l.world) events (g.W.Write.contents l.fn.output) (g.W.Write.contents l.output);
+  done : (events : List Event) × (events ++ events_in (into_iter_items l.piece-iterator) ≡ events_in l.fn.pieces.items)
+      × GoesOn g.R.RowStore.contents (seen l.fn.world) (seen l.world) events (g.W.Write.contents l.fn.output) (g.W.Write.contents l.output);
 }

@@ -9,7 +9,8 @@ use Rattle.mtr.proofs.run.run_script.Goals as goal
 
 pub returns-clause-prints : goal.returns-clause-prints
 returns-clause-prints g c =
-    let begins : List (RowId × List ℤ) → Type 0 = λ rows. BeginsWith g.S.RowStore.contents (g.T.Tracker.kind c.args.tracker) c.args.workers c.args.preserve c.args.script.tables.items rows (seen c.in_ok-world.world) in
+    let begins : List (RowId × List ℤ) → Type 0 = λ rows. BeginsWith g.S.RowStore.contents (g.T.Tracker.kind c.args.tracker) c.args.workers c.args.preserve c.args.script.tables.items rows
+    (seen c.in_ok-world.world) in
     on_ok_weaker c.run_pieces.result
     (prints g.S.RowStore.contents (said c.args.script) (g.T.Tracker.kind c.args.tracker) c.args.workers c.args.preserve (seen c.in_ok-world.world) (seen c.run_pieces.new.world)
     (g.W.Write.contents c.args.output.now) (g.W.Write.contents c.run_pieces.new.output) (subst begins c.deref.ensures.value c.in_ok-world.ensures))

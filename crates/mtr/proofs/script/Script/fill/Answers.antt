@@ -17,14 +17,16 @@ lines_at now left line is_more b e h = let P : Bool → Type 0 = λ x. IfSome no
 pub returns-then-not-branch : goal.returns-then-not-branch
 returns-then-not-branch g c =
     let remaining = g.R.Read.remaining in
-    known_refused (remaining c.args.input.now) (remaining c.loop-number.input) (remaining c.read_line.new.input) (said c.loop-number.self) c.loop-number.number c.read_line.new.line.items c.in_ok-is_more.is_more
+    known_refused (remaining c.args.input.now) (remaining c.loop-number.input) (remaining c.read_line.new.input)
+    (said c.loop-number.self) c.loop-number.number c.read_line.new.line.items c.in_ok-is_more.is_more
     c.loop-number.invariant c.in_ok-is_more.ensures.known
     (is_bad (said c.loop-number.self) (said c.add.new.self) _ _ _ c.deref.ensures.value c.in_ok-add.ensures.said c.if-not-branch.true)
 
 pub returns-then-not-is_more : goal.returns-then-not-is_more
 returns-then-not-is_more g c =
     let remaining = g.R.Read.remaining in
-    known_last (remaining c.args.input.now) (remaining c.loop-number.input) (remaining c.read_line.new.input) (said c.loop-number.self) (said c.add.new.self) c.loop-number.number c.read_line.new.line.items
+    known_last (remaining c.args.input.now) (remaining c.loop-number.input) (remaining c.read_line.new.input) (said c.loop-number.self)
+    (said c.add.new.self) c.loop-number.number c.read_line.new.line.items
     c.loop-number.invariant
     (lines_at (remaining c.loop-number.input) (remaining c.read_line.new.input) c.read_line.new.line.items c.in_ok-is_more.is_more false c.if-not-is_more.true c.in_ok-is_more.ensures.known)
     (is_good (said c.loop-number.self) (said c.add.new.self) _ _ _ c.deref.ensures.value c.in_ok-add.ensures.said c.if-not-branch.false)
@@ -32,7 +34,8 @@ returns-then-not-is_more g c =
 pub loop-number-preserved : goal.loop-number-preserved
 loop-number-preserved g c =
     let remaining = g.R.Read.remaining in
-    known_more (remaining c.args.input.now) (remaining c.loop-number.input) (remaining c.read_line.new.input) (said c.loop-number.self) (said c.add.new.self) c.loop-number.number c.read_line.new.line.items
+    known_more (remaining c.args.input.now) (remaining c.loop-number.input) (remaining c.read_line.new.input) (said c.loop-number.self)
+    (said c.add.new.self) c.loop-number.number c.read_line.new.line.items
     c.loop-number.invariant
     (lines_at (remaining c.loop-number.input) (remaining c.read_line.new.input) c.read_line.new.line.items c.in_ok-is_more.is_more true c.if-not-is_more.false c.in_ok-is_more.ensures.known)
     (is_good (said c.loop-number.self) (said c.add.new.self) _ _ _ c.deref.ensures.value c.in_ok-add.ensures.said c.if-not-branch.false)

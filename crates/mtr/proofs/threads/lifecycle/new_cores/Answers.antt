@@ -9,13 +9,15 @@ use Rattle.replica_core.specs.Calls.{new_over}
 use Rattle.mtr.proofs.threads.lifecycle.new_cores.Goals as goal
 
 -- a new source is the new one over what it has
-source_again : {P : Type 0} (source : P → Source) (o : Option P) (p : P) (ts : List Table) (base : List Entry) (limit : ℕ) (kind : Kind) → IfSome o (λ x. source x ≡ new_source ts base limit kind) → o ≡ Some p →
+source_again : {P : Type 0} (source : P → Source) (o : Option P) (p : P) (ts : List Table) (base : List Entry) (limit : ℕ) (kind : Kind) → IfSome o (λ x. source x ≡ new_source ts base limit kind) →
+    o ≡ Some p →
     source p ≡ new_source (source p).tables (source p).base (source p).limit (source p).kind
 source_again source o p ts base limit kind made is =
     subst (λ (s : Source). s ≡ new_source s.tables s.base s.limit s.kind) (sym (subst (λ x. IfSome x (λ y. source y ≡ new_source ts base limit kind)) is made)) refl
 
 -- and so is a new replica
-replica_again : {P : Type 0} (replica : P → Replica) (o : Option P) (p : P) (ts : List Table) (from : List ℕ) (base : List Entry) (workers : ℕ) (preserve : Bool) → IfSome o (λ x. replica x ≡ new_over ts from base workers preserve) → o ≡ Some p →
+replica_again : {P : Type 0} (replica : P → Replica) (o : Option P) (p : P) (ts : List Table) (from : List ℕ) (base : List Entry) (workers : ℕ) (preserve : Bool) →
+    IfSome o (λ x. replica x ≡ new_over ts from base workers preserve) → o ≡ Some p →
     replica p ≡ new_over (replica p).tables (replica p).source (replica p).base (replica p).workers (replica p).preserve
 replica_again replica o p ts from base workers preserve made is =
     subst (λ (r : Replica). r ≡ new_over r.tables r.source r.base r.workers r.preserve) (sym (subst (λ x. IfSome x (λ y. replica y ≡ new_over ts from base workers preserve)) is made)) refl

@@ -10,4 +10,5 @@ pub new-requires-clause-seats : goal.new-requires-clause-seats
 new-requires-clause-seats g c =
     let base = c.args.core.base in
     let same : Load c.args.publication.base ∷ [] ≡ Load base ∷ [] = ap (λ (b : List Entry). Load b ∷ []) c.requires.published in
-    subst (All (λ (seat : List Op). seat ≡ Load base ∷ [])) (sym c.in-Ok.ensures.seats) (All-replicate (λ (seat : List Op). seat ≡ Load base ∷ []) c.args.seats (Load c.args.publication.base ∷ []) same)
+    subst (All (λ (seat : List Op). seat ≡ Load base ∷ [])) (sym c.in-Ok.ensures.seats)
+    (All-replicate (λ (seat : List Op). seat ≡ Load base ∷ []) c.args.seats (Load c.args.publication.base ∷ []) same)

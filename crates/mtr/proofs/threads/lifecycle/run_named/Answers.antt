@@ -10,7 +10,15 @@ use Rattle.mtr.proofs.threads.lifecycle.run_named.Goals as goal
 
 pub returns-clause-ended : goal.returns-clause-ended
 returns-clause-ended g c =
-    let ended : Replica → Ended g.row.S.Denot g.row.T.Denot = λ r. record { source = c.end.result; replica = r; receipts = c.in_ok-given_all.field-0; readings = c.in_ok-receipts.readings; workers = c.in_ok-receipts.workers; published = c.status-published.result.published } in
+    let ended : Replica → Ended g.row.S.Denot g.row.T.Denot = λ r. record {
+      source = c.end.result;
+      replica = r;
+      receipts = c.in_ok-given_all.field-0;
+      readings = c.in_ok-receipts.readings;
+      workers =
+          c.in_ok-receipts.workers;
+      published = c.status-published.result.published;
+    } in
     let order = c.end-replica.ensures.order in
     subst (λ (r : Replica). IsEnded c.args.plan.now (ended r)) (sym c.replica-2.view_is) (record {
       order = order ∙ sym c.requires.replica_order ∙ c.requires.order;

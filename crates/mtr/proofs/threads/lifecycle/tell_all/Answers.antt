@@ -9,7 +9,8 @@ use Rattle.mtr.proofs.threads.lifecycle.tell_all.Goals as goal
 pub loop-reader-preserved : goal.loop-reader-preserved
 loop-reader-preserved g c =
     let published = c.args.publisher.now.published in
-    let told : AreTold g.K.Naming.preserve published c.into_shown.result.items = subst (λ (ops : List Op). AreTold g.K.Naming.preserve ops c.into_shown.result.items) c.tell.ensures c.into_shown.ensures.told in (
+    let told : AreTold g.K.Naming.preserve published c.into_shown.result.items =
+    subst (λ (ops : List Op). AreTold g.K.Naming.preserve ops c.into_shown.result.items) c.tell.ensures c.into_shown.ensures.told in (
       tt,
       tt,
       subst (All (λ (v : Vec Shown Global). AreTold g.K.Naming.preserve published v.items)) (sym c.in_ok-push.ensures.items)

@@ -1,0 +1,7 @@
+-- Short texts.
+use Rattle.std.proofs.Common.{◌<◌, ◌≤◌, ◌^◌, ℕ, length, decimal, arith}
+use Rattle.std.proofs.lemmas.Fmt.{length-decimal-le}
+
+-- a number of 64 bits has at most twenty digits
+pub few_digits : (n : ℕ) → n < 2 ^ 64 → length (decimal n) ≤ 20
+few_digits n h = length-decimal-le 20 n (omega arith) (omega (arith, h)) h
