@@ -3,3 +3,4 @@ mod courses;
 mod limits;
 mod makers;
 mod one_thread;
+mod steps;

@@ -1,1 +1,1 @@
-mod Below
+mod Following

@@ -1,5 +1,6 @@
-//! A publisher of commits in the order of the log that set one row to their own numbers. It ends itself, so that it may lie under a lock.
-ghost use Rattle.std.specs.Prelude.{◌≡◌, ◌≤◌, true};
+//! A publisher of commits that set one row to their own numbers. It ends itself, so that it may lie under a lock.
+ghost use Rattle.std.specs.Prelude.{◌≡◌, ◌≤◌, ◌<◌, ◌^◌, true};
+ghost use Rattle.tests_threads.specs.Numbers.{behind as behind_it};
 
 use crate::makers::commit;
 use btree_store::BTreeStore;
@@ -12,17 +13,20 @@ use schema::Memory;
 use std::alloc::Global;
 use std::marker::Model;
 use std::sync::Wait;
+use tests_stores::again;
 
-/// The gno of the last commit that is made.
-pub const LAST: u64 = 1000;
+/// The greatest gno of a commit.
+pub const LAST: u64 = 4096;
 
-/// The publisher, what it takes to end it, and the gno of the next commit.
+/// The publisher, what it takes to end it, whether the order of the log is kept, and the gno of the next commit. They rise from 1 on where
+/// it is, and else fall to 1.
 pub struct Desk<'r, J: Naming, R: Wait>
 where
     Version<BTreeStore, J>: Absorb<Step<J>, State = Common>,
 {
     rt: &'r R,
     publisher: Publisher<BTreeStore, J>,
+    preserve: bool,
     next: u64,
 }
 
@@ -30,66 +34,69 @@ impl<'r, J: Naming, R: Wait> Model for Desk<'r, J, R>
 where
     Version<BTreeStore, J>: Absorb<Step<J>, State = Common>,
 {
-    ghost use Rattle.std.specs.Prelude.{◌≡◌, ◌++◌, true, length};
+    ghost use Rattle.std.specs.Prelude.{◌≡◌, ◌++◌};
     ghost use Rattle.published.specs.Publication.{Publishing};
+    ghost use Rattle.tests_threads.specs.Numbers.{IsNext};
 
     ghost Value = { Publishing };
 
     ghost view = { λ d. d.publisher };
 
-    ghost invariant = { λ d. (J.preserve ≡ true) × (length (d.publisher.published ++ d.publisher.waiting) ≡ d.next) };
+    ghost invariant = { λ d. (J.preserve ≡ d.preserve) × IsNext d.preserve (d.publisher.published ++ d.publisher.waiting) d.next };
 }
 
 impl<'r, J: Naming, R: Wait> Desk<'r, J, R> {
+    #[tactic(auto, using(crate::proofs::Following::begins))]
     pub fn open(
         rt: &'r R,
         alloc: Global,
         beginning: Beginning,
+        preserve: bool,
+        next: u64,
         seats: usize,
     ) -> Result<(Desk<'r, J, R>, Vec<ReadSeat<BTreeStore, J>>), OpenError>
         requires book { beginning.book ≡ J.book }
-        requires order { J.preserve ≡ true }
+        requires order { J.preserve ≡ preserve }
+        requires first { preserve ≡ true → next ≡ 1 }
         requires seats { (1 ≤ seats) × (seats ≤ 32) }
     {
         let (publisher, seats) = open::<BTreeStore, J, R, LeftRight>(
             rt,
             alloc,
             beginning,
-            true,
+            preserve,
             BTreeStore::new(alloc),
             BTreeStore::new(alloc),
             seats,
         )?;
-        let next = 1;
-        Ok((
-            Desk {
-                rt,
-                publisher,
-                next,
-            },
-            seats,
-        ))
+        let desk = Desk {
+            rt,
+            publisher,
+            preserve,
+            next,
+        };
+        Ok((desk, seats))
     }
 
+    #[tactic(auto, using(crate::proofs::Following::may_go_on, crate::proofs::Following::goes_on))]
     fn append(&mut self, alloc: Global) -> Result<(), Memory> {
-        if self.next > LAST {
+        if self.next < 1 || self.next > LAST {
             return Err(Memory);
         }
         self.publisher.append(&commit(alloc, self.next)?)?;
-        self.next += 1;
+        self.next = behind(self.preserve, self.next);
         Ok(())
     }
 
     /// Appends so many commits. What is refused is done once more.
     pub fn append_again(&mut self, alloc: Global, count: u64) -> Result<(), Memory> {
         for _ in 0..count {
-            if self.append(alloc).is_err() {
-                self.append(alloc)?;
-            }
+            again!(self.append(alloc))?;
         }
         Ok(())
     }
 
+    #[tactic(auto, using(crate::proofs::Following::goes_on_shown))]
     pub fn publish(&mut self) -> Result<u64, Memory> {
         self.publisher.publish(self.rt)
     }
@@ -97,10 +104,7 @@ impl<'r, J: Naming, R: Wait> Desk<'r, J, R> {
     /// Appends so many commits and publishes them. What is refused is done once more.
     pub fn publish_again(&mut self, alloc: Global, count: u64) -> Result<u64, Memory> {
         self.append_again(alloc, count)?;
-        match self.publish() {
-            Ok(upto) => Ok(upto),
-            Err(_) => self.publish(),
-        }
+        again!(self.publish())
     }
 
     pub fn tell(&self) -> Notice<J> {
@@ -116,8 +120,18 @@ where
         let Desk {
             rt,
             publisher,
+            preserve: _,
             next: _,
         } = self;
         drop(publisher.close(rt));
     }
+}
+
+/// The gno behind this one.
+fn behind(preserve: bool, gno: u64) -> u64
+    requires some { 1 ≤ gno }
+    requires few { gno < 2 ^ 63 }
+    ensures { result ≡ behind_it preserve gno }
+{
+    if preserve { gno + 1 } else { gno - 1 }
 }

@@ -1,4 +1,8 @@
 //! Tests of both sides under their locks, and of what readers see in threads of their own: what no clause says of them.
+//!
+//! `replicas` and `sources` make a side for each course, and end it; what a course does is a method of `ReplicaRig` or `SourceRig`, beside
+//! the test that names it. `steps` and `sessions` have the calls that courses share, `publishing` what readers see of a publisher alone,
+//! and `jobs` the queue of jobs alone.
 #![tactic(auto)]
 
 #[cfg(test)]
@@ -8,7 +12,7 @@ mod device;
 #[cfg(test)]
 mod followed;
 #[cfg(test)]
-mod gaps;
+mod gates;
 #[cfg(test)]
 mod grouped;
 #[cfg(test)]
@@ -24,7 +28,13 @@ mod publishing;
 #[cfg(test)]
 mod replicas;
 #[cfg(test)]
+mod sessions;
+#[cfg(test)]
+mod sleepers;
+#[cfg(test)]
 mod sources;
+#[cfg(test)]
+mod steps;
 #[cfg(test)]
 mod stores;
 #[cfg(test)]
@@ -32,6 +42,6 @@ mod unlocked;
 #[cfg(test)]
 mod unordered;
 #[cfg(test)]
-mod watched;
-#[cfg(test)]
 mod wires;
+#[cfg(test)]
+mod workers;

@@ -7,7 +7,7 @@ ghost use Rattle.source_core.specs.Source.{new_source};
 use crate::stores::Store;
 use btree_store::BTreeStore;
 use commit_order_tracker::CommitOrder;
-use published::Answer;
+use published::{Answer, Counts};
 use replica_core::ReplicaCore;
 use rows::{Change, Row};
 use schema::{Memory, RowId, Schema, Table};
@@ -80,11 +80,21 @@ pub fn commit(alloc: Global, gno: u64) -> Result<Op, Memory>
     })
 }
 
-/// What is read of the row `ONE` once so many commits are published in the order of the log.
-pub fn answer(upto: u64) -> Answer {
+/// What is read of a row of these columns, or, where there are none, of one that is not there, with all commits up to that number and so
+/// many more.
+pub fn answer(columns: &[i64], upto: u64, more: u64) -> Answer {
     Answer {
-        row: Row::new(&[upto.cast_signed()]),
+        row: Row::new(columns),
         upto,
-        more: 0,
+        more,
+    }
+}
+
+/// So many records are received, committed and published.
+pub fn counts(received: u64, committed: u64, published: u64) -> Counts {
+    Counts {
+        received,
+        committed,
+        published,
     }
 }

@@ -5,7 +5,7 @@ use crate::desk::{Desk, LAST};
 use crate::makers::{ONE, answer, commit, set_to};
 use btree_store::BTreeStore;
 use published::plain::Plain;
-use published::{Beginning, Counts, Naming, Notice, OpenError, ReadSeat, Status};
+use published::{Answer, Beginning, Counts, Naming, Notice, OpenError, ReadSeat, Status};
 use schema::Memory;
 use std::alloc::Global;
 use std::marker::Brand;
@@ -13,6 +13,7 @@ use std::process::Abort;
 use std::sync::{Mutex, Wait};
 use std::test::Fail;
 use std::thread::{Threads, join};
+use tests_stores::again;
 
 /// Catches a call that gives up where memory is there, once it was refused, or where some number of commits wait.
 #[test]
@@ -51,7 +52,7 @@ fn plain_again(
     if plain.publish().is_err() {
         plain.publish()?;
     }
-    assert_eq!(rt; plain.read(ONE), answer(upto as u64));
+    assert_eq!(rt; plain.read(ONE), in_order(upto as u64));
     Ok(())
 }
 
@@ -64,6 +65,11 @@ fn append_upto(alloc: Global, plain: &mut Plain<BTreeStore>, last: u16) -> Resul
         plain.append(&commit(alloc, gno)?)?;
     }
     Ok(())
+}
+
+/// What is read of the row `ONE` once so many commits are published in the order of the log.
+fn in_order(upto: u64) -> Answer {
+    answer(&[upto.cast_signed()], upto, 0)
 }
 
 const SOME: Counts = Counts {
@@ -81,57 +87,143 @@ const MORE: Counts = Counts {
 /// Catches a watch that is refused where memory is there, and one that shows for ever what was stored when it was made.
 #[test]
 fn watches_are_made_again(rt: HostRuntime) -> Result<(), Fail> {
-    let mut status = match Status::new(rt.alloc()) {
-        Ok(status) => status,
-        Err(_) => Status::new(rt.alloc())?,
-    };
+    let mut status = again!(Status::new(rt.alloc()))?;
     status.store(&rt, SOME);
-    let mut watch = match status.watch() {
-        Ok(watch) => watch,
-        Err(_) => status.watch()?,
-    };
+    let mut watch = again!(status.watch())?;
     assert_eq!(rt; watch.load(&rt), SOME);
     status.store(&rt, MORE);
     assert_eq!(rt; watch.load(&rt), MORE);
     Ok(())
 }
 
+/// What is done with a publisher and its seats.
+#[derive(Clone, Copy, Drop)]
+enum Course {
+    /// The most seats read, beside refused calls.
+    Seats,
+    /// The second commit is published before the first.
+    Gap,
+    /// As many as there are come in front of the first.
+    WideGap,
+    /// Two threads publish, and two read.
+    Beside,
+}
+
+impl Course {
+    /// Whether the order of the log is kept, the gno of the first commit, and the number of seats.
+    fn row(self) -> (bool, u64, usize)
+        ensures first { result.0 ≡ true → result.1 ≡ 1 }
+        ensures seats { (1 ≤ result.2) × (result.2 ≤ 32) }
+    {
+        match self {
+            Course::Seats => (true, 1, 32),
+            Course::Gap => (false, 2, 1),
+            Course::WideGap => (false, LAST, 1),
+            Course::Beside => (true, 1, 3),
+        }
+    }
+}
+
 /// Catches a seat that is refused, or answers nothing, while the publisher is there, and a publisher that gives up for good
 /// once memory was refused, or where some number of commits wait.
 #[test]
 fn seats_read_again(rt: HostRuntime) -> Result<(), Fail> {
-    for _try in 0..2 {
-        let Ok(base) = set_to(rt.alloc(), 0) else {
-            continue;
-        };
-        if seen_by::<Brand, _>(&rt, rt.alloc(), Beginning::of(base))? {
-            return Ok(());
-        }
-    }
-    Err("twice no memory")?
+    runs(&rt, rt.alloc(), Course::Seats)
 }
 
-/// Whether there was memory for the most seats. Then commits are published, with one more behind a refused call or none.
-fn seen_by<J: Naming, R: Wait + Abort>(
+/// Catches a commit ahead of a gap that is refused for good, that is counted twice where memory was refused, or that is shown as if there
+/// were no gap; a gap that stays open; and a publisher that gives up for good once memory was refused.
+#[test]
+fn a_seat_sees_a_gap_close_again(rt: HostRuntime) -> Result<(), Fail> {
+    runs(&rt, rt.alloc(), Course::Gap)
+}
+
+/// Catches numbers ahead of a gap that the mark does not pass at once, or that get lost where there are many.
+#[test]
+fn a_gap_closes_below_4095_numbers(rt: HostRuntime) -> Result<(), Fail> {
+    runs(&rt, rt.alloc(), Course::WideGap)
+}
+
+/// Catches an answer that falls, one below what was learnt, a row that is not that of its number, a commit that is lost or
+/// a publisher that gives up where two have it in turn, and a seat that shows what it read thousands of commits before.
+#[test]
+fn two_publish_beside_two_seats(rt: HostRuntime) -> Result<(), Fail> {
+    runs(&rt, rt.alloc(), Course::Beside)
+}
+
+fn runs<R: Threads + Wait + Abort + Sync>(
     rt: &R,
     alloc: Global,
+    course: Course,
+) -> Result<(), Fail> {
+    if !has_run(rt, alloc, course)? && !has_run(rt, alloc, course)? {
+        Err("twice no memory")?;
+    }
+    Ok(())
+}
+
+/// Whether there was memory for the publisher and its seats.
+fn has_run<R: Threads + Wait + Abort + Sync>(
+    rt: &R,
+    alloc: Global,
+    course: Course,
+) -> Result<bool, Fail> {
+    let Ok(base) = set_to(alloc, 0) else {
+        return Ok(false);
+    };
+    let (preserve, next, seats) = course.row();
+    run_over::<Brand, R>(
+        rt,
+        alloc,
+        course,
+        Beginning::of(base),
+        preserve,
+        next,
+        seats,
+    )
+}
+
+fn run_over<J: Naming + Send + Sync, R: Threads + Wait + Abort + Sync>(
+    rt: &R,
+    alloc: Global,
+    course: Course,
     beginning: Beginning,
+    preserve: bool,
+    next: u64,
+    seats: usize,
 ) -> Result<bool, Fail>
     requires book { beginning.book ≡ J.book }
-    requires order { J.preserve ≡ true }
+    requires order { J.preserve ≡ preserve }
+    requires first { preserve ≡ true → next ≡ 1 }
+    requires seats { (1 ≤ seats) × (seats ≤ 32) }
 {
-    let (mut desk, mut seats) = match Desk::<J, R>::open(rt, alloc, beginning, 32) {
+    let (desk, seats) = match Desk::<J, R>::open(rt, alloc, beginning, preserve, next, seats) {
         Ok(opened) => opened,
         Err(cause) => {
             assert_eq!(rt; cause, OpenError::Memory);
             return Ok(false);
         }
     };
+    match course {
+        Course::Seats => seats_see(rt, alloc, desk, seats)?,
+        Course::Gap | Course::WideGap => a_gap_closes(rt, alloc, desk, seats, next)?,
+        Course::Beside => all_see(rt, alloc, desk, seats)?,
+    }
+    Ok(true)
+}
+
+/// Commits are published, with one more behind a refused call or none.
+fn seats_see<J: Naming, R: Wait + Abort>(
+    rt: &R,
+    alloc: Global,
+    mut desk: Desk<'_, J, R>,
+    mut seats: Vec<ReadSeat<BTreeStore, J>>,
+) -> Result<(), Memory> {
     assert_eq!(rt; seats.len(), 32);
     for (count, more) in [(1, 0), (2, 1), (1, 0), (300, 1)] {
         publish_seen(rt, alloc, &mut desk, &mut seats, count, more)?;
     }
-    Ok(true)
+    Ok(())
 }
 
 /// Publishes so many commits, and the second number more where it was refused.
@@ -161,7 +253,7 @@ fn all_read<J: Naming, R: Wait + Abort>(
 ) {
     let upto = desk.tell().upto();
     for seat in seats {
-        assert_eq!(rt; seat.read(ONE), Some(answer(upto)));
+        assert_eq!(rt; seat.read(ONE), Some(in_order(upto)));
         assert_eq!(rt; read_on(rt, seat, desk.tell(), upto), upto);
     }
 }
@@ -177,32 +269,39 @@ fn read_on<J: Naming>(
     seat.learn(notice);
     let found = seat.read(ONE).expect(rt, "the publisher is there");
     assert!(rt; found.upto >= floor, "{} falls below {floor}", found.upto);
-    assert_eq!(rt; found, answer(found.upto));
+    assert_eq!(rt; found, in_order(found.upto));
     found.upto
 }
 
-/// Catches an answer that falls, one below what was learnt, a row that is not that of its number, a commit that is lost or
-/// a publisher that gives up where two have it in turn, and a seat that shows what it read a thousand commits before.
-#[test]
-fn two_publish_beside_two_seats(rt: HostRuntime) -> Result<(), Fail> {
-    let beginning = Beginning::of(set_to(rt.alloc(), 0)?);
-    run_beside::<Brand, _>(&rt, rt.alloc(), beginning)
-}
-
-fn run_beside<J: Naming + Send + Sync, R: Threads + Wait + Abort + Sync>(
+/// Publishes the commits from this one down to the second, and then the first.
+fn a_gap_closes<J: Naming, R: Wait + Abort>(
     rt: &R,
     alloc: Global,
-    beginning: Beginning,
-) -> Result<(), Fail>
-    requires book { beginning.book ≡ J.book }
-    requires order { J.preserve ≡ true }
-{
-    let (desk, mut seats) = Desk::<J, R>::open(rt, alloc, beginning, 3)?;
+    mut desk: Desk<'_, J, R>,
+    mut seats: Vec<ReadSeat<BTreeStore, J>>,
+    last: u64,
+) -> Result<(), Fail> {
+    let mut seat = seats.pop().ok_or("a seat")?;
+    let ahead = last.saturating_sub(1);
+    assert_eq!(rt; desk.publish_again(alloc, ahead)?, ahead);
+    assert_eq!(rt; seat.read(ONE), Some(answer(&[2], 0, ahead)));
+    assert_eq!(rt; desk.publish_again(alloc, 1)?, last);
+    assert_eq!(rt; seat.read(ONE), Some(answer(&[1], last, 0)));
+    Ok(())
+}
+
+/// Two threads publish beside two that read; a third seat reads before and behind.
+fn all_see<J: Naming + Send + Sync, R: Threads + Wait + Abort + Sync>(
+    rt: &R,
+    alloc: Global,
+    desk: Desk<'_, J, R>,
+    mut seats: Vec<ReadSeat<BTreeStore, J>>,
+) -> Result<(), Fail> {
     let (Some(one), Some(two), Some(mut idle)) = (seats.pop(), seats.pop(), seats.pop()) else {
         return Err("three seats")?;
     };
     let desk = Mutex::new(desk);
-    assert_eq!(rt; idle.read(ONE), Some(answer(0)));
+    assert_eq!(rt; idle.read(ONE), Some(in_order(0)));
     // (Where no thread can be made, those who read come last.)
     join(
         rt,
@@ -213,7 +312,7 @@ fn run_beside<J: Naming + Send + Sync, R: Threads + Wait + Abort + Sync>(
             || publish_all(rt, alloc, &desk),
         ),
     );
-    assert_eq!(rt; idle.read(ONE), Some(answer(LAST)));
+    assert_eq!(rt; idle.read(ONE), Some(in_order(LAST)));
     Ok(())
 }
 

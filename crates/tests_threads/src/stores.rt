@@ -3,10 +3,12 @@ ghost use Rattle.std.specs.Prelude.{◌≡◌, IfOk};
 ghost use Rattle.std.specs.FinMap.{empty};
 
 use crate::device::{comes, comes_in_turns};
-use crate::replicas::{Held, Shared, Step, counts, feed, shows};
+use crate::gates::Held;
+use crate::makers::counts;
+use crate::replicas::{Course, ReplicaRig, runs};
+use crate::steps::Step;
 use btree_store::BTreeStore;
 use published::Counts;
-use record_codec::Record;
 use replica_shared::ReplicaNaming;
 use rows::Row;
 use schema::{Memory, RowId};
@@ -24,6 +26,12 @@ const WORKING: u64 = 1;
 
 /// That of each copy for readers.
 const COPY: u64 = 2;
+
+/// Catches a status that waits for the lock, and a result that publishes each of its commits by itself.
+#[test]
+fn one_result_publishes_three_commits_at_once(rt: HostRuntime) -> Result<(), Fail> {
+    runs(&rt, rt.alloc(), &[Course::Stored])
+}
 
 /// What the stores of a replica tell, and what they are told.
 #[derive(Drop)]
@@ -130,56 +138,34 @@ impl<S: RowStore> RowStore for Noting<S> {
     }
 }
 
-/// The first job is held until the third is left, so that its result commits all three. While the first commit is held the status is
-/// told. The working rows take all three, and then a copy does.
-pub fn is_stored<J, R>(
-    rt: &R,
-    alloc: Global,
-    shared: &Shared<J>,
-    records: &[Record],
-    notes: &Notes,
-) -> Result<u64, Fail>
+impl<J, R> ReplicaRig<'_, J, R>
 where
     J: ReplicaNaming + Send + Sync,
     R: Threads + Wait + Abort + Clock + Sync,
 {
-    feed(rt, shared, records, &[Step::Take(1, 3)])?;
-    notes.word.store(0, Ordering::SeqCst);
-    notes.is_slow.store(true, Ordering::SeqCst);
-    let gate = Held::new(3);
-    let ((one, two), told) = join(
-        rt,
-        || join(
-            rt,
-            || shared.worker(rt, alloc, &gate),
-            || shared.worker(rt, alloc, &gate),
-        ),
-        || look(rt, shared, notes, &gate),
-    );
-    one?;
-    two?;
-    // (Where there is no memory for a thread, the workers run one after another.)
-    if !gate.has_met() {
-        Err(Memory)?;
+    /// The first job is held until the third is left, so that its result commits all three. While the first commit is held the status is
+    /// told. The working rows take all three, and then a copy does.
+    pub fn are_stored(&self) -> Result<u64, Fail> {
+        self.feed(&[Step::Take(1, 3)])?;
+        self.notes.word.store(0, Ordering::SeqCst);
+        self.notes.is_slow.store(true, Ordering::SeqCst);
+        let gate = Held::new(3);
+        let (ends, told) = join(self.rt, || self.two_work(&gate), || self.look(&gate));
+        for ended in ends {
+            ended?;
+        }
+        gate.met()?;
+        assert_eq!(self.rt; told, Some(counts(3, 0, 0)));
+        assert_eq!(self.rt; self.notes.word.load(Ordering::SeqCst), 111_222);
+        self.shows(3, [5, 6])
     }
-    assert_eq!(rt; told, Some(counts(0, 0)));
-    assert_eq!(rt; notes.word.load(Ordering::SeqCst), 111_222);
-    shows(rt, shared, 3, [5, 6])
-}
 
-/// The status while the batch is held. `None` where it is not in time. Then all go on.
-fn look<J: ReplicaNaming>(
-    rt: &(impl Wait + Clock),
-    shared: &Shared<J>,
-    notes: &Notes,
-    gate: &Held,
-) -> Option<Counts> {
-    let told = if comes(rt, &notes.entered) {
-        Some(shared.status(rt))
-    } else {
-        None
-    };
-    notes.freed.store(true, Ordering::SeqCst);
-    gate.open();
-    told
+    /// The status while the batch is held. `None` where it is not in time. Then all go on.
+    fn look(&self, gate: &Held) -> Option<Counts> {
+        let in_time = comes(self.rt, &self.notes.entered);
+        let told = in_time.then(|| self.shared.status(self.rt));
+        self.notes.freed.store(true, Ordering::SeqCst);
+        gate.open();
+        told
+    }
 }

@@ -6,10 +6,11 @@ ghost use Rattle.world.specs.Seen.{seen};
 ghost use Rattle.world.specs.State.{IsWorld};
 
 use crate::tests::courses::{
-    Told, kin_at_the_replica, kin_at_the_source, three_at_the_source, three_behind_a_gap,
+    kin_at_the_replica, kin_at_the_source, three_at_the_source, three_behind_a_gap,
     two_at_the_replica, two_at_the_source, values_at_the_replica, values_at_the_source,
 };
 use crate::tests::makers::{InOne, unordered_world, world, world_of_kin, world_of_values};
+use crate::tests::steps::{Course, Step};
 use btree_store::BTreeStore;
 use commit_order_tracker::CommitOrder;
 use log_device::Device;
@@ -115,8 +116,8 @@ fn answer_all<S: RowStore + Drop, T: Tracker + Drop>(
     rt: &impl Abort,
     alloc: Global,
     mut world: InOne<S, T>,
-    source: &[Told],
-    replica: &[Told],
+    source: &[Step],
+    replica: &[Step],
 ) -> Result<(), Fail>
     requires { IsWorld S.contents (seen world) }
 {
@@ -127,13 +128,15 @@ fn answer_both<S: RowStore, T: Tracker, D: Device, R: RowStore>(
     rt: &impl Abort,
     alloc: Global,
     world: &mut World<S, T, D, R>,
-    source: &[Told],
-    replica: &[Told],
+    source: &[Step],
+    replica: &[Step],
 ) -> Result<(), Fail>
     requires { IsWorld R.contents (seen world.old) }
 {
-    answer_as_told(rt, alloc, world, source)?;
-    answer_as_told(rt, alloc, world, replica)
+    let source = again!(Course::new(alloc, source))?;
+    let replica = again!(Course::new(alloc, replica))?;
+    answer_as_told(rt, alloc, world, &source.told)?;
+    answer_as_told(rt, alloc, world, &replica.told)
 }
 
 /// Sends events, and compares what each is answered with what it is to be.
@@ -141,14 +144,14 @@ fn answer_as_told<S: RowStore, T: Tracker, D: Device, R: RowStore>(
     rt: &impl Abort,
     alloc: Global,
     world: &mut World<S, T, D, R>,
-    course: &[Told],
+    course: &[(Event, String)],
 ) -> Result<(), Fail>
     requires { IsWorld R.contents (seen world.old) }
     ensures { IsWorld R.contents (seen world.new) }
 {
     for (event, want) in course {
         let answer = answer_again(alloc, world, event)?;
-        assert_eq!(rt; answer.as_str(), *want, "{event:?}");
+        assert_eq!(rt; answer.as_str(), want.as_str(), "{event:?}");
     }
     Ok(())
 }

@@ -1,0 +1,92 @@
+//! Gates of workers: one that holds the first job, and one that notes the order of the jobs.
+
+use crate::device::comes_in_turns;
+use replica_shared::WorkerGate;
+use schema::Memory;
+use std::sync::atomic::{AtomicBool, AtomicU64, Ordering};
+
+/// It holds the first job until that of another number was left, in some turns at most, or until it is opened.
+#[derive(Drop)]
+pub struct Held {
+    other: u64,
+    is_open: AtomicBool,
+    /// The first goes on.
+    is_over: AtomicBool,
+    /// The other was left before.
+    has_met: AtomicBool,
+}
+
+impl Held {
+    pub fn new(other: u64) -> Held {
+        Held {
+            other,
+            is_open: AtomicBool::new(false),
+            is_over: AtomicBool::new(false),
+            has_met: AtomicBool::new(false),
+        }
+    }
+
+    pub fn open(&self) {
+        self.is_open.store(true, Ordering::SeqCst);
+    }
+
+    /// Whether the first has not gone on.
+    pub fn is_held(&self) -> bool {
+        !self.is_over.load(Ordering::SeqCst)
+    }
+
+    /// The other was left while the first was held. It lacks memory where it was not: then there was none for a thread, and the workers
+    /// ran one after another.
+    pub fn met(&self) -> Result<(), Memory> {
+        if self.has_met.load(Ordering::SeqCst) {
+            Ok(())
+        } else {
+            Err(Memory)
+        }
+    }
+}
+
+impl WorkerGate for Held {
+    fn entered(&self, gno: u64) {
+        if gno == 1 {
+            comes_in_turns(&self.is_open);
+            self.is_over.store(true, Ordering::SeqCst);
+        }
+    }
+
+    fn left(&self, gno: u64) {
+        if gno == self.other {
+            self.has_met.store(self.is_held(), Ordering::SeqCst);
+            self.open();
+        }
+    }
+}
+
+/// It notes the number of each job that is entered, a digit each; but a number once where it is entered twice in a row.
+#[derive(Drop)]
+pub struct Order {
+    noted: AtomicU64,
+}
+
+impl Order {
+    pub fn new() -> Order {
+        Order {
+            noted: AtomicU64::new(0),
+        }
+    }
+
+    pub fn noted(&self) -> u64 {
+        self.noted.load(Ordering::SeqCst)
+    }
+}
+
+impl WorkerGate for Order {
+    fn entered(&self, gno: u64) {
+        let before = self.noted();
+        if before % 10 != gno {
+            self.noted.store(before.wrapping_mul(10).wrapping_add(gno), Ordering::SeqCst);
+        }
+    }
+
+    fn left(&self, _gno: u64) {}
+}
