@@ -1,0 +1,136 @@
+//! The replica's opening, and what carries the log to it and executes it while sessions commit.
+
+ghost use Rattle.std.specs.Prelude.{◌≡◌, true};
+ghost use Rattle.replica_core.specs.Calls.{new_over};
+
+use crate::trouble::Trouble;
+use btree_store::BTreeStore;
+use commit_order_tracker::CommitOrder;
+use log_device::MemoryDevice;
+use published::{LeftRight, open};
+use record_codec::CodecFault;
+use relay::ReplicaFault;
+use replica_core::{ReplicaCore, Wire, WireFault};
+use replica_shared::{NoGate, ReplicaNaming, SharedReplica};
+use source_core::SourceFault;
+use source_shared::{SharedSource, SourceNaming};
+use std::alloc::Global;
+use std::sync::Wait;
+use std::thread::yield_now;
+use uuid::Uuid;
+
+/// The source's identifier.
+pub const SOURCE: [u8; 16] = [7; 16];
+
+/// So many seats all readers share.
+pub const SEATS: usize = 2;
+
+/// The source, with its log in memory.
+pub type Source<J> = SharedSource<BTreeStore, CommitOrder, MemoryDevice, J>;
+
+/// The replica.
+pub type Replica<K> = SharedReplica<BTreeStore, K>;
+
+/// The replica for many threads.
+pub fn new_replica<K: ReplicaNaming>(
+    rt: &impl Wait,
+    alloc: Global,
+    core: ReplicaCore<BTreeStore>,
+    publication: published::Beginning,
+) -> Result<Replica<K>, Trouble>
+    requires core { core ≡ new_over core.tables core.source core.base core.workers true }
+    requires tables { core.tables ≡ K.tables }
+    requires source { core.source ≡ K.source }
+    requires base { core.base ≡ K.base }
+    requires order { K.preserve ≡ true }
+    requires publication { publication.book ≡ K.book }
+    requires published { publication.base ≡ core.base }
+{
+    let (first, second) = (BTreeStore::new(alloc), BTreeStore::new(alloc));
+    let (publisher, seats) = open::<BTreeStore, K, _, LeftRight>(
+        rt,
+        alloc,
+        publication,
+        true,
+        first,
+        second,
+        SEATS,
+    )?;
+    Ok(SharedReplica::new(rt, alloc, core, publisher, seats)?)
+}
+
+/// The wire: sends what is synced, as soon as it is, until the source was closed and all is sent; then tells the replica that no more
+/// comes. It gives up for no want of memory, since readers wait for what it sends.
+pub fn carry<J: SourceNaming, K: ReplicaNaming>(
+    rt: &impl Wait,
+    alloc: Global,
+    source: &Source<J>,
+    replica: &Replica<K>,
+) -> Result<(), Trouble> {
+    let sent = send(rt, alloc, source, replica);
+    replica.close(rt);
+    sent
+}
+
+/// Without room in the vector the bytes are those of one record at a time, for which the source asks for memory.
+fn send<J: SourceNaming, K: ReplicaNaming>(
+    rt: &impl Wait,
+    alloc: Global,
+    source: &Source<J>,
+    replica: &Replica<K>,
+) -> Result<(), Trouble> {
+    let mut wire = Wire::new(alloc, Uuid::from_bytes(SOURCE));
+    let mut bytes = Vec::new(alloc);
+    let mut sent = 0u64;
+    for _ in rt.forever() {
+        bytes.clear();
+        match source.bytes_past(rt, sent, &mut bytes) {
+            Ok(0) => return Ok(()),
+            Ok(count) => {
+                feed(rt, replica, &mut wire, &bytes)?;
+                sent = sent.saturating_add(count);
+            }
+            Err(SourceFault::Memory) => yield_now(),
+            Err(fault) => return Err(fault.into()),
+        }
+    }
+    unreachable!()
+}
+
+/// Hands the bytes over, and calls again where memory lacks: with the same bytes where none of them was taken, else with none, for the
+/// records that wait.
+fn feed<K: ReplicaNaming>(
+    rt: &impl Wait,
+    replica: &Replica<K>,
+    wire: &mut Wire,
+    bytes: &[u8],
+) -> Result<(), WireFault> {
+    let mut piece = bytes;
+    for _ in rt.forever() {
+        match replica.feed(rt, wire, piece) {
+            Ok(_) => return Ok(()),
+            Err(WireFault::Codec(CodecFault::Memory)) => {}
+            Err(WireFault::Waiting(ReplicaFault::Memory)) => {}
+            Err(WireFault::Replica(ReplicaFault::Memory)) => piece = &[],
+            Err(fault) => return Err(fault),
+        }
+        yield_now();
+    }
+    unreachable!()
+}
+
+/// A worker: executes what comes until all is committed behind the replica's `close`. One that lacks memory is called again, since readers
+/// wait for what it left.
+pub fn work<K: ReplicaNaming>(
+    rt: &impl Wait,
+    alloc: Global,
+    replica: &Replica<K>,
+) -> Result<(), ReplicaFault> {
+    for _ in rt.forever() {
+        match replica.worker(rt, alloc, &NoGate) {
+            Err(ReplicaFault::Memory) => yield_now(),
+            ended => return ended,
+        }
+    }
+    unreachable!()
+}

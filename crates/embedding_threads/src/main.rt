@@ -1,0 +1,173 @@
+//! A second program of one's own over the pair, which lives longer than `embedding`: while sessions commit, a wire sends what is synced,
+//! two workers execute it, and readers wait for what a client was told of, and read it through seats that they share. Each of them is a
+//! thread of its own. It prints the same in whatever order these take their steps.
+//!
+//! `docs/EMBEDDING.md` goes through it.
+#![tactic(auto)]
+
+ghost use Rattle.std.specs.Prelude.{◌≡◌, true};
+ghost use Rattle.source_core.specs.Source.{new_source};
+ghost use Rattle.replica_core.specs.Calls.{new_over};
+ghost use Rattle.log_file.specs.Log.{IsNew};
+
+mod clients;
+mod connecting;
+mod trouble;
+
+use btree_store::BTreeStore;
+use clients::{ACCOUNTS, Client, JOINT, balance, pool, read, read_all, row, serve};
+use commit_order_tracker::CommitOrder;
+use connecting::{Replica, SOURCE, Source, carry, new_replica, work};
+use log_device::MemoryDevice;
+use published::Answer;
+use replica_shared::ReplicaNaming;
+use rows::Row;
+use schema::{Schema, Table};
+use source_shared::{Receipt, SharedSource, SourceNaming};
+use std::alloc::Global;
+use std::fmt::Display;
+use std::io;
+use std::marker::Brand;
+use std::process::ExitCode;
+use std::sync::Wait;
+use std::thread::{Threads, join};
+use store_trait::Batch;
+use trouble::Trouble;
+use uuid::Uuid;
+use world::{Pair, PairParts, begins, pair_of};
+
+/// What is told at the end.
+#[derive(Drop)]
+struct Told {
+    refusal: Trouble,
+    accounts: Vec<Answer>,
+    joint: Answer,
+    is_beginning: bool,
+}
+
+fn main(rt: HostRuntime) -> ExitCode {
+    match open(&rt, rt.alloc()) {
+        Ok(told) => match tell(&rt, &told) {
+            Ok(()) => ExitCode::SUCCESS,
+            Err(error) => fail(&rt, &error),
+        },
+        Err(trouble) => fail(&rt, &trouble),
+    }
+}
+
+/// Says why the program stops, in a line. Where that can't be written either the status alone says that it did.
+fn fail<D: Display>(rt: &impl Eprint, why: &D) -> ExitCode {
+    let _ = eprintln!(rt; "{why}");
+    ExitCode::FAILURE
+}
+
+fn tell(rt: &impl Print, told: &Told) -> io::Result<()> {
+    println!(rt; "refused at first: {}", told.refusal)?;
+    for account in told.accounts.iter() {
+        println!(rt; "a client reads {}", balance(&account.row))?;
+    }
+    let (commits, joint) = (told.joint.upto, balance(&told.joint.row));
+    println!(rt; "{commits} commits at the replica, {joint} in the joint account")?;
+    println!(rt; "a beginning of the source's log: {}", told.is_beginning)
+}
+
+/// Opens both sides over a schema and the joint account, and runs them.
+fn open<R: Threads + Wait + Sync>(rt: &R, alloc: Global) -> Result<Told, Trouble> {
+    let tables = vec![in alloc; Table::new(ACCOUNTS, 2, true)]?;
+    let parts = PairParts {
+        rows: BTreeStore::new(alloc),
+        copy: BTreeStore::new(alloc),
+        tracker: CommitOrder,
+        device: MemoryDevice::new(alloc),
+    };
+    let schema = Schema::new(tables)?;
+    let source = Uuid::from_bytes(SOURCE);
+    let empty = Row::new(&[0, 0]).ok_or(Trouble::Misfit)?;
+    let joint = vec![in alloc; (row(JOINT), Some(empty))]?;
+    let joint = Batch::from_entries(joint).ok_or(Trouble::Misfit)?;
+    // 1000 records at most, two workers, and commits in the order of the log.
+    let pair = pair_of(alloc, schema, source, &joint, 1000, 2, true, parts)?;
+    let pair = pair.ok_or(Trouble::Misfit)?;
+    let base = pair.replica.base().copy()?;
+    run::<Brand, Brand, R>(
+        rt,
+        alloc,
+        pair,
+        source_shared::Beginning::new(),
+        published::Beginning::of(base),
+    )
+}
+
+/// Runs both sides, each under a name of its own, up to their end.
+fn run<J: SourceNaming + Send + Sync, K: ReplicaNaming + Send + Sync, R: Threads + Wait + Sync>(
+    rt: &R,
+    alloc: Global,
+    pair: Pair<BTreeStore, CommitOrder, MemoryDevice>,
+    receipts: source_shared::Beginning,
+    publication: published::Beginning,
+) -> Result<Told, Trouble>
+    requires source { pair.source ≡ new_source pair.source.tables pair.source.base pair.source.limit pair.source.kind }
+    requires log { IsNew pair.log.log }
+    requires replica { pair.replica ≡ new_over pair.replica.tables pair.replica.source pair.replica.base pair.replica.workers true }
+    requires source_base { pair.source.base ≡ J.base }
+    requires source_tables { pair.source.tables ≡ J.tables }
+    requires receipts { receipts ≡ J.book }
+    requires replica_tables { pair.replica.tables ≡ K.tables }
+    requires replica_source { pair.replica.source ≡ K.source }
+    requires replica_base { pair.replica.base ≡ K.base }
+    requires order { K.preserve ≡ true }
+    requires publication { publication.book ≡ K.book }
+    requires published { publication.base ≡ pair.replica.base }
+{
+    let Pair {
+        source,
+        log,
+        replica,
+    } = pair;
+    let source: Source<J> = SharedSource::new(alloc, source, log, receipts)?;
+    let replica: Replica<K> = new_replica(rt, alloc, replica, publication)?;
+    let met = meet(rt, alloc, &source, &replica);
+    // No thread is left, whatever they came to. A publisher has to be closed; a source may be dropped.
+    let (replica, publisher) = replica.end();
+    drop(publisher.close(rt));
+    let (receipts, mut told) = met?;
+    let source = source.end(&receipts);
+    told.is_beginning = begins(&source, &replica);
+    Ok(told)
+}
+
+/// What both sides do between their opening and their end. Of two closures the one that waits for the other is the first: readers wait for
+/// workers, these for the wire, the wire for the sessions, and these for nobody.
+fn meet<J: SourceNaming + Send + Sync, K: ReplicaNaming + Send + Sync, R: Threads + Wait + Sync>(
+    rt: &R,
+    alloc: Global,
+    source: &Source<J>,
+    replica: &Replica<K>,
+) -> Result<(Vec<Receipt<J>>, Told), Trouble> {
+    let clients = [Client::new(1), Client::new(2), Client::new(3)];
+    let pool = pool(rt, alloc, replica)?;
+    let (accounts, (worked, (sent, served))) = join(
+        rt,
+        || read_all(rt, alloc, replica, &pool, &clients),
+        || join(
+            rt,
+            || join(rt, || work(rt, alloc, replica), || work(rt, alloc, replica)),
+            || join(
+                rt,
+                || carry(rt, alloc, source, replica),
+                || serve(rt, alloc, source, &clients),
+            ),
+        ),
+    );
+    let (refusal, receipts) = served?;
+    sent?;
+    worked.0?;
+    worked.1?;
+    let told = Told {
+        refusal,
+        accounts: accounts?,
+        joint: read(rt, replica, &pool, 0, receipts.len() as u64, JOINT)?,
+        is_beginning: false,
+    };
+    Ok((receipts, told))
+}
