@@ -118,17 +118,25 @@ fn rotate(log: LogFile<CrashDevice>, next: CrashDevice) -> Result<Rotated, Memor
     }
 }
 
-/// A file of one record, on a device whose `nth` call fails.
+/// Why a call failed on a device of which no call was to fail: a `CrashDevice` that lacks memory says that it failed.
+fn lacking(fault: LogFault) -> LogFault {
+    match fault {
+        LogFault::Device => LogFault::Memory,
+        other => other,
+    }
+}
+
+/// A file of one record, on a device whose `nth` call fails, behind those that are made here.
 fn of_one(alloc: Global, nth: u64) -> Result<LogFile<CrashDevice>, LogFault> {
     let device = CrashDevice::failing(alloc, nth);
     match LogFile::create_from(alloc, device, source(), 1) {
         Ok(log) => {
             let mut log = log;
-            append_again(alloc, &mut log, 1)?;
-            log.sync()?;
+            append_again(alloc, &mut log, 1).map_err(lacking)?;
+            log.sync().map_err(lacking)?;
             Ok(log)
         }
-        Err((fault, _)) => Err(fault),
+        Err((fault, _)) => Err(lacking(fault)),
     }
 }
 
@@ -194,12 +202,12 @@ fn what_a_crash_leaves_of_a_rotation(rt: HostRuntime) -> Result<(), Fail> {
     for (old, next) in [(0, 0), (8, 0), (9, 0), (0, 1), (0, 2), (0, 3)] {
         let log = of_one(rt.alloc(), old)?;
         let rotated = rotate(log, CrashDevice::failing(rt.alloc(), next))?;
-        let wanted = if old + next == 0 {
-            None
+        let (told, wanted) = if old + next == 0 {
+            (rotated.fault.map(lacking), None)
         } else {
-            Some(LogFault::Device)
+            (rotated.fault, Some(LogFault::Device))
         };
-        assert_eq!(rt; rotated.fault, wanted, "calls {old} and {next}");
+        assert_eq!(rt; told, wanted, "calls {old} and {next}");
         open_each_moment(&rt, &rotated)?;
     }
     Ok(())
@@ -210,11 +218,12 @@ fn what_a_crash_leaves_of_a_rotation(rt: HostRuntime) -> Result<(), Fail> {
 fn a_log_goes_on_in_a_next_file(rt: HostRuntime) -> Result<(), Fail> {
     let log = of_one(rt.alloc(), 0)?;
     let rotated = rotate(log, CrashDevice::new(rt.alloc()))?;
-    let mut file = LogFile::open(rt.alloc(), rotated.next).map_err(|e| e.0)?;
-    append_again(rt.alloc(), &mut file, 2)?;
-    file.sync()?;
+    assert_eq!(rt; rotated.fault.map(lacking), None);
+    let mut file = LogFile::open(rt.alloc(), rotated.next).map_err(|e| lacking(e.0))?;
+    append_again(rt.alloc(), &mut file, 2).map_err(lacking)?;
+    file.sync().map_err(lacking)?;
     assert_eq!(rt; (file.first(), file.records().len()), (2, 1));
-    let old = LogFile::open(rt.alloc(), rotated.old).map_err(|e| e.0)?;
+    let old = LogFile::open(rt.alloc(), rotated.old).map_err(|e| lacking(e.0))?;
     assert_eq!(rt; (old.finished(), old.records().len()), (true, 1));
     Ok(())
 }
