@@ -8,7 +8,7 @@ use Rattle.std.proofs.lemmas.List.Folds.{list_any-append}
 use Rattle.record_codec.specs.declared.records.Record.{Record}
 use Rattle.commit_stages.specs.Queues.{Queues, is_waiting, queued, flush_taken, oldest_size, sync_taken, commit_taken}
 use Rattle.source_core.specs.Core.{Parts, AreFlushed, Wait, Holds, placed}
-use Rattle.source_core.proofs.CommitLists.{drop_parts}
+use Rattle.source_core.proofs.Commit.Lists.{drop_parts}
 use Rattle.source_core.proofs.Place.{IsFree, not_flushed}
 use Rattle.source_core.proofs.Queueing.{none_is}
 

@@ -1,6 +1,6 @@
 -- What each call of a source answers: its first cause of refusal, in order, and what it leaves.
-use Rattle.std.specs.Prelude.{◌≡◌, ℕ, ◌+◌, ◌-◌, Bool, true, false, not, ◌&&◌, ◌==◌, nat_le, if◌then◌else◌, List, [], ◌∷◌, ◌++◌, length, map, take, drop, slice_get, slice_set, Option, Some, None}
-use Rattle.std.specs.Prelude.{is_some, is_none}
+use Rattle.std.specs.Prelude.{◌≡◌, ℕ, ◌+◌, ◌-◌, Bool, true, false, not, ◌&&◌, ◌==◌, nat_le, nat_lt, if◌then◌else◌, List, [], ◌∷◌, ◌++◌, length, map, take, drop, slice_get, slice_set}
+use Rattle.std.specs.Prelude.{Option, Some, None, is_some, is_none}
 use Rattle.std.specs.Option.{option_map, option_map_or}
 use Rattle.schema.specs.declared.Table.{Table}
 use Rattle.schema.specs.declared.RowId.{RowId}
@@ -199,6 +199,10 @@ pub record Flushes (old : Source) (group : GroupValue) (new : Source) : Type 0 w
 pub record IsOldest (s : Source) (group : GroupValue) : Type 0 where
   pub are : codec.AreRecordsOf group (drop s.synced (take group.last s.log))
   pub whole : slice_get s.group_sizes 0 ≡ Some (group.last - s.synced)
+
+-- a flushed transaction is not committed
+abbrev pub is_busy : Source → Bool
+is_busy s = nat_lt s.committed (length s.log)
 
 -- the oldest group, which ends with the record of this gno, is synced
 abbrev pub with_synced : Source → ℕ → Source

@@ -14,6 +14,7 @@ ghost use Rattle.source_core.specs.Core.{placed};
 ghost use Rattle.commit_stages.specs.Queues.{IsSession};
 ghost use Rattle.source_core.specs.Commit.{cleared, all_released, pending_in, pendings_of, AreApart};
 
+use crate::rooms::Rooms;
 use crate::transaction::{Receipt, Transaction};
 use overlay::Joined;
 use record_codec::Record;
@@ -82,8 +83,13 @@ fn join_one(rows: &mut Joined, place: &Option<Transaction>) -> Result<(), Memory
     }
 }
 
-/// Ends the transactions of these sessions, and gives up their locks. It takes no memory.
-pub(crate) fn end_all(sessions: &[u16], places: &mut [Option<Transaction>], locks: &mut LockTable)
+/// Ends the transactions of these sessions, keeps their rooms, and gives up their locks. It takes no memory.
+pub(crate) fn end_all(
+    sessions: &[u16],
+    places: &mut [Option<Transaction>],
+    locks: &mut LockTable,
+    rooms: &mut Rooms,
+)
     requires each { AllByRecursion IsSession sessions.now }
     requires places { length places.old ≡ 256 }
     requires no_clash { NoClash locks.old.rows }
@@ -94,7 +100,8 @@ pub(crate) fn end_all(sessions: &[u16], places: &mut [Option<Transaction>], lock
     ensures no_mark_clash { NoClash locks.new.marks }
 {
     for session in sessions {
-        places[*session as usize - 1] = None;
+        let ended = places[*session as usize - 1].take();
+        rooms.keep(ended);
         locks.release_all(*session);
     }
 }

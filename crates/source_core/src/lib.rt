@@ -23,6 +23,7 @@ mod kin;
 pub mod laws;
 mod machine;
 mod moved;
+mod rooms;
 mod session;
 mod stepping;
 mod stored;

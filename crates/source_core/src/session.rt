@@ -11,6 +11,7 @@ ghost use Rattle.source_core.specs.Steps.{locks_of as locks_for};
 ghost use Rattle.source_core.specs.Calls.{is_active as active, is_prepared};
 
 use crate::moved::Moved;
+use crate::rooms::Rooms;
 use crate::stepping::locks_of;
 use crate::transaction::{Phase, Prepared, Transaction};
 use overlay::{Overlay, Step};
@@ -195,18 +196,26 @@ fn pushed_or_not(
     }
 }
 
-/// Prepares the transaction, and answers what its session is told.
-pub(crate) fn prepare_in(place: &mut Option<Transaction>, parent: u64) -> Prepared
+/// Prepares the transaction, and answers what its session is told. The room of one that ends by it is kept.
+pub(crate) fn prepare_in(
+    place: &mut Option<Transaction>,
+    rooms: &mut Rooms,
+    parent: u64,
+) -> Prepared
     ensures place { place.new ≡ (ready place.old parent).0 }
     ensures value { result ≡ (ready place.old parent).1 }
 {
-    let (next, answer) = ready_from(place.take(), parent);
+    let (next, answer) = ready_from(place.take(), rooms, parent);
     *place = next;
     answer
 }
 
 /// The transaction once it is prepared, and what its session is told.
-fn ready_from(place: Option<Transaction>, parent: u64) -> (Option<Transaction>, Prepared)
+fn ready_from(
+    place: Option<Transaction>,
+    rooms: &mut Rooms,
+    parent: u64,
+) -> (Option<Transaction>, Prepared)
     ensures { result ≡ ready place parent }
 {
     match place {
@@ -219,7 +228,10 @@ fn ready_from(place: Option<Transaction>, parent: u64) -> (Option<Transaction>, 
             }),
             Prepared::Parent(parent),
         ),
-        _ => (None, Prepared::Empty),
+        ended => {
+            rooms.keep(ended);
+            (None, Prepared::Empty)
+        }
     }
 }
 

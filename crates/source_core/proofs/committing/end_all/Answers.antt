@@ -1,7 +1,8 @@
 use Rattle.std.proofs.Common.{◌∙◌, arith}
 use Rattle.schema.proofs.Lists.{AllByRecursion-at}
 use Rattle.commit_stages.specs.Queues.{IsSession}
-use Rattle.source_core.proofs.CommitLoops.{one_cleared, one_released}
+use Rattle.source_core.proofs.Commit.Loops.{one_released}
+use Rattle.source_core.proofs.Ended.{one_left}
 use Rattle.source_core.proofs.committing.end_all.Goals as goal
 
 pub overflow_sub-session : goal.overflow_sub-session
@@ -20,7 +21,8 @@ release_all-requires-clause-greatest c = (AllByRecursion-at IsSession c.args.ses
 
 pub loop-session-preserved : goal.loop-session-preserved
 loop-session-preserved c = (
-  one_cleared c.args.places.now c.loop-session.places c.args.sessions.now c.loop-session.session-index c.loop-session-test.true c.loop-session.invariant.0,
+  one_left c.args.places.now c.loop-session.places c.args.sessions.now c.loop-session.session-index c.loop-session-test.true c.loop-session.invariant.0
+      c.take-ended.new.self c.take-ended.ensures.after,
   c.release_all.ensures.released ∙ one_released c.args.locks.now c.loop-session.locks c.args.sessions.now c.loop-session.session-index c.loop-session-test.true c.loop-session.invariant.1,
   c.release_all.ensures.no_clash,
   c.release_all.ensures.no_mark_clash,

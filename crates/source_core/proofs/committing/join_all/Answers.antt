@@ -4,7 +4,7 @@ use Rattle.overlay.specs.Joining.{joined}
 use Rattle.source_core.specs.Core.{placed}
 use Rattle.commit_stages.specs.Queues.{IsSession}
 use Rattle.source_core.specs.Commit.{pending_in}
-use Rattle.source_core.proofs.CommitLoops.{place_at, not_yet, one_joined}
+use Rattle.source_core.proofs.Commit.Loops.{place_at, not_yet, one_joined}
 use Rattle.source_core.proofs.committing.join_all.Goals as goal
 
 pub overflow_sub-session : goal.overflow_sub-session

@@ -1,5 +1,5 @@
 use Rattle.std.proofs.Common.{◌∙◌, ◌++◌, ◌∷◌, []}
-use Rattle.source_core.proofs.CommitLoops.{one_receipt}
+use Rattle.source_core.proofs.Commit.Loops.{one_receipt}
 use Rattle.source_core.proofs.committing.receipts_of.Goals as goal
 
 pub loop-i-preserved : goal.loop-i-preserved

@@ -4,7 +4,7 @@ use Rattle.std.specs.Option.{IfSome}
 use Rattle.record_codec.specs.Group.{GroupValue}
 use Rattle.source_core.specs.Source.{Source}
 use Rattle.source_core.specs.Calls.{Flushes}
-use Rattle.source_core.proofs.FlushEnds.{group_is_oldest, none_waits}
+use Rattle.source_core.proofs.Flush.Ends.{group_is_oldest, none_waits}
 use Rattle.tests_source.proofs.tests.source.sync.Goals as goal
 
 flushes : (old new : Source) (o : Option GroupValue) (group : GroupValue) → IfSome o (λ g. Flushes old g new) → o ≡ Some group → Flushes old group new
