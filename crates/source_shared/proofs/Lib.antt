@@ -3,4 +3,5 @@ pub mod Turns
 pub mod Moving
 pub mod Places
 pub mod Settled
+pub mod Rotating
 pub mod Finding

@@ -37,7 +37,7 @@ use Rattle.record_codec.specs.declared.records.Record.{Record}
 use Rattle.source_core.specs.declared.transaction.Receipt.{Receipt}
 use Rattle.source_core.specs.Source.{Source, IsSound}
 use Rattle.source_core.specs.Calls.{receipt_as, receipts_for, receipts}
-use Rattle.source_core.proofs.CommitLoops.{receipts-append}
+use Rattle.source_core.proofs.Commit.Loops.{receipts-append}
 use Rattle.source_shared.proofs.Turns.{prefix_get}
 use Rattle.source_shared.specs.Engine.{ArePlaced, IsKnown, IsCommitted, committed_receipts}
 

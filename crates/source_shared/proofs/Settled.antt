@@ -50,14 +50,16 @@ use Rattle.store_trait.specs.Batch.{Entry}
 use Rattle.record_codec.specs.declared.records.Record.{Record}
 use Rattle.record_codec.specs.Group.{GroupValue, AreRecordsOf}
 use Rattle.record_codec.specs.Version.{current}
-use Rattle.log_file.specs.Head.{next_of, records_of}
-use Rattle.log_file.specs.Log.{Log, IsNew, Kept, Tail, waiting_of, log_of, AreHalves}
+use Rattle.log_file.specs.Head.{Head, next_of}
+use Rattle.log_file.specs.declared.form.Form.TheVariants.{Three}
+use Rattle.log_file.specs.Log.{Log, IsNew, Kept, Tail, waiting_of, log_of}
+use Rattle.log_set.specs.Set.{AreSetHalves}
 use Rattle.log_file.specs.Flushed.{IsFlushedOf}
 use Rattle.log_file.proofs.Unsynced.{Oldest, oldest_of, oldest_next, first_of, flushed_more, flushed_landed, new_flushed}
 use Rattle.source_core.specs.declared.transaction.Receipt.{Receipt}
 use Rattle.source_core.specs.Source.{Source, Open, IsSound, new_source}
 use Rattle.log_file.specs.Calls.{confirmed}
-use Rattle.source_core.proofs.FlushEnds.{group_ends, group_is_counted}
+use Rattle.source_core.proofs.Flush.Ends.{group_ends, group_is_counted}
 use Rattle.source_core.specs.Calls.{flushed, Flushes, IsOldest, with_synced, all_committed, receipts, receipts_for}
 use Rattle.source_shared.specs.Engine.{
   State,
@@ -104,7 +106,7 @@ next_waits base tables s h = of s.unsynced refl where
 pub sessions_settled : (base : List Entry) (tables : List Table) (s : State) (sessions : List (Option Open)) (queue : List ℕ) → IsSettled base tables s
     → IsSettled base tables (record s { core = record s.core { sessions = sessions; queue = queue } })
 sessions_settled base tables s sessions queue h =
-    record { base_is = h.base_is; tables_is = h.tables_is; flushed = h.flushed; ready = h.ready; out = h.out; receipts = h.receipts; watch = h.watch; calm = h.calm }
+    record { base_is = h.base_is; tables_is = h.tables_is; flushed = h.flushed; files = h.files; ready = h.ready; out = h.out; receipts = h.receipts; watch = h.watch; calm = h.calm }
 
 -- the source is halted
 pub failed_settled : (base : List Entry) (tables : List Table) (s : State) → IsSettled base tables s → IsSettled base tables (failed s)
@@ -113,6 +115,7 @@ failed_settled base tables s h =
       base_is = h.base_is;
       tables_is = h.tables_is;
       flushed = h.flushed;
+      files = h.files;
       ready = IfSome_then s.home h.ready (λ t ready e. absurd cc);
       out = h.out;
       receipts = h.receipts;
@@ -140,6 +143,7 @@ emptied base tables s k h =
       base_is = h.base_is;
       tables_is = h.tables_is;
       flushed = h.flushed;
+      files = h.files;
       ready = h.ready;
       out = h.out;
       receipts = record { history_is = laid_.history_is; placed = placed_none s.history 1 s.places k laid_.placed; places = length-set s.places k None ∙ laid_.places; seats = laid_.seats };
@@ -151,7 +155,12 @@ emptied base tables s k h =
 
 -- the writer is here, and ready unless the source is halted
 home_settled : (base : List Entry) (tables : List Table) (s : State) (t : Tail) → (s.core.halted ≡ false → IsReady s.core.synced t) → IsSettled base tables s → IsSettled base tables (with_home t s)
-home_settled base tables s t ready h = record { base_is = h.base_is; tables_is = h.tables_is; flushed = h.flushed; ready = ready; out = tt; receipts = h.receipts; watch = h.watch; calm = h.calm }
+home_settled base tables s t ready h =
+    record { base_is = h.base_is; tables_is = h.tables_is; flushed = h.flushed; files = h.files; ready = ready; out = tt; receipts = h.receipts; watch = h.watch; calm = h.calm }
+
+-- the writer that is here is ready, unless the source is halted
+pub ready_here : (base : List Entry) (tables : List Table) (s : State) (t : Tail) → s.home ≡ Some t → s.core.halted ≡ false → IsSettled base tables s → IsReady s.core.synced t
+ready_here base tables s t home running h = subst (λ (w : Option Tail). IfSome w (λ x. s.core.halted ≡ false → IsReady s.core.synced x)) home h.ready running
 
 -- a flush
 pub flushed_settled : (base : List Entry) (tables : List Table) (s : State) (c : Source) (group : GroupValue) → IsSound s.core → Flushes s.core group c → IsSettled base tables s
@@ -169,6 +178,7 @@ flushed_settled base tables s c group sound f h =
       tables_is = h.tables_is;
       flushed = subst (λ (l : List ℕ). IsFlushedOf (core.log ++ f.records) core.synced l s.kept (s.unsynced ++ group ∷ [])) (sym (group_is_counted core c group sound f) ∙ sizes)
           (flushed_more core.log core.synced core.group_sizes s.kept s.unsynced h.flushed f.records group (group_ends core c group sound f).0 f.version f.group_of);
+      files = h.files;
       ready = h.ready;
       out = h.out;
       receipts = subst (λ (l : List Receipt). AreLaidOut l s.history s.places s.out) (sym (λ i. receipts_for (owners i) (log i))) h.receipts;
@@ -215,7 +225,7 @@ expected base tables s p group is h version same =
 
 -- the writer that was to write it is ready again
 pub taken_back : (base : List Entry) (tables : List Table) (s old : State) (t : Tail) → s ≡ old → IsSettled base tables s
-    → IsSomeAnd old.kept.prepared (λ group. group.first ≡ t.next) → t.waiting ≡ None → records_of t.form ≡ current → t.finished ≡ false
+    → IsSomeAnd old.kept.prepared (λ group. group.first ≡ t.next) → t.waiting ≡ None → t.form ≡ Three → t.finished ≡ false
     → IsSettled base tables (with_home t s)
 taken_back base tables s old t is h some waiting form goes =
     let p = prepared_is s.kept.prepared (λ group. group.first ≡ t.next) (subst (λ (x : State). IsSomeAnd x.kept.prepared (λ group. group.first ≡ t.next)) (sym is) some) in
@@ -246,7 +256,7 @@ module _ (base : List Entry) (tables : List Table) (s : State) (t : Tail) (group
       λ i. record s { core = core i; kept = kept i; home = Some t; unsynced = rest i }
 
   -- and it is settled, with a writer that is ready behind the group
-  pub landed_settled : t.next ≡ group.last + 1 → t.waiting ≡ None → records_of t.form ≡ current → t.finished ≡ false →
+  pub landed_settled : t.next ≡ group.last + 1 → t.waiting ≡ None → t.form ≡ Three → t.finished ≡ false →
       IsSettled base tables (record s { core = c; kept = k; home = Some t; unsynced = unsynced })
   landed_settled next waiting form goes =
       subst (IsSettled base tables) (sym landed_is)
@@ -258,6 +268,7 @@ module _ (base : List Entry) (tables : List Table) (s : State) (t : Tail) (group
             (λ (rs : List Record). IsFlushedOf s.core.log group.last (drop 1 s.core.group_sizes)
             (record s.kept { records = rs; groups = s.kept.groups ++ group ∷ []; prepared = None }) (drop 1 s.unsynced)) all
             (flushed_landed s.core.log s.core.synced s.core.group_sizes s.kept s.unsynced group (drop 1 s.unsynced) h.flushed at);
+        files = h.files;
         ready = λ running. record { waiting = waiting; next = next; form = form; goes = goes };
         out = tt;
         receipts = h.receipts;
@@ -276,6 +287,7 @@ given_settled base tables s c places history is placed long history_is h =
       base_is = h.base_is;
       tables_is = h.tables_is;
       flushed = h.flushed;
+      files = h.files;
       ready = h.ready;
       out = h.out;
       receipts = record { history_is = history_is; placed = placed; places = long ∙ h.receipts.places; seats = h.receipts.seats };
@@ -321,10 +333,10 @@ set_settled s k sleeps may none place e =
     there (x ∷ l) (suc j) (suc i) apart e = there l j i (λ same. apart (ap suc same)) e
 
 -- a source that was just made, over a new log file
-pub new_settled : (log : Log) (s : State) (t : Tail) → s.core ≡ new_source s.core.tables s.core.base s.core.limit s.core.kind → IsNew log → s.home ≡ Some t → AreHalves s.kept t
-    → IsNewState s.core log s
+pub new_settled : (log : Log) (files : ℕ) (s : State) (t : Tail) → s.core ≡ new_source s.core.tables s.core.base s.core.limit s.core.kind → IsNew log → s.home ≡ Some t → AreSetHalves s.kept t
+    → IsNewState s.core log files s
     → IsSettled s.core.base s.core.tables s
-new_settled log s t core is_new home halves new =
+new_settled log files s t core is_new home halves new =
     let both : log_of s.kept t ≡ log = subst (λ (o : Option Tail). IfSome o (λ x. log_of s.kept x ≡ log)) home new.home in
     let file : IsNew (log_of s.kept t) = subst IsNew (sym both) is_new in
     let synced : s.core.synced ≡ 0 = ap (λ (c : Source). c.synced) core in
@@ -335,12 +347,13 @@ new_settled log s t core is_new home halves new =
       base_is = refl;
       tables_is = refl;
       flushed = flushed;
+      files = new.some;
       ready =
           rw home
           (λ running. record {
             waiting = halves.waits ∙ ap (option_map waiting_of) file.waiting;
             next = omega (arith, halves.next, flushed.first, flushed.many);
-            form = ap records_of halves.form ∙ flushed.version;
+            form = halves.form ∙ ap (λ (h : Head). h.form) file.head;
             goes = file.unfinished;
           });
       out = rw home tt;

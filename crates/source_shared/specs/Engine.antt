@@ -6,7 +6,9 @@ use Rattle.std.specs.Prelude.{
   ℕ,
   ◌+◌,
   ◌-◌,
+  ◌<◌,
   ◌≤◌,
+  ◌^◌,
   nat_le,
   nat_lt,
   count_by,
@@ -55,7 +57,7 @@ use Rattle.record_codec.specs.declared.records.Record.{Record}
 use Rattle.record_codec.specs.Group.{GroupValue, AreNumbered}
 use Rattle.record_codec.specs.Version.{current}
 use Rattle.record_codec.specs.Spelling.{spelling, HasSpelling}
-use Rattle.log_file.specs.Head.{records_of}
+use Rattle.log_file.specs.declared.form.Form.TheVariants.{Three}
 use Rattle.log_file.specs.Log.{Log, Kept, Tail, log_of}
 use Rattle.log_file.specs.Flushed.{IsFlushedOf}
 use Rattle.log_file.specs.declared.fault.LogFault.{LogFault}
@@ -64,7 +66,7 @@ use Rattle.source_core.specs.declared.fault.SourceFault.{SourceFault}
 use Rattle.source_core.specs.declared.fault.SourceFault.TheVariants.{AlreadyOpen, Halted, Memory, NoSession}
 use Rattle.source_core.specs.declared.transaction.Receipt.{Receipt}
 use Rattle.source_core.specs.Source.{Source}
-use Rattle.source_core.specs.Calls.{session_fault, write_fault, written, queue_fault, queued, cause, receipts_for, receipts, receipt_as, begun, with_synced, all_committed, halted, Flushes}
+use Rattle.source_core.specs.Calls.{session_fault, write_fault, written, queue_fault, queued, cause, receipts_for, receipts, receipt_as, begun, with_synced, all_committed, halted, is_busy, Flushes}
 use Rattle.source_shared.specs.declared.engine.Due.{Due}
 use Rattle.source_shared.specs.declared.engine.Due.TheVariants.{Ended, Lead, Wait}
 use Rattle.source_shared.specs.Seat.{Seat}
@@ -80,12 +82,16 @@ pub record Watch : Type 0 where
   pub told : ℕ × Bool
   -- whether one may sleep who has its end, and was not called since
   pub stirred : Bool
+  -- whether one waits to rotate, and was not called since
+  pub rotating : Bool
 
 pub record State : Type 0 where
   pub core : Source
   -- what is synced, and the group that is prepared
   pub kept : Kept
-  -- what writes the log file, unless a thread has it
+  -- in how many files the log is
+  pub files : ℕ
+  -- what writes the last of them, unless a thread has it
   pub home : Option Tail
   -- the groups that are flushed and not synced, the oldest first; the one that a thread writes is that
   pub unsynced : List GroupValue
@@ -99,14 +105,16 @@ pub record State : Type 0 where
   pub watch : Watch
 
 -- those who wait, of these parts
-abbrev pub watch_of : List Bool → ℕ → Bool → ℕ × Bool → Bool → Watch
-watch_of sleeping asleep closed told stirred = record { sleeping = sleeping; asleep = asleep; closed = closed; told = told; stirred = stirred }
+abbrev pub watch_of : List Bool → ℕ → Bool → ℕ × Bool → Bool → Bool → Watch
+watch_of sleeping asleep closed told stirred rotating =
+    record { sleeping = sleeping; asleep = asleep; closed = closed; told = told; stirred = stirred; rotating = rotating }
 
 -- a state of these parts
-abbrev pub state_of : Source → Kept → Option Tail → List GroupValue → List (Option Receipt) → List Bool → List Receipt → Watch → State
-state_of core kept home unsynced places out history watch = record {
+abbrev pub state_of : Source → Kept → ℕ → Option Tail → List GroupValue → List (Option Receipt) → List Bool → List Receipt → Watch → State
+state_of core kept files home unsynced places out history watch = record {
   core = core;
   kept = kept;
+  files = files;
   home = home;
   unsynced = unsynced;
   places = places;
@@ -115,11 +123,11 @@ state_of core kept home unsynced places out history watch = record {
   watch = watch;
 }
 
--- it waits for no group, and writes behind so many records, in the form that sources write, a log that is not finished
+-- it waits for no group, and writes behind so many records, in the form that sources write, a file that is not finished
 pub record IsReady (synced_ : ℕ) (t : Tail) : Type 0 where
   pub waiting : t.waiting ≡ None
   pub next : t.next ≡ synced_ + 1
-  pub form : records_of t.form ≡ current
+  pub form : t.form ≡ Three
   pub goes : t.finished ≡ false
 
 -- the receipt is one of these, at its number
@@ -168,7 +176,9 @@ pub record IsSettled (base : List Entry) (tables : List Table) (s : State) : Typ
   pub base_is : s.core.base ≡ base
   pub tables_is : s.core.tables ≡ tables
   pub flushed : IsFlushedOf s.core.log s.core.synced s.core.group_sizes s.kept s.unsynced
-  -- what writes the log file, where it is here, is behind the synced records
+  -- the log has a file
+  pub files : 1 ≤ s.files
+  -- what writes the last one, where it is here, is behind the synced records
   pub ready : IfSome s.home (λ t. s.core.halted ≡ false → IsReady s.core.synced t)
   -- where it is out a group is prepared, which it writes
   pub out : IfNone s.home (IsSome s.kept.prepared)
@@ -198,12 +208,14 @@ pub record IsCommitted (s : Source) (r : Receipt) : Type 0 where
 
 -- nobody waits, and nobody was told anything
 abbrev pub nobody : Watch
-nobody = record { sleeping = replicate 256 false; asleep = 0; closed = false; told = (0, false); stirred = false }
+nobody = record { sleeping = replicate 256 false; asleep = 0; closed = false; told = (0, false); stirred = false; rotating = false }
 
--- a source without receipts, over this core and this log
-pub record IsNewState (core : Source) (log : Log) (s : State) : Type 0 where
+-- a source without receipts, over this core and this log, which is in so many files
+pub record IsNewState (core : Source) (log : Log) (files_ : ℕ) (s : State) : Type 0 where
   pub core_is : s.core ≡ core
   pub kept : s.kept.records ≡ []
+  pub files : 1 ≤ files_ → s.files ≡ files_
+  pub some : 1 ≤ s.files
   pub home : IfSome s.home (λ t. log_of s.kept t ≡ log)
   pub here : IsSome s.home
   pub unsynced : s.unsynced ≡ []
@@ -293,6 +305,22 @@ outlook s = (length s.kept.records, is_over s)
 abbrev pub has_news : State → Bool
 has_news s = not (s.watch.told.0 == length s.kept.records) || (is_over s && not s.watch.told.1)
 
+-- a flushed transaction is not committed, or a thread writes a group, and the source is not halted
+abbrev pub is_at_work : State → Bool
+is_at_work s = not s.core.halted && (is_busy s.core || is_none s.home)
+
+-- who waits to rotate is to be called: the source is at rest
+abbrev pub calls_rotator : State → Bool
+calls_rotator s = s.watch.rotating && not (is_at_work s)
+
+-- one waits to rotate, where the source is at work
+abbrev pub with_rotator : State → State
+with_rotator s = record s { watch = record s.watch { rotating = s.watch.rotating || is_at_work s } }
+
+-- who waits to rotate was called, where it is to be
+abbrev pub with_rest : State → State
+with_rest s = record s { watch = record s.watch { rotating = s.watch.rotating && is_at_work s } }
+
 -- nobody sleeps any more who has its end
 abbrev pub with_calm : State → State
 with_calm s = record s { watch = record s.watch { stirred = false } }
@@ -300,10 +328,12 @@ with_calm s = record s { watch = record s.watch { stirred = false } }
 abbrev pub with_told : State → State
 with_told s = record s { watch = record s.watch { told = outlook s } }
 
--- nobody sleeps who has its end, and those who wait for records were told of all: only so the lock is let go of
+-- Nobody sleeps who has its end, those who wait for records were told of all, and nobody waits to rotate where the source is at rest: only so
+-- the lock is let go of.
 pub record IsTold (s : State) : Type 0 where
   pub ended : NoneSleepsWithEnd s
   pub news : has_news s ≡ false
+  pub rest : calls_rotator s ≡ false
 
 -- ---- what is read of the log
 
@@ -404,18 +434,18 @@ pub record Trip : Type 0 where
   pub tail : Tail
   pub group : GroupValue
 
--- the group is the next of a log that is not finished, and of the form that sources write, as what the writer writes is
+-- the group is the next of a file that is not finished, and of the form that sources write, as what the writer writes is
 pub record IsErrand (e : Trip) : Type 0 where
   pub waiting : e.tail.waiting ≡ None
   pub next : e.group.first ≡ e.tail.next
   pub version : e.group.version ≡ current
-  pub form : records_of e.tail.form ≡ current
+  pub form : e.tail.form ≡ Three
   pub goes : e.tail.finished ≡ false
 
 -- It was written, and the writer is behind it; or memory lacked, and all is as it was.
 pub record IsBack (e : Trip) (done : Result (Unit {0}) LogFault) : Type 0 where
   pub version : e.group.version ≡ current
-  pub written : OnOk done ((e.tail.waiting ≡ None) × (e.tail.next ≡ e.group.last + 1) × (records_of e.tail.form ≡ current) × (e.tail.finished ≡ false))
+  pub written : OnOk done ((e.tail.waiting ≡ None) × (e.tail.next ≡ e.group.last + 1) × (e.tail.form ≡ Three) × (e.tail.finished ≡ false))
   pub lacked : IsErrOf done logs.Memory → IsErrand e
 
 -- the writer leaves with the oldest group, which is prepared
@@ -470,6 +500,20 @@ pub record Lands (old : State) (t : Tail) (result : Result (Unit {0}) SourceFaul
 -- the writer is here, and the source halted
 abbrev pub Fails : State → Tail → Result (Unit {0}) SourceFault → State → Type 0
 Fails old t result new = (result ≡ Err Halted) × (new ≡ failed (with_home t old))
+
+-- ---- a next file
+
+-- The writer goes on in a next file, which is one more. Nothing else changed. (Past 2 to the power 64 they are not counted.)
+pub record IsRotated (old : State) (n : ℕ) (new : State) : Type 0 where
+  pub tail : Tail
+  pub ready : IsReady old.core.synced tail
+  pub leaves : new ≡ record old { home = Some tail; files = n }
+  pub number : old.files + 1 < 2 ^ 64 → n ≡ old.files + 1
+  pub least : 2 ≤ n
+
+-- The source was halted, and all is as it was; or a device failed, and the source is halted.
+abbrev pub IsNotRotated : State → State → Type 0
+IsNotRotated old new = ((old.core.halted ≡ true) × (new ≡ old)) ⊎ ((old.core.halted ≡ false) × (tail : Tail) × (new ≡ failed (with_home tail old)))
 
 -- why a transaction does not come to its end; it stays where it is then, or the source is halted
 abbrev pub IsOnTheWay : SourceFault → Type 0

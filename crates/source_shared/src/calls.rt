@@ -62,6 +62,8 @@ pub(crate) struct News {
     pub(crate) called: Called,
     /// Those who wait for records.
     pub(crate) followers: bool,
+    /// Those who wait to rotate.
+    pub(crate) rotators: bool,
 }
 
 /// Who is called: for each session whether it is, session 1 first, and how many are. It is not `Drop`: it ends in `wake`.

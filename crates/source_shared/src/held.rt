@@ -4,7 +4,7 @@
 //! Each of these wakes those who are due by what was done under the lock. So no way out of a function leaves a change untold.
 ghost use Rattle.std.specs.Prelude.{◌≡◌, ◌<◌, false, slice_index_or};
 ghost use Rattle.std.specs.Sync.Mutex.{mutex_guard_value};
-ghost use Rattle.source_shared.specs.Engine.{is_awaited, IsTold};
+ghost use Rattle.source_shared.specs.Engine.{is_at_work, is_awaited, IsTold};
 
 use crate::book::SourceNaming;
 use crate::calls::{Calls, News};
@@ -25,6 +25,8 @@ pub(crate) struct Desk<S: RowStore, T: Tracker, D: Device, J: SourceNaming> {
     calls: Calls,
     // What those sleep on who wait for records.
     news: Condvar,
+    // And those who wait to rotate.
+    rest: Condvar,
 }
 
 /// The lock, taken.
@@ -39,6 +41,7 @@ impl<S: RowStore, T: Tracker, D: Device + Drop, J: SourceNaming> Desk<S, T, D, J
             engine: Mutex::new(engine),
             calls,
             news: Condvar::new(),
+            rest: Condvar::new(),
         }
     }
 
@@ -62,10 +65,17 @@ impl<S: RowStore, T: Tracker, D: Device + Drop, J: SourceNaming> Desk<S, T, D, J
 
     // Wakes those whom it concerns.
     fn tell(&self, news: News) {
-        let News { called, followers } = news;
+        let News {
+            called,
+            followers,
+            rotators,
+        } = news;
         self.calls.wake(called);
         if followers {
             self.news.notify_all();
+        }
+        if rotators {
+            self.rest.notify_all();
         }
     }
 
@@ -92,6 +102,7 @@ impl<S: RowStore, T: Tracker, D: Device + Drop, J: SourceNaming> Desk<S, T, D, J
             engine,
             calls: _,
             news: _,
+            rest: _,
         } = self;
         engine.into_inner()
     }
@@ -115,8 +126,8 @@ impl<'a, S: RowStore, T: Tracker, D: Device + Drop, J: SourceNaming> Held<'a, S,
         let _desk = self.release(false);
     }
 
-    // Lets go of the lock, and wakes those who have their end, those who wait for records that came, and, where this says so, one who is to
-    // lead.
+    // Lets go of the lock, and wakes those who have their end, those who wait for records that came, those who wait to rotate where the
+    // source is at rest, and, where this says so, one who is to lead.
     fn release(self, leads: bool) -> &'a Desk<S, T, D, J> {
         let Held { engine, desk } = self;
         if engine.is_quiet(leads) {
@@ -184,6 +195,18 @@ impl<'a, S: RowStore, T: Tracker, D: Device + Drop, J: SourceNaming> Held<'a, S,
         let engine = desk
             .news
             .wait_while(rt, engine, |engine| engine.is_awaited(gno));
+        Held { engine, desk }
+    }
+
+    // Lets go of the lock until the source is at rest, or halted.
+    pub(crate) fn await_rest(self, rt: &impl Wait) -> Held<'a, S, T, D, J>
+        ensures { is_at_work (mutex_guard_value result.engine) ≡ false }
+    {
+        let Held { mut engine, desk } = self;
+        desk.tell_before(&mut engine);
+        let engine = desk
+            .rest
+            .wait_while(rt, engine, |engine| engine.waits_to_rotate());
         Held { engine, desk }
     }
 }

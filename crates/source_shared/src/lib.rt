@@ -7,16 +7,20 @@
 //! seat; what it does under the lock is said of the engine's own call.
 //!
 //! A thread that commits queues its transaction and sleeps until its receipt lies in its place, or until it has to lead: then
-//! it takes the writer of the log file and the oldest group out of the lock, puts the group on the log, and brings the writer
+//! it takes the writer of the log's last file and the oldest group out of the lock, puts the group on the log, and brings the writer
 //! back; under the lock the group is then synced and committed, and the receipts are laid into their places. So one group is
-//! written while the next is flushed, and readers of the log wait for no device. Who has the lock has a `Held`, which can't be
-//! dropped: it ends by waking those who are due, each whose receipt has come and one who has to lead, and a wait under it begins so.
-//! Each session has a condition of its own to sleep on (`Calls`), so that nobody is woken for another.
+//! written while the next is flushed, and readers of the log wait for no device but during a rotation. Who has the lock has a `Held`,
+//! which can't be dropped: it ends by waking those who are due, each whose receipt has come and one who has to lead, and a wait
+//! under it begins so. Each session has a condition of its own to sleep on (`Calls`), so that nobody is woken for another.
+//!
+//! A rotation waits until the source is at rest: each flushed transaction is committed, and the writer is in its place. Then the
+//! writer goes on in a next file, under the lock. Who waits for that is noted under the lock, and who ends the last transaction, or
+//! halts the source, wakes it before the lock is let go of (`IsTold` of `specs/Engine.antt`).
 //!
 //! What is known of a receipt once the lock is let go rides on a history, which exists in proofs alone (`logbook`): the
 //! receipts that all commits gave, in log order. A `Receipt` is a beginning of it with its own place there, and who adds to
 //! it knows it whole, so that a receipt can be neither made up nor left behind (`specs/Book.antt`). It stands on
-//! `source_core` and `log_file`.
+//! `source_core`, `log_file` and `log_set`.
 #![tactic(auto)]
 
 mod book;

@@ -24,6 +24,10 @@ ghost use Rattle.source_shared.specs.Engine.{
   has_news,
   with_told,
   with_calm,
+  with_rest,
+  is_at_work,
+  calls_rotator,
+  with_rotator,
   NoneSleepsWithEnd,
   NobodyIsCalled,
   IsTold,
@@ -38,18 +42,24 @@ use store_trait::RowStore;
 use tracker_trait::Tracker;
 
 impl<S: RowStore, T: Tracker, D: Device + Drop, J: SourceNaming> Engine<S, T, D, J> {
-    // Whom who lets go of the lock, or waits under it, has to tell: those who sleep and are due, and those who wait for records, where they
-    // were told of fewer, or not that no more come. They know then.
+    // Whom who lets go of the lock, or waits under it, has to tell: those who sleep and are due; those who wait for records, where they
+    // were told of fewer, or not that no more come; and those who wait to rotate, where the source is at rest. They know then.
     pub(crate) fn news(&mut self, leads: bool) -> News
         ensures called { result.called.all ≡ called_by self.old leads }
         ensures followers { result.followers ≡ has_news self.old }
-        ensures left { self.new ≡ with_told (with_calm (awoken self.old result.called.all)) }
+        ensures rotators { result.rotators ≡ calls_rotator self.old }
+        ensures left { self.new ≡ with_rest (with_told (with_calm (awoken self.old result.called.all))) }
         ensures told { IsTold self.new }
     {
         let called = self.call_due(leads);
         self.settle();
         let followers = self.has_news();
-        News { called, followers }
+        let rotators = self.call_rotators();
+        News {
+            called,
+            followers,
+            rotators,
+        }
     }
 
     // Whether nobody is to be told. It looks at no place.
@@ -60,11 +70,13 @@ impl<S: RowStore, T: Tracker, D: Device + Drop, J: SourceNaming> Engine<S, T, D,
         !self.may_call(leads) && self.is_calm()
     }
 
-    // Whether nobody sleeps who has its end, and those who wait for records know of all.
+    // Whether nobody sleeps who has its end, those who wait for records know of all, and nobody is to be called who waits to rotate.
     fn is_calm(&self) -> bool
         ensures { result ≡ true → IsTold self.now }
     {
-        !self.stirred && (self.flushed.synced().records().len(), self.is_over()) == self.told
+        !self.stirred
+            && (self.flushed.synced().records().len(), self.is_over()) == self.told
+            && !self.calls_rotator()
     }
 
     // Whether somebody sleeps who may be called to lead.
@@ -170,6 +182,41 @@ impl<S: RowStore, T: Tracker, D: Device + Drop, J: SourceNaming> Engine<S, T, D,
         let news = synced != self.told.0 || over && !self.told.1;
         self.told = (synced, over);
         news
+    }
+
+    // Whether a flushed transaction is not committed yet, or a thread writes a group. Never so where the source is halted.
+    pub(super) fn is_at_work(&self) -> bool
+        ensures { result ≡ is_at_work self.now }
+    {
+        !self.core.is_halted() && (self.core.busy() || self.writer.is_none())
+    }
+
+    // Whether who is to rotate has to wait: it is called then, once the source is at rest.
+    pub(crate) fn waits_to_rotate(&mut self) -> bool
+        ensures tells { result ≡ is_at_work self.new }
+        ensures left { self.new ≡ with_rotator self.old }
+    {
+        let waits = self.is_at_work();
+        self.rotating = self.rotating || waits;
+        waits
+    }
+
+    // Whether those are to be called who wait to rotate.
+    fn calls_rotator(&self) -> bool
+        ensures { result ≡ calls_rotator self.now }
+    {
+        self.rotating && !self.is_at_work()
+    }
+
+    // Whether those are to be called who wait to rotate. They are called then.
+    fn call_rotators(&mut self) -> bool
+        ensures called { result ≡ calls_rotator self.old }
+        ensures left { self.new ≡ with_rest self.old }
+        ensures told { NoneSleepsWithEnd self.old → has_news self.old ≡ false → IsTold self.new }
+    {
+        let called = self.calls_rotator();
+        self.rotating = self.rotating && !called;
+        called
     }
 
     // Nobody sleeps who has its end: those who do were called.
