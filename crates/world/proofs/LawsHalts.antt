@@ -1,5 +1,5 @@
 -- A source is halted for good.
-use Rattle.std.proofs.Common.{◌≡◌, ◌∙◌, ap, subst, ℕ, zero, suc, ◌<◌, Bool, true, false, not, ◌&&◌, ◌||◌, List, [], ◌∷◌, take, Option, Some, slice_get, inl, inr, arith}
+use Rattle.std.proofs.Common.{◌≡◌, ◌∙◌, ap, subst, ℕ, zero, suc, ◌<◌, Bool, true, false, not, ◌&&◌, ◌||◌, List, [], ◌∷◌, length, take, Option, Some, slice_get, inl, inr, arith}
 use Rattle.std.specs.Option.{is_none}
 use Rattle.std.proofs.lemmas.Bool.{false≢true, and_parts, or_right}
 use Rattle.std.proofs.lemmas.Option.{none-some, same_Some}
@@ -12,8 +12,8 @@ use Rattle.world.specs.declared.events.Event.{Event}
 use Rattle.world.specs.declared.events.Event.TheVariants as events
 use Rattle.world.specs.declared.events.Reply.{Reply}
 use Rattle.world.specs.declared.events.Reply.TheVariants as replies
-use Rattle.world.specs.Past.{Past, queue, unsynced, is_failure, halted}
-use Rattle.world.specs.Legal.{Setup, refused_or, FlushAnswers, SyncAnswers, Answers, asks_memory, AreAllowed}
+use Rattle.world.specs.Past.{Past, queue, unsynced, is_failure, halted, firsts, busy}
+use Rattle.world.specs.Legal.{Setup, refused_or, FlushAnswers, SyncAnswers, RotateAnswers, is_full, Answers, asks_memory, AreAllowed}
 use Rattle.world.specs.Laws.{pairs_after, past_at, asks_source, HaltsForGood}
 use Rattle.world.proofs.LawsRuns.{answered_at}
 
@@ -57,6 +57,7 @@ no_memory setup log past (events.Write session change) h asks lacks = refused_fi
 no_memory setup log past (events.Prepare session) h asks lacks = false≢true lacks
 no_memory setup log past events.Flush h asks lacks = none_asked (halted past) _ h lacks
 no_memory setup log past events.Sync h asks lacks = none_asked (halted past) _ h lacks
+no_memory setup log past events.Rotate h asks lacks = none_asked (halted past) _ h lacks
 no_memory setup log past events.Commit h asks lacks = none_asked (halted past) _ h lacks
 no_memory setup log past (events.Begin session) h asks lacks = false≢true lacks
 no_memory setup log past (events.See session id) h asks lacks = false≢true lacks
@@ -74,6 +75,7 @@ refuses setup log past (events.Queue session) reply h asks is = first_cause (hal
 refuses setup log past (events.Abort session) reply h asks is = first_cause (halted past) _ reply _ h is
 refuses setup log past events.Flush reply h asks is = subst (λ b. FlushAnswers setup log past b (queue past) reply) h is
 refuses setup log past events.Sync reply h asks is = subst (λ b. SyncAnswers b (unsynced past) reply) h is
+refuses setup log past events.Rotate reply h asks is = subst (λ b. RotateAnswers b (busy past) (is_full past) (length (firsts past)) reply) h is
 refuses setup log past events.Commit reply h asks is = first_cause (halted past) _ reply _ h is
 refuses setup log past event reply h asks is = absurd (false≢true asks)
 

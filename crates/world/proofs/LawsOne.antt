@@ -27,17 +27,18 @@ use Rattle.record_codec.specs.Spelling.{spelling}
 use Rattle.source_core.specs.declared.fault.SourceFault.TheVariants as source
 use Rattle.source_core.specs.Source.{Source, seen_row}
 use Rattle.source_core.specs.Calls.{begin_fault, write_fault, read_fault, prepare_fault, prepare_answer, queue_fault, abort_fault, halted_fault, AreNextRecords, seen_log}
-use Rattle.log_file.specs.Head.{new_head}
-use Rattle.log_file.specs.Text.{text}
+use Rattle.log_set.specs.Set.{texts_of}
 use Rattle.replica_core.proofs.Apart.{slice_get-take}
 use Rattle.world.specs.declared.events.Event.{Event}
 use Rattle.world.specs.declared.events.Event.TheVariants as events
 use Rattle.world.specs.declared.events.Reply.{Reply}
 use Rattle.world.specs.declared.events.Reply.TheVariants as replies
 use Rattle.world.specs.Replies.{prepared_reply}
-use Rattle.world.specs.Past.{Past, flushed, unsynced, synced, synced_groups, is_failure, halted, queue, accepted, dispatched, commits, replica_committed, low_water, out, finished, published}
+use Rattle.world.specs.Past.{Past, flushed, unsynced, synced, synced_groups, is_failure, halted, firsts, starts, busy, queue, accepted}
+use Rattle.world.specs.Past.{dispatched, commits, replica_committed, low_water, out, finished, published}
 use Rattle.world.specs.Past.{published_gnos}
-use Rattle.world.specs.Legal.{Setup, rows_after, source_at, refused_or, stamp_of, next_records, FlushAnswers, SyncAnswers, commit_reply, group_between, log_text, is_due, may_dispatch, ExecutedAnswers}
+use Rattle.world.specs.Legal.{Setup, rows_after, source_at, refused_or, stamp_of, next_records, FlushAnswers, SyncAnswers, RotateAnswers, is_full}
+use Rattle.world.specs.Legal.{commit_reply, group_between, log_text, is_due, may_dispatch, ExecutedAnswers}
 use Rattle.world.specs.Legal.{read_reply, Answers, is_source_memory, is_replica_memory, is_codec_memory, is_log_memory, asks_memory, tells_memory, Allowed, AreAllowed, AreLegal}
 use Rattle.world.specs.Laws.{pairs_after, is_memory, FailAlike, OneAnswer, OneLog}
 use Rattle.world.proofs.LawsReplies.{Says, says}
@@ -104,7 +105,7 @@ module _ (setup : Setup) (log other : List Record) (past : Past) (agree : Agree 
       (λ i. record { version = current; first = group.0; last = group.1; bytes = flat_map (spelling current) (drop (group.0 - 1) (same i)) } ∷ same_groups groups all.1 i)
 
   same_text : log_text setup log past ≡ log_text setup other past
-  same_text = ap (text (new_head setup.identifier)) (same_groups (synced_groups past) agree.groups)
+  same_text = ap (texts_of setup.identifier (firsts past) (starts past)) (same_groups (synced_groups past) agree.groups)
 
   read_below : published past ≤ flushed past
   read_below =
@@ -218,6 +219,16 @@ module _ (setup : Setup) (log other : List Record) (past : Past) (agree : Agree 
   one_sync false (group ∷ groups) reply answer (inl a) (inr b) alike = absurd (false≢true (sym (ap is_failure a) ∙ alike ∙ ap is_failure b))
   one_sync false (group ∷ groups) reply answer (inr a) (inl b) alike = absurd (false≢true (sym (ap is_failure b) ∙ sym alike ∙ ap is_failure a))
 
+  one_rotation : (halts busies full : Bool) (files : ℕ) (reply answer : Reply) → RotateAnswers halts busies full files reply → RotateAnswers halts busies full files answer →
+      is_failure reply ≡ is_failure answer → reply ≡ answer
+  one_rotation true busies full files reply answer a b alike = a ∙ sym b
+  one_rotation false true full files reply answer a b alike = a ∙ sym b
+  one_rotation false false true files reply answer a b alike = a ∙ sym b
+  one_rotation false false false files reply answer (inl a) (inl b) alike = a ∙ sym b
+  one_rotation false false false files reply answer (inr a) (inr b) alike = a ∙ sym b
+  one_rotation false false false files reply answer (inl a) (inr b) alike = absurd (false≢true (sym (ap is_failure a) ∙ alike ∙ ap is_failure b))
+  one_rotation false false false files reply answer (inr a) (inl b) alike = absurd (false≢true (sym (ap is_failure b) ∙ sym alike ∙ ap is_failure a))
+
   one_answer : (event : Event) (reply answer : Reply) → Answers setup log past event reply → Answers setup other past event answer → is_failure reply ≡ is_failure answer → reply ≡ answer
   one_answer (events.Begin session) reply answer a b alike = by_source (λ s. refused_or (begin_fault s session) replies.Done) reply answer a b
   one_answer (events.Write session change) reply answer a b alike = by_source (λ s. refused_or (write_fault s session change) replies.Done) reply answer a b
@@ -235,7 +246,8 @@ module _ (setup : Setup) (log other : List Record) (past : Past) (agree : Agree 
   one_answer events.Publish reply answer a b alike = a ∙ sym b
   one_answer events.Executed reply answer a b alike = one_executed setup.preserve reply answer a b
   one_answer (events.Read id) reply answer a b alike = a ∙ same_read id ∙ sym b
-  one_answer events.Log reply answer a b alike = a ∙ ap (λ (bytes : List ℕ). replies.Text bytes) same_text ∙ sym b
+  one_answer events.Rotate reply answer a b alike = one_rotation (halted past) (busy past) (is_full past) (length (firsts past)) reply answer a b alike
+  one_answer events.Log reply answer a b alike = a ∙ ap (λ (files : List (List ℕ)). replies.Text files) same_text ∙ sym b
 
   -- ---- one more pair
 
@@ -293,6 +305,7 @@ telling_says (events.Finish gno) reply h = says_memory reply (inr (inl h))
 telling_says events.Next reply h = says_memory reply (inr (inl h))
 telling_says events.Publish reply h = says_memory reply (inr (inl h))
 telling_says events.Executed reply h = says_memory reply (inr (inl h))
+telling_says events.Rotate reply h = says_memory reply (inr (inr (inr h)))
 telling_says events.Log reply h = says_memory reply (inr (inr (inr h)))
 telling_says event reply h = absurd (false≢true h)
 

@@ -1,5 +1,6 @@
 -- What a reply that the pairs so far allow says of them.
-use Rattle.std.proofs.Common.{◌≡◌, ◌∙◌, sym, ap, subst, refl, ℕ, ◌+◌, ◌<◌, ◌≤◌, Bool, true, false, not, ◌&&◌, ◌==◌, nat_le, List, [], ◌∷◌, map, Option, Some, None, Ok, ◌⊎◌, inl, inr, if◌then◌else◌}
+use Rattle.std.proofs.Common.{◌≡◌, ◌∙◌, sym, ap, subst, refl, ℕ, ◌+◌, ◌<◌, ◌≤◌, Bool, true, false, not, ◌&&◌, ◌==◌, nat_le, List, [], ◌∷◌}
+use Rattle.std.proofs.Common.{length, map, Option, Some, None, Ok, ◌⊎◌, inl, inr, if◌then◌else◌}
 use Rattle.std.specs.Prelude.{option_and_then, slice_get, ◌-◌}
 use Rattle.std.specs.Option.{option_map_or}
 use Rattle.std.specs.FinMap.{get}
@@ -24,9 +25,11 @@ use Rattle.world.specs.declared.events.Event.TheVariants as events
 use Rattle.world.specs.declared.events.Reply.{Reply}
 use Rattle.world.specs.declared.events.Reply.TheVariants as replies
 use Rattle.world.specs.Replies.{prepared_reply}
-use Rattle.world.specs.Past.{Past, flushed, unsynced, synced, halted, source_committed, queue, accepted, dispatched, commits, replica_committed, low_water, out, published, published_gnos}
+use Rattle.world.specs.Past.{Past, flushed, unsynced, synced, halted, source_committed, queue, accepted, dispatched, commits, replica_committed}
+use Rattle.world.specs.Past.{low_water, out, published, published_gnos, firsts, busy}
 use Rattle.world.proofs.Next.{IsNext, is_next, next_at}
-use Rattle.world.specs.Legal.{Setup, rows_after, source_at, replica_at, refused_or, stamp_of, next_records, FlushAnswers, SyncAnswers, commit_reply, log_text, is_due, may_dispatch, is_out, next_reply}
+use Rattle.world.specs.Legal.{Setup, rows_after, source_at, replica_at, refused_or, stamp_of, next_records, FlushAnswers, SyncAnswers, RotateAnswers, is_full}
+use Rattle.world.specs.Legal.{commit_reply, log_text, is_due, may_dispatch, is_out, next_reply}
 use Rattle.world.specs.Legal.{ExecutedAnswers, read_reply, Answers, is_source_memory, is_replica_memory, is_codec_memory, is_log_memory, asks_memory, tells_memory, Allowed}
 
 -- a job that is handed out is the next, of a record that is accepted, and its parent is committed: in the order of the log it is one
@@ -85,6 +88,7 @@ telling setup log past (events.Finish gno) reply h = of_replica setup log past _
 telling setup log past events.Next reply h = of_replica setup log past _ reply h
 telling setup log past events.Publish reply h = of_replica setup log past _ reply h
 telling setup log past events.Executed reply h = of_replica setup log past _ reply h
+telling setup log past events.Rotate reply h = of_log setup log past _ reply h
 telling setup log past events.Log reply h = of_log setup log past _ reply h
 telling setup log past event reply h = absurd (false≢true h)
 
@@ -116,6 +120,17 @@ sync_says setup log past false (group ∷ groups) reply e h =
     elim h [
       | inl put ↦ by setup log past events.Sync reply (replies.Synced group.0 group.1) put (groups, e)
       | inr failed ↦ by setup log past events.Sync reply (replies.Log log_file.Device) failed tt
+    ]
+
+rotate_says : (setup : Setup) (log : List Record) (past : Past) (halts busies full : Bool) (files : ℕ) (reply : Reply) → RotateAnswers halts busies full files reply →
+    Says setup log past events.Rotate reply
+rotate_says setup log past true busies full files reply h = by setup log past events.Rotate reply (replies.Source source.Halted) h tt
+rotate_says setup log past false true full files reply h = by setup log past events.Rotate reply replies.Busy h tt
+rotate_says setup log past false false true files reply h = by setup log past events.Rotate reply replies.NoDevice h tt
+rotate_says setup log past false false false files reply h =
+    elim h [
+      | inl made ↦ by setup log past events.Rotate reply (replies.Rotated (files + 1)) made tt
+      | inr failed ↦ by setup log past events.Rotate reply (replies.Log log_file.Device) failed tt
     ]
 
 commit_says : (setup : Setup) (log : List Record) (past : Past) (all : Bool) → Says setup log past events.Commit
@@ -216,6 +231,7 @@ answers_say setup log past events.Next reply h = next_says setup log past reply 
 answers_say setup log past events.Publish reply h = by setup log past _ reply _ h refl
 answers_say setup log past events.Executed reply h = executed_says setup log past setup.preserve reply h
 answers_say setup log past (events.Read id) reply h = read_says setup log past id reply h
+answers_say setup log past events.Rotate reply h = rotate_says setup log past (halted past) (busy past) (is_full past) (length (firsts past)) reply h
 answers_say setup log past events.Log reply h = by setup log past _ reply (replies.Text (log_text setup log past)) h tt
 
 pub says : (setup : Setup) (log : List Record) (past : Past) (event : Event) (reply : Reply) → Allowed setup log past event reply → Says setup log past event reply

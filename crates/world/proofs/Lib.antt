@@ -29,6 +29,8 @@ pub mod LawsRefs
 pub mod LawsRecords
 pub mod LawsOne
 pub mod LawsCrash
+pub mod Counting
+pub mod RotateEvents
 pub mod Run
 pub mod Crash
 pub mod Alike

@@ -25,7 +25,7 @@ use Rattle.world.specs.declared.events.Reply.TheVariants as replies
 use Rattle.world.specs.Past.{Past, commits, replica_committed, finished}
 use Rattle.world.specs.Legal.{Setup, replica_at, is_commit, next_reply}
 use Rattle.world.specs.State.{World, IsShown, IsWorld, Stands, Goes}
-use Rattle.world.proofs.Parts.{replica_is, stays, with_replica, untold, source_untold, unfailed}
+use Rattle.world.proofs.Parts.{replica_is, stays, with_replica, untold, source_untold}
 use Rattle.world.proofs.Shown.{commits_within}
 use Rattle.world.proofs.Jobs.{jobs_committed, finished_under}
 use Rattle.world.proofs.UnderWay.{under_is_good, under_there}
@@ -130,8 +130,7 @@ next_goes {R} contents w gno next h sound is leaves =
         readers = shown_commits contents w gno h sound;
       };
       grows = prefix_refl w.source.log;
-      device = unfailed _ w.wire.log refl;
-      still = λ _. refl;
+      still = λ a b. record { quiet = refl; same = refl };
       stands = λ setup past st. record {
         source = source_untold setup past w.source.log w.source events.Next (replies.Commit gno) (λ k. refl) st.source;
         wire = st.wire;

@@ -13,12 +13,11 @@ use Rattle.source_core.specs.declared.fault.SourceFault.TheVariants as faults
 use Rattle.replica_core.specs.Replica.{Replica}
 use Rattle.world.specs.declared.events.Event.{Event}
 use Rattle.world.specs.declared.events.Reply.{Reply}
-use Rattle.log_file.specs.Log.{Log}
 use Rattle.std.specs.Result.{result_err, IsErrOf}
-use Rattle.std.proofs.lemmas.Bool.{false≢true, and_from}
-use Rattle.world.specs.Past.{Past, flushed, unsynced, synced_groups, halted, is_failure, accepted, transaction_of, transaction_after, transactions}
+use Rattle.std.proofs.lemmas.Bool.{and_from}
+use Rattle.world.specs.Past.{Past, flushed, unsynced, synced_groups, firsts, starts, halted, is_failure, accepted, transaction_of, transaction_after, transactions}
 use Rattle.world.specs.Legal.{Setup, source_at, replica_at, Allowed}
-use Rattle.world.specs.State.{World, SourceIs, SidesAre, IsWorld, Stands, TellsFailure, Goes}
+use Rattle.world.specs.State.{World, SourceIs, SidesAre, IsWorld, Stands, Goes}
 use Rattle.world.proofs.Sessions.{none_told}
 
 -- the first records of a longer list are those of the list
@@ -38,13 +37,6 @@ replica_is contents setup past w log h st longer =
     let same : take (accepted past) log ≡ take (accepted past) w.source.log = take_longer w.source.log log longer (accepted past) within in
     ap (λ (l : List Record). record (replica_at setup log past) { accepted = l }) same ∙ sym st.replica.is
 
--- a reply that tells of no failure, where the log file is as it was
-pub unfailed : (reply : Reply) (log : Log) → is_failure reply ≡ false → TellsFailure reply log log
-unfailed reply log none = record {
-  counted = record { grows = omega arith; quiet = λ _. refl; told = λ failed. absurd (false≢true (sym none ∙ failed)) };
-  seen = λ running failed. absurd (false≢true (sym running ∙ failed));
-}
-
 -- an event that changes nothing
 pub stays : {D R : Type 0} (contents : R → Database) (w : World D R) (event : Event) (reply : Reply) → IsWorld contents w → is_failure reply ≡ false →
     ((setup : Setup) (past : Past) → Stands setup past w → Stands setup ((event, reply) ∷ past) w) →
@@ -52,8 +44,7 @@ pub stays : {D R : Type 0} (contents : R → Database) (w : World D R) (event : 
 stays contents w event reply h none stands allowed = record {
   world = h;
   grows = prefix_refl w.source.log;
-  device = unfailed reply w.wire.log none;
-  still = λ _. refl;
+  still = λ a b. record { quiet = none; same = refl };
   stands = stands;
   allowed =
       allowed;
@@ -82,10 +73,6 @@ with_source w s = record w { source = s }
 abbrev pub with_replica : {D R : Type 0} → World D R → Replica → World D R
 with_replica w r = record w { replica = r }
 
--- the same world, with its log's device as another one
-abbrev pub with_device : {D R : Type 0} → World D R → D → World D R
-with_device w d = record w { wire = record w.wire { device = d } }
-
 -- the source, as the pairs say that it stands, with these transactions of its sessions
 abbrev pub with_transactions : Setup → List Record → Past → List (Option Open) → Source
 with_transactions setup log past ts = record (source_at setup log past) { sessions = ts }
@@ -103,7 +90,7 @@ source_untold setup past log s event reply says is = record {
 pub untold : {D R : Type 0} (setup : Setup) (past : Past) (w : World D R) (event : Event) (reply : Reply) →
     ((k : ℕ) → transaction_after past k event reply (transaction_of past k) ≡ transaction_of past k) → Stands setup past w →
     SidesAre (with_transactions setup w.source.log past (transactions ((event, reply) ∷ past))) (flushed past) setup.identifier (unsynced past) (synced_groups past)
-    (replica_at setup w.source.log past) (accepted past) w.source w.wire w.replica
+    (firsts past) (starts past) (replica_at setup w.source.log past) (accepted past) w.source w.wire w.replica
 untold setup past w event reply says st = record {
   source = source_untold setup past w.source.log w.source event reply says st.source;
   wire = st.wire;

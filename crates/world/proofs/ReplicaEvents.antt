@@ -39,7 +39,7 @@ use Rattle.world.specs.Past.{Past, published, published_gnos, accepted, dispatch
 use Rattle.world.specs.Legal.{Setup, replica_at, rows_after, is_due, may_dispatch, dispatch_reply, ExecutedAnswers, read_reply, asks_memory, tells_memory}
 use Rattle.world.specs.State.{World, IsWorld, Stands, Goes}
 use Rattle.world.specs.Run.{ShowsOperations}
-use Rattle.world.proofs.Parts.{replica_is, stays, with_replica, untold, source_untold, unfailed}
+use Rattle.world.proofs.Parts.{replica_is, stays, with_replica, untold, source_untold}
 use Rattle.world.proofs.Shown.{ShowsState, shows_state, shows_first}
 use Rattle.world.proofs.Jobs.{jobs_dispatched}
 
@@ -165,8 +165,7 @@ dispatch_goes {R} contents w job next jobs h is leaves kept =
     (record {
       world = record { source = h.source; wire = h.wire; replica = h.replica; jobs = jobs_dispatched w.replica w.jobs job h.jobs out.1; readers = h.readers };
       grows = prefix_refl w.source.log;
-      device = unfailed _ w.wire.log refl;
-      still = λ _. refl;
+      still = λ a b. record { quiet = refl; same = refl };
       stands = λ setup past st.
           let number : dispatched past + 1 ≡ job.gno = ap (λ n. n + 1) (dispatched_as setup past w st) ∙ sym its in
           record {

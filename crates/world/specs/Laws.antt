@@ -159,7 +159,7 @@ RefusesOnlyGaps = (setup : Setup) (log : List Record) (events_ : List Event) (re
     (place : ℕ) (fault : ReplicaFault) → slice_get replies_ place ≡ Some (replies.Replica fault) →
     (fault ≡ replica.Memory) ⊎ ((fault ≡ replica.Gap) × (gno : ℕ) × (slice_get events_ place ≡ Some (events.Deliver gno)))
 
--- an event that asks the source: those of its sessions, a flush, a sync and a commit
+-- an event that asks the source: those of its sessions, a flush, a sync, a commit and a rotation
 abbrev pub asks_source : Event → Bool
 asks_source event = elim event [
   | events.Begin session ↦ true
@@ -171,10 +171,11 @@ asks_source event = elim event [
   | events.Flush ↦ true
   | events.Sync ↦ true
   | events.Commit ↦ true
+  | events.Rotate ↦ true
   | _ ↦ false
 ]
 
--- Once a sync is answered that the device of the log failed, each later event that asks the source is answered that it
+-- Once a sync or a rotation is answered that a device of the log failed, each later event that asks the source is answered that it
 -- is halted.
 abbrev pub HaltsForGood : Type 0
 HaltsForGood = (setup : Setup) (log : List Record) (events_ : List Event) (replies_ : List Reply) → AreLegal setup log events_ replies_ →
@@ -200,8 +201,8 @@ NothingUnsyncedIsAccepted = (setup : Setup) (log : List Record) (events_ : List 
 abbrev pub is_memory : Reply → Bool
 is_memory reply = is_source_memory reply || is_replica_memory reply || is_codec_memory reply || is_log_memory reply
 
--- Two lists of replies to one list of events, in neither of which a reply says that memory ran out: in both the device of
--- the log failed in the same sync, or in none.
+-- Two lists of replies to one list of events, in neither of which a reply says that memory ran out: in both a device of
+-- the log failed in the same event, or in none.
 pub record FailAlike (replies_ others : List Reply) : Type 0 where
   pub enough : list_any is_memory replies_ ≡ false
   pub enough_there : list_any is_memory others ≡ false
@@ -212,7 +213,7 @@ abbrev pub IsOnlyAnswer : Setup → List Event → List Reply → Type 0
 IsOnlyAnswer setup events_ replies_ = (log : List Record) (others : List Reply) → AreLegal setup log events_ others → FailAlike replies_ others → others ≡ replies_
 
 -- Legal replies are the only ones. So what a run began with and its events fix its replies, but for want of memory and
--- for the choice of the sync in which the device failed: over whichever stores it runs, it answers the same.
+-- for the choice of the sync or the rotation in which a device failed: over whichever stores it runs, it answers the same.
 abbrev pub OneAnswer : Type 0
 OneAnswer = (setup : Setup) (log : List Record) (events_ : List Event) (replies_ : List Reply) → AreLegal setup log events_ replies_ → IsOnlyAnswer setup events_ replies_
 

@@ -19,8 +19,7 @@ use Rattle.record_codec.specs.Spelling.{spelling, HasSpelling}
 use Rattle.source_core.specs.declared.fault.SourceFault.{SourceFault}
 use Rattle.source_core.specs.declared.fault.SourceFault.TheVariants as source
 use Rattle.log_file.specs.declared.fault.LogFault.TheVariants as log_file
-use Rattle.log_file.specs.Head.{new_head}
-use Rattle.log_file.specs.Text.{text}
+use Rattle.log_set.specs.Set.{texts_of}
 use Rattle.source_core.specs.Source.{Source, seen_row}
 use Rattle.source_core.specs.Calls.{begin_fault, write_fault, read_fault, prepare_fault, prepare_answer, queue_fault, abort_fault, halted_fault, AreNextRecords, seen_log}
 use Rattle.tracker_trait.specs.Kind.{Kind}
@@ -33,7 +32,8 @@ use Rattle.world.specs.declared.events.Event.TheVariants as events
 use Rattle.world.specs.declared.events.Reply.{Reply}
 use Rattle.world.specs.declared.events.Reply.TheVariants as replies
 use Rattle.world.specs.Replies.{prepared_reply}
-use Rattle.world.specs.Past.{Past, flushed, unsynced, synced_groups, synced, halted, source_committed, queue, owners, transactions, accepted, dispatched, commits, replica_committed, low_water, out}
+use Rattle.world.specs.Past.{Past, flushed, unsynced, synced_groups, synced, halted, firsts, starts, source_committed, busy, queue, owners}
+use Rattle.world.specs.Past.{transactions, accepted, dispatched, commits, replica_committed, low_water, out}
 use Rattle.world.specs.Past.{finished, published, published_gnos}
 use Rattle.store_trait.specs.Operation.{loaded}
 
@@ -119,6 +119,18 @@ SyncAnswers true groups reply = reply ≡ replies.Source source.Halted
 SyncAnswers false [] reply = reply ≡ replies.Nothing
 SyncAnswers false (group ∷ groups) reply = (reply ≡ replies.Synced group.0 group.1) ⊎ (reply ≡ replies.Log log_file.Device)
 
+-- A halted source refuses, and one of which a flushed transaction is not committed does. Else there is no device for one file more; or
+-- the log goes on in a next file, which has the next number; or a device of the log failed, and the source is halted from then on.
+abbrev pub RotateAnswers : Bool → Bool → Bool → ℕ → Reply → Type 0
+RotateAnswers true busies full files reply = reply ≡ replies.Source source.Halted
+RotateAnswers false true full files reply = reply ≡ replies.Busy
+RotateAnswers false false true files reply = reply ≡ replies.NoDevice
+RotateAnswers false false false files reply = (reply ≡ replies.Rotated (files + 1)) ⊎ (reply ≡ replies.Log log_file.Device)
+
+-- whether each of the 16 devices has a file
+abbrev pub is_full : Past → Bool
+is_full past = nat_le 16 (length (firsts past))
+
 -- all that is synced and not committed
 abbrev pub commit_reply : Past → Reply
 commit_reply past = if source_committed past == synced past then replies.Nothing else replies.Committed (source_committed past + 1) (synced past)
@@ -132,9 +144,9 @@ group_between log ends = record {
   bytes = flat_map (spelling current) (drop (ends.0 - 1) (take ends.1 log));
 }
 
--- the log file as its device is to have it: its header, the synced groups, and the last gate
-abbrev pub log_text : Setup → List Record → Past → List ℕ
-log_text setup log past = text (new_head setup.identifier) (map (group_between log) (synced_groups past))
+-- the files of the log as their devices are to have them: of each its header, its synced groups, and the last gate
+abbrev pub log_text : Setup → List Record → Past → List (List ℕ)
+log_text setup log past = texts_of setup.identifier (firsts past) (starts past) (map (group_between log) (synced_groups past))
 
 -- Only synced records are delivered. The next one is accepted, one that was accepted before is skipped, and each other
 -- refused as a gap.
@@ -200,8 +212,8 @@ read_reply setup log past id =
     let rows = gapped setup.tables (loaded setup.base) log gnos in
     replies.Read (low_of gnos) (published past - low_of gnos) (option_and_then (λ db. get db id) rows))
 
--- The reply that an event has after these pairs; no other is legal. Only a sync that has a group to write may have one of
--- two.
+-- The reply that an event has after these pairs; no other is legal. Only a sync that has a group to write, and a rotation that has a
+-- device, may have one of two.
 abbrev pub Answers : Setup → List Record → Past → Event → Reply → Type 0
 Answers setup log past (events.Begin session) reply =
     reply ≡ refused_or (begin_fault (source_at setup log past) session) replies.Done
@@ -225,6 +237,7 @@ Answers setup log past events.Next reply = reply ≡ next_reply setup past
 Answers setup log past events.Publish reply = reply ≡ replies.Published (replica_committed past)
 Answers setup log past events.Executed reply = ExecutedAnswers setup.preserve setup past reply
 Answers setup log past (events.Read id) reply = reply ≡ read_reply setup log past id
+Answers setup log past events.Rotate reply = RotateAnswers (halted past) (busy past) (is_full past) (length (firsts past)) reply
 Answers setup log past events.Log reply = reply ≡ replies.Text (log_text setup log past)
 
 abbrev pub is_source_memory : Reply → Bool
@@ -240,8 +253,8 @@ abbrev pub is_log_memory : Reply → Bool
 is_log_memory reply = elim reply [ replies.Log fault ↦ (elim fault [ log_file.Memory ↦ true | _ ↦ false ]) | _ ↦ false ]
 
 -- Whether the answer that is due asks for memory: that a change is written, that a group is flushed, is on the log, or is committed,
--- a synced record, a job that is handed out, finished or committed, what is published, the ids of what is committed, or the
--- log's text. No refusal does, nor that there was nothing to do.
+-- a synced record, a job that is handed out, finished or committed, what is published, the ids of what is committed, that
+-- the log goes on in a next file, or the log's text. No refusal does, nor that there was nothing to do.
 abbrev pub asks_memory : Setup → List Record → Past → Event → Bool
 asks_memory setup log past event = elim event [
   | events.Write session change ↦ is_none (write_fault (source_at setup log past) session change)
@@ -254,6 +267,7 @@ asks_memory setup log past event = elim event [
   | events.Next ↦ is_commit (next_reply setup past)
   | events.Publish ↦ nat_lt (published past) (replica_committed past)
   | events.Executed ↦ nat_lt 0 (replica_committed past)
+  | events.Rotate ↦ not (halted past) && (not (busy past) && not (is_full past))
   | events.Log ↦ true
   | _ ↦ false
 ]
@@ -271,6 +285,7 @@ tells_memory event reply = elim event [
   | events.Next ↦ is_replica_memory reply
   | events.Publish ↦ is_replica_memory reply
   | events.Executed ↦ is_replica_memory reply
+  | events.Rotate ↦ is_log_memory reply
   | events.Log ↦ is_log_memory reply
   | _ ↦ false
 ]

@@ -1,5 +1,5 @@
 -- What the pairs of event and reply so far say. They are listed with the newest first.
-use Rattle.std.specs.Prelude.{ℕ, ◌+◌, ◌-◌, Bool, true, false, ◌&&◌, ◌||◌, ◌==◌, if◌then◌else◌, List, [], ◌∷◌, ◌++◌, length, map, take, drop, slice_set, Option, Some, None}
+use Rattle.std.specs.Prelude.{ℕ, ◌+◌, ◌-◌, Bool, true, false, ◌&&◌, ◌||◌, ◌==◌, nat_lt, if◌then◌else◌, List, [], ◌∷◌, ◌++◌, length, map, take, drop, slice_set, Option, Some, None}
 use Rattle.std.specs.List.{range_with_len}
 use Rattle.std.specs.Option.{option_map}
 use Rattle.scheduler.specs.Gnos.{low_of, without}
@@ -37,11 +37,11 @@ abbrev pub synced_groups : Past → List (ℕ × ℕ)
 synced_groups [] = []
 synced_groups (pair ∷ past) = elim pair.1 [ replies.Synced first last ↦ synced_groups past ++ (first, last) ∷ [] | _ ↦ synced_groups past ]
 
--- a reply that the device of the log failed
+-- a reply that a device of the log failed
 abbrev pub is_failure : Reply → Bool
 is_failure reply = elim reply [ replies.Log fault ↦ (elim fault [ log_file.Device ↦ true | _ ↦ false ]) | _ ↦ false ]
 
--- whether the source is halted: the device of the log failed in an earlier sync
+-- whether the source is halted: a device of the log failed in an earlier sync or rotation
 abbrev pub halted : Past → Bool
 halted [] = false
 halted (pair ∷ past) = is_failure pair.1 || halted past
@@ -51,10 +51,24 @@ abbrev pub synced : Past → ℕ
 synced [] = 0
 synced (pair ∷ past) = elim pair.1 [ replies.Synced first last ↦ last | _ ↦ synced past ]
 
+-- the gno that each file of the log begins with: the first with 1, and each next one behind the records that were synced by then
+abbrev pub firsts : Past → List ℕ
+firsts [] = 1 ∷ []
+firsts (pair ∷ past) = elim pair.1 [ replies.Rotated number ↦ firsts past ++ (synced past + 1) ∷ [] | _ ↦ firsts past ]
+
+-- how many groups stand in the files before each file
+abbrev pub starts : Past → List ℕ
+starts [] = 0 ∷ []
+starts (pair ∷ past) = elim pair.1 [ replies.Rotated number ↦ starts past ++ length (synced_groups past) ∷ [] | _ ↦ starts past ]
+
 -- the number of records committed at the source
 abbrev pub source_committed : Past → ℕ
 source_committed [] = 0
 source_committed (pair ∷ past) = elim pair.1 [ replies.Committed first last ↦ last | _ ↦ source_committed past ]
+
+-- whether a flushed transaction is not committed yet
+abbrev pub busy : Past → Bool
+busy past = nat_lt (source_committed past) (flushed past)
 
 -- the sessions whose transactions are queued, in order
 abbrev pub queue : Past → List ℕ

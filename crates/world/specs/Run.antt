@@ -11,11 +11,10 @@ use Rattle.record_codec.specs.Spelling.{HasSpelling}
 use Rattle.replica_core.specs.Replica.{operations, operations_in_order, ran}
 use Rattle.world.specs.declared.events.Event.{Event}
 use Rattle.world.specs.declared.events.Reply.{Reply}
-use Rattle.log_file.specs.Log.{Log}
-use Rattle.world.specs.Put.{DeviceFailed}
+use Rattle.world.specs.Put.{SomeFailed}
 use Rattle.world.specs.Legal.{Setup, AreLegal}
 use Rattle.world.specs.Laws.{pairs_after}
-use Rattle.world.specs.State.{World, IsWorld, Stands, IsCounted}
+use Rattle.world.specs.State.{World, IsWorld, Stands, counts_of, IsCounted}
 
 -- The world came by these events and replies from a new one.
 pub record HasRun {D R : Type 0} (contents : R → Database) (setup : Setup) (events_ : List Event) (replies_ : List Reply) (w : World D R) : Type 0 where
@@ -28,16 +27,16 @@ pub record HasRun {D R : Type 0} (contents : R → Database) (setup : Setup) (ev
   pub legal : AreLegal setup w.source.log events_ replies_
   pub onward : (log : List Record) → IsPrefix w.source.log log → IsLegalLog setup.tables (loaded setup.base) log → AllByRecursion (HasSpelling current) log → AreLegal setup log events_ replies_
 
--- What replies tell, in order, of the count of the device's failures, each of the count as the one before it left it.
-abbrev pub AreCounted : ℕ → List Reply → ℕ → Type 0
+-- What replies tell, in order, of the counts of the devices' failures, each of the counts as the one before it left them.
+abbrev pub AreCounted : List ℕ → List Reply → List ℕ → Type 0
 AreCounted before [] now = now ≡ before
-AreCounted before (reply ∷ replies_) now = (between : ℕ) × IsCounted before reply between × AreCounted between replies_ now
+AreCounted before (reply ∷ replies_) now = (between : List ℕ) × IsCounted before reply between × AreCounted between replies_ now
 
--- What the replies of a run tell of the log's device: each of those that say that it failed comes of a failure of its own, and no
--- failure goes untold. Where the log file failed meanwhile, the device failed by its count.
-pub record TellFailures (replies_ : List Reply) (old new : Log) : Type 0 where
-  pub counted : AreCounted old.faults replies_ new.faults
-  pub seen : old.failed ≡ false → new.failed ≡ true → DeviceFailed old new
+-- What the replies of a run tell of the log's devices: each of those that say that one failed comes of a failure of its own, and no
+-- failure goes untold. Where the log failed meanwhile, a device failed by its count.
+pub record TellFailures {D R : Type 0} (faults : D → ℕ) (replies_ : List Reply) (old new : World D R) : Type 0 where
+  pub counted : AreCounted (counts_of faults old.wire) replies_ (counts_of faults new.wire)
+  pub seen : old.wire.log.failed ≡ false → new.wire.log.failed ≡ true → SomeFailed (counts_of faults old.wire) (counts_of faults new.wire)
 
 -- Readers have the rows that the operations of the published commits leave of an empty store. In the order of the log these are the
 -- first records of the source's log, as many as readers are told.

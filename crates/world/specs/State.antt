@@ -1,6 +1,6 @@
 -- How the parts of a world stand together, and to the pairs of event and reply so far.
 use mathlib.Core.List.{IsPrefix}
-use Rattle.std.specs.Prelude.{◌≡◌, ℕ, ◌+◌, ◌≤◌, Bool, true, false, List, ◌∷◌, length, map, take, drop, Option, Some, None}
+use Rattle.std.specs.Prelude.{◌≡◌, ℕ, ◌+◌, ◌≤◌, Bool, true, false, List, ◌∷◌, ◌++◌, length, map, take, drop, Option, Some, None}
 use Rattle.std.specs.List.{AllByRecursion}
 use Rattle.rows.specs.Database.{Database}
 use Rattle.store_trait.specs.Operation.{batch_of, loaded}
@@ -20,22 +20,41 @@ use Rattle.log_file.specs.Head.{new_head}
 use Rattle.log_file.specs.Log.{Log}
 use Rattle.log_file.specs.Flushed.{IsFlushedOf, kept_of}
 use Rattle.log_file.specs.Calls.{ends as ends_of}
-use Rattle.world.specs.Put.{FailedBy, DeviceFailed}
+use Rattle.log_file.specs.declared.form.Form.TheVariants.{Three}
+use Rattle.log_set.specs.Set.{SetOn}
+use Rattle.world.specs.Put.{OneFailed, SomeFailed}
 use Rattle.world.specs.Waiting.{numbers_of}
 use Rattle.world.specs.declared.events.Event.{Event}
 use Rattle.world.specs.declared.events.Event.TheVariants as events
 use Rattle.world.specs.declared.events.Reply.{Reply}
-use Rattle.world.specs.Past.{Past, flushed, accepted, unsynced, synced_groups, is_failure}
+use Rattle.world.specs.Past.{Past, flushed, accepted, unsynced, synced_groups, firsts, starts, is_failure}
 use Rattle.world.specs.Legal.{Setup, source_at, replica_at, Allowed}
 
 -- what lies between the two sides
 pub record Wire (D : Type 0) : Type 0 where
-  -- the log file, which has the groups that are synced
+  -- the log of all files, which has the groups that are synced
   pub log : Log
-  -- what it is on
+  -- the gno that each file begins with, and how many groups stand in the files before it
+  pub firsts : List ℕ
+  pub starts : List ℕ
+  -- the devices of the finished files, in order, that of the last one, and those of its next ones
+  pub past : List D
   pub device : D
+  pub spare : List D
   -- the groups that are flushed and not synced, the oldest first
   pub unsynced : List GroupValue
+
+-- the log's files, and their devices
+abbrev pub set_of : {D : Type 0} → Wire D → SetOn D
+set_of wire = record { log = wire.log; firsts = wire.firsts; starts = wire.starts; past = wire.past; device = wire.device }
+
+-- all devices, in the order in which files are made on them
+abbrev pub devices_of : {D : Type 0} → Wire D → List D
+devices_of wire = wire.past ++ wire.device ∷ wire.spare
+
+-- the count of failures of each; that of the last file's device is the log's
+abbrev pub counts_of : {D : Type 0} → (D → ℕ) → Wire D → List ℕ
+counts_of faults wire = map faults wire.past ++ wire.log.faults ∷ map faults wire.spare
 
 -- a world as the values of its parts
 pub record World (D R : Type 0) : Type 0 where
@@ -51,10 +70,12 @@ pub record World (D R : Type 0) : Type 0 where
 pub record IsSource (s : Source) : Type 0 where
   pub sound : IsSound s
 
--- The wire of a source with this log, of which so many records are synced: the log file and the groups that are not synced are what was
--- flushed of it, and the log file's groups hold the synced records, in the form that sources write. The source is halted where the log file failed; where it did not,
--- no group is in it that waits for its sync. The log file is not finished. What came over the wire is a beginning of the synced log.
-pub record IsWire (log : List Record) (synced_ : ℕ) (sizes_ : List ℕ) (halted_ : Bool) (accepted_ : List Record) (file : Log) (unsynced_ : List GroupValue) : Type 0 where
+-- The wire of a source with this log, of which so many records are synced: the log and the groups that are not synced are what was flushed of it,
+-- and the log's groups hold the synced records, in the form that sources write. The source is halted where the log failed; where it did not,
+-- no group is in it that waits for its sync. The last file is not finished. What came over the wire is a beginning of the synced log. There are
+-- 16 devices.
+pub record IsWire (log : List Record) (synced_ : ℕ) (sizes_ : List ℕ) (halted_ : Bool) (accepted_ : List Record) (file : Log) (unsynced_ : List GroupValue) (files_ spares_ : ℕ) :
+    Type 0 where
   pub flushed : IsFlushedOf log synced_ sizes_ (kept_of file) unsynced_
   pub on_log : Hold file.groups (take synced_ log)
   pub versions : AllByRecursion (λ g. g.version ≡ current) file.groups
@@ -63,6 +84,8 @@ pub record IsWire (log : List Record) (synced_ : ℕ) (sizes_ : List ℕ) (halte
   pub goes : file.finished ≡ false
   pub front : accepted_ ≡ take (length accepted_) log
   pub within : length accepted_ ≤ synced_
+  pub form : file.head.form ≡ Three
+  pub places : files_ + spares_ ≡ 16
 
 -- The replica is over the source's schema and base, takes the records of the log's source, and did not stop. In the order of the log it
 -- has committed the first records.
@@ -97,7 +120,7 @@ pub record IsShown {R : Type 0} (contents : R → Database) (ts : List Table) (b
 -- What is true of every world, whatever came before.
 pub record IsWorld {D R : Type 0} (contents : R → Database) (w : World D R) : Type 0 where
   pub source : IsSource w.source
-  pub wire : IsWire w.source.log w.source.synced w.source.group_sizes w.source.halted w.replica.accepted w.wire.log w.wire.unsynced
+  pub wire : IsWire w.source.log w.source.synced w.source.group_sizes w.source.halted w.replica.accepted w.wire.log w.wire.unsynced (length w.wire.firsts) (length w.wire.spare)
   pub replica : IsReplica w.source.tables w.source.base w.wire.log.head.source w.replica.tables w.replica.base w.replica.source w.replica.stopped w.replica.preserve w.replica.commits
   pub jobs : HasJobs w.replica w.jobs
   pub readers : IsShown contents w.replica.tables w.replica.base w.replica.accepted w.replica.preserve w.replica.commits w.replica.published w.shown
@@ -107,11 +130,13 @@ pub record SourceIs (said : Source) (flushed_ : ℕ) (s : Source) : Type 0 where
   pub flushed : flushed_ ≡ length s.log
   pub is : s ≡ said
 
--- The log file is that of this source; these groups are flushed and not synced, and these are synced.
-pub record WireIs {D : Type 0} (identifier_ : List ℕ) (unsynced_ synced_ : List (ℕ × ℕ)) (wire : Wire D) : Type 0 where
+-- The log is that of this source; these groups are flushed and not synced, and these are synced; its files begin so.
+pub record WireIs {D : Type 0} (identifier_ : List ℕ) (unsynced_ synced_ : List (ℕ × ℕ)) (firsts_ starts_ : List ℕ) (wire : Wire D) : Type 0 where
   pub head : wire.log.head ≡ new_head identifier_
   pub unsynced : map ends_of wire.unsynced ≡ unsynced_
   pub synced : map ends_of wire.log.groups ≡ synced_
+  pub firsts : wire.firsts ≡ firsts_
+  pub starts : wire.starts ≡ starts_
 
 -- The replica is as it is said to be, with so many records accepted.
 pub record ReplicaIs (said : Replica) (accepted_ : ℕ) (r : Replica) : Type 0 where
@@ -119,36 +144,40 @@ pub record ReplicaIs (said : Replica) (accepted_ : ℕ) (r : Replica) : Type 0 w
   pub is : r ≡ said
 
 -- Each side is as it is said to be. What readers see follows from the replica's side.
-pub record SidesAre {D : Type 0} (source_ : Source) (flushed_ : ℕ) (identifier_ : List ℕ) (unsynced_ synced_ : List (ℕ × ℕ)) (replica_ : Replica) (accepted_ : ℕ) (s : Source) (wire_ : Wire D)
-    (r : Replica) : Type 0 where
+pub record SidesAre {D : Type 0} (source_ : Source) (flushed_ : ℕ) (identifier_ : List ℕ) (unsynced_ synced_ : List (ℕ × ℕ)) (firsts_ starts_ : List ℕ) (replica_ : Replica)
+    (accepted_ : ℕ) (s : Source) (wire_ : Wire D) (r : Replica) : Type 0 where
   pub source : SourceIs source_ flushed_ s
-  pub wire : WireIs identifier_ unsynced_ synced_ wire_
+  pub wire : WireIs identifier_ unsynced_ synced_ firsts_ starts_ wire_
   pub replica : ReplicaIs replica_ accepted_ r
 
 -- the world is the one that the pairs so far leave
 abbrev pub Stands : {D R : Type 0} → Setup → Past → World D R → Type 0
 Stands setup past w =
-    SidesAre (source_at setup w.source.log past) (flushed past) setup.identifier (unsynced past) (synced_groups past) (replica_at setup w.source.log past) (accepted past) w.source w.wire w.replica
+    SidesAre (source_at setup w.source.log past) (flushed past) setup.identifier (unsynced past) (synced_groups past) (firsts past) (starts past) (replica_at setup w.source.log past)
+    (accepted past) w.source w.wire w.replica
 
--- What a reply tells of the count of the device's failures: it grew, or is at its last value, where the reply says that the device
--- failed, and else it is as it was.
-pub record IsCounted (before : ℕ) (reply : Reply) (now : ℕ) : Type 0 where
-  pub grows : before ≤ now
+-- What a reply tells of the counts of the devices' failures: one of them grew, or is at its last value, where the reply says that a
+-- device failed, and else all are as they were.
+pub record IsCounted (before : List ℕ) (reply : Reply) (now : List ℕ) : Type 0 where
   pub quiet : is_failure reply ≡ false → now ≡ before
-  pub told : is_failure reply ≡ true → FailedBy before now
+  pub told : is_failure reply ≡ true → OneFailed before now
 
--- What a reply tells of the log's device. Where the log file failed meanwhile, the device failed by its count.
-pub record TellsFailure (reply : Reply) (old new : Log) : Type 0 where
-  pub counted : IsCounted old.faults reply new.faults
-  pub seen : old.failed ≡ false → new.failed ≡ true → DeviceFailed old new
+-- What a reply tells of the log's devices. Where the log failed meanwhile, a device failed by its count.
+pub record TellsFailure {D R : Type 0} (faults : D → ℕ) (reply : Reply) (old new : World D R) : Type 0 where
+  pub counted : IsCounted (counts_of faults old.wire) reply (counts_of faults new.wire)
+  pub seen : old.wire.log.failed ≡ false → new.wire.log.failed ≡ true → SomeFailed (counts_of faults old.wire) (counts_of faults new.wire)
 
--- One event: the world stays one, its log grows at its end, what is no sync leaves the device as it was, and, whatever pairs the world stood for, it stands
--- for these and the new one, and the reply is allowed by each numbered log that the world's log begins.
+-- The log and its devices are as they were, and the reply tells of no failure.
+pub record Rests {D : Type 0} (reply : Reply) (old new : Wire D) : Type 0 where
+  pub quiet : is_failure reply ≡ false
+  pub same : new ≡ record old { unsynced = new.unsynced }
+
+-- One event: the world stays one, its log grows at its end, what is no sync and no rotation leaves the log's files and devices as they were, and, whatever pairs the world
+-- stood for, it stands for these and the new one, and the reply is allowed by each numbered log that the world's log begins.
 pub record Goes {D R : Type 0} (contents : R → Database) (old : World D R) (event : Event) (reply : Reply) (new : World D R) : Type 0 where
   pub world : IsWorld contents new
   pub grows : IsPrefix old.source.log new.source.log
-  pub device : TellsFailure reply old.wire.log new.wire.log
-  pub still : (event ≡ events.Sync → ⊥) → new.wire.device ≡ old.wire.device
+  pub still : (event ≡ events.Sync → ⊥) → (event ≡ events.Rotate → ⊥) → Rests reply old.wire new.wire
   pub stands : (setup : Setup) (past : Past) → Stands setup past old → Stands setup ((event, reply) ∷ past) new
   pub allowed : (setup : Setup) (past : Past) (log : List Record) → Stands setup past old → IsPrefix new.source.log log → AreNumbered 1 log →
       Allowed setup log past event reply

@@ -1,6 +1,6 @@
 //! What may happen in a world, and what is answered.
 
-ghost use Rattle.std.specs.Prelude.{◌≡◌};
+ghost use Rattle.std.specs.Prelude.{◌≡◌, map};
 
 use gtid_set::GtidSet;
 use log_file::LogFault;
@@ -28,7 +28,7 @@ pub enum Event {
     Abort { session: u16 },
     /// The queued transactions become the next records of the log.
     Flush,
-    /// The oldest group of records that is not yet synced is written to the log file.
+    /// The oldest group of records that is not yet synced is written to the last file of the log.
     Sync,
     /// The synced transactions are committed.
     Commit,
@@ -46,7 +46,9 @@ pub enum Event {
     Executed,
     /// A read at the replica.
     Read { row: RowId },
-    /// The log file is shown, as its device is to have it: its header, the synced groups, and the last gate.
+    /// The log goes on in a next file, on the next spare device: the last file is finished, and the next one is the last.
+    Rotate,
+    /// The files of the log are shown, as their devices are to have them: of each its header, the synced groups, and the last gate.
     Log,
 }
 
@@ -80,33 +82,33 @@ impl Stamps {
     }
 }
 
-/// The bytes of a log file.
+/// The bytes of the files of a log, in order.
 #[derive(Debug, Drop)]
 pub struct LogText {
-    bytes: Vec<u8>,
+    files: Vec<Vec<u8>>,
 }
 
 impl Model for LogText {
-    ghost use Rattle.std.specs.Prelude.{List, ℕ};
+    ghost use Rattle.std.specs.Prelude.{List, ℕ, map};
 
-    ghost Value = { List ℕ };
+    ghost Value = { List (List ℕ) };
 
-    ghost view = { λ t. t.bytes.items };
+    ghost view = { λ t. map (λ file. file.items) t.files.items };
 }
 
 impl LogText {
-    /// These bytes. It takes no memory.
-    pub fn new(bytes: Vec<u8>) -> LogText
-        ensures { result ≡ bytes.items }
+    /// These files. It takes no memory.
+    pub fn new(files: Vec<Vec<u8>>) -> LogText
+        ensures { result ≡ map (λ file. file.items) files.items }
     {
-        LogText { bytes }
+        LogText { files }
     }
 
-    /// The bytes.
-    pub fn bytes(&self) -> &[u8]
-        ensures { result.now ≡ self.now }
+    /// The bytes of each file, in order.
+    pub fn files(&self) -> &[Vec<u8>]
+        ensures { map (λ file. file.items) result.now ≡ self.now }
     {
-        &self.bytes
+        &self.files
     }
 }
 
@@ -180,8 +182,16 @@ pub enum Reply {
     Replica(ReplicaFault),
     /// The record could not be read from its bytes.
     Codec(CodecFault),
-    /// The log file.
+    /// The log goes on in a next file: its number. The first file has the number 1.
+    Rotated {
+        number: u64,
+    },
+    /// A flushed transaction is not committed yet: the log goes on in the same file.
+    Busy,
+    /// No device is left for a next file.
+    NoDevice,
+    /// The files of the log.
     Text(LogText),
-    /// The device of the log failed, and the source is halted; or there was no memory for the log file.
+    /// A device of the log failed, and the source is halted; or there was no memory for the log.
     Log(LogFault),
 }

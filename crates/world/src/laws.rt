@@ -61,7 +61,7 @@ pub fn committed_are_synced()
 /// Whatever a crash leaves of a run, at any moment of an event or between two: opening it finds all records that were answered as
 /// synced by then, and no record that was not flushed.
 pub fn synced_outlives<D: Device, R: RowStore>()
-    ensures { SyncedOutlives R.contents D.may_leave D.moment D.left_since }
+    ensures { SyncedOutlives R.contents D.seen D.may_leave D.moment D.left_since }
 {}
 
 /// The replica commits each record once, in the order of the log.
@@ -90,7 +90,7 @@ pub fn refuses_only_gaps()
     ensures { RefusesOnlyGaps }
 {}
 
-/// Once a sync is answered that the log's device failed, the source refuses each later event that asks it, syncs and
+/// Once a sync or a rotation is answered that a device of the log failed, the source refuses each later event that asks it, syncs and
 /// commits among them. The replica, its readers and the log go on.
 pub fn halts_for_good()
     ensures { HaltsForGood }
@@ -102,7 +102,7 @@ pub fn operations_leave_rows()
 {}
 
 /// The replies of a run are fixed by what it began with and by its events, but for want of memory and for the choice of
-/// the sync in which the device of the log failed: so they are the same over every pair of stores, and so is the log.
+/// the sync or the rotation in which a device of the log failed: so they are the same over every pair of stores, and so is the log.
 pub fn one_answer()
     ensures replies { OneAnswer }
     ensures log { OneLog }

@@ -2,4 +2,4 @@ use Rattle.world.proofs.LawsCrash.{outlives}
 use Rattle.world.proofs.laws.synced_outlives.Goals as goal
 
 pub returns : goal.returns
-returns g c = outlives g.R.RowStore.contents g.D.Device.may_leave g.D.Device.moment g.D.Device.left_since
+returns g c = outlives g.R.RowStore.contents g.D.Device.seen g.D.Device.may_leave g.D.Device.moment g.D.Device.left_since
