@@ -1,6 +1,8 @@
 pub mod NumberTexts
 pub mod WordLists
-pub mod Verbs
+pub mod Puts
+pub mod Names
+pub mod Keeping
 pub mod ShortTexts
 pub mod ScriptLines
 pub mod Pieces

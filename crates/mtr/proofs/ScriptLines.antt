@@ -2,14 +2,12 @@
 use Rattle.std.proofs.Common.{◌≡◌, ◌∙◌, sym, ap, subst, refl, ℕ, Bool, true, false, cond, eqb, ◌+◌, List, [], ◌∷◌, ◌++◌, Option, Some, None, is_some, Result, Ok, Err}
 use Rattle.std.specs.Str.{is_utf8, IsUtf8}
 use Rattle.std.proofs.lemmas.Str.{IsUtf8-from_is_utf8, is_utf8-from_IsUtf8}
-use Rattle.std.specs.Option.{option_map_or, IfSome}
+use Rattle.std.specs.Option.{option_map, option_map_or, IfSome}
 use Rattle.std.specs.List.{slice_split}
-use Rattle.mtr.specs.Lines.{line_of, text_line}
+use Rattle.mtr.specs.Lines.{About, about, skipped, event, line_of, text_line}
 use Rattle.mtr.specs.Script.{Said, added, said_with, said_by, script_of, Knows, LeavesLines}
 use Rattle.mtr.specs.Words.{Word, ◌>>=◌}
-use Rattle.mtr.specs.declared.command.Verb.{Verb}
 use Rattle.mtr.specs.declared.script.Line.{Line}
-use Rattle.mtr.specs.declared.script.Line.TheVariants as lines
 use Rattle.mtr.specs.Command.{event_of}
 use Rattle.mtr.specs.Events.{one_or_none}
 use Rattle.world.specs.declared.events.Event.{Event}
@@ -33,9 +31,10 @@ pub said_with_text : (s : Said) (line text : List ℕ) → IsUtf8 line → text 
 said_with_text s line text h same = ap (λ o. o >>= added s) (sym (line_of_text line h)) ∙ ap (λ l. text_line l >>= added s) (sym same)
 
 -- where its first word tells what the line is about
-pub line_said : (s : Said) (line text : List ℕ) (found : Option Line) (told about : Line) → IsUtf8 line → text ≡ line → found ≡ text_line text → found ≡ Some told → told ≡ about →
-    said_with s line ≡ added s about
-line_said s line text found told about h same e some is = said_with_text s line text h same ∙ ap (λ o. o >>= added s) (sym e ∙ some) ∙ ap (added s) is
+pub line_said : (s : Said) (line text : List ℕ) (found : Option Line) (told one : Line) → IsUtf8 line → text ≡ line → option_map about found ≡ text_line text → found ≡ Some told → told ≡ one →
+    said_with s line ≡ added s (about one)
+line_said s line text found told one h same e some is =
+    said_with_text s line text h same ∙ ap (λ o. o >>= added s) (sym e ∙ ap (option_map about) some) ∙ ap (λ l. added s (about l)) is
 
 pub said_with_bytes : (s : Said) (line : List ℕ) → ¬ (IsUtf8 line) → said_with s line ≡ None
 said_with_bytes s line h = ap (λ o. o >>= added s) (sym (line_of_bytes line h))
@@ -92,7 +91,7 @@ known_more (Some text) (Some rest) left s after n line so_far lines taken =
 
 -- ---- what a line adds, by what it is about
 
-pub skipped_added : (s : Said) → added s lines.Skipped ≡ Some s
+pub skipped_added : (s : Said) → added s skipped ≡ Some s
 unfolding added
 skipped_added s = refl
 
@@ -103,15 +102,15 @@ tried s (Some e) good events is h =
     ap (λ es. Some (record { tables = s.tables; base = s.base; events = es })) (sym h) ∙ ap (λ b. then_some b (record { tables = s.tables; base = s.base; events = events })) (sym is)
 
 -- an event is added where there is one
-pub event_added : {E : Type 0} (r : Result Bool E) (s : Said) (verb : Verb) (words : List Word) (events : List Event) → IfOk r (λ good. good ≡ is_some (event_of verb words)) →
-    OnOk r (events ≡ s.events ++ one_or_none (event_of verb words))
-    → IfOk r (λ good. added s (lines.Event verb words) ≡ then_some good (record { tables = s.tables; base = s.base; events = events }))
+pub event_added : {E : Type 0} (r : Result Bool E) (s : Said) (name : Word) (words : List Word) (events : List Event) → IfOk r (λ good. good ≡ is_some (event_of name words)) →
+    OnOk r (events ≡ s.events ++ one_or_none (event_of name words))
+    → IfOk r (λ good. added s (event name words) ≡ then_some good (record { tables = s.tables; base = s.base; events = events }))
 unfolding added
-event_added (Ok good) s verb words events is h = tried s (event_of verb words) good events is h
-event_added (Err x) s verb words events is h = is
+event_added (Ok good) s name words events is h = tried s (event_of name words) good events is h
+event_added (Err x) s name words events is h = is
 
 -- what was said of what a line is about is said of the line
-pub then_taken : {E : Type 0} (r : Result Bool E) (s after : Said) (line : List ℕ) (about : Line) → said_with s line ≡ added s about
-    → IfOk r (λ is_good. added s about ≡ then_some is_good after) → IfOk r (λ is_good. said_with s line ≡ then_some is_good after)
-then_taken (Ok is_good) s after line about e h = e ∙ h
-then_taken (Err x) s after line about e h = h
+pub then_taken : {E : Type 0} (r : Result Bool E) (s after : Said) (line : List ℕ) (one : About) → said_with s line ≡ added s one
+    → IfOk r (λ is_good. added s one ≡ then_some is_good after) → IfOk r (λ is_good. said_with s line ≡ then_some is_good after)
+then_taken (Ok is_good) s after line one e h = e ∙ h
+then_taken (Err x) s after line one e h = h

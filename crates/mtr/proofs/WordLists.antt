@@ -1,18 +1,16 @@
 -- Words taken off the front of a text.
-use Rattle.std.proofs.Common.{◌≡◌, ◌∙◌, sym, ap, refl, ℕ, ◌+◌, ◌<◌, ◌≤◌, Bool, true, false, eqb, List, [], ◌∷◌, length, Option, Some, None, is_some, not, ℤ, ◌++◌, take, append_assoc, append-nil}
+use Rattle.std.proofs.Common.{◌≡◌, ◌∙◌, sym, ap, refl, ℕ, ◌+◌, ◌<◌, Bool, true, false, eqb, List, [], ◌∷◌, length, Option, Some, None, is_some, not, ℤ, ◌++◌, take, append_assoc, append-nil}
 use Rattle.std.proofs.Common.{length-append, cond, leb, ◌&&◌, add-one, arith}
 use Rattle.std.specs.Borrow.{Bor}
 use Rattle.std.specs.List.{slice_split}
 use Rattle.std.proofs.lemmas.List.Splits.{length-slice_split}
-use Rattle.std.proofs.lemmas.Bool.{and_right}
 use Rattle.std.proofs.lemmas.Bool.Decides.{nat_tests}
 use Rattle.std.specs.Option.{option_map, option_map_or}
 use Rattle.std.proofs.Math.Seq.{take-suc-set}
 use Rattle.std.proofs.Math.ListN.{set}
 use Rattle.mtr.proofs.Splits.{is_byte}
 use Rattle.mtr.specs.Number.{integer}
-use Rattle.rows.specs.Naming.{rise_from, naming_from}
-use Rattle.mtr.specs.Words.{Word, words_left, first_word, alone, all_in, row_in, sides_of, assignment, naming_in, ◌>>=◌}
+use Rattle.mtr.specs.Words.{Word, words_left, first_word, alone, all_in, row_in, sides_of, ◌>>=◌}
 
 pub not_nothing : (n k : ℕ) → n ≡ k + 1 → eqb n 0 ≡ false
 not_nothing n k e = grind (arith, nat_tests)
@@ -41,20 +39,25 @@ abbrev pub then_rest : {A : Type 0} → (Word → Option A) → List A → List 
 then_rest {A} read front words = option_map (λ (r : List A). front ++ r) (all_in read words)
 
 -- the same once the first of these was taken off
-then_first : {A : Type 0} (read : Word → Option A) (front : List A) (words rest : List Word) (word : Word) → first_word words ≡ Some (word, rest) →
+pub then_first : {A : Type 0} (read : Word → Option A) (front : List A) (words rest : List Word) (word : Word) → first_word words ≡ Some (word, rest) →
     then_rest read front (word ∷ rest) ≡ then_rest read front words
 then_first read front words rest word first = ap (λ (ws : List Word). then_rest read front ws) (sym (words_are words rest word first))
+
+-- one item more in front
+pub front_more : {A : Type 0} (read : Word → Option A) (front : List A) (words rest : List Word) (word : Word) (x : A) → first_word words ≡ Some (word, rest) → read word ≡ Some x →
+    then_rest read (front ++ x ∷ []) rest ≡ then_rest read front words
+unfolding all_in
+front_more {A} read front words rest word x first e =
+    grown front x (all_in read rest)
+    ∙ ap (λ o. option_map (λ (r : List A). front ++ r) (o >>= λ x'. all_in read rest >>= λ xs. Some (x' ∷ xs))) (sym e)
+    ∙ then_first read front words rest word first
 
 -- one item more
 pub item_more : {A : Type 0} (read : Word → Option A) (items : List A) (count : ℕ) (words rest : List Word) (word : Word) (x written : A) → count < length items → written ≡ x →
     first_word words ≡ Some (word, rest) → read word ≡ Some x → then_rest read (take (count + 1) (set items count written)) rest ≡ then_rest read (take count items) words
-unfolding all_in
 item_more {A} read items count words rest word x written below same first e =
     let front : take (count + 1) (set items count written) ≡ take count items ++ x ∷ [] = rw (same, add-one, take-suc-set items count x below) refl in
-    ap (λ f. option_map (λ (r : List A). f ++ r) (all_in read rest)) front
-    ∙ grown (take count items) x (all_in read rest)
-    ∙ ap (λ o. option_map (λ (r : List A). take count items ++ r) (o >>= λ x'. all_in read rest >>= λ xs. Some (x' ∷ xs))) (sym e)
-    ∙ then_first read (take count items) words rest word first
+    ap (λ f. then_rest read f rest) front ∙ front_more read (take count items) words rest word x first e
 
 -- a word that is no item
 pub no_item : {A : Type 0} (read : Word → Option A) (front : List A) (initial words rest : List Word) (word : Word) → read word ≡ None → first_word words ≡ Some (word, rest) →
@@ -96,31 +99,6 @@ wide_row (Some all) wide = ap (λ b. cond b (Some all) None) (above_sixteen (len
 pub no_row : (words : List Word) (n : ℕ) → n ≡ 16 → ((all : List ℤ) → all_in integer words ≡ Some all → n < length all) → None ≡ row_in words
 unfolding row_in
 no_row words n e wide = sym (wide_row (all_in integer words) (λ all is. omega (arith, e, wide all is)))
-
--- strictly rising columns below 16 are few
-rising_few : (least : ℕ) (pairs : List (ℕ × ℤ)) → least ≤ 16 → rise_from least pairs ≡ true → least + length pairs ≤ 16
-rising_few least [] few e = omega (arith, few)
-rising_few least (pair ∷ pairs) few e =
-    let risen : rise_from (pair.0 + 1) pairs ≡ true = grind (arith, e) in
-    let within : pair.0 + 1 ≤ 16 = grind (arith, nat_tests, e) in
-    let behind : pair.0 + 1 + length pairs ≤ 16 = rising_few (pair.0 + 1) pairs within risen in
-    let from : least ≤ pair.0 = grind (arith, nat_tests, e) in
-    omega (arith, behind, from)
-
-not_rising : (all : List (ℕ × ℤ)) (b : Bool) → rise_from 0 all ≡ b → 16 < length all → b ≡ false
-not_rising all true e wide = absurd (omega (arith, rising_few 0 all (omega arith) e))
-not_rising all false e wide = refl
-
-wide_naming : (o : Option (List (ℕ × ℤ))) → ((all : List (ℕ × ℤ)) → o ≡ Some all → 16 < length all) →
-    (o >>= λ pairs. cond (leb 1 (length pairs) && rise_from 0 pairs) (Some (naming_from pairs)) None) ≡ None
-wide_naming None wide = refl
-wide_naming (Some all) wide =
-    ap (λ b. cond b (Some (naming_from all)) None) (and_right (leb 1 (length all)) (rise_from 0 all) (not_rising all (rise_from 0 all) refl (wide all refl)))
-
--- more than sixteen pairs
-pub no_naming : (words : List Word) (n : ℕ) → n ≡ 16 → ((all : List (ℕ × ℤ)) → all_in assignment words ≡ Some all → n < length all) → None ≡ naming_in words
-unfolding naming_in
-no_naming words n e wide = sym (wide_naming (all_in assignment words) (λ all is. omega (arith, e, wide all is)))
 
 pair_of_sides : List Word → Option (Word × Word)
 pair_of_sides parts = first_word parts >>= λ left. alone (first_word left.1) >>= λ right. Some (left.0, right)

@@ -1,35 +1,11 @@
 -- Which words make which event.
-use Rattle.std.specs.Prelude.{◌^◌, ℕ, ◌==◌, if◌then◌else◌, List, [], ◌∷◌, length, find, codes, Option, Some, None, option_map}
+use Rattle.std.specs.Prelude.{◌^◌, ℕ, ◌==◌, if◌then◌else◌, List, length, codes, Option, Some, None, option_map}
 use Rattle.std.specs.Str.{bytes_eq}
 use Rattle.schema.specs.declared.RowId.{RowId}
 use Rattle.rows.specs.declared.Change.TheVariants.{Insert, Update, Delete}
 use Rattle.world.specs.declared.events.Event.{Event}
 use Rattle.world.specs.declared.events.Event.TheVariants as events
-use Rattle.mtr.specs.declared.command.Verb.{Verb}
-use Rattle.mtr.specs.declared.command.Verb.TheVariants as verbs
 use Rattle.mtr.specs.Words.{Word, ◌>>=◌, alone, number_in, row_id_in, row_in, naming_in}
-
--- the first word of an event's line
-abbrev pub name_of : Verb → Word
-name_of verbs.Begin = codes "begin"
-name_of verbs.Insert = codes "insert"
-name_of verbs.Set = codes "set"
-name_of verbs.Delete = codes "delete"
-name_of verbs.See = codes "see"
-name_of verbs.Prepare = codes "prepare"
-name_of verbs.Queue = codes "queue"
-name_of verbs.Abort = codes "abort"
-name_of verbs.Flush = codes "flush"
-name_of verbs.Sync = codes "sync"
-name_of verbs.Commit = codes "commit"
-name_of verbs.Deliver = codes "deliver"
-name_of verbs.Dispatch = codes "dispatch"
-name_of verbs.Finish = codes "finish"
-name_of verbs.Next = codes "next"
-name_of verbs.Publish = codes "publish"
-name_of verbs.Executed = codes "executed"
-name_of verbs.Read = codes "read"
-name_of verbs.Log = codes "log"
 
 -- an event without parameters
 abbrev pub bare : Event → List Word → Option Event
@@ -42,42 +18,68 @@ at_row words = do
   id ← alone (row_id_in session.1)
   Some (session.0, id)
 
--- the event of a verb and the words behind it
-abbrev pub event_of : Verb → List Word → Option Event
-event_of verbs.Begin words = option_map (λ session. events.Begin session) (alone (number_in (2 ^ 16) words))
-event_of verbs.Insert words = do
+-- a session, a row, and the words behind them
+unfoldable pub written_of : List Word → Option (ℕ × RowId × List Word)
+written_of words = do
   session ← number_in (2 ^ 16) words
   id ← row_id_in session.1
-  columns ← row_in id.1
-  Some (events.Write session.0 (Insert id.0 columns))
-event_of verbs.Set words = do
-  session ← number_in (2 ^ 16) words
-  id ← row_id_in session.1
-  columns ← naming_in id.1
-  Some (events.Write session.0 (Update id.0 columns))
-event_of verbs.Delete words = do
-  at ← at_row words
-  Some (events.Write at.0 (Delete at.1))
-event_of verbs.See words = option_map (λ at. events.See at.0 at.1) (at_row words)
-event_of verbs.Prepare words = option_map (λ session. events.Prepare session) (alone (number_in (2 ^ 16) words))
-event_of verbs.Queue words = option_map (λ session. events.Queue session) (alone (number_in (2 ^ 16) words))
-event_of verbs.Abort words = option_map (λ session. events.Abort session) (alone (number_in (2 ^ 16) words))
-event_of verbs.Flush words = bare events.Flush words
-event_of verbs.Sync words = bare events.Sync words
-event_of verbs.Commit words = bare events.Commit words
-event_of verbs.Deliver words = option_map (λ gno. events.Deliver gno) (alone (number_in (2 ^ 64) words))
-event_of verbs.Dispatch words = bare events.Dispatch words
-event_of verbs.Finish words = option_map (λ gno. events.Finish gno) (alone (number_in (2 ^ 64) words))
-event_of verbs.Next words = bare events.Next words
-event_of verbs.Publish words = bare events.Publish words
-event_of verbs.Executed words = bare events.Executed words
-event_of verbs.Read words = option_map (λ id. events.Read id) (alone (row_id_in words))
-event_of verbs.Log words = bare events.Log words
+  Some (session.0, id.0, id.1)
 
-abbrev pub all_verbs : List Verb
-all_verbs = verbs.Begin ∷ verbs.Insert ∷ verbs.Set ∷ verbs.Delete ∷ verbs.See ∷ verbs.Prepare ∷ verbs.Queue ∷ verbs.Abort ∷ verbs.Flush ∷ verbs.Sync ∷ verbs.Commit ∷ verbs.Deliver ∷ verbs.Dispatch ∷
-    verbs.Finish ∷ verbs.Next ∷ verbs.Publish ∷ verbs.Executed ∷ verbs.Read ∷ verbs.Log ∷ []
+-- an insert of all columns of a row
+unfoldable pub insert_of : List Word → Option Event
+insert_of words = do
+  at ← written_of words
+  columns ← row_in at.2
+  Some (events.Write at.0 (Insert at.1 columns))
 
--- the verb of this name
-unfoldable pub verb_of : Word → Option Verb
-verb_of word = find (λ verb. bytes_eq word (name_of verb)) all_verbs
+-- a change of the named columns of a row
+unfoldable pub set_of : List Word → Option Event
+set_of words = do
+  at ← written_of words
+  columns ← naming_in at.2
+  Some (events.Write at.0 (Update at.1 columns))
+
+-- a delete of a row
+abbrev pub delete_of : List Word → Option Event
+delete_of words = option_map (λ at. events.Write at.0 (Delete at.1)) (at_row words)
+
+-- what a session sees of a row
+abbrev pub see_of : List Word → Option Event
+see_of words = option_map (λ at. events.See at.0 at.1) (at_row words)
+
+-- a read of a row at the replica
+abbrev pub read_of : List Word → Option Event
+read_of words = option_map (λ id. events.Read id) (alone (row_id_in words))
+
+-- an event of one session
+abbrev pub session_event : (ℕ → Event) → List Word → Option Event
+session_event event words = option_map event (alone (number_in (2 ^ 16) words))
+
+-- an event of one record
+abbrev pub gno_event : (ℕ → Event) → List Word → Option Event
+gno_event event words = option_map event (alone (number_in (2 ^ 64) words))
+
+-- the event of this name and the words behind it
+unfoldable pub event_of : Word → List Word → Option Event
+event_of name words =
+    if bytes_eq name (codes "begin") then session_event (λ session. events.Begin session) words
+    else if bytes_eq name (codes "insert") then insert_of words
+    else if bytes_eq name (codes "set") then set_of words
+    else if bytes_eq name (codes "delete") then delete_of words
+    else if bytes_eq name (codes "see") then see_of words
+    else if bytes_eq name (codes "prepare") then session_event (λ session. events.Prepare session) words
+    else if bytes_eq name (codes "queue") then session_event (λ session. events.Queue session) words
+    else if bytes_eq name (codes "abort") then session_event (λ session. events.Abort session) words
+    else if bytes_eq name (codes "flush") then bare events.Flush words
+    else if bytes_eq name (codes "sync") then bare events.Sync words
+    else if bytes_eq name (codes "commit") then bare events.Commit words
+    else if bytes_eq name (codes "deliver") then gno_event (λ gno. events.Deliver gno) words
+    else if bytes_eq name (codes "dispatch") then bare events.Dispatch words
+    else if bytes_eq name (codes "finish") then gno_event (λ gno. events.Finish gno) words
+    else if bytes_eq name (codes "next") then bare events.Next words
+    else if bytes_eq name (codes "publish") then bare events.Publish words
+    else if bytes_eq name (codes "executed") then bare events.Executed words
+    else if bytes_eq name (codes "read") then read_of words
+    else if bytes_eq name (codes "rotate") then bare events.Rotate words
+    else if bytes_eq name (codes "log") then bare events.Log words
+    else None

@@ -54,3 +54,7 @@ stop_text stops.BadHexadecimal = codes "bad hexadecimal"
 stop_text (stops.Log fault) = log_text fault
 stop_text stops.Memory = codes "no memory"
 stop_text stops.Stream = codes ""
+
+-- what is said at a terminal before a script is read from it
+abbrev pub notice : List ℕ
+notice = codes "mtr run reads a script from standard input\n"

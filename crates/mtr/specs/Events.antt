@@ -1,23 +1,15 @@
 -- Events as they are kept.
-use Rattle.std.specs.Prelude.{◌≡◌, ◌≤◌, ℕ, ℤ, Bool, true, false, Option, Some, None, List, [], ◌∷◌, ◌++◌, take, drop, length, sum_by, count_ones, All}
+use Rattle.std.specs.Prelude.{◌≡◌, ◌≤◌, ℕ, ℤ, Option, Some, None, List, [], ◌∷◌, ◌++◌, take, drop, length, sum_by, count_ones, All}
 use Rattle.std.specs.List.{flat_map}
 use Rattle.rows.specs.declared.Change.TheVariants.{Insert, Update, Delete}
 use Rattle.world.specs.declared.events.Event.{Event}
 use Rattle.world.specs.declared.events.Event.TheVariants as events
-use Rattle.mtr.specs.declared.command.Verb.{Verb}
-use Rattle.mtr.specs.declared.command.Verb.TheVariants as verbs
 use Rattle.mtr.specs.declared.kept.Kept.{Kept}
 use Rattle.mtr.specs.declared.kept.Kept.TheVariants as kepts
 
 abbrev pub one_or_none : {A : Type 0} → Option A → List A
 one_or_none None = []
 one_or_none (Some x) = x ∷ []
-
--- whether the event of a verb has columns
-abbrev pub has_columns : Verb → Bool
-has_columns verbs.Insert = true
-has_columns verbs.Set = true
-has_columns _ = false
 
 -- how many columns are kept of an event
 abbrev pub width_of : Kept → ℕ
@@ -57,6 +49,7 @@ event_of kepts.Next columns = events.Next
 event_of kepts.Publish columns = events.Publish
 event_of kepts.Executed columns = events.Executed
 event_of (kepts.Read table key) columns = events.Read (record { table = table; key = key })
+event_of kepts.Rotate columns = events.Rotate
 event_of kepts.Log columns = events.Log
 
 -- where there is an event this is kept of it, and its own columns stand behind the others

@@ -7,7 +7,6 @@ use Rattle.schema.specs.Schema.{plain_table}
 use Rattle.mtr.specs.declared.script.Line.{Line}
 use Rattle.mtr.specs.declared.script.Line.TheVariants as lines
 use Rattle.mtr.specs.Words.{Word, ◌>>=◌, alone, behind_name, first_word, words_of, number_in, row_id_in, row_in}
-use Rattle.mtr.specs.Command.{verb_of}
 
 -- whether a table of this kind has keys
 abbrev pub keyed_of : Word → Option Bool
@@ -54,23 +53,37 @@ base_of words = do
   columns ← row_in id.1
   Some (id.0, columns)
 
+-- what a line is about, and the words behind its first
+pub data About : Type 0 where
+  skipped : About
+  table : List Word → About
+  base : List Word → About
+  event : Word → List Word → About
+
+-- the same of a line that was read
+abbrev pub about : Line → About
+about lines.Skipped = skipped
+about (lines.Table words) = table words
+about (lines.Base words) = base words
+about (lines.Event name words) = event name.now words
+
 -- what the words of a line are about, by the first of them
-unfoldable pub command_of : List Word → Option Line
+unfoldable pub command_of : List Word → Option About
 command_of words = do
   name ← first_word words
-  if bytes_eq name.0 (codes "table") then Some (lines.Table name.1)
-      else if bytes_eq name.0 (codes "base") then Some (lines.Base name.1)
-      else option_map (λ verb. lines.Event verb name.1) (verb_of name.0)
+  if bytes_eq name.0 (codes "table") then Some (table name.1)
+      else if bytes_eq name.0 (codes "base") then Some (base name.1)
+      else Some (event name.0 name.1)
 
 -- an empty line, or one that begins with `#`, which is 35
 abbrev pub is_skipped : List ℕ → Bool
 is_skipped [] = true
 is_skipped (c ∷ cs) = c == 35
 
--- what a line of text is about, where its first word tells
-unfoldable pub text_line : List ℕ → Option Line
-text_line line = if is_skipped line then Some lines.Skipped else command_of (words_of line)
+-- what a line of text is about
+unfoldable pub text_line : List ℕ → Option About
+text_line line = if is_skipped line then Some skipped else command_of (words_of line)
 
 -- the same of a line of bytes: they have to be text
-unfoldable pub line_of : List ℕ → Option Line
+unfoldable pub line_of : List ℕ → Option About
 line_of line = if is_utf8 line then text_line line else None

@@ -67,7 +67,7 @@ pub record Prints (kind : Kind) (workers : ℕ) (preserve : Bool) (script : Said
   pub replies : List Reply
   pub log : List Record
   pub legal : AreLegal (setup_of kind script.tables base workers preserve) log script.events replies
-  -- and no other replies are legal, but for want of memory and for the choice of a sync that fails, whatever stores keep the rows
+  -- and no other replies are legal, but for want of memory and for the choice of a sync or a rotation that fails, whatever stores keep the rows
   pub only : IsOnlyAnswer (setup_of kind script.tables base workers preserve) script.events replies
   pub lines : Appends before printed (lines_of replies)
 

@@ -38,6 +38,15 @@ ids_text ids = if length ids.numbers == 0 then codes "none" else text_of_set ids
 abbrev pub upto_text : ℕ → ℕ → List ℕ
 upto_text upto more = if more == 0 then decimal upto else decimal upto ++ (codes "+" ++ decimal more)
 
+-- the bytes of a file behind those before it: a space, which is 32, and their digits
+abbrev pub further_file : List ℕ → List ℕ
+further_file bytes = 32 ∷ hex_text bytes
+
+-- the bytes of files in hexadecimal digits, joined by one space
+abbrev pub files_text : List (List ℕ) → List ℕ
+files_text [] = []
+files_text (bytes ∷ files) = hex_text bytes ++ flat_map further_file files
+
 -- what an event prints
 abbrev pub text_of : Reply → List ℕ
 text_of replies.Done = codes "ok"
@@ -62,7 +71,10 @@ text_of (replies.Read upto more None) = upto_text upto more ++ codes ": none"
 text_of (replies.Source fault) = source_text fault
 text_of (replies.Replica fault) = replica_text fault
 text_of (replies.Codec fault) = codec_text fault
-text_of (replies.Text bytes) = hex_text bytes
+text_of (replies.Rotated number) = codes "rotated " ++ decimal number
+text_of replies.Busy = codes "S17 Busy"
+text_of replies.NoDevice = codes "L5 NoDevice"
+text_of (replies.Text files) = files_text files
 text_of (replies.Log fault) = log_text fault
 
 -- its line; 10 is LF

@@ -7,11 +7,9 @@ use Rattle.schema.specs.declared.Table.{Table}
 use Rattle.world.specs.declared.events.Event.{Event}
 use Rattle.mtr.specs.declared.ending.Stop.{Stop}
 use Rattle.mtr.specs.declared.ending.Stop.TheVariants as stops
-use Rattle.mtr.specs.declared.script.Line.{Line}
-use Rattle.mtr.specs.declared.script.Line.TheVariants as lines
 use Rattle.mtr.specs.declared.script.Script.{Script}
 use Rattle.mtr.specs.Words.{◌>>=◌}
-use Rattle.mtr.specs.Lines.{table_of, base_of, line_of}
+use Rattle.mtr.specs.Lines.{About, skipped, table, base, event, table_of, base_of, line_of}
 use Rattle.mtr.specs.Command.{event_of}
 
 -- a script as its lists
@@ -26,19 +24,19 @@ said script = record { tables = script.tables.items; base = script.base.items; e
 abbrev pub nothing : Said
 nothing = record { tables = []; base = []; events = [] }
 
--- A line more, where the words behind its first are what that asks for. All tables come before the first row of the
+-- A line more, where the words behind its first are what that asks for; an event has to have that name. All tables come before the first row of the
 -- base, and both before the first event.
-unfoldable pub added : Said → Line → Option Said
-added s lines.Skipped = Some s
-added s (lines.Table words) = do
-  table ← table_of words
-  if length s.base == 0 && length s.events == 0 then Some (record s { tables = s.tables ++ table ∷ [] }) else None
-added s (lines.Base words) = do
+unfoldable pub added : Said → About → Option Said
+added s skipped = Some s
+added s (table words) = do
+  one ← table_of words
+  if length s.base == 0 && length s.events == 0 then Some (record s { tables = s.tables ++ one ∷ [] }) else None
+added s (base words) = do
   row ← base_of words
   if length s.events == 0 then Some (record s { base = s.base ++ row ∷ [] }) else None
-added s (lines.Event verb words) = do
-  event ← event_of verb words
-  Some (record s { events = s.events ++ event ∷ [] })
+added s (event name words) = do
+  one ← event_of name words
+  Some (record s { events = s.events ++ one ∷ [] })
 
 -- what a line makes of what was said so far, where it may come behind that
 abbrev pub said_with : Said → List ℕ → Option Said

@@ -1,5 +1,5 @@
 -- The words of a line, and the numbers, row ids and rows that they are.
-use Rattle.std.specs.Prelude.{◌≡◌, ℕ, ◌^◌, ℤ, ◌==◌, ◌&&◌, nat_le, if◌then◌else◌, ◌≤◌, ◌<◌, Bool, true, false, List, [], ◌∷◌, length, take, Option, Some, None}
+use Rattle.std.specs.Prelude.{◌≡◌, ℕ, ◌+◌, min, ◌^◌, ℤ, ◌==◌, ◌&&◌, nat_le, if◌then◌else◌, ◌≤◌, ◌<◌, Bool, true, false, List, [], ◌∷◌, ◌++◌, count_ones, length, take, Option, Some, None}
 use Rattle.std.specs.Str.{bytes_eq}
 use Rattle.std.specs.Option.{option_map_or}
 use Rattle.std.specs.Borrow.{Bor}
@@ -98,3 +98,27 @@ naming_in words = do
 abbrev pub AreAll : {A : Type 0} → (Word → Option A) → List Word → List A → Option ℕ → Type 0
 AreAll read words items (Some count) = (count ≤ length items) × (all_in read words ≡ Some (take count items))
 AreAll {A} read words items None = (all : List A) → all_in read words ≡ Some all → length items < length all
+
+-- in a list of this length and capacity there is room for a column of each word, or for sixteen
+abbrev pub HasRoom : List Word → ℕ → ℕ → Type 0
+HasRoom words len capacity = len + min 16 (length words) ≤ capacity
+
+-- a row stands behind other columns, and how many it has is told; where there is no row some numbers may stand there
+abbrev pub PutsNumbers : Option (List ℤ) → List ℤ → List ℤ → Option ℕ → Type 0
+PutsNumbers row old new (Some count) = (own : List ℤ) × (row ≡ Some own) × (new ≡ old ++ own) × (1 ≤ count) × (count ≤ 16) × (count ≡ length own)
+PutsNumbers row old new None = (some : List ℤ) × (row ≡ None) × (new ≡ old ++ some)
+
+-- and so do the values of named columns, one for each bit of the mask that is told
+abbrev pub PutsValues : Option NamedColumns → List ℤ → List ℤ → Option ℕ → Type 0
+PutsValues naming old new (Some mask) = (own : List ℤ) × (naming ≡ Some (record { mask = mask; values = own })) × (new ≡ old ++ own) × (1 ≤ mask) × (count_ones mask ≡ length own)
+PutsValues naming old new None = (some : List ℤ) × (naming ≡ None) × (new ≡ old ++ some)
+
+-- the same where nothing stands there of what is no row,
+abbrev pub PutsRow : Option (List ℤ) → Option ℕ → List ℤ → List ℤ → Type 0
+PutsRow row (Some count) old new = PutsNumbers row old new (Some count)
+PutsRow row None old new = (row ≡ None) × (new ≡ old)
+
+-- or names no columns
+abbrev pub PutsNamed : Option NamedColumns → Option ℕ → List ℤ → List ℤ → Type 0
+PutsNamed naming (Some mask) old new = PutsValues naming old new (Some mask)
+PutsNamed naming None old new = (naming ≡ None) × (new ≡ old)

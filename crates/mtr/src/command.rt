@@ -1,83 +1,13 @@
 //! The event that a line's words are, as it is kept.
 
-ghost use Rattle.std.specs.Prelude.{◌≡◌, ◌^◌, ◌==◌, [], false, if◌then◌else◌, length, option_map, slice_get, IfOk, IfSome, OnErr, Some};
-ghost use Rattle.std.specs.Prelude.{None};
+ghost use Rattle.std.specs.Prelude.{◌≡◌, ◌≢◌, ◌^◌, ◌==◌, [], if◌then◌else◌, length, option_map, slice_get, IfOk, IfSome, OnErr, Some, None};
 ghost use Rattle.mtr.specs.Words.{alone, number_in, row_id_in};
-ghost use Rattle.mtr.specs.Command.{verb_of, at_row, event_of};
-ghost use Rattle.mtr.specs.Events.{IsBare, Keeps, has_columns, event_of as whole};
+ghost use Rattle.mtr.specs.Command.{at_row, written_of, insert_of, set_of, delete_of, see_of, read_of, event_of};
+ghost use Rattle.mtr.specs.Events.{IsBare, Keeps, event_of as whole};
 
 use crate::kept::Kept;
 use crate::words::Words;
-use rows::Change;
 use schema::{Memory, RowId};
-use world::Event;
-
-/// The first word of an event's line.
-#[derive(Clone, Copy)]
-pub enum Verb {
-    Begin,
-    Insert,
-    Set,
-    Delete,
-    See,
-    Prepare,
-    Queue,
-    Abort,
-    Flush,
-    Sync,
-    Commit,
-    Deliver,
-    Dispatch,
-    Finish,
-    Next,
-    Publish,
-    Executed,
-    Read,
-    Log,
-}
-
-impl Verb {
-    /// The verb of this name. It is compared with those alone that begin with its first letter.
-    #[inline(always)]
-    pub fn of(name: &str) -> Option<Verb>
-        ensures { result ≡ verb_of name.now }
-    {
-        match letter(name)? {
-            b'a' => (name == "abort").then_some(Verb::Abort),
-            b'b' => (name == "begin").then_some(Verb::Begin),
-            b'c' => (name == "commit").then_some(Verb::Commit),
-            b'd' => match name {
-                "delete" => Some(Verb::Delete),
-                "deliver" => Some(Verb::Deliver),
-                "dispatch" => Some(Verb::Dispatch),
-                _ => None,
-            },
-            b'e' => (name == "executed").then_some(Verb::Executed),
-            b'f' => match name {
-                "flush" => Some(Verb::Flush),
-                "finish" => Some(Verb::Finish),
-                _ => None,
-            },
-            b'i' => (name == "insert").then_some(Verb::Insert),
-            b'l' => (name == "log").then_some(Verb::Log),
-            b'n' => (name == "next").then_some(Verb::Next),
-            b'p' => match name {
-                "prepare" => Some(Verb::Prepare),
-                "publish" => Some(Verb::Publish),
-                _ => None,
-            },
-            b'q' => (name == "queue").then_some(Verb::Queue),
-            b'r' => (name == "read").then_some(Verb::Read),
-            b's' => match name {
-                "set" => Some(Verb::Set),
-                "see" => Some(Verb::See),
-                "sync" => Some(Verb::Sync),
-                _ => None,
-            },
-            _ => None,
-        }
-    }
-}
 
 /// The first letter of a name; `None` where it has none.
 #[inline(always)]
@@ -95,91 +25,87 @@ pub fn alone<T: Drop>(found: Option<(T, Words)>) -> Option<T>
     if rest.is_empty() { Some(value) } else { None }
 }
 
-/// What is kept of the event of a verb and the words behind it; its columns go behind others. `None`, and none of these, where
-/// the words are not the verb's parameters.
-pub fn keep(verb: Verb, words: Words, columns: &mut Vec<i64>) -> Result<Option<Kept>, Memory>
-    ensures kept { IfOk result (λ found. Keeps (event_of verb words.entry) found columns.old.items columns.new.items) }
+/// What is kept of the event of this name and the words behind it; its columns go behind others. `None`, and none of these, where
+/// no event has the name, or the words are not its parameters. The name is compared with those alone that begin with its first letter.
+pub fn keep(name: &str, words: Words, columns: &mut Vec<i64>) -> Result<Option<Kept>, Memory>
+    ensures kept { IfOk result (λ found. Keeps (event_of name.now words.entry) found columns.old.items columns.new.items) }
     ensures err { OnErr result (columns.new.items ≡ columns.old.items) }
 {
-    match verb {
-        Verb::Insert => keep_write(insert_of(words), columns),
-        Verb::Set => keep_write(set_of(words), columns),
-        _ => Ok(bare_of(verb, words)),
+    match letter(name) {
+        None => Ok(None),
+        Some(b'i') => match name {
+            "insert" => insert_of(words, columns),
+            _ => Ok(None),
+        },
+        Some(b's') => match name {
+            "set" => set_of(words, columns),
+            "see" => Ok(see_of(words)),
+            "sync" => Ok(bare(Kept::Sync, words)),
+            _ => Ok(None),
+        },
+        Some(letter) => Ok(bare_of(letter, name, words)),
     }
 }
 
-/// What is kept of a write, with its columns.
-fn keep_write(found: Option<(u16, Change)>, columns: &mut Vec<i64>) -> Result<Option<Kept>, Memory>
-    ensures kept { IfOk result (λ kept. Keeps (option_map (λ x. Event.Write x.0 x.1) found) kept columns.old.items columns.new.items) }
-    ensures err { OnErr result (columns.new.items ≡ columns.old.items) }
-{
-    let Some((session, change)) = found else {
-        return Ok(None);
-    };
-    let (kept, own) = Kept::of(session, &change);
-    columns.extend_from_slice(own)?;
-    Ok(Some(kept))
-}
-
-/// What is kept of an event without columns.
-fn bare_of(verb: Verb, words: Words) -> Option<Kept>
-    ensures event { has_columns verb ≡ false → option_map (λ kept. whole kept []) result ≡ event_of verb words.entry }
+/// What is kept of an event without columns whose name begins with this letter, which is neither i nor s.
+fn bare_of(letter: u8, name: &str, words: Words) -> Option<Kept>
+    requires first { slice_get name.now 0 ≡ Some letter }
+    requires not_i { letter ≢ 105 }
+    requires not_s { letter ≢ 115 }
+    ensures event { option_map (λ kept. whole kept []) result ≡ event_of name.now words.entry }
     ensures bare { IfSome result IsBare }
 {
-    match verb {
-        Verb::Insert | Verb::Set => None,
-        Verb::Begin => {
-            let session = session_of(words)?;
-            Some(Kept::Begin { session })
-        }
-        Verb::Delete => {
-            let (session, RowId { table, key }) = at_row(words)?;
-            Some(Kept::Delete {
-                session,
-                table,
-                key,
-            })
-        }
-        Verb::See => {
-            let (session, RowId { table, key }) = at_row(words)?;
-            Some(Kept::See {
-                session,
-                table,
-                key,
-            })
-        }
-        Verb::Prepare => {
-            let session = session_of(words)?;
-            Some(Kept::Prepare { session })
-        }
-        Verb::Queue => {
-            let session = session_of(words)?;
-            Some(Kept::Queue { session })
-        }
-        Verb::Abort => {
-            let session = session_of(words)?;
-            Some(Kept::Abort { session })
-        }
-        Verb::Deliver => {
-            let gno = gno_of(words)?;
-            Some(Kept::Deliver { gno })
-        }
-        Verb::Finish => {
-            let gno = gno_of(words)?;
-            Some(Kept::Finish { gno })
-        }
-        Verb::Read => {
-            let RowId { table, key } = row_of(words)?;
-            Some(Kept::Read { table, key })
-        }
-        Verb::Flush => bare(Kept::Flush, words),
-        Verb::Sync => bare(Kept::Sync, words),
-        Verb::Commit => bare(Kept::Commit, words),
-        Verb::Dispatch => bare(Kept::Dispatch, words),
-        Verb::Next => bare(Kept::Next, words),
-        Verb::Publish => bare(Kept::Publish, words),
-        Verb::Executed => bare(Kept::Executed, words),
-        Verb::Log => bare(Kept::Log, words),
+    match letter {
+        b'a' => match name {
+            "abort" => session_of(words).map(|session| Kept::Abort { session }),
+            _ => None,
+        },
+        b'b' => match name {
+            "begin" => session_of(words).map(|session| Kept::Begin { session }),
+            _ => None,
+        },
+        b'c' => match name {
+            "commit" => bare(Kept::Commit, words),
+            _ => None,
+        },
+        b'd' => match name {
+            "delete" => delete_of(words),
+            "deliver" => gno_of(words).map(|gno| Kept::Deliver { gno }),
+            "dispatch" => bare(Kept::Dispatch, words),
+            _ => None,
+        },
+        b'e' => match name {
+            "executed" => bare(Kept::Executed, words),
+            _ => None,
+        },
+        b'f' => match name {
+            "flush" => bare(Kept::Flush, words),
+            "finish" => gno_of(words).map(|gno| Kept::Finish { gno }),
+            _ => None,
+        },
+        b'l' => match name {
+            "log" => bare(Kept::Log, words),
+            _ => None,
+        },
+        b'n' => match name {
+            "next" => bare(Kept::Next, words),
+            _ => None,
+        },
+        b'p' => match name {
+            "prepare" => session_of(words).map(|session| Kept::Prepare { session }),
+            "publish" => bare(Kept::Publish, words),
+            _ => None,
+        },
+        b'q' => match name {
+            "queue" => session_of(words).map(|session| Kept::Queue { session }),
+            _ => None,
+        },
+        b'r' => match name {
+            "read" => read_of(words),
+            "rotate" => bare(Kept::Rotate, words),
+            _ => None,
+        },
+        _ => None,
     }
 }
 
@@ -211,24 +137,84 @@ fn bare(kept: Kept, words: Words) -> Option<Kept>
     if words.is_empty() { Some(kept) } else { None }
 }
 
-/// The session and the change of an insert.
-fn insert_of(words: Words) -> Option<(u16, Change)>
-    ensures { option_map (λ x. Event.Write x.0 x.1) result ≡ event_of Verb.Insert words.entry }
+/// An insert, with its columns behind others.
+fn insert_of(words: Words, columns: &mut Vec<i64>) -> Result<Option<Kept>, Memory>
+    ensures kept { IfOk result (λ found. Keeps (insert_of words.entry) found columns.old.items columns.new.items) }
+    ensures err { OnErr result (columns.new.items ≡ columns.old.items) }
 {
-    let (session, words) = words.u16()?;
-    let (row, words) = words.row_id()?;
-    let values = words.row()?;
-    Some((session, Change::Insert { row, values }))
+    let Some((session, RowId { table, key }, words)) = written_of(words) else {
+        return Ok(None);
+    };
+    let Some(count) = words.put_row(columns)? else {
+        return Ok(None);
+    };
+    Ok(Some(Kept::Insert {
+        session,
+        table,
+        count,
+        key,
+    }))
 }
 
-/// Those of a `set`.
-fn set_of(words: Words) -> Option<(u16, Change)>
-    ensures { option_map (λ x. Event.Write x.0 x.1) result ≡ event_of Verb.Set words.entry }
+/// A `set`, with its columns behind others.
+fn set_of(words: Words, columns: &mut Vec<i64>) -> Result<Option<Kept>, Memory>
+    ensures kept { IfOk result (λ found. Keeps (set_of words.entry) found columns.old.items columns.new.items) }
+    ensures err { OnErr result (columns.new.items ≡ columns.old.items) }
+{
+    let Some((session, RowId { table, key }, words)) = written_of(words) else {
+        return Ok(None);
+    };
+    let Some(mask) = words.put_named(columns)? else {
+        return Ok(None);
+    };
+    Ok(Some(Kept::Update {
+        session,
+        table,
+        mask,
+        key,
+    }))
+}
+
+/// The session and the row of a write, and the words behind them.
+#[tactic(auto, unfolding(crate::specs::Command::written_of))]
+fn written_of(words: Words) -> Option<(u16, RowId, Words)>
+    ensures { result ≡ written_of words.entry }
 {
     let (session, words) = words.u16()?;
     let (row, words) = words.row_id()?;
-    let columns = words.named()?;
-    Some((session, Change::Update { row, columns }))
+    Some((session, row, words))
+}
+
+fn delete_of(words: Words) -> Option<Kept>
+    ensures event { option_map (λ kept. whole kept []) result ≡ delete_of words.entry }
+    ensures bare { IfSome result IsBare }
+{
+    let (session, RowId { table, key }) = at_row(words)?;
+    Some(Kept::Delete {
+        session,
+        table,
+        key,
+    })
+}
+
+fn see_of(words: Words) -> Option<Kept>
+    ensures event { option_map (λ kept. whole kept []) result ≡ see_of words.entry }
+    ensures bare { IfSome result IsBare }
+{
+    let (session, RowId { table, key }) = at_row(words)?;
+    Some(Kept::See {
+        session,
+        table,
+        key,
+    })
+}
+
+fn read_of(words: Words) -> Option<Kept>
+    ensures event { option_map (λ kept. whole kept []) result ≡ read_of words.entry }
+    ensures bare { IfSome result IsBare }
+{
+    let RowId { table, key } = row_of(words)?;
+    Some(Kept::Read { table, key })
 }
 
 /// A session and a row, to the end of the line.

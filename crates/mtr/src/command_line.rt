@@ -62,6 +62,8 @@ next
 publish
 read 1 10
 
+'log' prints the log as hexadecimal digits, and 'rotate' goes on in a next file of it.
+
 Exit status: 0 all events were run, refused ones too; 2 a wrong command line; 3 a bad script, told as
 'line 2: bad command', 'B5 Parent' or 'bad base'; 4 the log could not be made; 5 no memory; 7 a stream failed.
 
@@ -79,7 +81,8 @@ const MORE_OF_DECODE: &str = "\
 mtr run < SCRIPT | tail -1 | mtr decode      where the script's last event is 'log'
 xxd -p FILE | mtr decode                     where the file has the bytes
 
-It prints the source, a line for each record, as '2 (2,1) set 1 10 0=7', and 'closed'.
+It prints the source, a line for each record, as '2 (2,1) set 1 10 0=7', and 'closed', or 'finished' where a next file
+follows. 'log' prints the files one behind the other, joined by one space: each is decoded on its own.
 
 Exit status: 0 done, 2 a wrong command line, 3 bad hexadecimal, 4 no log file (its fault is told, as 'C1 Short'),
 5 no memory, 7 a stream failed (no text).

@@ -4,7 +4,7 @@ ghost use Rattle.std.specs.Prelude.{◌≡◌, ◌≤◌, ◌+◌, ◌++◌, [],
 ghost use Rattle.mtr.specs.Command.{event_of};
 ghost use Rattle.mtr.specs.Events.{AreWhole, events_of, one_or_none, events_in};
 
-use crate::command::{Verb, keep};
+use crate::command::keep;
 use crate::kept::Kept;
 use crate::words::Words;
 use rows::Change;
@@ -47,14 +47,14 @@ impl Piece {
         }
     }
 
-    /// Keeps the event of a verb and the words behind it behind the others. `false` where there is none.
-    fn push(&mut self, verb: Verb, words: Words) -> Result<bool, Memory>
-        ensures good { IfOk result (λ is_good. is_good ≡ is_some (event_of verb words.entry)) }
-        ensures ok { OnOk result (self.new ≡ self.old ++ one_or_none (event_of verb words.entry)) }
+    /// Keeps the event of this name and the words behind it behind the others. `false` where there is none.
+    fn push(&mut self, name: &str, words: Words) -> Result<bool, Memory>
+        ensures good { IfOk result (λ is_good. is_good ≡ is_some (event_of name.now words.entry)) }
+        ensures ok { OnOk result (self.new ≡ self.old ++ one_or_none (event_of name.now words.entry)) }
         ensures err { OnErr result (self.new ≡ self.old) }
     {
         self.kept.reserve(1)?;
-        let Some(kept) = keep(verb, words, &mut self.columns)? else {
+        let Some(kept) = keep(name, words, &mut self.columns)? else {
             return Ok(false);
         };
         self.kept.push(kept).unwrap();
@@ -126,15 +126,15 @@ impl EventList {
         self.is_empty
     }
 
-    /// Keeps the event of a verb and the words behind it behind the others. `false` where there is none, since the words are not the
-    /// verb's parameters.
-    pub fn push(&mut self, verb: Verb, words: Words) -> Result<bool, Memory>
-        ensures good { IfOk result (λ is_good. is_good ≡ is_some (event_of verb words.entry)) }
-        ensures ok { OnOk result (self.new ≡ self.old ++ one_or_none (event_of verb words.entry)) }
+    /// Keeps the event of this name and the words behind it behind the others. `false` where there is none, since no event has the name or
+    /// the words are not its parameters.
+    pub fn push(&mut self, name: &str, words: Words) -> Result<bool, Memory>
+        ensures good { IfOk result (λ is_good. is_good ≡ is_some (event_of name.now words.entry)) }
+        ensures ok { OnOk result (self.new ≡ self.old ++ one_or_none (event_of name.now words.entry)) }
         ensures err { OnErr result (self.new ≡ self.old) }
     {
         make_room(&mut self.pieces)?;
-        let is_good = push_last(&mut self.pieces, verb, words)?;
+        let is_good = push_last(&mut self.pieces, name, words)?;
         self.is_empty = self.is_empty && !is_good;
         Ok(is_good)
     }
@@ -165,12 +165,12 @@ fn make_room(pieces: &mut Vec<Piece>) -> Result<(), Memory>
 }
 
 /// Keeps an event in the last piece.
-fn push_last(pieces: &mut Vec<Piece>, verb: Verb, words: Words) -> Result<bool, Memory>
+fn push_last(pieces: &mut Vec<Piece>, name: &str, words: Words) -> Result<bool, Memory>
     requires { 1 ≤ length pieces.old.items }
-    ensures good { IfOk result (λ is_good. is_good ≡ is_some (event_of verb words.entry)) }
-    ensures ok { OnOk result (events_in pieces.new.items ≡ events_in pieces.old.items ++ one_or_none (event_of verb words.entry)) }
+    ensures good { IfOk result (λ is_good. is_good ≡ is_some (event_of name.now words.entry)) }
+    ensures ok { OnOk result (events_in pieces.new.items ≡ events_in pieces.old.items ++ one_or_none (event_of name.now words.entry)) }
     ensures err { OnErr result (events_in pieces.new.items ≡ events_in pieces.old.items) }
 {
     let last = pieces.len() - 1;
-    pieces[last].push(verb, words)
+    pieces[last].push(name, words)
 }

@@ -65,54 +65,11 @@ pub enum Kept {
         table: u16,
         key: i64,
     },
+    Rotate,
     Log,
 }
 
 impl Kept {
-    /// What is kept of a write, beside its columns.
-    pub fn of(session: u16, change: &Change) -> (Kept, &[i64])
-        ensures whole { IsWhole result.0 }
-        ensures width { width_of result.0 ≡ length result.1.now }
-        ensures event { event_of result.0 result.1.now ≡ Event.Write session change.now }
-    {
-        let RowId { table, key } = change.target();
-        match change {
-            Change::Insert { values, .. } => {
-                let columns = values.columns();
-                let count = columns.len() as u8;
-                (
-                    Kept::Insert {
-                        session,
-                        table,
-                        count,
-                        key,
-                    },
-                    columns,
-                )
-            }
-            Change::Update { columns, .. } => {
-                let mask = columns.mask();
-                (
-                    Kept::Update {
-                        session,
-                        table,
-                        mask,
-                        key,
-                    },
-                    columns.values(),
-                )
-            }
-            Change::Delete { .. } => (
-                Kept::Delete {
-                    session,
-                    table,
-                    key,
-                },
-                &[],
-            ),
-        }
-    }
-
     /// How many columns it has.
     pub fn width(self) -> usize
         ensures { result ≡ width_of self }
@@ -172,6 +129,7 @@ impl Kept {
             Kept::Read { table, key } => Event::Read {
                 row: RowId { table, key },
             },
+            Kept::Rotate => Event::Rotate,
             Kept::Log => Event::Log,
         }
     }

@@ -1,6 +1,6 @@
-//! What both sides are made of: equal rows, and new stores.
+//! What both sides are made of: equal rows, new stores, and the devices of the log.
 
-ghost use Rattle.std.specs.Prelude.{◌≡◌, map, IfOk, IfSome, IfNone, IsPermutation};
+ghost use Rattle.std.specs.Prelude.{◌≡◌, ◌≤◌, length, map, IfOk, IfSome, IfNone, IsPermutation};
 ghost use Rattle.std.specs.FinMap.{empty};
 ghost use Rattle.std.specs.List.{IsDistinct};
 ghost use Rattle.std.specs.Map.{keys_of};
@@ -8,10 +8,11 @@ ghost use Rattle.schema.specs.RowId.{same_row};
 ghost use Rattle.mtr.specs.Pair.{present};
 
 use btree_store::BTreeStore;
-use log_device::Device;
+use log_device::{Device, FaultyDevice, MemoryDevice};
 use rows::Row;
 use schema::{Memory, RowId};
 use std::alloc::{AllocError, Global};
+use std::collections::VecDeque;
 use store_trait::{Batch, RowStore};
 use tracker_trait::Tracker;
 use vector_store::VectorStore;
@@ -24,6 +25,35 @@ pub const SOURCE: [u8; 16] = [
 
 /// The greatest number of records of a log.
 pub const MAX_RECORDS: u64 = 9223372036854775807;
+
+/// So many files may follow the log's first one.
+const SPARE: usize = 15;
+
+/// The devices of the log's files.
+#[derive(Drop)]
+pub struct Devices<D: Device> {
+    /// That of the first file.
+    pub first: D,
+    /// Those of the next ones, in order.
+    pub spare: VecDeque<D>,
+}
+
+/// Devices in memory. Of the first the call of this number fails, none where it is 0; the others do not fail.
+pub fn devices_in_memory(
+    alloc: Global,
+    fail: u64,
+) -> Result<Devices<FaultyDevice<MemoryDevice>>, Memory>
+    ensures { IfOk result (λ devices. length devices.spare.items ≡ 15) }
+{
+    let mut spare = VecDeque::with_capacity(alloc, SPARE)?;
+    for _ in 0..SPARE {
+        spare.push_back(FaultyDevice::new(MemoryDevice::new(alloc), 0))?;
+    }
+    Ok(Devices {
+        first: FaultyDevice::new(MemoryDevice::new(alloc), fail),
+        spare,
+    })
+}
 
 /// The batch of these rows, in any order; `None` exactly where one comes twice. The time is n log n.
 pub fn base_of(alloc: Global, rows: &[(RowId, Row)]) -> Result<Option<Batch>, Memory>

@@ -1,6 +1,6 @@
 //! A script's events, run piece by piece: each piece's replies are printed before the next is run.
 
-ghost use Rattle.std.specs.Prelude.{◌≡◌, ◌≤◌, ◌++◌, [], IfOk, IfErr, IfSome, OnOk};
+ghost use Rattle.std.specs.Prelude.{◌≡◌, ◌≤◌, ◌++◌, [], length, IfOk, IfErr, IfSome, OnOk};
 ghost use Rattle.std.specs.Io.KnownBytes.{Appends};
 ghost use Rattle.world.specs.State.{IsWorld};
 ghost use Rattle.world.specs.Seen.{seen};
@@ -14,7 +14,7 @@ ghost use Rattle.mtr.specs.Pair.{IsNewTracker, BeginsWith, GoesOn, Prints, Print
 use crate::ending::Stop;
 use crate::events::Piece;
 use crate::options::{Sides, Store};
-use crate::pair::{MAX_RECORDS, NewStore, SOURCE, base_of, parts_over};
+use crate::pair::{Devices, MAX_RECORDS, NewStore, SOURCE, base_of, parts_over};
 use crate::printing::write_replies;
 use crate::script::Script;
 use btree_store::BTreeStore;
@@ -37,17 +37,18 @@ const CHUNK: usize = 65536;
 /// There is room for so many bytes of lines at first.
 const TEXT: usize = 1024;
 
-/// Reads a script, and runs it over a new pair that is made of these parts, with its log on this device. The whole of it is read
+/// Reads a script, and runs it over a new pair that is made of these parts, with its log on these devices. The whole of it is read
 /// and checked before the first event: the first bad line, then the tables, then the rows at the start. Each event's reply is a
 /// line of the output; where the work stops after a beginning of the events, so does the output, after a whole line.
 pub fn run_text<D: Device + Drop, R: Read, W: Write>(
     alloc: Global,
     sides: Sides,
-    device: D,
+    devices: Devices<D>,
     input: &mut R,
     output: &mut W,
 ) -> Result<(), Stop>
-    requires { AreSides sides }
+    requires sides { AreSides sides }
+    requires devices { length devices.spare.items ≡ 15 }
     ensures prints { OnOk result (IfSome (R.remaining input.old)
         (λ text. PrintsText (kind_for sides) sides.workers sides.preserve text (W.contents output.old) (W.contents output.new))) }
     ensures refused { IfErr result (PrintsNoReply (W.contents output.old) (W.contents output.new)) }
@@ -56,7 +57,7 @@ pub fn run_text<D: Device + Drop, R: Read, W: Write>(
     run_by_mode(
         alloc,
         sides,
-        device,
+        devices,
         Script::read(alloc, &mut input)?,
         output,
     )
@@ -66,25 +67,26 @@ pub fn run_text<D: Device + Drop, R: Read, W: Write>(
 fn run_by_mode<D: Device + Drop, W: Write>(
     alloc: Global,
     sides: Sides,
-    device: D,
+    devices: Devices<D>,
     script: Script,
     output: &mut W,
 ) -> Result<(), Stop>
-    requires { AreSides sides }
+    requires sides { AreSides sides }
+    requires devices { length devices.spare.items ≡ 15 }
     ensures prints { OnOk result (Prints (kind_for sides) sides.workers sides.preserve (said script) (W.contents output.old)
         (W.contents output.new)) }
     ensures refused { IfErr result (PrintsNoReply (W.contents output.old) (W.contents output.new)) }
 {
     let limit = sides.history as u32;
     match sides.tracker {
-        Tracking::CommitOrder => run_by(alloc, CommitOrder, sides, device, script, output),
+        Tracking::CommitOrder => run_by(alloc, CommitOrder, sides, devices, script, output),
         Tracking::Writeset => {
             let tracker = WriteSetTracker::with_limit(alloc, limit)?;
-            run_by(alloc, tracker, sides, device, script, output)
+            run_by(alloc, tracker, sides, devices, script, output)
         }
         Tracking::WritesetSession => {
             let tracker = WriteSetSession::with_limit(alloc, limit)?;
-            run_by(alloc, tracker, sides, device, script, output)
+            run_by(alloc, tracker, sides, devices, script, output)
         }
     }
 }
@@ -94,11 +96,12 @@ fn run_by<T: Tracker + Drop, D: Device + Drop, W: Write>(
     alloc: Global,
     tracker: T,
     sides: Sides,
-    device: D,
+    devices: Devices<D>,
     script: Script,
     output: &mut W,
 ) -> Result<(), Stop>
     requires tracker { IsNewTracker T.agrees tracker }
+    requires devices { length devices.spare.items ≡ 15 }
     requires sides { AreSides sides }
     ensures prints { OnOk result (Prints (T.kind tracker) sides.workers sides.preserve (said script) (W.contents output.old)
         (W.contents output.new)) }
@@ -107,10 +110,10 @@ fn run_by<T: Tracker + Drop, D: Device + Drop, W: Write>(
     let (workers, preserve) = (sides.workers, sides.preserve);
     match sides.store {
         Store::BTree => run_script::<BTreeStore, T, D, W>(
-            alloc, tracker, device, workers, preserve, script, output,
+            alloc, tracker, devices, workers, preserve, script, output,
         ),
         Store::Vector => run_script::<VectorStore, T, D, W>(
-            alloc, tracker, device, workers, preserve, script, output,
+            alloc, tracker, devices, workers, preserve, script, output,
         ),
     }
 }
@@ -119,13 +122,14 @@ fn run_by<T: Tracker + Drop, D: Device + Drop, W: Write>(
 fn run_script<S: NewStore, T: Tracker + Drop, D: Device + Drop, W: Write>(
     alloc: Global,
     tracker: T,
-    device: D,
+    devices: Devices<D>,
     workers: usize,
     preserve: bool,
     script: Script,
     output: &mut W,
 ) -> Result<(), Stop>
     requires tracker { IsNewTracker T.agrees tracker }
+    requires devices { length devices.spare.items ≡ 15 }
     requires some { 1 ≤ workers }
     requires few { workers ≤ 64 }
     ensures prints { OnOk result (Prints (T.kind tracker) workers preserve (said script) (W.contents output.old) (W.contents output.new)) }
@@ -136,7 +140,7 @@ fn run_script<S: NewStore, T: Tracker + Drop, D: Device + Drop, W: Write>(
         base,
         events,
     } = script;
-    let mut world = open::<S, T, D>(alloc, tracker, device, workers, preserve, tables, &base)?;
+    let mut world = open::<S, T, D>(alloc, tracker, devices, workers, preserve, tables, &base)?;
     drop(base);
     run_pieces(alloc, &mut world, events.into_pieces(), output)
 }
@@ -146,13 +150,14 @@ fn run_script<S: NewStore, T: Tracker + Drop, D: Device + Drop, W: Write>(
 fn open<S: NewStore, T: Tracker + Drop, D: Device + Drop>(
     alloc: Global,
     tracker: T,
-    device: D,
+    devices: Devices<D>,
     workers: usize,
     preserve: bool,
     tables: Vec<Table>,
     rows: &[(RowId, Row)],
 ) -> Result<World<S, T, D, S>, Stop>
     requires tracker { IsNewTracker T.agrees tracker }
+    requires devices { length devices.spare.items ≡ 15 }
     requires some { 1 ≤ workers }
     requires few { workers ≤ 64 }
     ensures { IfOk result (λ world. BeginsWith S.contents (T.kind tracker) workers preserve tables.items rows.now (seen world)) }
@@ -162,7 +167,8 @@ fn open<S: NewStore, T: Tracker + Drop, D: Device + Drop>(
         return Err(Stop::BadBase);
     };
     let from = Uuid::from_bytes(SOURCE);
-    let parts = parts_over::<S, T, D>(alloc, tracker, device);
+    let Devices { first, spare } = devices;
+    let parts = parts_over::<S, T, D>(alloc, tracker, first);
     match pair_of(
         alloc,
         schema,
@@ -173,7 +179,7 @@ fn open<S: NewStore, T: Tracker + Drop, D: Device + Drop>(
         preserve,
         parts,
     )? {
-        Some(pair) => Ok(pair.into_world(alloc, base, S::without_rows(alloc))?),
+        Some(pair) => Ok(pair.into_world(alloc, base, S::without_rows(alloc), spare)?),
         None => Err(Stop::BadBase),
     }
 }

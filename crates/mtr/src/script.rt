@@ -5,13 +5,14 @@
 //! then the events. Any other line is bad; the first bad line ends the reading, and what is behind it is not kept.
 //! The events are kept short (`events`).
 
-ghost use Rattle.std.specs.Prelude.{◌≡◌, ◌++◌, ◌∷◌, [], ◌==◌, true, false, length, IfOk, IfSome, OnOk, Some};
+ghost use Rattle.std.specs.Prelude.{◌≡◌, ◌++◌, ◌∷◌, [], ◌==◌, true, false, length, option_map, IfOk, IfSome, OnOk, Some};
 ghost use Rattle.std.specs.Bool.{then_some};
 ghost use Rattle.std.specs.List.{All};
-ghost use Rattle.mtr.specs.Lines.{table_of, keyed_of, link_in, reference_of, base_of, command_of, is_skipped, text_line, unique_in};
+ghost use Rattle.mtr.specs.Lines.{about, table, base, event, table_of, keyed_of, link_in, reference_of, base_of, command_of, is_skipped};
+ghost use Rattle.mtr.specs.Lines.{text_line, unique_in};
 ghost use Rattle.mtr.specs.Script.{said, said_with, nothing, added, Says, SaysIn, LeavesLines, TakesEnd};
 
-use crate::command::{Verb, alone};
+use crate::command::alone;
 use crate::ending::Stop;
 use crate::events::EventList;
 use crate::words::Words;
@@ -44,8 +45,8 @@ pub enum Line<'a> {
     Table(Words<'a>),
     /// A row is there at the start.
     Base(Words<'a>),
-    /// Something happens.
-    Event(Verb, Words<'a>),
+    /// The event of this name happens, where there is one.
+    Event(&'a str, Words<'a>),
 }
 
 impl Script {
@@ -93,14 +94,14 @@ impl Script {
             Some(Line::Skipped) => Ok(true),
             Some(Line::Table(words)) => self.add_table(words),
             Some(Line::Base(words)) => self.add_base(words),
-            Some(Line::Event(verb, words)) => self.add_event(verb, words),
+            Some(Line::Event(name, words)) => self.add_event(name, words),
         }
     }
 
     /// Takes the table that the words are.
     #[tactic(auto, unfolding(crate::specs::Script::added))]
     fn add_table(&mut self, words: Words) -> Result<bool, Memory>
-        ensures { IfOk result (λ is_good. added (said self.old) (Line.Table words.entry) ≡ then_some is_good (said self.new)) }
+        ensures { IfOk result (λ is_good. added (said self.old) (table words.entry) ≡ then_some is_good (said self.new)) }
     {
         let Some(table) = table_of(words) else {
             return Ok(false);
@@ -115,7 +116,7 @@ impl Script {
     /// Takes the row at the start that the words are.
     #[tactic(auto, unfolding(crate::specs::Script::added))]
     fn add_base(&mut self, words: Words) -> Result<bool, Memory>
-        ensures { IfOk result (λ is_good. added (said self.old) (Line.Base words.entry) ≡ then_some is_good (said self.new)) }
+        ensures { IfOk result (λ is_good. added (said self.old) (base words.entry) ≡ then_some is_good (said self.new)) }
     {
         let Some(row) = base_of(words) else {
             return Ok(false);
@@ -127,12 +128,12 @@ impl Script {
         Ok(true)
     }
 
-    /// Takes the event, where the words behind the verb are its parameters.
+    /// Takes the event of this name, where the words behind it are its parameters.
     #[tactic(auto, unfolding(crate::specs::Script::added))]
-    fn add_event(&mut self, verb: Verb, words: Words) -> Result<bool, Memory>
-        ensures { IfOk result (λ is_good. added (said self.old) (Line.Event verb words.entry) ≡ then_some is_good (said self.new)) }
+    fn add_event(&mut self, name: &str, words: Words) -> Result<bool, Memory>
+        ensures { IfOk result (λ is_good. added (said self.old) (event name.now words.entry) ≡ then_some is_good (said self.new)) }
     {
-        self.events.push(verb, words)
+        self.events.push(name, words)
     }
 }
 
@@ -159,11 +160,11 @@ fn take_end(line: &mut Vec<u8>) -> bool
     }
 }
 
-/// What a line of text is about; `None` where its first word is no such name.
+/// What a line of text is about.
 #[tactic(auto, unfolding(crate::specs::Lines::text_line))]
 #[inline(always)]
 pub fn text_line(line: &str) -> Option<Line>
-    ensures { result ≡ text_line line.now }
+    ensures { option_map about result ≡ text_line line.now }
 {
     if is_skipped(line) {
         Some(Line::Skipped)
@@ -185,17 +186,14 @@ fn is_skipped(line: &str) -> bool
 #[tactic(auto, unfolding(crate::specs::Lines::command_of))]
 #[inline(always)]
 fn command_of(words: Words) -> Option<Line>
-    ensures { result ≡ command_of words.entry }
+    ensures { option_map about result ≡ command_of words.entry }
 {
     let (name, words) = words.first()?;
-    if let Some(verb) = Verb::of(name) {
-        return Some(Line::Event(verb, words));
-    }
-    match name {
-        "table" => Some(Line::Table(words)),
-        "base" => Some(Line::Base(words)),
-        _ => None,
-    }
+    Some(match name {
+        "table" => Line::Table(words),
+        "base" => Line::Base(words),
+        _ => Line::Event(name, words),
+    })
 }
 
 #[tactic(auto, unfolding(crate::specs::Lines::table_of))]

@@ -1,34 +1,37 @@
 //! The program's work, over any reader and two writers. Only `threads` uses the handle.
 
-ghost use Rattle.std.specs.Prelude.{◌≡◌, ◌≢◌, ◌≤◌, ◌∷◌, [], ◌++◌, IfOk, IfErr, OnOk};
-ghost use Rattle.std.specs.Io.KnownBytes.{Appends};
-ghost use Rattle.mtr.specs.Ending.{ending_of, stop_text};
-ghost use Rattle.mtr.specs.Options.{IsInRange};
-ghost use Rattle.mtr.specs.Pair.{IsNewTracker};
+ghost use Rattle.std.specs.Prelude.{◌≡◌, ◌≢◌, ◌≤◌, ◌⊎◌, ◌∷◌, [], ◌++◌, IfOk, IfErr, IfSome, OnOk};
+ghost use Rattle.std.specs.Io.KnownBytes.{Appends, Keeps};
+ghost use Rattle.mtr.specs.Ending.{ending_of, stop_text, notice, PrintsNoReply};
+ghost use Rattle.mtr.specs.Options.{IsInRange, AreSides, kind_for};
+ghost use Rattle.mtr.specs.Pair.{IsNewTracker, PrintsText};
 
 use crate::command_line::{NOT_UTF8, asked};
 use crate::decode::decode;
 use crate::ending::{Ending, Stop};
-use crate::options::{LineFault, Options, Plan, Store};
+use crate::options::{LineFault, Options, Plan, Sides, Store};
+use crate::pair::devices_in_memory;
 use crate::run::run_text;
 use crate::threads::run_threads;
 use btree_store::BTreeStore;
 use commit_order_tracker::CommitOrder;
-use log_device::{FaultyDevice, MemoryDevice};
 use schema::Memory;
 use std::alloc::Global;
 use std::env::Args;
 use std::io;
-use std::io::{ErrorKind, Read, Write};
+use std::io::{ErrorKind, IsTerminal, Read, Write};
 use std::sync::Wait;
 use std::thread::Threads;
 use tracker_trait::{Tracker, Tracking};
 use vector_store::VectorStore;
 use writeset_trackers::{WriteSetSession, WriteSetTracker};
 
+/// What is said at a terminal.
+const NOTICE: &str = "mtr run reads a script from standard input\n";
+
 /// Does what the words of a command line ask for, of which the first is the program's name, and answers the exit
 /// status. Help and the version go to the output, and faults of the command line to `errors`.
-pub fn run_program<H: Threads + Wait + Sync, R: Read, W: Write, E: Write>(
+pub fn run_program<H: Threads + Wait + Sync, R: Read + IsTerminal, W: Write, E: Write>(
     rt: &H,
     alloc: Global,
     words: io::Result<Args>,
@@ -71,7 +74,7 @@ fn write_text<W: Write>(text: &str, out: &mut W) -> io::Result<()>
 
 /// Does what the options ask for. A fault is one line on `errors`, and nothing is written to the output then,
 /// but where memory or a stream fails after a beginning of what is printed; a stream that fails has no line.
-fn serve<H: Threads + Wait + Sync, R: Read, W: Write, E: Write>(
+fn serve<H: Threads + Wait + Sync, R: Read + IsTerminal, W: Write, E: Write>(
     rt: &H,
     alloc: Global,
     options: &Options,
@@ -83,11 +86,44 @@ fn serve<H: Threads + Wait + Sync, R: Read, W: Write, E: Write>(
 {
     match options {
         Options::Run { sides, fail } => {
-            let device = FaultyDevice::new(MemoryDevice::new(alloc), *fail as u64);
-            tell(run_text(alloc, *sides, device, input, output), errors)
+            if announce(input, errors).is_err() {
+                return Ending::Stream;
+            }
+            tell(
+                run_in_memory(alloc, *sides, *fail as u64, input, output),
+                errors,
+            )
         }
         Options::Threads(plan) => threads(rt, alloc, plan, output, errors),
         Options::Decode => tell(decode(alloc, input, output), errors),
+    }
+}
+
+/// Runs a script over a new pair whose log is in memory, where the call of this number fails, of the calls of its first file's device.
+fn run_in_memory<R: Read, W: Write>(
+    alloc: Global,
+    sides: Sides,
+    fail: u64,
+    input: &mut R,
+    output: &mut W,
+) -> Result<(), Stop>
+    requires { AreSides sides }
+    ensures prints { OnOk result (IfSome (R.remaining input.old)
+        (λ text. PrintsText (kind_for sides) sides.workers sides.preserve text (W.contents output.old) (W.contents output.new))) }
+    ensures refused { IfErr result (PrintsNoReply (W.contents output.old) (W.contents output.new)) }
+{
+    run_text(alloc, sides, devices_in_memory(alloc, fail)?, input, output)
+}
+
+/// Says at a terminal that the script is read from there. On a pipe or a file nothing is said.
+fn announce<R: IsTerminal, E: Write>(input: &R, errors: &mut E) -> io::Result<()>
+    ensures { OnOk result (Keeps (E.contents errors.old) (E.contents errors.new)
+        ⊎ Appends (E.contents errors.old) (E.contents errors.new) notice) }
+{
+    if input.is_terminal() {
+        write_text(NOTICE, errors)
+    } else {
+        Ok(())
     }
 }
 

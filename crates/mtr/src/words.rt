@@ -3,16 +3,19 @@
 //! Words are what stands between single spaces. So a space at either end of a line, or one behind another,
 //! makes a word without a character, which is no number and no name.
 
-ghost use Rattle.std.specs.Prelude.{◌≡◌, ◌^◌, option_map, length, ◌==◌, is_some};
+ghost use Rattle.std.specs.Prelude.{◌≡◌, ◌^◌, ◌==◌, option_map, count_by, length, vec_len, vec_capacity, IfOk, OnOk, OnErr};
 ghost use Rattle.mtr.specs.Words.{words_of, first_word, behind_name, number_in, integer_in, row_id_in, row_in, naming_in, sides_of};
-ghost use Rattle.mtr.specs.Words.{assignment, AreAll};
+ghost use Rattle.mtr.specs.Words.{assignment, AreAll, HasRoom, PutsNumbers, PutsValues, PutsRow, PutsNamed};
 ghost use Rattle.mtr.specs.Number.{integer};
 
 use crate::cut::cut_at;
 use crate::number::{i64_of, u8_of, u16_of, u64_of};
-use rows::{Named, Row};
-use schema::RowId;
+use rows::Row;
+use schema::{Memory, RowId};
 use std::marker::Model;
+
+/// A row has so many columns at most.
+const MOST: usize = 16;
 
 /// The words of a line that are left.
 #[derive(Drop)]
@@ -118,71 +121,128 @@ impl<'a> Words<'a> {
         ensures { result ≡ row_in self.entry }
     {
         let mut columns = [0; 16];
-        let count = items_of(self, &mut columns)?;
+        let count = numbers_of(self, &mut columns)?;
         Row::new(&columns[..count])
     }
 
-    /// Columns with a value each, `COL=V`, of all words that are left; `None` where there are none, a word is no
-    /// such pair, a column is over 15, or the columns do not strictly rise.
-    #[tactic(auto, unfolding(crate::specs::Words::naming_in))]
-    pub fn named(self) -> Option<Named>
-        ensures { result ≡ naming_in self.entry }
+    /// Puts the row that all words left are behind other columns, and tells how many columns it has. `None`, and none is put there, where
+    /// there are no words or more than 16, or one is no number.
+    pub fn put_row(self, columns: &mut Vec<i64>) -> Result<Option<u8>, Memory>
+        ensures put { IfOk result (λ count. PutsRow (row_in self.entry) count columns.old.items columns.new.items) }
+        ensures err { OnErr result (columns.new.items ≡ columns.old.items) }
     {
-        let mut pairs = [(0, 0); 16];
-        let count = items_of(self, &mut pairs)?;
-        Named::of(&pairs[..count])
+        self.make_room(columns)?;
+        let before = columns.len();
+        let count = put_numbers(self, columns);
+        if count.is_none() {
+            columns.truncate(before);
+        }
+        Ok(count)
+    }
+
+    /// Puts the values of all words that are left, each a column and its value, `COL=V`, behind other columns, and tells the mask of their
+    /// columns. `None`, and none is put there, where there are no words, a word is no such pair, a column is over 15, or the columns do not
+    /// strictly rise.
+    pub fn put_named(self, columns: &mut Vec<i64>) -> Result<Option<u16>, Memory>
+        ensures put { IfOk result (λ mask. PutsNamed (naming_in self.entry) mask columns.old.items columns.new.items) }
+        ensures err { OnErr result (columns.new.items ≡ columns.old.items) }
+    {
+        self.make_room(columns)?;
+        let before = columns.len();
+        let mask = put_values(self, columns);
+        if mask.is_none() {
+            columns.truncate(before);
+        }
+        Ok(mask)
+    }
+
+    /// Makes room for a column of each word that is left, and for 16 at most. The words are counted only where there is no room for
+    /// 16.
+    fn make_room(&self, columns: &mut Vec<i64>) -> Result<(), Memory>
+        ensures same { columns.new.items ≡ columns.old.items }
+        ensures room { OnOk result (HasRoom self.now (vec_len columns.new) (vec_capacity columns.new)) }
+    {
+        if columns.capacity() - columns.len() < MOST {
+            columns.reserve(self.count().min(MOST))?;
+        }
+        Ok(())
+    }
+
+    /// How many words are left. The time is that of a walk over them.
+    fn count(&self) -> usize
+        ensures { result ≡ length self.now }
+    {
+        match self.rest {
+            None => 0,
+            Some(text) => spaces_in(text.as_bytes()) + 1,
+        }
     }
 }
 
-/// What a word may be.
-trait OfWord: Copy {
-    ghost use Rattle.std.specs.Prelude.{◌≡◌, Option};
-    ghost use Rattle.mtr.specs.Words.{Word};
-
-    ghost reads: { Word → Option Self };
-
-    /// What the word is; `None` where it is no such thing.
-    fn of_word(word: &str) -> Option<Self>
-        ensures { result ≡ reads word.now };
+/// How many of these bytes are spaces.
+fn spaces_in(bytes: &[u8]) -> usize
+    ensures { result ≡ count_by (λ b. b == 32) bytes.now }
+{
+    bytes.iter().filter(|b| **b == b' ').count()
 }
 
-impl OfWord for i64 {
-    ghost use Rattle.mtr.specs.Number.{integer};
-
-    ghost reads = { integer };
-
-    fn of_word(word: &str) -> Option<i64> {
-        i64_of(word)
-    }
-}
-
-/// A column and its value, `COL=V`.
-impl OfWord for (u8, i64) {
-    ghost use Rattle.mtr.specs.Words.{assignment};
-
-    ghost reads = { assignment };
-
-    fn of_word(word: &str) -> Option<(u8, i64)> {
-        assignment_of(word)
-    }
-}
-
-/// Writes what all of the words are, and tells how many there are; `None` where one is no such thing, or they are too
-/// many.
-fn items_of<T: OfWord>(words: Words, items: &mut [T]) -> Option<usize>
-    ensures { AreAll T.reads words.entry items.new result }
+/// Writes the numbers that all of the words are, and tells how many there are; `None` where one is none, or they are too many.
+fn numbers_of(words: Words, numbers: &mut [i64]) -> Option<usize>
+    ensures { AreAll integer words.entry numbers.new result }
 {
     let mut words = words;
     let mut count = 0;
     while let Some((word, rest)) = words.first() {
-        if count == items.len() {
+        if count == numbers.len() {
             return None;
         }
-        items[count] = T::of_word(word)?;
+        numbers[count] = i64_of(word)?;
         count += 1;
         words = rest;
     }
     Some(count)
+}
+
+/// Puts the numbers that all of the words are behind columns, where there is room for them, and tells how many they are. `None` where there
+/// are none or more than 16, or a word is no number: then those of the words before it stand there.
+fn put_numbers(words: Words, columns: &mut Vec<i64>) -> Option<u8>
+    requires { HasRoom words (vec_len columns.old) (vec_capacity columns.old) }
+    ensures { PutsNumbers (row_in words.entry) columns.old.items columns.new.items result }
+{
+    let mut words = words;
+    let mut count = 0;
+    while let Some((word, rest)) = words.first() {
+        if count == MOST {
+            return None;
+        }
+        columns.push_reserved(i64_of(word)?);
+        count += 1;
+        words = rest;
+    }
+    if count == 0 { None } else { Some(count as u8) }
+}
+
+/// Puts the values of the words, each a column and its value, behind columns, where there is room for them, and tells the mask of their
+/// columns. `None` where there are no words, a word is no such pair, or its column is over 15 or not above the one before it: then the
+/// values of the words before it stand there.
+fn put_values(words: Words, columns: &mut Vec<i64>) -> Option<u16>
+    requires { HasRoom words (vec_len columns.old) (vec_capacity columns.old) }
+    ensures { PutsValues (naming_in words.entry) columns.old.items columns.new.items result }
+{
+    let mut words = words;
+    let mut mask = 0;
+    let mut least = 0;
+    while let Some((word, rest)) = words.first() {
+        let (column, value) = assignment_of(word)?;
+        if column < least || column > 15 {
+            return None;
+        }
+        mask += 1 << column;
+        least = column + 1;
+        columns.push_reserved(value);
+        words = rest;
+    }
+    if mask == 0 { None } else { Some(mask) }
 }
 
 /// A column and its value.

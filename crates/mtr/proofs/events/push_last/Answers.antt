@@ -6,5 +6,5 @@ use Rattle.mtr.proofs.events.push_last.Goals as goal
 
 pub returns-clause-ok : goal.returns-clause-ok
 returns-clause-ok c =
-    last_grown c.push.result c.args.pieces.now.items c.len-last.result c.index_mut.result.now c.push.new.self (one_or_none (event_of c.args.verb c.args.words)) (omega (arith, c.len-last.ensures))
+    last_grown c.push.result c.args.pieces.now.items c.len-last.result c.index_mut.result.now c.push.new.self (one_or_none (event_of c.args.name.now c.args.words)) (omega (arith, c.len-last.ensures))
     (omega (arith, c.len-last.ensures, c.requires)) c.index_mut.ensures.value c.push.ensures.ok

@@ -9,6 +9,7 @@ use Rattle.source_core.specs.Source.{Source, new_source}
 use Rattle.replica_core.specs.Replica.{Replica}
 use Rattle.replica_core.specs.Calls.{new_over}
 use Rattle.world.specs.Run.{HasRun}
+use Rattle.world.specs.Fresh.{IsFirstFile}
 use Rattle.world.specs.Seen.{seen}
 use Rattle.world.specs.Legal.{Setup}
 use Rattle.mtr.specs.Pair.{source as own, present}
@@ -35,6 +36,10 @@ into_world-requires-clause-source g c =
     let kind : Kind = g.T.Tracker.kind c.parts_over-parts.result.tracker in
     new_of_its_own c.in-Some-2.pair.source c.in_ok-schema.schema base 9223372036854775807 kind
     (subst (λ o. IfSome o (λ pair. pair.source ≡ new_source c.in_ok-schema.schema base 9223372036854775807 kind)) c.in-Some-2.is c.in_ok-pair.ensures.source)
+
+pub into_world-requires-clause-log : goal.into_world-requires-clause-log
+into_world-requires-clause-log g c =
+    subst (λ o. IfSome o (λ pair. IsFirstFile g.D.Device.seen g.D.Device.may_leave pair.log)) c.in-Some-2.is c.in_ok-pair.ensures.log
 
 pub returns-in_ok-into_world-in-Some-2 : goal.returns-in_ok-into_world-in-Some-2
 returns-in_ok-into_world-in-Some-2 g c =

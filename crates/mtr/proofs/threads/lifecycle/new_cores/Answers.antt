@@ -6,6 +6,9 @@ use Rattle.tracker_trait.specs.Kind.{Kind}
 use Rattle.source_core.specs.Source.{Source, new_source}
 use Rattle.replica_core.specs.Replica.{Replica}
 use Rattle.replica_core.specs.Calls.{new_over}
+use Rattle.log_file.specs.Log.{IsNew}
+use Rattle.log_set.specs.Set.{SetOn}
+use Rattle.world.specs.Fresh.{IsFirstFile}
 use Rattle.mtr.proofs.threads.lifecycle.new_cores.Goals as goal
 
 -- a new source is the new one over what it has
@@ -22,8 +25,16 @@ replica_again : {P : Type 0} (replica : P → Replica) (o : Option P) (p : P) (t
 replica_again replica o p ts from base workers preserve made is =
     subst (λ (r : Replica). r ≡ new_over r.tables r.source r.base r.workers r.preserve) (sym (subst (λ x. IfSome x (λ y. replica y ≡ new_over ts from base workers preserve)) is made)) refl
 
+-- and so is a log of a new first file
+log_again : {P D : Type 0} (log : P → SetOn D) (seen : D → List ℕ) (may_leave : D → List ℕ → Type 0) (o : Option P) (p : P) → IfSome o (λ x. IsFirstFile seen may_leave (log x)) → o ≡ Some p →
+    IsNew (log p).log
+log_again log seen may_leave o p made is = (subst (λ x. IfSome x (λ y. IsFirstFile seen may_leave (log y))) is made).new
+
 pub returns-in-Some-clause-source : goal.returns-in-Some-clause-source
 returns-in-Some-clause-source g c = source_again (λ pair. pair.source) _ c.in-Some.cores _ _ _ _ c.in_ok-cores.ensures.source c.in-Some.is
 
 pub returns-in-Some-clause-replica : goal.returns-in-Some-clause-replica
 returns-in-Some-clause-replica g c = replica_again (λ pair. pair.replica) _ c.in-Some.cores _ _ _ _ _ c.in_ok-cores.ensures.replica c.in-Some.is
+
+pub returns-in-Some-clause-log : goal.returns-in-Some-clause-log
+returns-in-Some-clause-log g c = log_again (λ pair. pair.log) _ _ _ c.in-Some.cores c.in_ok-cores.ensures.log c.in-Some.is
