@@ -1,0 +1,113 @@
+//! What the sessions commit.
+
+use crate::files::OnFile;
+use crate::trouble::Trouble;
+use btree_store::BTreeStore;
+use commit_order_tracker::CommitOrder;
+use rows::{Change, Row};
+use schema::RowId;
+use source_core::SourceFault;
+use source_shared::{Receipt, SessionSeat, SharedSource, SourceNaming};
+use std::alloc::Global;
+use std::sync::{Mutex, Wait};
+use std::thread::{Threads, map_indices, yield_now};
+
+/// The rows, each with its session and its number.
+pub const ROWS: u16 = 1;
+
+/// The keys of two sessions are so far apart.
+const APART: i64 = 4294967296;
+
+/// The source, with its log in files.
+pub type Source<J> = SharedSource<BTreeStore, CommitOrder, OnFile, J>;
+
+/// The seats of the sessions, each of which a thread has for some transactions.
+pub type Seats<J> = Vec<Mutex<SessionSeat<J>>>;
+
+/// The seats of the sessions from 1 to so many. A seat is given once for the life of the source, so they are kept from file to file.
+pub fn seats<J: SourceNaming>(
+    rt: &impl Wait,
+    alloc: Global,
+    source: &Source<J>,
+    sessions: u16,
+) -> Result<Seats<J>, Trouble> {
+    let mut seats = Vec::new(alloc);
+    for session in 1..=sessions {
+        let seat = source.session(rt, session)?;
+        seats.push(Mutex::new(seat))?;
+    }
+    Ok(seats)
+}
+
+/// Each session commits so many transactions, in a thread of its own, the first of which has this number. It answers the last receipt of
+/// each.
+pub fn commit_all<J: SourceNaming + Send + Sync, R: Threads + Wait + Sync>(
+    rt: &R,
+    alloc: Global,
+    source: &Source<J>,
+    seats: &Seats<J>,
+    first: u32,
+    count: u32,
+) -> Result<Vec<Receipt<J>>, Trouble> {
+    let each = map_indices(
+        rt,
+        alloc,
+        seats.len(),
+        &|place| { commit_some(rt, source, &seats[place], first, count) },
+    )?;
+    let mut receipts = Vec::new(alloc);
+    for last in each {
+        receipts.push(last?)?;
+    }
+    Ok(receipts)
+}
+
+/// The transactions of one session. Of their receipts it answers the last: a source that runs for long keeps none of the others.
+fn commit_some<J: SourceNaming>(
+    rt: &impl Wait,
+    source: &Source<J>,
+    seat: &Mutex<SessionSeat<J>>,
+    first: u32,
+    count: u32,
+) -> Result<Receipt<J>, Trouble> {
+    let mut seat = seat.lock(rt);
+    let mut last = None;
+    for number in first..first.saturating_add(count) {
+        last = Some(commit(rt, source, &mut seat, number)?);
+    }
+    last.ok_or(Trouble::Misfit)
+}
+
+/// One transaction: a row, with its session and its number.
+fn commit<J: SourceNaming>(
+    rt: &impl Wait,
+    source: &Source<J>,
+    seat: &mut SessionSeat<J>,
+    number: u32,
+) -> Result<Receipt<J>, Trouble> {
+    let (session, number) = (i64::from(seat.session()), i64::from(number));
+    let values = Row::new(&[session, number]).ok_or(Trouble::Misfit)?;
+    let row = RowId {
+        table: ROWS,
+        key: session * APART + number,
+    };
+    source.begin(rt, seat)?;
+    source.write(rt, seat, Change::Insert { row, values })?;
+    source.prepare(rt, seat)?;
+    Ok(commit_prepared(rt, source, seat)?)
+}
+
+/// Commits the seat's transaction. Where memory lacks it stays where it is in the stages, and the same call takes it up there.
+fn commit_prepared<J: SourceNaming>(
+    rt: &impl Wait,
+    source: &Source<J>,
+    seat: &mut SessionSeat<J>,
+) -> Result<Receipt<J>, SourceFault> {
+    for _ in rt.forever() {
+        match source.commit(rt, seat) {
+            Err(SourceFault::Memory) => yield_now(),
+            answer => return answer,
+        }
+    }
+    unreachable!()
+}

@@ -1,0 +1,45 @@
+//! Why the program stops.
+
+use file_device::OpenFault;
+use log_file::LogFault;
+use relay::ReplicaFault;
+use schema::{Memory, SchemaFault};
+use source_core::SourceFault;
+use std::alloc::{AllocError, AllocFailed};
+use std::io;
+use thiserror::Error;
+
+/// Why the program stops: each crate's own fault, and what does not happen over the schema and the rows of this program.
+#[derive(Clone, Copy, Debug, Error)]
+pub enum Trouble {
+    #[error("usage: embedding_files PREFIX SESSIONS COUNT")]
+    Usage,
+    #[error("the schema: {0}")]
+    Schema(#[from] SchemaFault),
+    #[error("the files: {0}")]
+    Files(#[from] OpenFault),
+    #[error("the log: {0}")]
+    Log(#[from] LogFault),
+    #[error("the source: {0}")]
+    Source(#[from] SourceFault),
+    #[error("the replica: {0}")]
+    Replica(#[from] ReplicaFault),
+    #[error("the system: {0}")]
+    System(#[from] io::Error),
+    #[error("no memory")]
+    Memory(#[from] Memory),
+    #[error("rows that do not fit the schema")]
+    Misfit,
+}
+
+impl From<AllocError> for Trouble {
+    fn from(error: AllocError) -> Trouble {
+        Trouble::Memory(error.into())
+    }
+}
+
+impl<T: Drop> From<AllocFailed<T>> for Trouble {
+    fn from(error: AllocFailed<T>) -> Trouble {
+        Trouble::Memory(error.into())
+    }
+}
