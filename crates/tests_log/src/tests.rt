@@ -5,6 +5,7 @@ mod entries;
 mod ids;
 mod logs;
 mod makers;
+mod places;
 mod reader;
 mod records;
 mod rotations;

@@ -28,6 +28,8 @@ mod publishing;
 #[cfg(test)]
 mod replicas;
 #[cfg(test)]
+mod rotations;
+#[cfg(test)]
 mod sessions;
 #[cfg(test)]
 mod sleepers;

@@ -49,12 +49,18 @@ where
     pub fn wait_beside(&self) -> Result<usize, Fail> {
         let mut one = self.source.session(self.rt, 1)?;
         let mut two = self.source.session(self.rt, 2)?;
-        let free = self.take_turns(&mut one, &mut two)?;
+        let mut free = 0;
+        for _round in 0..ROUNDS {
+            free = self.take_turns(&mut one, &mut two)?;
+            if free >= TURNS {
+                break;
+            }
+        }
         assert!(self.rt;
             free >= TURNS,
             "{free} of {TURNS} groups twice come back before the next is flushed"
         );
-        Ok(2 * TURNS as usize)
+        Ok(self.source.flushed(self.rt)? as usize)
     }
 
     /// Both commit in turn. How many groups came back before the next one was flushed.

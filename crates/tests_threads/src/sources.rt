@@ -9,6 +9,7 @@ use btree_store::BTreeStore;
 use commit_order_tracker::CommitOrder;
 use log_device::{FaultyDevice, MemoryDevice};
 use log_file::LogFile;
+use log_set::LogSet;
 use source_core::SourceCore;
 use source_shared::{Beginning, Receipt, SharedSource, SourceNaming};
 use std::alloc::Global;
@@ -22,7 +23,7 @@ use uuid::Uuid;
 
 type Core = SourceCore<BTreeStore, CommitOrder>;
 
-type Disk<'a, R> = FaultyDevice<InMemory<'a, R>>;
+pub type Disk<'a, R> = FaultyDevice<InMemory<'a, R>>;
 
 /// A shared source on a device that does as it is told.
 pub type Shared<'a, J, R> = SharedSource<BTreeStore, CommitOrder, Disk<'a, R>, J>;
@@ -34,7 +35,7 @@ pub struct SourceRig<'a, 'd, J: SourceNaming, R: Clock> {
     pub alloc: Global,
     pub source: &'a Shared<'d, J, R>,
     pub receipts: &'a Mutex<Vec<Receipt<J>>>,
-    pub orders: &'a Orders<'d, R>,
+    pub orders: &'d Orders<'d, R>,
 }
 
 /// What is done with a shared source.
@@ -62,6 +63,12 @@ pub enum Course {
     Followed,
     /// The first group's sync is held, and the write behind it fails.
     Told,
+    /// Two sessions commit, and the log goes on in a next file behind each.
+    Rotated,
+    /// Four threads commit ten times each, and the log goes on in next files meanwhile.
+    RotatedBeside,
+    /// The next file finds no memory, and then its device fails.
+    RotatedInVain,
 }
 
 impl Course {
@@ -104,7 +111,10 @@ fn has_run<R: Threads + Wait + Abort + Clock + Sync>(
         orders: &orders,
     };
     let device = FaultyDevice::new(device, nth);
-    let Ok(log) = LogFile::create(alloc, device, Uuid::from_u128(SOURCE)) else {
+    let Ok(file) = LogFile::create(alloc, device, Uuid::from_u128(SOURCE)) else {
+        return Ok(false);
+    };
+    let Ok(log) = LogSet::new(alloc, file) else {
         return Ok(false);
     };
     let Ok(core) = source(alloc) else {
@@ -117,10 +127,10 @@ fn run_over<'a, J: SourceNaming + Send + Sync, R: Threads + Wait + Abort + Clock
     rt: &R,
     alloc: Global,
     core: Core,
-    log: LogFile<Disk<'a, R>>,
+    log: LogSet<Disk<'a, R>>,
     beginning: Beginning,
     course: Course,
-    orders: &Orders<'a, R>,
+    orders: &'a Orders<'a, R>,
 ) -> Result<bool, Fail>
     requires core { core ≡ new_source core.tables core.base core.limit core.kind }
     requires log { IsNew log.log }
@@ -145,7 +155,7 @@ fn commit_all<'a, J: SourceNaming + Send + Sync, R: Threads + Wait + Abort + Clo
     alloc: Global,
     source: &Shared<'a, J, R>,
     course: Course,
-    orders: &Orders<'a, R>,
+    orders: &'a Orders<'a, R>,
 ) -> Result<Option<(Vec<Receipt<J>>, usize)>, Fail> {
     let Ok(room) = Vec::with_capacity(alloc, 400) else {
         return Ok(None);
@@ -192,6 +202,9 @@ where
             Course::NappingAlone => self.nap_alone(),
             Course::Followed => self.is_followed(),
             Course::Told => self.are_told(),
+            Course::Rotated => self.rotate_between(),
+            Course::RotatedBeside => self.rotate_beside(),
+            Course::RotatedInVain => self.rotate_in_vain(),
         }
     }
 }

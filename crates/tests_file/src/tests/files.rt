@@ -15,7 +15,7 @@ use std::{fs, process};
 use tests_log::common::source;
 
 /// A path for such files, which no other process has.
-fn path_of(rt: &HostRuntime, name: &str) -> Result<String, AllocError> {
+pub fn path_of(rt: &HostRuntime, name: &str) -> Result<String, AllocError> {
     let process = process::id(rt.process());
     format!(in rt.alloc(); "/tmp/mtr_{name}_{process}")
 }

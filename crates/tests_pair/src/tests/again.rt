@@ -221,15 +221,23 @@ fn text(alloc: Global, reply: &Reply) -> Result<String, AllocError> {
             more,
             row: Some(row),
         } => format!(in alloc; "{upto}+{more}: {:?}", row.columns()),
-        Reply::Text(log) => hexadecimal(alloc, log.bytes()),
+        Reply::Text(log) => hexadecimal(alloc, log.files()),
         other => format!(in alloc; "{other:?}"),
     }
 }
 
-fn hexadecimal(alloc: Global, bytes: &[u8]) -> Result<String, AllocError> {
+/// The bytes of files, one behind the other.
+fn hexadecimal(alloc: Global, files: &[Vec<u8>]) -> Result<String, AllocError> {
     let mut text = String::new(alloc);
+    for file in files {
+        put_digits(&mut text, file)?;
+    }
+    Ok(text)
+}
+
+fn put_digits(text: &mut String, bytes: &[u8]) -> Result<(), AllocError> {
     for byte in bytes {
         write!(text, "{byte:02x}")?;
     }
-    Ok(text)
+    Ok(())
 }

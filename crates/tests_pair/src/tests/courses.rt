@@ -26,11 +26,12 @@ pub fn two_at_the_source() -> [Step; 14] {
     ]
 }
 
-/// The log of three records in two groups: header, source, gate and length of the first group; of each record length and
+/// The log of three records in two groups: magic, source, first gno, gate and length of the first group; of each record length and
 /// numbers, then flags and counts, then its changes; the second group; and the last gate.
 const LOG_OF_TWO_SESSIONS: &str = "\
-    4d54524c4f473032\
+    4d54524c4f473033\
     01010101010101010101010101010101\
+    0000000000000001\
     0100000093\
     00000050000000000000000100000000000000010000000000000000\
     00000000000002\
@@ -175,8 +176,9 @@ pub fn kin_at_the_source() -> [Step; 37] {
 
 /// The log of its first record.
 const LOG_OF_ONE_INSERT: &str = "\
-    4d54524c4f473032\
+    4d54524c4f473033\
     01010101010101010101010101010101\
+    0000000000000001\
     010000003f\
     0000003b000000000000000100000000000000010000000000000000\
     00000000000001\
@@ -268,8 +270,9 @@ pub fn values_at_the_source() -> [Step; 37] {
 
 /// The log of its first record, with its mark behind the count of its refs.
 const LOG_OF_ONE_DELETE: &str = "\
-    4d54524c4f473032\
+    4d54524c4f473033\
     01010101010101010101010101010101\
+    0000000000000001\
     0100000038\
     00000034000000000000000100000000000000010000000000000000\
     000000\

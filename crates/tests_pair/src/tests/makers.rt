@@ -1,6 +1,6 @@
 //! What the tests begin with: tables, changes of their rows, and both sides.
 
-ghost use Rattle.std.specs.Prelude.{◌≡◌, ◌≤◌, ◌<◌, [], List, IfOk};
+ghost use Rattle.std.specs.Prelude.{◌≡◌, ◌≤◌, ◌<◌, [], List, IfOk, length};
 ghost use Rattle.std.specs.FinMap.{empty};
 ghost use Rattle.schema.specs.declared.Table.{Table as ATable};
 ghost use Rattle.source_core.specs.Source.{new_source};
@@ -16,6 +16,7 @@ use log_file::LogFault;
 use rows::{Change, Named, Row};
 use schema::{Memory, RowId, Schema, Table};
 use std::alloc::Global;
+use std::collections::VecDeque;
 use store_trait::{Batch, RowStore};
 use tests_stores::common::{five_tables, unique_tables};
 use tracker_trait::Tracker;
@@ -26,6 +27,9 @@ use writeset_trackers::WriteSetTracker;
 
 /// The identifier of the source.
 pub const SOURCE: [u8; 16] = [1; 16];
+
+/// So many devices there are for the next files of a log.
+const SPARE: usize = 15;
 
 /// Both sides in memory.
 pub type InMemory = Pair<BTreeStore, CommitOrder, MemoryDevice>;
@@ -219,7 +223,18 @@ fn world_of<S: RowStore + Drop, T: Tracker + Drop>(
     match pair_of(
         alloc, schema, identifier, &base, LIMIT, workers, preserve, parts,
     )? {
-        Some(sides) => Ok(sides.into_world(alloc, base, shown)?),
+        Some(sides) => Ok(sides.into_world(alloc, base, shown, spare(alloc)?)?),
         None => Err(LogFault::OutOfTurn),
     }
+}
+
+/// Devices for the next files of a log.
+fn spare(alloc: Global) -> Result<VecDeque<MemoryDevice>, Memory>
+    ensures { IfOk result (λ devices. length devices.items ≡ 15) }
+{
+    let mut devices = VecDeque::with_capacity(alloc, SPARE)?;
+    for _ in 0..SPARE {
+        devices.push_back(MemoryDevice::new(alloc))?;
+    }
+    Ok(devices)
 }

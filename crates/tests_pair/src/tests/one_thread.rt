@@ -10,7 +10,7 @@ use crate::tests::makers::{SOURCE, columns, insert, row, set, sides};
 use btree_store::BTreeStore;
 use commit_order_tracker::CommitOrder;
 use log_device::MemoryDevice;
-use log_file::LogFile;
+use log_set::LogSet;
 use published::{Answer, Counts, LeftRight, open};
 use record_codec::Record;
 use relay::{Received, ReplicaFault};
@@ -74,7 +74,7 @@ fn over_source<J: SourceNaming + Send + Sync, R: Threads + Wait + Abort + Sync>(
     alloc: Global,
     course: Course,
     core: SourceCore<BTreeStore, CommitOrder>,
-    log: LogFile<MemoryDevice>,
+    log: LogSet<MemoryDevice>,
     receipts: source_shared::Beginning,
     replica: ReplicaCore<BTreeStore>,
 ) -> Result<(), Fail>
