@@ -1,6 +1,8 @@
 // What is loaded before the C library (`.ci/preload`). Of the calls that CALL names, `memory`, `read` or `write`, it refuses the one whose
 // number REFUSE is and as many behind it as BEHIND says, a read or a write with the error ERROR, and says so to descriptor 9. Where CALL
-// is `count` it tells descriptor 9 at the end how many requests for memory there were, and of how many bytes in all.
+// is `file` these are the calls that change a file at a place, cut it or have it kept; where it is `half`, the first half of the bytes
+// is written before such a write is refused. Where CALL is `count` it tells descriptor 9 at the end how many requests for memory there
+// were, and of how many bytes in all.
 extern void *__libc_malloc(unsigned long);
 extern void *__libc_realloc(void *, unsigned long);
 extern char *getenv(const char *);
@@ -75,3 +77,17 @@ long read(int from, void *bytes, unsigned long size) {
 long write(int to, const void *bytes, unsigned long size) {
     return (to == 1 || to == 2) && is_refused('w') ? failed() : syscall(1, to, bytes, size);
 }
+
+static int is_refused_of_file(void) { return is_refused('f') || is_refused('h'); }
+
+long pwrite(int to, const void *bytes, unsigned long size, long at) {
+    if (!is_refused_of_file()) return syscall(18, to, bytes, size, at);
+    if (call == 'h') syscall(18, to, bytes, size / 2, at);
+    return failed();
+}
+
+int ftruncate(int of, long length) { return is_refused_of_file() ? failed() : syscall(77, of, length); }
+
+int fdatasync(int of) { return is_refused_of_file() ? failed() : syscall(75, of); }
+
+int fsync(int of) { return is_refused_of_file() ? failed() : syscall(74, of); }
