@@ -1,10 +1,10 @@
 //! A source and a replica in many threads.
 //!
 //! Each session, each worker and each reader has a thread of its own, and so has the wire that sends the source's log to the
-//! replica, as bytes in pieces. `changes` is what a session writes and what its rows are in the end; `feeding` is the work of the
-//! sessions and of the wire, `serving` that of the workers and the readers. Once all threads have ended `comparing` reads each
-//! row on both sides, and `lifecycle` opens and ends these. `reading` keeps what a reader saw, and `ended` judges what came of both
-//! sides.
+//! replica, as bytes in pieces. `lifecycle` opens both sides and ends them; in between they are `Shared`, with the plan, and all work over
+//! them is a method of that. `changes` is what a session writes and what its rows are in the end; `feeding` is the work of the sessions and
+//! of the wire, `serving` that of the workers and the readers. Once all threads have ended `comparing` reads each row on both sides.
+//! `reading` keeps what a reader saw, and `ended` judges what came of both sides.
 //!
 //! No thread waits for one that may never come: the wire is told when the sessions have ended, whatever they came to, and
 //! the workers when the wire has. Where no thread can be made the work is done one after another, in that order.
@@ -19,6 +19,7 @@ mod feeding;
 mod lifecycle;
 mod reading;
 mod serving;
+mod shared;
 mod trouble;
 
 ghost use Rattle.std.specs.Prelude.{◌≡◌, ◌++◌, ◌∷◌, [], IfOk, IfSome, OnOk};

@@ -8,13 +8,12 @@ ghost use Rattle.mtr.specs.Options.{IsInRange};
 ghost use Rattle.mtr.specs.Pair.{IsNewTracker};
 ghost use Rattle.mtr.specs.Reading.{AreTold};
 ghost use Rattle.mtr.specs.Threads.{IsEnded};
+ghost use Rattle.source_shared.specs.Engine.{IsCommitted};
 
 use super::changes::TABLE;
-use super::comparing::compare;
 use super::ended::Ended;
-use super::feeding::feed;
-use super::reading::{Reader, Shown};
-use super::serving::{read_all, work_all};
+use super::reading::Shown;
+use super::shared::{Met, Replica, Shared, Source};
 use super::trouble::Trouble;
 use crate::options::{Options, Plan};
 use crate::pair::{MAX_RECORDS, NewStore, SOURCE, parts_over};
@@ -23,30 +22,21 @@ use published::{LeftRight, OpenError, Publisher, open};
 use replica_core::ReplicaCore;
 use replica_shared::{ReplicaNaming, SharedReplica};
 use schema::{Schema, SchemaFault, Table};
-use source_core::Receipt as Given;
+use source_core::{Receipt as Given, SourceCore};
 use source_shared::{Receipt, SharedSource, SourceNaming};
 use std::alloc::{AllocError, Global};
 use std::marker::Brand;
 use std::sync::Wait;
-use std::thread::{Threads, join};
+use std::thread::Threads;
 use store_trait::Batch;
 use tracker_trait::Tracker;
 use uuid::Uuid;
 use world::{Pair, pair_of};
 
-/// The source, with its log file in memory.
-pub type Source<S, T, J> = SharedSource<S, T, MemoryDevice, J>;
-
-/// The replica.
-pub type Replica<S, K> = SharedReplica<S, K>;
-
 /// Both sides before their threads.
 type Cores<S, T> = Pair<S, T, MemoryDevice>;
 
-/// What the threads come to: the receipts of all sessions, all readers, and how many workers did all that there was.
-type Met<S, J, K> = (Vec<Receipt<J>>, Vec<Reader<S, K>>, usize);
-
-/// The same, with what each reader saw.
+/// What the threads come to, with what each reader saw in place of the readers.
 type Told<J> = (Vec<Receipt<J>>, Vec<Vec<Shown>>, usize);
 
 /// Opens both sides over no rows, runs all threads, compares the rows, and ends both.
@@ -156,27 +146,116 @@ fn run_named<
     ensures source { IfOk result (λ ended. (ended.source.tables ≡ J.tables) × (ended.source.base ≡ J.base)) }
     ensures replica { IfOk result (λ ended. (ended.replica.tables ≡ K.tables) × (ended.replica.base ≡ K.base)) }
 {
+    let (source, replica) = share::<S, T, J, K, H>(
+        rt,
+        alloc,
+        plan.seats,
+        cores,
+        receipts,
+        publication,
+    )?;
+    let shared = Shared {
+        rt,
+        alloc,
+        plan,
+        source: &source,
+        replica: &replica,
+    };
+    let met = shared.meet();
+    let published = replica.status(rt).published;
+    end_all(rt, alloc, plan, source, replica, met, published)
+}
+
+/// Both sides for many threads, with so many seats.
+fn share<
+    S: NewStore,
+    T: Tracker + Drop + Send + Sync,
+    J: SourceNaming + Send + Sync,
+    K: ReplicaNaming + Send + Sync,
+    H: Wait,
+>(
+    rt: &H,
+    alloc: Global,
+    seats: usize,
+    cores: Cores<S, T>,
+    receipts: source_shared::Beginning,
+    publication: published::Beginning,
+) -> Result<(Source<S, T, J>, Replica<S, K>), Trouble>
+    requires some { 1 ≤ seats }
+    requires few { seats ≤ 32 }
+    requires source { cores.source ≡ new_source cores.source.tables cores.source.base cores.source.limit cores.source.kind }
+    requires log { IsNew cores.log.log }
+    requires replica { cores.replica ≡ new_over cores.replica.tables cores.replica.source cores.replica.base cores.replica.workers
+        cores.replica.preserve }
+    requires source_base { cores.source.base ≡ J.base }
+    requires source_tables { cores.source.tables ≡ J.tables }
+    requires receipts { receipts ≡ J.book }
+    requires replica_tables { cores.replica.tables ≡ K.tables }
+    requires replica_source { cores.replica.source ≡ K.source }
+    requires replica_base { cores.replica.base ≡ K.base }
+    requires replica_order { cores.replica.preserve ≡ K.preserve }
+    requires publication { publication.book ≡ K.book }
+    requires published { publication.base ≡ cores.replica.base }
+{
     let Pair {
         source,
         log,
         replica,
     } = cores;
-    let source: Source<S, T, J> = SharedSource::new(alloc, source, log, receipts)?;
-    let replica: Replica<S, K> = new_replica(rt, alloc, plan.seats, replica, publication)?;
-    let met = meet(rt, alloc, plan, &source, &replica);
-    let published = replica.status(rt).published;
+    let source = SharedSource::new(alloc, source, log, receipts)?;
+    let replica = new_replica(rt, alloc, seats, replica, publication)?;
+    Ok((source, replica))
+}
+
+/// Both sides as they ended, once the threads came to this and the replica told that it has published so many commits.
+fn end_all<
+    S: NewStore,
+    T: Tracker + Drop + Send + Sync,
+    J: SourceNaming + Send + Sync,
+    K: ReplicaNaming + Send + Sync,
+    H: Wait,
+>(
+    rt: &H,
+    alloc: Global,
+    plan: &Plan,
+    source: Source<S, T, J>,
+    replica: Replica<S, K>,
+    met: Result<Met<S, J, K>, Trouble>,
+    published: u64,
+) -> Result<Ended<S, T>, Trouble>
+    requires order { K.preserve ≡ plan.now.sides.preserve }
+    requires tables { K.tables ≡ J.tables }
+    ensures ended { IfOk result (IsEnded plan.now) }
+    ensures source { IfOk result (λ ended. (ended.source.tables ≡ J.tables) × (ended.source.base ≡ J.base)) }
+    ensures replica { IfOk result (λ ended. (ended.replica.tables ≡ K.tables) × (ended.replica.base ≡ K.base)) }
+{
     let (replica, publisher) = replica.end();
     let told = tell_all(alloc, met, &publisher);
     drop(publisher.close(rt));
     let (receipts, readings, workers) = told?;
+    let (source, given) = end_source(alloc, source, receipts)?;
     Ok(Ended {
-        source: source.end(&receipts),
+        source,
         replica,
-        receipts: given_all(alloc, receipts)?,
+        receipts: given,
         readings,
         workers,
         published,
     })
+}
+
+/// The source as it ended, and the receipts of its records.
+fn end_source<S: NewStore, T: Tracker + Drop + Send + Sync, J: SourceNaming>(
+    alloc: Global,
+    source: Source<S, T, J>,
+    receipts: Vec<Receipt<J>>,
+) -> Result<(SourceCore<S, T>, Vec<Given>), AllocError>
+    ensures tables { IfOk result (λ ended. ended.0.tables ≡ J.tables) }
+    ensures base { IfOk result (λ ended. ended.0.base ≡ J.base) }
+    ensures receipts { IfOk result (λ ended. All (IsCommitted ended.0) ended.1.items) }
+{
+    let core = source.end(&receipts);
+    Ok((core, given_all(alloc, receipts)?))
 }
 
 /// What the threads came to, and what all readers saw, once they learnt all that was published.
@@ -235,61 +314,4 @@ fn new_replica<S: NewStore, K: ReplicaNaming, H: Wait>(
         Err(OpenError::Memory) => Err(Trouble::Memory),
         Err(OpenError::SeatRefused) => Err(Trouble::Different),
     }
-}
-
-/// Runs all threads, and compares the rows of both sides once they have ended.
-fn meet<
-    S: NewStore,
-    T: Tracker + Drop + Send + Sync,
-    J: SourceNaming + Send + Sync,
-    K: ReplicaNaming + Send + Sync,
-    H: Threads + Wait + Sync,
->(
-    rt: &H,
-    alloc: Global,
-    plan: &Plan,
-    source: &Source<S, T, J>,
-    replica: &Replica<S, K>,
-) -> Result<Met<S, J, K>, Trouble>
-    requires { IsInRange (Options.Threads plan.now) }
-{
-    // Of two closures the second is called first where no thread can be made.
-    let (readers, (worked, receipts)) = join(
-        rt,
-        || read_all(rt, alloc, plan.seats, replica),
-        ||
-            requires { IsInRange (Options.Threads plan.now) }
-        { apply(rt, alloc, plan, source, replica) },
-    );
-    let receipts = receipts?;
-    let workers = worked?;
-    let mut readers = readers?;
-    let reader = readers.last_mut().ok_or(Trouble::Different)?;
-    compare(rt, plan, source, replica, reader, &receipts)?;
-    Ok((receipts, readers, workers))
-}
-
-/// Runs the workers beside those who feed the replica.
-fn apply<
-    S: NewStore,
-    T: Tracker + Drop + Send + Sync,
-    J: SourceNaming + Send + Sync,
-    K: ReplicaNaming + Send + Sync,
-    H: Threads + Wait + Sync,
->(
-    rt: &H,
-    alloc: Global,
-    plan: &Plan,
-    source: &Source<S, T, J>,
-    replica: &Replica<S, K>,
-) -> (Result<usize, Trouble>, Result<Vec<Receipt<J>>, Trouble>)
-    requires { IsInRange (Options.Threads plan.now) }
-{
-    join(
-        rt,
-        || work_all(rt, alloc, plan.sides.workers, replica),
-        ||
-            requires { IsInRange (Options.Threads plan.now) }
-        { feed(rt, alloc, plan, source, replica) },
-    )
 }

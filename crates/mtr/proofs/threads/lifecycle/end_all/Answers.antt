@@ -1,0 +1,21 @@
+use Rattle.std.proofs.Common.{◌∙◌, sym, subst, Bool, Vec, Global}
+use Rattle.std.specs.List.{All}
+use Rattle.mtr.specs.Reading.{AreTold}
+use Rattle.mtr.specs.declared.threads.reading.Shown.{Shown}
+use Rattle.mtr.proofs.threads.lifecycle.end_all.Goals as goal
+
+pub returns-clause-ended : goal.returns-clause-ended
+returns-clause-ended g c =
+    let order = c.end-replica.ensures.order in
+    record {
+      order = order ∙ c.requires.order;
+      tables = c.end-replica.ensures.tables ∙ c.requires.tables ∙ sym c.in_ok-source.ensures.tables;
+      given = c.in_ok-source.ensures.receipts;
+      shown = c.end-replica.result.1.published;
+      are = c.end-replica.ensures.published;
+      in_order = λ kept. c.end-replica.ensures.in_order (sym order ∙ kept);
+      within = c.end-replica.ensures.within;
+      counted = c.end-replica.ensures.shown;
+      told =
+          subst (λ (b : Bool). All (λ (v : Vec Shown Global). AreTold b c.end-replica.result.1.published v.items) c.in_ok-receipts.readings.items) (sym order) c.in_ok-receipts.ensures;
+    }
