@@ -1,3 +1,4 @@
 pub mod Footprint
 pub mod Log
+pub mod Trail
 pub mod Laws

@@ -1,5 +1,5 @@
 -- Logs of entries.
-use Rattle.std.specs.Prelude.{◌≡◌, ℕ, ◌+◌, ◌<◌, ◌≤◌, List, slice_get, Some}
+use Rattle.std.specs.Prelude.{◌≡◌, ℕ, ◌+◌, ◌^◌, ◌<◌, List, length, slice_get, Some}
 use Rattle.schema.specs.Rows.{Touched}
 use Rattle.log_index.specs.declared.Entry.{Entry}
 use Rattle.log_index.specs.Footprint.{touched}
@@ -18,10 +18,11 @@ pub record IsAt (sequence : ℕ) (entry : Entry) : Type 0 where
 abbrev pub IsNumbered : List Entry → Type 0
 IsNumbered log = (i : ℕ) (entry : Entry) → slice_get log i ≡ Some entry → IsAt (i + 1) entry
 
--- what a log keeps: how its entries are numbered, and that as many more as its room fit where they lie
-pub record IsLog (log : List Entry) (long capacity room : ℕ) : Type 0 where
+-- what a log keeps: how its entries are numbered, how many they are, and that with as many more as its room they are not too many
+pub record IsLog (log : List Entry) (count room : ℕ) : Type 0 where
   pub numbered : IsNumbered log
-  pub fits : long + room ≤ capacity
+  pub counted : length log ≡ count
+  pub fits : count + room < 2 ^ 63
 
 -- an entry's sequence number, and what it touches
 abbrev pub entry_place : Entry → ℕ × Touched

@@ -81,7 +81,7 @@ fn an_entry_at_the_bound_is_copied_again(rt: HostRuntime) -> Result<(), Fail> {
 /// A push without room that is always refused, room that is, and an entry past some number.
 #[test]
 fn many_entries(rt: HostRuntime) -> Result<(), Fail> {
-    let mut log = Log::new(rt.alloc());
+    let mut log = Log::new();
     for number in 0..3000 {
         if number == 1500 {
             log.reserve(1500)?;

@@ -92,7 +92,7 @@ fn follow<T: Tracker>(
 ) -> Result<(), Fail>
     requires { T.agrees tracker.old schema.now [] }
 {
-    let mut log = Log::new(alloc);
+    let mut log = Log::new();
     for (session, writes, refs, marks, wanted) in steps {
         let t = footprint(alloc, schema, writes, refs, marks)?;
         assert!(rt; is_of_tables(schema, &t));
