@@ -143,10 +143,9 @@ acceptable_is_accepted r from new same is =
 pub accepts_the_acceptable : AcceptsTheAcceptable
 accepts_the_acceptable r from new = (accepted_is_acceptable r from new, λ both. acceptable_is_accepted r from new both.0 both.1)
 
--- what a record that is accepted is, as it is judged
-pub next_of : (r now : Relay) (from : List ℕ) (new : Record) (answer : Result Received ReplicaFault) → r ≡ now → answer ≡ received now from new → answer ≡ Ok Accepted →
-    (from ≡ r.source) × IsAcceptable r.tables r.accepted new
-next_of r now from new answer same e is = accepted_is_acceptable r from new (ap (λ (q : Relay). received q from new) same ∙ sym e ∙ is)
+-- what a record that is accepted is, as the relay is seen
+pub next_of : (r now : Relay) (from : List ℕ) (new : Record) → r ≡ now → received now from new ≡ Ok Accepted → (from ≡ r.source) × IsAcceptable r.tables r.accepted new
+next_of r now from new same is = accepted_is_acceptable r from new (ap (λ (q : Relay). received q from new) same ∙ is)
 
 -- the ids before the next record
 pub ids_before : (source from : List ℕ) (n gno : ℕ) (ids : Ids) → from ≡ source → gno ≡ n + 1 → ids ≡ first_ids source n → ids ≡ first_ids from (gno - 1)

@@ -8,8 +8,10 @@
 //! them. It stands on `record_codec` for records, on `gtid_set` for ids, and on `indexmap`.
 #![tactic(auto)]
 
-ghost use Rattle.std.specs.Prelude.{◌≡◌, ◌⊎◌, ◌<◌, IfOk, OnOk, OnErr, IsErrOf, [], Ok, false, nat_le, length, vec_len, vec_capacity};
-ghost use Rattle.relay.specs.Relay.{is_malformed as malformed, received, left_by_receive, AreAcceptable};
+ghost use Rattle.std.specs.Prelude.{◌≡◌, ◌⊎◌, ◌+◌, ◌-◌, ◌^◌, ◌<◌, ◌≤◌, IfOk, IfErr, OnOk, OnErr, IsErrOf, [], Ok, Err, false};
+ghost use Rattle.std.specs.Prelude.{nat_le, length, vec_len, vec_capacity};
+ghost use Rattle.gtid_set.specs.Ids.{first_ids};
+ghost use Rattle.relay.specs.Relay.{is_malformed as malformed, received, with_accepted, left_by_receive, AreAcceptable};
 
 mod form;
 mod ids;
@@ -162,17 +164,60 @@ impl Relay {
         ensures ok { IfOk result (λ answer. self.new ≡ left_by_receive self.old new.now answer) }
         ensures err { OnErr result (self.new ≡ self.old) }
     {
-        let answer = self.judge(from, new)?;
-        if answer == Received::Accepted {
-            // Room first: behind the id nothing may fail.
-            self.touches.reserve(new)?;
-            make_room(&mut self.accepted)?;
-            let copy = new.copy()?;
-            add_next(&mut self.ids, from, new.gno)?;
-            self.accepted.push(copy).unwrap();
-            self.touches.note(new);
+        match self.judge(from, new)? {
+            Received::Accepted => match self.accept(from, new.copy()?) {
+                Ok(answer) => Ok(answer),
+                Err((fault, _copy)) => Err(fault),
+            },
+            Received::Skipped => Ok(Received::Skipped),
         }
-        Ok(answer)
+    }
+
+    /// As `receive`, of a record that is given to it, which is kept and not copied. One that is skipped is dropped, a refused one is
+    /// given back. It is refused as by `receive`, and a refusal changes nothing, so it may be given again. Time and memory are those of
+    /// `receive` without the copy.
+    pub fn receive_own(
+        &mut self,
+        from: Uuid,
+        new: Record,
+    ) -> Result<Received, (ReplicaFault, Record)>
+        ensures answer { IfOk result (λ answer. received self.old from new ≡ Ok answer) }
+
+        // Memory runs out only in the place of an acceptance.
+        ensures refused { IfErr result (λ back. (received self.old from new ≡ Err back.0) ⊎ ((back.0 ≡ ReplicaFault.Memory)
+            × (received self.old from new ≡ Ok Received.Accepted))) }
+        ensures back { IfErr result (λ back. back.1 ≡ new) }
+        ensures ok { IfOk result (λ answer. self.new ≡ left_by_receive self.old new answer) }
+        ensures err { OnErr result (self.new ≡ self.old) }
+    {
+        match self.judge(from, &new) {
+            Ok(Received::Accepted) => self.accept(from, new),
+            Ok(Received::Skipped) => Ok(Received::Skipped),
+            Err(fault) => Err((fault, new)),
+        }
+    }
+
+    /// Keeps the record, which is to be accepted. Where there is no memory for it, it is given back.
+    fn accept(&mut self, from: Uuid, new: Record) -> Result<Received, (ReplicaFault, Record)>
+        requires { received self.old from new ≡ Ok Received.Accepted }
+        ensures answer { IfOk result (λ answer. answer ≡ Received.Accepted) }
+        ensures only { IfErr result (λ back. (back.0 ≡ ReplicaFault.Memory) × (back.1 ≡ new)) }
+        ensures ok { OnOk result (self.new ≡ with_accepted self.old new) }
+        ensures err { OnErr result (self.new ≡ self.old) }
+    {
+        let taken = take_room(
+            &mut self.touches,
+            &mut self.accepted,
+            &mut self.ids,
+            from,
+            &new,
+        );
+        if let Err(fault) = taken {
+            return Err((fault.into(), new));
+        }
+        self.touches.note(&new);
+        self.accepted.push_reserved(new);
+        Ok(Received::Accepted)
     }
 
     /// What the record would be answered if there were memory enough.
@@ -232,10 +277,27 @@ impl Relay {
     }
 }
 
-/// Makes room for one record more.
-fn make_room(records: &mut Vec<Record>) -> Result<(), Memory>
+/// Makes room for the record and for what it touches, and puts its id in. Where it can't, the ids are as they were.
+fn take_room(
+    touches: &mut Touches,
+    records: &mut Vec<Record>,
+    ids: &mut GtidSet,
+    from: Uuid,
+    new: &Record,
+) -> Result<(), Memory>
+    requires number { (1 ≤ new.now.gno) × (new.now.gno < 2 ^ 63) }
+    requires before { ids.old ≡ first_ids from (new.now.gno - 1) }
+    ensures rows { touches.new.rows ≡ touches.old.rows }
+    ensures marks { touches.new.marks ≡ touches.old.marks }
+    ensures room { OnOk result (length new.now.changes + length new.now.refs ≤ touches.new.room) }
+    ensures places { OnOk result (length new.now.marks ≤ touches.new.places) }
     ensures items { records.new.items ≡ records.old.items }
-    ensures room { OnOk result (vec_len records.new < vec_capacity records.new) }
+    ensures one_more { OnOk result (vec_len records.new < vec_capacity records.new) }
+    ensures ids { OnOk result (ids.new ≡ first_ids from new.now.gno) }
+    ensures err { OnErr result (ids.new ≡ ids.old) }
 {
-    Ok(records.reserve(1)?)
+    // The id last: behind it nothing may fail.
+    touches.reserve(new)?;
+    records.reserve(1)?;
+    add_next(ids, from, new.gno)
 }

@@ -1,15 +1,14 @@
 -- Records that are handed on one after another, and the pieces that they come in.
-use Rattle.std.proofs.Common.{◌≡◌, ◌∙◌, sym, ap, subst, refl, ℕ, ◌+◌, ◌<◌, ◌⊎◌, inl, inr, List, [], ◌∷◌, ◌++◌, length, take, get_or, append_assoc, append-nil, length-append, Result, Ok, Err, IsErrOf}
+use Rattle.std.proofs.Common.{◌≡◌, ◌∙◌, sym, ap, subst, refl, ℕ, ◌+◌, ◌⊎◌, List, [], ◌∷◌, ◌++◌, length, reverse, append_assoc, append-nil, length-append, Result, Ok, Err}
 use Rattle.std.proofs.Common.{arith}
 use Rattle.std.specs.Prelude.{IsOk}
-use Rattle.std.proofs.lemmas.List.{take_more, nil_from_length}
+use Rattle.std.proofs.lemmas.List.{nil_from_length, reverse-append}
 use Rattle.record_codec.specs.declared.records.Record.{Record}
 use Rattle.record_codec.specs.Version.{current}
 use Rattle.record_codec.specs.declared.fault.CodecFault.{CodecFault}
 use Rattle.record_codec.specs.declared.fault.CodecFault.TheVariants as codec
 use Rattle.record_stream.specs.Stream.{Adds, Splits, Stops}
 use Rattle.relay.specs.declared.ReplicaFault.{ReplicaFault}
-use Rattle.relay.specs.declared.ReplicaFault.TheVariants.{Memory}
 use Rattle.relay.specs.declared.Received.{Received}
 use Rattle.relay.specs.declared.Received.TheVariants.{Accepted, Skipped}
 use Rattle.replica_core.specs.Replica.{Replica}
@@ -34,21 +33,32 @@ hands-append from r mid then xs ys h k = record {
 }
 
 -- one of them
-pub one_handed : (from : List ℕ) (r then : Replica) (new : Record) (answer : Received) → (IsErrOf (Ok answer) Memory ⊎ (Ok answer ≡ received r from new)) → then ≡ left_by_receive r new answer →
-    HandsAll from r (new ∷ []) then
-one_handed from r then new answer (inl lacks) left = cc
-one_handed from r then new answer (inr is) left = record {
-  taken = (subst (λ (a : Result Received ReplicaFault). IsOk a) is refl, tt);
-  left = left ∙ ap (left_by_answer r new) is;
+one_handed : (from : List ℕ) (r then : Replica) (new : Record) (answer : Received) → received r from new ≡ Ok answer → then ≡ left_by_receive r new answer → HandsAll from r (new ∷ []) then
+one_handed from r then new answer is left = record {
+  taken = (subst (λ (a : Result Received ReplicaFault). IsOk a) (sym is) refl, tt);
+  left = left ∙ ap (left_by_answer r new) (sym is);
 }
 
--- the next of a list is handed on too
-pub next_handed : (from : List ℕ) (r mid then : Replica) (records : List Record) (n : ℕ) (new : Record) (answer : Received) → HandsAll from r (take n records) mid → n < length records →
-    new ≡ get_or records n new
-    → (IsErrOf (Ok answer) Memory ⊎ (Ok answer ≡ received mid from new)) → then ≡ left_by_receive mid new answer → HandsAll from r (take (n + 1) records) then
-next_handed from r mid then records n new answer h lt is told left =
-    let more : take (n + 1) records ≡ take n records ++ new ∷ [] = take_more records n new lt ∙ ap (λ (x : Record). take n records ++ x ∷ []) (sym is) in
-    subst (λ (l : List Record). HandsAll from r l then) (sym more) (hands-append from r mid then (take n records) (new ∷ []) h (one_handed from mid then new answer told left))
+-- ---- a list that is turned round, so that the first is taken off its end
+
+-- of these records some are handed on, and taken, and the others are left
+pub record HandsFront (from : List ℕ) (r : Replica) (records left : List Record) (then : Replica) : Type 0 where
+  pub gone : List Record
+  pub split : records ≡ gone ++ left
+  pub hands : HandsAll from r gone then
+
+last_first : (turned rest : List Record) (new : Record) → turned ≡ rest ++ new ∷ [] → reverse turned ≡ new ∷ reverse rest
+last_first turned rest new is = ap (λ (l : List Record). reverse l) is ∙ reverse-append rest (new ∷ [])
+
+-- the one that is taken off is taken
+pub next_handed : (from : List ℕ) (r mid then : Replica) (records turned rest : List Record) (new : Record) (answer : Received) → HandsFront from r records (reverse turned) mid →
+    turned ≡ rest ++ new ∷ [] → received mid from new ≡ Ok answer → then ≡ left_by_receive mid new answer
+    → HandsFront from r records (reverse rest) then
+next_handed from r mid then records turned rest new answer h is told left = record {
+  gone = h.gone ++ new ∷ [];
+  split = h.split ∙ ap (λ (l : List Record). h.gone ++ l) (last_first turned rest new is) ∙ sym (append_assoc h.gone (new ∷ []) (reverse rest));
+  hands = hands-append from r mid then h.gone (new ∷ []) h.hands (one_handed from mid then new answer told left);
+}
 
 -- ---- what is handed on makes the accepted records grow, and changes nothing else
 

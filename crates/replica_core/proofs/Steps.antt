@@ -123,6 +123,12 @@ none_seen : (preserve : Bool) → commits_seen preserve 0 [] ≡ []
 none_seen true = refl
 none_seen false = refl
 
+-- what is answered, where memory did not run out in its place
+pub answered : (result told : Result Received ReplicaFault) → (IsErrOf result NoMemory ⊎ (result ≡ told)) → IfOk result (λ answer. told ≡ Ok answer)
+answered (Err fault) told h = tt
+answered (Ok answer) told (inl lacks) = cc
+answered (Ok answer) told (inr is) = sym is
+
 module _ (r : Replica) (marks : Marks) (order : List ℕ) (line : Line) (handed : List HandedOut) (rows : Database) (keys : Keys) (ops : List Op) where
   -- the parts are seen as the replica whose parts they are
   pub as_parts : ArePartsOf r marks line handed rows keys ops → commits_seen line.preserve marks.low order ≡ r.commits → with_parts r marks order line ≡ r
@@ -192,14 +198,14 @@ any_order true false false false h = refl
 module _ (r : Replica) (marks : Marks) (line : Line) (handed : List HandedOut) (rows : Database) (keys : Keys) (ops : List Op) where
   -- ---- receive
 
-  pub received_kept : (from : List ℕ) (new : Record) (result : Result Received ReplicaFault) (left : relay.Relay) → ArePartsOf r marks line handed rows keys ops →
-      (IsErrOf result NoMemory ⊎ (result ≡ relay.received (relay_of r) from new)) → IfOk result (λ answer. left ≡ relay.left_by_receive (relay_of r) new answer) → OnErr result (left ≡ relay_of r) →
+  -- whatever is refused, and whether the record is given back with it
+  pub received_kept : {E : Type 0} (from : List ℕ) (new : Record) (result : Result Received E) (left : relay.Relay) → ArePartsOf r marks line handed rows keys ops →
+      IfOk result (λ answer. relay.received (relay_of r) from new ≡ Ok answer) → IfOk result (λ answer. left ≡ relay.left_by_receive (relay_of r) new answer) → OnErr result (left ≡ relay_of r) →
       ArePartsOf (with_relay r left) marks line handed rows keys ops
-  received_kept from new (Err fault) left h answer ok err = subst (λ (v : relay.Relay). ArePartsOf (with_relay r v) marks line handed rows keys ops) (sym err) h
+  received_kept from new (Err refused) left h answer ok err = subst (λ (v : relay.Relay). ArePartsOf (with_relay r v) marks line handed rows keys ops) (sym err) h
   received_kept from new (Ok Skipped) left h answer ok err = subst (λ (v : relay.Relay). ArePartsOf (with_relay r v) marks line handed rows keys ops) (sym ok) h
-  received_kept from new (Ok Accepted) left h (inl lacks) ok err = cc
-  received_kept from new (Ok Accepted) left h (inr is) ok err =
-      let next : IsAcceptable r.tables r.accepted new = ((accepts_the_acceptable (relay_of r) from new).0 (sym is)).1 in
+  received_kept from new (Ok Accepted) left h answer ok err =
+      let next : IsAcceptable r.tables r.accepted new = ((accepts_the_acceptable (relay_of r) from new).0 answer).1 in
       subst (λ (v : relay.Relay). ArePartsOf (with_relay r v) marks line handed rows keys ops) (sym ok)
       (kept_accepted r marks line handed rows keys ops new h (next_is_acceptable r.tables r.accepted new h.log.acceptable next))
 

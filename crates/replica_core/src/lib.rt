@@ -144,6 +144,29 @@ impl<S: RowStore> ReplicaCore<S> {
         self.relay.receive(from, new)
     }
 
+    /// As `receive`, of a record that is given to it, which is kept and not copied, as by `Relay::receive_own`: one that is skipped is
+    /// dropped, a refused one is given back, also where the replica is stopped.
+    pub fn receive_own(
+        &mut self,
+        from: Uuid,
+        new: Record,
+    ) -> Result<Received, (ReplicaFault, Record)>
+        ensures answer { IfOk result (λ answer. received self.old from new ≡ Ok answer) }
+
+        // Memory runs out only in the place of an acceptance.
+        ensures refused { IfErr result (λ back. (received self.old from new ≡ Err back.0) ⊎ ((back.0 ≡ ReplicaFault.Memory)
+            × (received self.old from new ≡ Ok Received.Accepted))) }
+        ensures back { IfErr result (λ back. back.1 ≡ new) }
+        ensures sound { IsSound self.old }
+        ensures ok { IfOk result (λ answer. self.new ≡ left_by_receive self.old new answer) }
+        ensures err { OnErr result (self.new ≡ self.old) }
+    {
+        match refuse_stopped(self.stopped) {
+            Ok(()) => self.relay.receive_own(from, new),
+            Err(fault) => Err((fault, new)),
+        }
+    }
+
     /// Hands out the job of the next record in log order, once all up to its parent are committed (as MySQL's `LOGICAL_CLOCK` has
     /// it) and a worker is free: fewer are dispatched and not committed than there are workers. Where the order of the log is not kept
     /// it also waits until its number is one of the 4096 behind the low-water mark. The job has copies of the

@@ -1,0 +1,35 @@
+use Rattle.std.proofs.Common.{◌≡◌, ◌∙◌, ap, subst, ℕ, List, length, [], ◌∷◌, ◌++◌, arith}
+use Rattle.std.proofs.lemmas.Grind.{common_steps}
+use Rattle.gtid_set.specs.Ids.{first_ids}
+use Rattle.relay.specs.Relay.{Relay}
+use Rattle.relay.specs.Touches.{LastTouches, LastMarks, Notes, NotesMarks}
+use Rattle.relay.proofs.Judged.{next_of, ids_before}
+use Rattle.relay.proofs.Last.{one_more_kept}
+use Rattle.relay.proofs.Relay.accept.Goals as goal
+
+pub take_room-taken-requires-clause-before : goal.take_room-taken-requires-clause-before
+take_room-taken-requires-clause-before c =
+    let was = c.self.inside in
+    let r : Relay = record { tables = was.schema; source = was.source; accepted = was.accepted.items } in
+    let next = next_of r c.args.self.now c.args.from c.args.new c.self.view_is c.requires in
+    ids_before was.source c.args.from (length was.accepted.items) c.args.new.gno was.ids next.0 next.1.gno c.self.invariant.ids_are
+
+pub invariant_of-self-2 : goal.invariant_of-self-2
+invariant_of-self-2 c =
+    let was = c.self.inside in
+    let r : Relay = record { tables = was.schema; source = was.source; accepted = was.accepted.items } in
+    let pushed : c.push_reserved.new.self.items ≡ was.accepted.items ++ c.args.new ∷ [] = grind (arith, common_steps) in
+    let new = c.args.new in
+    let next = next_of r c.args.self.now c.args.from new c.self.view_is c.requires in
+    one_more_kept was.schema was.source was.accepted.items was.ids was.touches.rows was.touches.marks new (record {
+      kept = c.self.invariant;
+      next = next.1;
+      left = c.push_reserved.new.self.items;
+      left_is = pushed;
+      with_next = c.take_room-taken.new.ids;
+      ids_are = c.in_default.ensures.ids ∙ ap (λ (s : List ℕ). first_ids s new.gno) next.0;
+      now = c.note.new.self.rows;
+      notes = subst (λ (t : LastTouches). Notes t new c.note.new.self.rows) c.take_room-taken.ensures.rows c.note.ensures.rows;
+      marks_now = c.note.new.self.marks;
+      notes_marks = subst (λ (t : LastMarks). NotesMarks new.gno t new.marks c.note.new.self.marks) c.take_room-taken.ensures.marks c.note.ensures.marks;
+    })
