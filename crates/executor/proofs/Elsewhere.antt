@@ -59,15 +59,11 @@ came f same None left is = cc
 came f true (Some leaves) left is = record { leaves = leaves; applies = refl; exact = refl; rows = cc }
 came f false (Some leaves) left is = cc
 
--- what comes of a record where its changes apply, and where they do not
+-- what comes of a record where its changes apply
 pub comes_of : (ts : List Table) (rec : Record) (db leaves : Database) → effect ts rec.changes db ≡ Some leaves →
     outcome_over ts rec db ≡ outcome_of rec (kin ts rec.changes db) (marks ts rec.changes db) (rows_in (writes rec.changes) leaves)
 comes_of ts rec db leaves applies =
     ap (λ (o : Option Database). option_map_or (λ after_. outcome_of rec (kin ts rec.changes db) (marks ts rec.changes db) (rows_in (writes rec.changes) after_)) o Undefined) applies
-
-pub comes_undefined : (ts : List Table) (rec : Record) (db : Database) → effect ts rec.changes db ≡ None → outcome_over ts rec db ≡ Undefined
-comes_undefined ts rec db refused =
-    ap (λ (o : Option Database). option_map_or (λ after_. outcome_of rec (kin ts rec.changes db) (marks ts rec.changes db) (rows_in (writes rec.changes) after_)) o Undefined) refused
 
 -- an output is what the record leaves
 leaves_there : (ts : List Table) (rec : Record) (db : Database) (left : List Entry) → outcome_over ts rec db ≡ Output left → LeavesThere ts rec db left

@@ -5,14 +5,14 @@ ghost use Rattle.std.specs.List.{list_all};
 ghost use Rattle.std.specs.List.Sorted.{IsSorted};
 ghost use Rattle.executor.specs.Keys.{has_key, same_keys};
 
-/// Whether the keys stated are exactly the others, which may come in any order and more than once. With s keys stated and k others
-/// the time is that of sorting the others, and of a search for each of both.
-pub(crate) fn are_exactly<K: Ord + Copy>(stated: &[K], mut keys: Vec<K>) -> bool
+/// Whether the keys stated are exactly the others, which may come in any order and more than once, and are sorted here. With s keys
+/// stated and k others the time is that of sorting the others, and of a search for each of both.
+pub(crate) fn are_exactly<K: Ord + Copy>(stated: &[K], keys: &mut [K]) -> bool
     requires { IsSorted K.cmp stated.now }
-    ensures { result ≡ same_keys K.cmp stated.now keys.items }
+    ensures { result ≡ same_keys K.cmp stated.now keys.old }
 {
     keys.sort_unstable();
-    are_among(stated, &keys) && are_among(&keys, stated)
+    are_among(stated, keys) && are_among(keys, stated)
 }
 
 /// Whether each of the keys is among the others, which do not fall.

@@ -1,11 +1,11 @@
 //! Changes run over rows, with the parent rows that they look at and the marks that they take and give up.
 
-ghost use Rattle.std.specs.Prelude.{◌≡◌, ◌∷◌, [], ◌&&◌, option_and_then, IfOk, IfSome};
+ghost use Rattle.std.specs.Prelude.{◌≡◌, ◌∷◌, [], ◌&&◌, Some, None, if◌then◌else◌, option_and_then, IsTrue, IfOk};
 ghost use Rattle.std.specs.Option.{option_map};
 ghost use Rattle.rows.specs.Database.{Database, effect, kin, marks};
 ghost use Rattle.rows.specs.Effect.{parent_stands};
 ghost use Rattle.store_trait.specs.Batch.{IsRising};
-ghost use Rattle.overlay.specs.Pending.{pending_of, seen};
+ghost use Rattle.overlay.specs.Pending.{none_pending, pending_of, seen};
 ghost use Rattle.overlay.specs.Values.{value_over};
 ghost use Rattle.executor.specs.Held.{held};
 ghost use Rattle.executor.specs.Shown.{IsShown, step_there};
@@ -26,41 +26,64 @@ pub(crate) struct Run {
     pub(crate) marks: Vec<Mark>,
 }
 
-/// Runs these changes over the store and these holders; `None` where one of them does not apply behind those before it. The store
-/// stays as it is. The time is that of at most two look-ups a change, and for each change that gives its row a value of a unique
-/// column that of a search for its holder and of a walk over the rows that were changed before it.
+impl Run {
+    /// No changes. It takes no memory.
+    pub(crate) fn new(alloc: Global) -> Run {
+        Run {
+            overlay: Overlay::new(alloc),
+            kin: Vec::new(alloc),
+            marks: Vec::new(alloc),
+        }
+    }
+
+    /// Where the memory comes from.
+    pub(crate) fn alloc(&self) -> Global {
+        *self.kin.allocator()
+    }
+
+    /// Lets go of the changes that were run, and keeps their room for others. It takes no memory.
+    fn clear(&mut self)
+        ensures overlay { self.new.overlay ≡ none_pending }
+        ensures kin { self.new.kin.items ≡ [] }
+        ensures marks { self.new.marks.items ≡ [] }
+    {
+        self.overlay.clear();
+        self.kin.clear();
+        self.marks.clear();
+    }
+}
+
+/// Runs these changes over the store and these holders, in the room of those that were run before; tells whether each of them
+/// applies behind those before it. The store stays as it is. The time is that of at most two look-ups a change, and for each change
+/// that gives its row a value of a unique column that of a search for its holder and of a walk over the rows that were changed
+/// before it.
 pub(crate) fn run_changes<S: RowStore>(
-    alloc: Global,
+    run: &mut Run,
     schema: &Schema,
     holders: &Holders,
     store: &S,
     changes: &[Change],
-) -> Result<Option<Run>, Memory>
-    ensures left { IfOk result (λ ran. (db : Database) → IsShown schema.now changes.now (S.contents store.now) holders.now db
-        → option_map (λ run. run.overlay) ran ≡ option_map (pending_of changes.now) (effect schema.now changes.now db)) }
-    ensures kin { IfOk result (λ ran. IfSome ran (λ run. (db : Database)
+) -> Result<bool, Memory>
+    ensures left { IfOk result (λ applies. (db : Database) → IsShown schema.now changes.now (S.contents store.now) holders.now db
+        → (if applies then Some run.new.overlay else None)
+        ≡ option_map (pending_of changes.now) (effect schema.now changes.now db)) }
+    ensures kin { IfOk result (λ applies. IsTrue applies → (db : Database)
         → IsShown schema.now changes.now (S.contents store.now) holders.now db
-        → run.kin.items ≡ kin schema.now changes.now db)) }
-    ensures marks { IfOk result (λ ran. IfSome ran (λ run. (db : Database)
+        → run.new.kin.items ≡ kin schema.now changes.now db) }
+    ensures marks { IfOk result (λ applies. IsTrue applies → (db : Database)
         → IsShown schema.now changes.now (S.contents store.now) holders.now db
-        → run.marks.items ≡ marks schema.now changes.now db)) }
+        → run.new.marks.items ≡ marks schema.now changes.now db) }
 {
-    let mut overlay = Overlay::new(alloc);
-    let mut kin = Vec::new(alloc);
-    let mut marks = Vec::new(alloc);
+    run.clear();
     for change in changes {
-        let Some(step) = step_that_applies(&overlay, schema, holders, store, change) else {
-            return Ok(None);
+        let Some(step) = step_that_applies(&run.overlay, schema, holders, store, change) else {
+            return Ok(false);
         };
-        step.push_kin(&mut kin)?;
-        step.push_marks(&mut marks)?;
-        overlay.push(*change, step.left)?;
+        step.push_kin(&mut run.kin)?;
+        step.push_marks(&mut run.marks)?;
+        run.overlay.push(*change, step.left)?;
     }
-    Ok(Some(Run {
-        overlay,
-        kin,
-        marks,
-    }))
+    Ok(true)
 }
 
 /// What the change does to its row, where it applies behind those before it. It takes no memory.

@@ -2,11 +2,12 @@
 //!
 //! A `Job` has all that the execution of one record needs: the record, copies of the rows that it writes and refers
 //! to, the holders of its marks, and the schema. `execute` looks at nothing else, so it needs no lock, and any thread may run
-//! it. A `JobResult` keeps its job, and its type keeps that its outcome is what comes of that job over each database that the job
-//! may be of: the rows that the record writes, as its changes leave them; or that they do not apply; or that they apply and look
-//! at other parent rows, or have other marks, than the record states. A job may be of the database that its rows and holders are
-//! of, where its record states what its changes give (`laws`); of a job that is of none nothing is promised. It stands on `overlay`
-//! for running the changes, and on `vector_store` for the rows that they run over.
+//! it; `execute_in` does the same in a `Room` that is kept from job to job. A `JobResult` keeps its job, and its type keeps that
+//! its outcome is what comes of that job over each database that the job may be of: the rows that the record writes, as its
+//! changes leave them; or that they do not apply; or that they apply and look at other parent rows, or have other marks, than the
+//! record states. A job may be of the database that its rows and holders are of, where its record states what its changes give
+//! (`laws`); of a job that is of none nothing is promised. It stands on `overlay` for running the changes, and on `vector_store`
+//! for the rows that they run over.
 #![tactic(auto)]
 
 ghost use Rattle.std.specs.Prelude.{◌≡◌, ◌⊎◌, ◌↔◌, IsTrue, IfOk};
@@ -17,12 +18,14 @@ mod holders;
 mod keys;
 mod kin;
 pub mod laws;
+mod room;
 mod same;
 
 pub use holders::Holders;
 use keys::are_exactly;
 use kin::{Run, run_changes};
 use record_codec::{Record, same_records};
+pub use room::Room;
 use same::{same_batches, same_holders, same_schemas};
 use schema::{Memory, Schema};
 use std::alloc::Global;
@@ -185,37 +188,57 @@ pub fn execute(alloc: Global, job: Job) -> JobResult
     ensures outcome { (result.outcome ≡ Outcome.Memory) ⊎
         ((db : Database) → Agrees job db → result.outcome ≡ outcome_over job.schema job.rec db) }
 {
-    let outcome = match run(alloc, &job) {
+    let mut room = Room::new(alloc);
+    execute_in(&mut room, job)
+}
+
+/// Executes a job as `execute` does, in a room that is kept from job to job, whatever the job before left there. A job of at most 16
+/// changes, with at most 48 rows in its input, takes memory only for its output, once the room had jobs as great. Behind a job of more
+/// changes or rows the room's memory is given back, and the next job takes it anew. The time is that of `execute`, and of a walk over
+/// the room that the jobs before left, which is constant.
+pub fn execute_in(room: &mut Room, job: Job) -> JobResult
+    ensures job { result.job ≡ job }
+    ensures outcome { (result.outcome ≡ Outcome.Memory) ⊎
+        ((db : Database) → Agrees job db → result.outcome ≡ outcome_over job.schema job.rec db) }
+{
+    let outcome = match run(room, &job) {
         Ok(outcome) => outcome,
         Err(memory) => memory.into(),
     };
+    room.keep_behind(&job);
     JobResult { job, outcome }
 }
 
 /// What comes of the job.
-fn run(alloc: Global, job: &Job) -> Result<Outcome, Memory>
+fn run(room: &mut Room, job: &Job) -> Result<Outcome, Memory>
     ensures { IfOk result (λ outcome. (db : Database) → Agrees job.now db → outcome ≡ outcome_over job.now.schema job.now.rec db) }
 {
-    let mut rows = VectorStore::new(alloc);
-    rows.put_all(&job.input)?;
+    room.rows.clear();
+    room.rows.put_all(&job.input)?;
     let changes = job.rec.changes.list();
-    match run_changes(alloc, &job.schema, &job.holders, &rows, changes)? {
-        Some(run) => outcome_of(alloc, &job.rec, run),
-        None => Ok(Outcome::Undefined),
+    let applies = run_changes(
+        &mut room.run,
+        &job.schema,
+        &job.holders,
+        &room.rows,
+        changes,
+    )?;
+    if !applies {
+        return Ok(Outcome::Undefined);
     }
+    outcome_of(&job.rec, &mut room.run)
 }
 
-/// What comes of a record whose changes were run: the rows that they leave, where it states their kin and their marks.
-fn outcome_of(alloc: Global, rec: &Record, run: Run) -> Result<Outcome, Memory>
-    ensures { IfOk result (λ outcome. outcome ≡ outcome_of rec.now run.kin.items run.marks.items run.overlay.left) }
+/// What comes of a record whose changes were run: the rows that they leave, where it states their kin and their marks. The lists of
+/// both are sorted here.
+fn outcome_of(rec: &Record, run: &mut Run) -> Result<Outcome, Memory>
+    ensures { IfOk result (λ outcome. outcome ≡ outcome_of rec.now run.old.kin.items run.old.marks.items run.old.overlay.left) }
 {
-    let Run {
-        overlay,
-        kin,
-        marks,
-    } = run;
-    if !are_exactly(rec.refs.rows(), kin) || !are_exactly(rec.marks.list(), marks) {
+    if !are_exactly(rec.refs.rows(), &mut run.kin)
+        || !are_exactly(rec.marks.list(), &mut run.marks)
+    {
         return Ok(Outcome::WrongRefs);
     }
-    Ok(Outcome::Output(overlay.batch(alloc)?))
+    let alloc = run.alloc();
+    Ok(Outcome::Output(run.overlay.batch(alloc)?))
 }

@@ -56,6 +56,13 @@ impl VectorStore {
             rows: Vec::new(alloc),
         }
     }
+
+    /// Lets go of all rows, and keeps their room for others. It takes no memory. The time is that of a walk over the rows.
+    pub fn clear(&mut self)
+        ensures { self.new ≡ empty }
+    {
+        self.rows.clear();
+    }
 }
 
 impl RowStore for VectorStore {

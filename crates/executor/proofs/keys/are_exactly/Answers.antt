@@ -1,19 +1,13 @@
-use Rattle.std.proofs.Common.{◌∙◌}
+use Rattle.std.proofs.Common.{refl}
 use Rattle.executor.proofs.KeySets.{searched_both, searched_first}
 use Rattle.executor.proofs.keys.are_exactly.Goals as goal
-use Rattle.executor.proofs.keys.are_exactly.Goals.{then-are_among, else-are_among}
 
-pub returns : goal.returns
-returns g c =
-    let R = g.K.Ord.cmp in
-    let moved = c.sort_unstable.new.self.items in
-    let moves = c.sort_unstable.ensures.permutation in
-    elim c.if-are_among.branch [
-      | then-are_among w ↦
-          w.result-is
-          ∙ searched_both R c.args.stated.now c.args.keys.items moved moves _ _ _ _ c.deref.ensures.value w.deref-then-are_among.ensures.value
-          c.are_among.ensures w.are_among-then-are_among.ensures w.if-are_among.true
-      | else-are_among w ↦
-          searched_first R c.args.stated.now c.args.keys.items moved moves _ _ _ c.deref.ensures.value c.are_among.ensures w.if-are_among.false
-          (w.result-is ∙ w.if-are_among.false)
-    ]
+pub returns-then-are_among : goal.returns-then-are_among
+returns-then-are_among g c =
+    searched_both g.K.Ord.cmp c.args.stated.now c.args.keys.now c.sort_unstable.new.self c.sort_unstable.ensures.permutation _ _ _ _ refl refl
+    c.are_among.ensures c.are_among-then-are_among.ensures c.if-are_among.true
+
+pub returns-else-are_among : goal.returns-else-are_among
+returns-else-are_among g c =
+    searched_first g.K.Ord.cmp c.args.stated.now c.args.keys.now c.sort_unstable.new.self c.sort_unstable.ensures.permutation _ _ _ refl
+    c.are_among.ensures c.if-are_among.false c.if-are_among.false
