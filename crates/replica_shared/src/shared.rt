@@ -26,7 +26,7 @@ use crate::outlet::Outlet;
 use crate::queue::{Claim, Jobs, Pass};
 use crate::seats::Seats;
 use crossbeam_utils::Backoff;
-use executor::{Job, JobResult, execute};
+use executor::{Job, JobResult, Room, execute_in};
 use gtid_set::{GtidSet, Interval};
 use left_right::Absorb;
 use published::{Common, Counts, Notice, Publisher, ReadSeat, Step, Version, Watch};
@@ -180,13 +180,14 @@ impl<S: RowStore + Drop, J: ReplicaNaming> SharedReplica<S, J> {
         gate: &G,
     ) -> Result<(), ReplicaFault> {
         let mut pass = self.jobs.pass();
+        let mut room = Room::new(alloc);
         for _ in rt.forever() {
             let Some(job) = self.next_job(rt, &mut pass)? else {
                 return Ok(());
             };
             let gno = job.gno;
             gate.entered(gno);
-            let handed = self.hand_in(rt, execute(alloc, job));
+            let handed = self.hand_in(rt, execute_in(&mut room, job));
             gate.left(gno);
             handed?;
         }
