@@ -5,3 +5,4 @@ pub mod Places
 pub mod Settled
 pub mod Rotating
 pub mod Finding
+pub mod Following

@@ -363,6 +363,11 @@ pub record AppendsSynced (s : State) (gno count : ℕ) (old new : List ℕ) : Ty
   pub numbered : AreNumbered (gno + 1) (synced_past s gno count)
   pub appended : AreAppended (synced_past s gno count) old new
 
+-- the groups from the one on that begins with this gno; none, where none does
+abbrev pub groups_from : ℕ → List GroupValue → List GroupValue
+groups_from gno [] = []
+groups_from gno (group ∷ groups) = if group.first == gno then group ∷ groups else groups_from gno groups
+
 -- ---- what receipts, groups and the writer leave
 
 -- one may sleep now who has its end
