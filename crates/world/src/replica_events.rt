@@ -1,25 +1,46 @@
 //! What the events of the replica need: the jobs that wait, and the operations that are appended.
 
-ghost use Rattle.std.specs.Prelude.{◌≡◌, ◌≤◌, ◌<◌, ◌==◌, false, [], ◌∷◌, ◌++◌, length, drop, vec_len, vec_capacity, IsOk, OnOk, IfSome};
-ghost use Rattle.std.specs.Prelude.{IfNone};
+ghost use Rattle.std.specs.Prelude.{◌≡◌, ◌⊎◌, ◌≤◌, ◌<◌, ◌==◌, false, [], ◌∷◌, ◌++◌, length, drop, vec_len, vec_capacity, IsOk, OnOk};
+ghost use Rattle.std.specs.Prelude.{OnErr, IfOk, IsErrOf, IfSome, IfNone};
 ghost use Rattle.std.specs.List.{position, insert};
 ghost use Rattle.executor.specs.declared.Job.{Job as AJob};
 ghost use Rattle.scheduler.specs.Gnos.{has_gno};
+ghost use Rattle.replica_core.specs.Calls.{received as answered, left_by_receive};
 ghost use Rattle.replica_core.specs.Sound.{IsSound};
 ghost use Rattle.world.specs.Appended.{Appends, AppendsAll, MayAppendAll};
 ghost use Rattle.world.specs.Waiting.{TakesOut, numbers_of};
 
 use executor::Job;
 use published::plain::Plain;
+use record_codec::Record;
+use relay::{Received, ReplicaFault};
 use replica_core::ReplicaCore;
 use schema::Memory;
 use store_trait::{Op, RowStore};
+use uuid::Uuid;
 
 /// What is known of every replica.
 pub(crate) fn sound_replica<S: RowStore>(replica: &ReplicaCore<S>)
     ensures { IsSound replica.now }
 {
     let _published = replica.published();
+}
+
+/// The replica is given the record, which is not copied. A refused one is dropped: the log has it.
+pub(crate) fn give<S: RowStore>(
+    replica: &mut ReplicaCore<S>,
+    from: Uuid,
+    new: Record,
+) -> Result<Received, ReplicaFault>
+    ensures answer { IsErrOf result ReplicaFault.Memory ⊎ (result ≡ answered replica.old from new) }
+    ensures sound { IsSound replica.old }
+    ensures ok { IfOk result (λ answer. replica.new ≡ left_by_receive replica.old new answer) }
+    ensures err { OnErr result (replica.new ≡ replica.old) }
+{
+    match replica.receive_own(from, new) {
+        Ok(answer) => Ok(answer),
+        Err((fault, _new)) => Err(fault),
+    }
 }
 
 /// Room for one more job.
