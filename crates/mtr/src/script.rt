@@ -5,7 +5,8 @@
 //! then the events. Any other line is bad; the first bad line ends the reading, and what is behind it is not kept.
 //! The events are kept short (`events`).
 
-ghost use Rattle.std.specs.Prelude.{◌≡◌, ◌++◌, ◌∷◌, [], ◌==◌, true, false, length, option_map, IfOk, IfSome, OnOk, Some};
+ghost use Rattle.std.specs.Prelude.{◌≡◌, ◌++◌, ◌∷◌, [], ◌==◌, true, false, length, option_map, slice_get, IfOk, IfSome, OnOk, Some};
+ghost use Rattle.std.specs.Str.{bytes_eq};
 ghost use Rattle.std.specs.Bool.{then_some};
 ghost use Rattle.std.specs.List.{All};
 ghost use Rattle.mtr.specs.Lines.{about, table, base, event, table_of, keyed_of, link_in, reference_of, base_of, command_of, is_skipped};
@@ -189,11 +190,25 @@ fn command_of(words: Words) -> Option<Line>
     ensures { option_map about result ≡ command_of words.entry }
 {
     let (name, words) = words.first()?;
-    Some(match name {
-        "table" => Line::Table(words),
-        "base" => Line::Base(words),
-        _ => Line::Event(name, words),
+    Some(if is_named(name, b't', "table") {
+        Line::Table(words)
+    } else if is_named(name, b'b', "base") {
+        Line::Base(words)
+    } else {
+        Line::Event(name, words)
     })
+}
+
+/// Whether the name is this one, which begins with this letter: it is compared only where its own first letter is that.
+#[inline(always)]
+fn is_named(name: &str, letter: u8, own: &str) -> bool
+    requires { slice_get own.now 0 ≡ Some letter }
+    ensures { result ≡ bytes_eq name.now own.now }
+{
+    match name.as_bytes().first() {
+        Some(first) => *first == letter && name == own,
+        None => false,
+    }
 }
 
 #[tactic(auto, unfolding(crate::specs::Lines::table_of))]
