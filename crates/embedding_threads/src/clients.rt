@@ -126,17 +126,27 @@ fn give_at_last<J: SourceNaming>(
     unreachable!()
 }
 
-/// Gives to the joint account. Where a write is refused the transaction is taken back, so that the row is free for others.
+/// Gives to the joint account. Where that is refused the transaction is taken back, so that the row is free for others, who may try for it
+/// without an end. One that is queued already is not: `abort` is refused then.
 fn give<J: SourceNaming>(
     rt: &impl Wait,
     source: &Source<J>,
     seat: &mut SessionSeat<J>,
 ) -> Result<Receipt<J>, Trouble> {
     source.begin(rt, seat)?;
-    if let Err(trouble) = add(rt, source, seat) {
-        source.abort(rt, seat)?;
-        return Err(trouble);
+    let given = add_and_commit(rt, source, seat);
+    if given.is_err() {
+        let _ = source.abort(rt, seat);
     }
+    given
+}
+
+fn add_and_commit<J: SourceNaming>(
+    rt: &impl Wait,
+    source: &Source<J>,
+    seat: &mut SessionSeat<J>,
+) -> Result<Receipt<J>, Trouble> {
+    add(rt, source, seat)?;
     commit(rt, source, seat)
 }
 
