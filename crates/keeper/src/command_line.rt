@@ -22,9 +22,18 @@ For more information, try '--help'.
 const MORE: &str = "\
 Begin with 'keeper write /tmp/log 1000 100', kill it, and see with 'keeper show /tmp/log' that all it told is there.
 
-Exit status: 0 done, 2 a wrong command line, 3 a log that is refused (its fault is told, as 'L2 BadMagic'),
-4 a file that could not be opened or failed, or no memory (told as 'busy' or 'L1 Device', say), 7 a stream failed
-(no text).
+Exit status: 0 done, 2 a wrong command line, 3 a log that is refused, 4 a file that could not be opened or failed, or
+no memory, 7 a stream failed (no text). A fault names its file, as '/tmp/log.2: L3 OutOfTurn'.
+
+With status 3, where nothing is written over:
+  L2 BadMagic   the file is no log, or of an earlier form behind another file
+  L3 OutOfTurn  it is missing, of another log, has a record out of turn, or does not go on where the one before it ends;
+                or it has records, or was begun behind more than there are, and the one before it is not finished
+  C1 to C7      its bytes changed
+  P3, P4, P5    no replica takes one of its records
+  a log of an earlier form is not rotated
+With status 4: the file is open elsewhere; not a regular file; what the system says, as 'No space left on device'; or
+'L4' for want of memory, which names no file.
 
 docs/EMBEDDING.md goes through it; docs/FORMATS.md has the bytes of a log, and its faults.";
 
@@ -34,14 +43,15 @@ inserts a row, of its number. Its number is printed, a line each, once it is syn
 rotation, 'rotated M' behind it, where M is the number of the next file.
 
 Exit status: 0 done, 2 a wrong command line, 3 a log that is refused, 4 a file could not be opened or failed, or no
-memory, 7 a stream failed (no text). All that was told is on the log then.";
+memory, 7 a stream failed (no text): 'keeper --help' has the causes. All that was told is on the log then.";
 
 const MORE_OF_SHOW: &str = "\
 It opens the files PREFIX.1, PREFIX.2, .. in order, hands their records to a new replica, and prints the number of each
-once it is committed there; and last their count, as '61 records'. What a kill left behind the last record is cut.
+once it is committed there; and last their count, as '61 records'. What a kill left behind the last record is cut. It
+makes no file.
 
 Exit status: 0 done, 2 a wrong command line, 3 a log that is refused, 4 a file could not be opened or failed, or no
-memory, 7 a stream failed (no text).";
+memory, 7 a stream failed (no text): 'keeper --help' has the causes.";
 
 /// What the words behind the program's name ask for.
 #[derive(Clone, Copy, Debug)]
@@ -50,6 +60,16 @@ pub enum Work<'a> {
     Write { prefix: &'a str, plan: Plan },
     /// `show`: the records of the log of this prefix are handed to a replica.
     Show { prefix: &'a str },
+}
+
+impl<'a> Work<'a> {
+    /// The path of the log's files, without their numbers.
+    pub fn prefix(self) -> &'a str {
+        match self {
+            Work::Write { prefix, .. } => prefix,
+            Work::Show { prefix } => prefix,
+        }
+    }
 }
 
 /// How much is written.

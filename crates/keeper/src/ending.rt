@@ -1,13 +1,14 @@
 //! How the program ends, and what it tells then.
 
-use file_device::OpenFault;
+ghost use Rattle.std.specs.Prelude.{◌≢◌};
+
 use log_file::LogFault;
-use record_codec::CodecFault;
 use relay::ReplicaFault;
 use schema::{Memory, SchemaFault};
 use std::alloc::{AllocError, AllocFailed};
 use std::io;
 use std::io::Write;
+use stored_log::{FileFault, StoreFault};
 
 /// How the program ends.
 #[derive(Clone, Copy, Debug, PartialEq, Eq)]
@@ -16,7 +17,8 @@ pub enum Ending {
     Done,
     /// The command line is none.
     CommandLine,
-    /// The log is refused: its files are none, or not those of one log, or no replica takes its records.
+    /// The log is refused: a file is missing, is no log, holds bytes that changed, or is not the one that is to stand there; or no
+    /// replica takes a record.
     BadLog,
     /// A file could not be opened or failed, or memory ran out.
     Failed,
@@ -40,14 +42,14 @@ impl Ending {
 /// Why the program's work stopped.
 #[derive(Clone, Copy)]
 pub enum Stop {
-    /// The log was refused, failed, or lacked memory.
+    /// A file of the log was refused or failed, or memory ran out.
+    Store(StoreFault),
+    /// The log's last file was refused or failed.
     Log(LogFault),
-    /// A file of the log could not be opened. It is never `OpenFault::Memory`.
-    Open(OpenFault),
     /// The log has an earlier form, in which it has one file alone.
     OneFile,
-    /// The replica does not take a record. It is never `ReplicaFault::Memory`.
-    Replica(ReplicaFault),
+    /// The replica does not take a record of the file of this number.
+    Replica { number: usize, fault: ReplicaFault },
     /// The tables are no schema. It is never `SchemaFault::Memory`.
     Schema(SchemaFault),
     /// A stream could not be written.
@@ -65,105 +67,113 @@ impl From<LogFault> for Stop {
     }
 }
 
-impl From<Memory> for Stop {
+impl From<StoreFault> for Stop {
     ghost use Rattle.std.specs.Prelude.{◌≡◌};
-    ghost use Rattle.log_file.specs.declared.fault.LogFault.TheVariants as faults;
     ghost use Rattle.keeper.specs.declared.ending.Stop.TheVariants as stops;
 
-    ghost from_gives = { λ _ stop. stop ≡ stops.Log faults.Memory };
+    ghost from_gives = { λ fault stop. stop ≡ stops.Store fault };
+
+    fn from(fault: StoreFault) -> Stop {
+        Stop::Store(fault)
+    }
+}
+
+impl From<Memory> for Stop {
+    ghost use Rattle.std.specs.Prelude.{◌≡◌};
+    ghost use Rattle.stored_log.specs.declared.fault.StoreFault.TheVariants as faults;
+    ghost use Rattle.keeper.specs.declared.ending.Stop.TheVariants as stops;
+
+    ghost from_gives = { λ _ stop. stop ≡ stops.Store faults.Memory };
 
     fn from(_memory: Memory) -> Stop {
-        Stop::Log(LogFault::Memory)
+        Stop::Store(StoreFault::Memory)
     }
 }
 
 impl From<AllocError> for Stop {
     ghost use Rattle.std.specs.Prelude.{◌≡◌};
-    ghost use Rattle.log_file.specs.declared.fault.LogFault.TheVariants as faults;
+    ghost use Rattle.stored_log.specs.declared.fault.StoreFault.TheVariants as faults;
     ghost use Rattle.keeper.specs.declared.ending.Stop.TheVariants as stops;
 
-    ghost from_gives = { λ _ stop. stop ≡ stops.Log faults.Memory };
+    ghost from_gives = { λ _ stop. stop ≡ stops.Store faults.Memory };
 
     fn from(_error: AllocError) -> Stop {
-        Stop::Log(LogFault::Memory)
+        Stop::Store(StoreFault::Memory)
     }
 }
 
 impl<T: Drop> From<AllocFailed<T>> for Stop {
     ghost use Rattle.std.specs.Prelude.{◌≡◌};
-    ghost use Rattle.log_file.specs.declared.fault.LogFault.TheVariants as faults;
+    ghost use Rattle.stored_log.specs.declared.fault.StoreFault.TheVariants as faults;
     ghost use Rattle.keeper.specs.declared.ending.Stop.TheVariants as stops;
 
-    ghost from_gives = { λ _ stop. stop ≡ stops.Log faults.Memory };
+    ghost from_gives = { λ _ stop. stop ≡ stops.Store faults.Memory };
 
     fn from(_error: AllocFailed<T>) -> Stop {
-        Stop::Log(LogFault::Memory)
-    }
-}
-
-impl From<OpenFault> for Stop {
-    fn from(fault: OpenFault) -> Stop {
-        match fault {
-            OpenFault::Memory => Stop::Log(LogFault::Memory),
-            fault => Stop::Open(fault),
-        }
-    }
-}
-
-impl From<io::Error> for Stop {
-    fn from(error: io::Error) -> Stop {
-        Stop::Open(OpenFault::System(error))
-    }
-}
-
-impl From<ReplicaFault> for Stop {
-    fn from(fault: ReplicaFault) -> Stop {
-        match fault {
-            ReplicaFault::Memory => Stop::Log(LogFault::Memory),
-            fault => Stop::Replica(fault),
-        }
+        Stop::Store(StoreFault::Memory)
     }
 }
 
 impl From<SchemaFault> for Stop {
     fn from(fault: SchemaFault) -> Stop {
         match fault {
-            SchemaFault::Memory => Stop::Log(LogFault::Memory),
+            SchemaFault::Memory => Stop::Store(StoreFault::Memory),
             fault => Stop::Schema(fault),
         }
     }
 }
 
 impl Stop {
+    /// The replica does not take a record of the file of this number.
+    pub fn of_replica(number: usize, fault: ReplicaFault) -> Stop
+        ensures { result ≢ Stop.Stream }
+    {
+        match fault {
+            ReplicaFault::Memory => Stop::Store(StoreFault::Memory),
+            fault => Stop::Replica { number, fault },
+        }
+    }
+
     /// How the program ends then.
     pub fn ending(self) -> Ending {
         match self {
-            Stop::Log(LogFault::Device | LogFault::Memory | LogFault::Codec(CodecFault::Memory)) =>
-                Ending::Failed,
-            Stop::Open(_) => Ending::Failed,
-            Stop::Log(_) | Stop::OneFile | Stop::Replica(_) | Stop::Schema(_) => Ending::BadLog,
+            Stop::Store(
+                StoreFault::File {
+                    fault: FileFault::Log(_),
+                    ..
+                },
+            ) => Ending::BadLog,
+            Stop::Store(_) => Ending::Failed,
+            Stop::Log(LogFault::Device | LogFault::Memory) => Ending::Failed,
+            Stop::Log(_) | Stop::OneFile | Stop::Replica { .. } | Stop::Schema(_) => Ending::BadLog,
             Stop::Stream => Ending::Stream,
         }
     }
 
-    /// Tells it, in a line. A stream that fails has no text.
-    pub fn tell<E: Write>(self, errors: &mut E) -> Ending {
+    /// Tells it, in a line, of the log of this prefix; want of memory names no file. A stream that fails has no text.
+    pub fn tell<E: Write>(self, prefix: &str, errors: &mut E) -> Ending {
         if let Stop::Stream = self {
             return Ending::Stream;
         }
-        match self.write_line(errors) {
+        match self.write_line(prefix, errors) {
             Ok(()) => self.ending(),
             Err(_) => Ending::Stream,
         }
     }
 
-    fn write_line<E: Write>(self, errors: &mut E) -> io::Result<()> {
+    fn write_line<E: Write>(self, prefix: &str, errors: &mut E) -> io::Result<()> {
         match self {
-            Stop::Log(fault) => writeln!(errors, "{fault}"),
-            Stop::Open(OpenFault::Busy) => writeln!(errors, "busy"),
-            Stop::Open(fault) => writeln!(errors, "{fault}"),
-            Stop::OneFile => writeln!(errors, "a log of an earlier form is not rotated"),
-            Stop::Replica(fault) => writeln!(errors, "{fault}"),
+            Stop::Store(StoreFault::File { number, fault }) => writeln!(
+                errors,
+                "{prefix}.{number}: {fault}"
+            ),
+            Stop::Store(StoreFault::Memory) => writeln!(errors, "{}", LogFault::Memory),
+            Stop::Log(fault) => writeln!(errors, "{prefix}: {fault}"),
+            Stop::OneFile => writeln!(
+                errors,
+                "{prefix}.1: a log of an earlier form is not rotated"
+            ),
+            Stop::Replica { number, fault } => writeln!(errors, "{prefix}.{number}: {fault}"),
             Stop::Schema(fault) => writeln!(errors, "{fault}"),
             Stop::Stream => writeln!(errors),
         }
