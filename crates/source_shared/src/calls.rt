@@ -1,4 +1,4 @@
-//! What the threads of sessions sleep on.
+//! What threads sleep on, and who of them is to be told.
 
 ghost use Rattle.std.specs.Prelude.{◌≡◌, ◌<◌, true, false, replicate, slice_set};
 
@@ -8,11 +8,15 @@ use std::alloc::Global;
 use std::marker::Model;
 use std::sync::Condvar;
 
-/// What the thread of each session sleeps on, session 1 first. There is one for each of the 256, so that none can sleep where nobody
-/// calls.
+/// What threads sleep on: one for each of the 256 sessions, so that none can sleep where nobody calls, and two that are shared.
 #[derive(Drop)]
 pub(crate) struct Calls {
+    // Session 1 first.
     all: Vec<Condvar>,
+    // Where those sleep who wait for records.
+    records: Condvar,
+    // And those who wait to rotate.
+    rest: Condvar,
 }
 
 impl Model for Calls {
@@ -31,11 +35,15 @@ impl Calls {
         for _place in 0..SESSIONS {
             all.push(Condvar::new())?;
         }
-        Ok(Calls { all })
+        Ok(Calls {
+            all,
+            records: Condvar::new(),
+            rest: Condvar::new(),
+        })
     }
 
     // Wakes those who are called.
-    pub(crate) fn wake(&self, called: Called) {
+    fn wake(&self, called: Called) {
         let Called { all, count } = called;
         let mut left = count;
         for place in 0..SESSIONS {
@@ -55,20 +63,60 @@ impl Calls {
     {
         &self.all[place]
     }
+
+    // What those sleep on who wait for records.
+    pub(crate) fn records(&self) -> &Condvar {
+        &self.records
+    }
+
+    // What those sleep on who wait to rotate.
+    pub(crate) fn rest(&self) -> &Condvar {
+        &self.rest
+    }
 }
 
-/// Whom who lets go of the lock has to tell. It is not `Drop`, so it can't be forgotten.
+/// Whom who lets go of the lock has to tell. It is not `Drop`, so it can't be forgotten: it ends in `ring`, and by nothing else.
 pub(crate) struct News {
-    pub(crate) called: Called,
-    /// Those who wait for records.
-    pub(crate) followers: bool,
-    /// Those who wait to rotate.
-    pub(crate) rotators: bool,
+    called: Called,
+    // Those who wait for records.
+    followers: bool,
+    // Those who wait to rotate.
+    rotators: bool,
 }
 
-/// Who is called: for each session whether it is, session 1 first, and how many are. It is not `Drop`: it ends in `wake`.
+impl News {
+    pub(crate) fn new(called: Called, followers: bool, rotators: bool) -> News
+        ensures called { result.called.all ≡ called.all }
+        ensures followers { result.followers ≡ followers }
+        ensures rotators { result.rotators ≡ rotators }
+    {
+        News {
+            called,
+            followers,
+            rotators,
+        }
+    }
+
+    // Wakes them.
+    pub(crate) fn ring(self, calls: &Calls) {
+        let News {
+            called,
+            followers,
+            rotators,
+        } = self;
+        calls.wake(called);
+        if followers {
+            calls.records.notify_all();
+        }
+        if rotators {
+            calls.rest.notify_all();
+        }
+    }
+}
+
+/// Who is called: for each session whether it is, session 1 first, and how many are. It is not `Drop`: it ends as they are woken.
 pub(crate) struct Called {
-    pub(crate) all: [bool; SESSIONS],
+    all: [bool; SESSIONS],
     count: usize,
 }
 
@@ -90,5 +138,57 @@ impl Called {
     {
         self.all[place] = true;
         self.count = self.count.saturating_add(1);
+    }
+}
+
+/// Numbers of those who wait, by what they wait for.
+#[derive(Clone, Copy, Debug, PartialEq, Eq)]
+pub struct Waits {
+    /// Calls of `commit` that wait for a receipt, or until they have to lead.
+    pub sessions: u64,
+    /// Calls of `bytes_past`.
+    pub followers: u64,
+    /// Calls of `rotate`.
+    pub rotators: u64,
+}
+
+impl Waits {
+    pub(crate) const NONE: Waits = Waits {
+        sessions: 0,
+        followers: 0,
+        rotators: 0,
+    };
+
+    pub(crate) const SESSION: Waits = Waits {
+        sessions: 1,
+        ..Waits::NONE
+    };
+
+    pub(crate) const FOLLOWER: Waits = Waits {
+        followers: 1,
+        ..Waits::NONE
+    };
+
+    pub(crate) const ROTATOR: Waits = Waits {
+        rotators: 1,
+        ..Waits::NONE
+    };
+
+    // So many more.
+    pub(crate) fn plus(self, more: Waits) -> Waits {
+        Waits {
+            sessions: self.sessions.saturating_add(more.sessions),
+            followers: self.followers.saturating_add(more.followers),
+            rotators: self.rotators.saturating_add(more.rotators),
+        }
+    }
+
+    // So many less.
+    pub(crate) fn minus(self, less: Waits) -> Waits {
+        Waits {
+            sessions: self.sessions.saturating_sub(less.sessions),
+            followers: self.followers.saturating_sub(less.followers),
+            rotators: self.rotators.saturating_sub(less.rotators),
+        }
     }
 }

@@ -26,12 +26,13 @@
 mod book;
 mod calls;
 mod engine;
-mod errand;
 mod held;
 mod leading;
+mod locked;
 mod seat;
 mod shared;
 
 pub use book::{Beginning, Receipt, SourceNaming};
+pub use calls::Waits;
 pub use seat::SessionSeat;
 pub use shared::SharedSource;

@@ -3,19 +3,20 @@
 use crate::makers::insert;
 use crate::sources::{Course, SourceRig, runs};
 use record_codec::{CodecFault, Record, Version, decode, same_records};
+use schema::Memory;
 use source_core::SourceFault;
 use source_shared::SourceNaming;
 use std::process::Abort;
 use std::sync::Wait;
 use std::test::Fail;
-use std::thread::{Threads, join, sleep};
-use std::time::{Clock, Duration};
+use std::thread::{Threads, join};
+use std::time::Clock;
 use tests_stores::again;
 
-/// So many milliseconds one waits until others sleep.
-const FALL_ASLEEP: u64 = 20;
+/// So often two who follow look, three records and the end: each once as it begins to wait, and once as it is woken.
+const LOOKS: u64 = 16;
 
-/// Catches one who follows the log and sleeps on where a record came, or where no more come.
+/// Catches one who follows the log and sleeps on where a record came, or where no more come, and one who is woken for nothing.
 #[test]
 fn follows_a_log_of_three_records(rt: HostRuntime) -> Result<(), Fail> {
     runs(&rt, rt.alloc(), Course::Followed)
@@ -35,23 +36,34 @@ where
             || self.commit_three(),
         );
         committed?;
-        self.are_bytes(one?, 3)?;
-        self.are_bytes(other?, 3)?;
+        let (one, other) = (one?, other?);
+        if self.source.looks(self.rt).followers != LOOKS {
+            // Who lacked memory looks again.
+            Err(Memory)?;
+        }
+        self.are_bytes(one, 3)?;
+        self.are_bytes(other, 3)?;
         Ok(3)
     }
 
     /// Commits three inserts, and closes the source, whatever came of them. Those who follow sleep each time.
     fn commit_three(&self) -> Result<(), SourceFault> {
         let done = self.commit_up_to(3);
-        sleep(self.rt, Duration::from_millis(FALL_ASLEEP));
+        self.two_follow(LOOKS - 2);
         self.source.close(self.rt);
         done
     }
 
+    /// Commits inserts of the rows from 1 to this one, each once two sleep who have all before it. It lacks memory where they don't in
+    /// time.
     fn commit_up_to(&self, last: i64) -> Result<(), SourceFault> {
         let mut seat = self.source.session(self.rt, 7)?;
+        let mut looks = 2u64;
         for key in 1..=last {
-            sleep(self.rt, Duration::from_millis(FALL_ASLEEP));
+            if !self.two_follow(looks) {
+                return Err(SourceFault::Memory);
+            }
+            looks = looks.saturating_add(4);
             self.transact(&mut seat, &insert(key, [key, 0])?)?;
         }
         Ok(())

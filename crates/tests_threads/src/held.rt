@@ -95,14 +95,14 @@ where
     }
 
     /// Commits an insert of the session, and answers its number.
-    fn commit_one(&self, session: u16) -> Result<u64, SourceFault> {
+    pub fn commit_one(&self, session: u16) -> Result<u64, SourceFault> {
         let mut seat = self.source.session(self.rt, session)?;
         let change = insert(session as i64, [5, 6])?;
         Ok(self.transact(&mut seat, &change)?.1)
     }
 
     /// The same, once so many records are flushed. It lacks memory where they are not in time: there was none for another one's thread.
-    fn commit_one_behind(&self, count: u64, session: u16) -> Result<u64, SourceFault> {
+    pub fn commit_one_behind(&self, count: u64, session: u16) -> Result<u64, SourceFault> {
         if !self.are_flushed(count) {
             return Err(SourceFault::Memory);
         }

@@ -46,4 +46,6 @@ mod unordered;
 #[cfg(test)]
 mod wires;
 #[cfg(test)]
+mod woken;
+#[cfg(test)]
 mod workers;

@@ -179,8 +179,13 @@ fn parts(alloc: Global, notes: &Arc<Notes>, preserve: bool) -> Result<(Core, Beg
     ensures rows { IfOk result (λ made. made.1.base ≡ made.0.base) }
 {
     let core = replica(alloc, working(alloc, notes)?, preserve)?;
-    let beginning = Beginning::of(core.base().copy()?);
-    Ok((core, beginning))
+    match core.base().copy() {
+        Ok(base) => Ok((core, Beginning::of(base))),
+        Err(refused) => {
+            drop(core);
+            Err(refused.into())
+        }
+    }
 }
 
 fn run_over<J: ReplicaNaming + Send + Sync, R: Threads + Wait + Abort + Clock + Sync>(
@@ -240,10 +245,13 @@ fn shared<J: ReplicaNaming, R: Wait>(
 {
     let (first, second) = copies;
     let preserve = core.preserve();
-    let (publisher, seats) = open::<Store, J, R, LeftRight>(
-        rt, alloc, beginning, preserve, first, second, 1,
-    )?;
-    Ok(SharedReplica::new(rt, alloc, core, publisher, seats)?)
+    match open::<Store, J, R, LeftRight>(rt, alloc, beginning, preserve, first, second, 1) {
+        Ok((publisher, seats)) => Ok(SharedReplica::new(rt, alloc, core, publisher, seats)?),
+        Err(cause) => {
+            drop(core);
+            Err(cause)
+        }
+    }
 }
 
 /// Ends the replica, and answers how many records are committed and published, by the core and by the publisher.
@@ -251,7 +259,9 @@ fn ended<J: ReplicaNaming>(rt: &impl Wait, shared: Shared<J>) -> [u64; 3] {
     let (core, publisher) = shared.end();
     let shown = publisher.tell().count();
     drop(publisher.close(rt));
-    [core.committed(), core.published(), shown]
+    let ends = [core.committed(), core.published(), shown];
+    drop(core);
+    ends
 }
 
 impl<J, R> ReplicaRig<'_, J, R>

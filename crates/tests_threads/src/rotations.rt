@@ -47,7 +47,7 @@ where
     }
 
     /// Rotates, once more where it lacked memory, and answers how many files there are.
-    fn rotate(&self) -> Result<u64, SourceFault> {
+    pub fn rotate(&self) -> Result<u64, SourceFault> {
         again!(SourceFault::Memory => self.source.rotate(self.rt, self.next_disk(0)))
     }
 

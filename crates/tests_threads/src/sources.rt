@@ -69,6 +69,10 @@ pub enum Course {
     RotatedBeside,
     /// The next file finds no memory, and then its device fails.
     RotatedInVain,
+    /// The first group's sync is held, and two wait to rotate behind it.
+    RotatedTwice,
+    /// The first group's sync is held, and eight sessions sleep behind it.
+    Woken,
 }
 
 impl Course {
@@ -78,7 +82,7 @@ impl Course {
         match self {
             Course::Failing => (5, 0, Hold::None),
             Course::GiveUp => (0, 0, Hold::Refusal),
-            Course::Held => (0, 0, Hold::Sync(2)),
+            Course::Held | Course::RotatedTwice | Course::Woken => (0, 0, Hold::Sync(2)),
             Course::Slow | Course::Aside | Course::NappingAlone => (0, 1, Hold::None),
             Course::Told => (6, 0, Hold::Sync(2)),
             _ => (0, 0, Hold::None),
@@ -205,6 +209,8 @@ where
             Course::Rotated => self.rotate_between(),
             Course::RotatedBeside => self.rotate_beside(),
             Course::RotatedInVain => self.rotate_in_vain(),
+            Course::RotatedTwice => self.rotate_twice(),
+            Course::Woken => self.are_woken(),
         }
     }
 }

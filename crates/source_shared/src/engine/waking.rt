@@ -36,7 +36,7 @@ ghost use Rattle.source_shared.specs.Engine.{
 
 use super::{Due, Engine, SESSIONS};
 use crate::book::SourceNaming;
-use crate::calls::{Called, News};
+use crate::calls::{Called, News, Waits};
 use log_device::Device;
 use store_trait::RowStore;
 use tracker_trait::Tracker;
@@ -55,11 +55,7 @@ impl<S: RowStore, T: Tracker, D: Device + Drop, J: SourceNaming> Engine<S, T, D,
         self.settle();
         let followers = self.has_news();
         let rotators = self.call_rotators();
-        News {
-            called,
-            followers,
-            rotators,
-        }
+        News::new(called, followers, rotators)
     }
 
     // Whether nobody is to be told. It looks at no place.
@@ -166,6 +162,7 @@ impl<S: RowStore, T: Tracker, D: Device + Drop, J: SourceNaming> Engine<S, T, D,
         ensures tells { MatchBool result (due_of self.old place ≡ Due.Wait) (due_of self.old place ≢ Due.Wait) }
         ensures left { self.new ≡ set_asleep self.old place result }
     {
+        self.looks = self.looks.plus(Waits::SESSION);
         let waits = self.due(place) == Due::Wait;
         self.set_sleeping(place, waits);
         waits
@@ -196,6 +193,7 @@ impl<S: RowStore, T: Tracker, D: Device + Drop, J: SourceNaming> Engine<S, T, D,
         ensures tells { result ≡ is_at_work self.new }
         ensures left { self.new ≡ with_rotator self.old }
     {
+        self.looks = self.looks.plus(Waits::ROTATOR);
         let waits = self.is_at_work();
         self.rotating = self.rotating || waits;
         waits
@@ -225,5 +223,29 @@ impl<S: RowStore, T: Tracker, D: Device + Drop, J: SourceNaming> Engine<S, T, D,
         ensures { self.new ≡ with_calm self.old }
     {
         self.stirred = false;
+    }
+
+    // So many more wait.
+    pub(crate) fn one_more(&mut self, more: Waits)
+        ensures { self.new ≡ self.old }
+    {
+        self.sleepers = self.sleepers.plus(more);
+    }
+
+    // So many less.
+    pub(crate) fn one_less(&mut self, less: Waits)
+        ensures { self.new ≡ self.old }
+    {
+        self.sleepers = self.sleepers.minus(less);
+    }
+
+    // How many wait.
+    pub(crate) fn sleepers(&self) -> Waits {
+        self.sleepers
+    }
+
+    // How often those who wait looked.
+    pub(crate) fn looks(&self) -> Waits {
+        self.looks
     }
 }
