@@ -2,7 +2,7 @@
 //! for which memory ran out. Each call of the shared replica is one call here. The calls stand by what they are about: records in
 //! `accepting`, jobs in `working`, what is done behind both in `settling` and `dispatching`, those who wait for commits in `waiting`, and
 //! who sleeps and is told in `telling`.
-ghost use Rattle.std.specs.Prelude.{◌≡◌, ◌∷◌, [], true, IfOk};
+ghost use Rattle.std.specs.Prelude.{◌≡◌, ◌∷◌, [], true};
 ghost use Rattle.store_trait.specs.declared.Op.TheVariants.{Load};
 ghost use Rattle.published.specs.Status.{NoneFalls, latest};
 ghost use Rattle.replica_core.specs.Calls.{new_over};
@@ -22,10 +22,8 @@ use crate::naming::ReplicaNaming;
 use crate::news::{Looks, Outlook, Sleepers};
 use crate::outlet::Outlet;
 use left_right::Absorb;
-use published::{Common, Counts, Publisher, Status, Step, Version, Watch};
+use published::{Common, Counts, Publisher, Status, Step, Version};
 use replica_core::ReplicaCore;
-use schema::Memory;
-use std::alloc::Global;
 use std::marker::Model;
 use std::sync::Wait;
 use store_trait::RowStore;
@@ -180,14 +178,4 @@ fn store_words<S: RowStore>(rt: &impl Wait, core: &ReplicaCore<S>, status: &mut 
         published: core.published(),
     };
     status.store(rt, counts);
-}
-
-/// The memory of a coordinator: the places for jobs, and the words of the status.
-pub(crate) fn parts(alloc: Global) -> Result<(Kept, Status, Watch), Memory>
-    ensures { IfOk result (λ parts. (parts.0 ≡ []) × (parts.1.stored ≡ [])) }
-{
-    let places = Kept::new(alloc)?;
-    let mut status = Status::new(alloc)?;
-    let watch = status.watch()?;
-    Ok((places, status, watch))
 }

@@ -12,14 +12,16 @@ ghost use Rattle.published.specs.History.{IsHistory, gnos_of, commits_in};
 ghost use Rattle.published.specs.Status.{InOrder};
 ghost use Rattle.replica_core.specs.Replica.{ran, operations, operations_in_order};
 ghost use Rattle.replica_core.specs.Calls.{new_over};
+ghost use Rattle.replica_shared.specs.Outlet.{empty_outlet};
 ghost use Rattle.replica_shared.specs.Queue.{IsPassOf};
 ghost use Rattle.replica_shared.specs.Awaited.{has_all, AreAmong, AreUpTo};
 ghost use Rattle.replica_shared.specs.Together.{IsStop, TellsStop, TellsStopBehind};
 ghost use Rattle.replica_shared.specs.Feeding.{Receives, Feeds, TellsStopOf};
 
-use crate::coordinator::{Coordinator, parts};
+use crate::coordinator::Coordinator;
 use crate::gate::WorkerGate;
 use crate::held::Lock;
+use crate::kept::Kept;
 use crate::naming::ReplicaNaming;
 use crate::news::{Looks, Next, Sleepers};
 use crate::outlet::Outlet;
@@ -29,7 +31,7 @@ use crossbeam_utils::Backoff;
 use executor::{Job, JobResult, Room, execute_in};
 use gtid_set::{GtidSet, Interval};
 use left_right::Absorb;
-use published::{Common, Counts, Notice, Publisher, ReadSeat, Step, Version, Watch};
+use published::{Common, Counts, Notice, Publisher, ReadSeat, Status, Step, Version, Watch};
 use record_codec::Record;
 use relay::{Received, ReplicaFault};
 use replica_core::{ReplicaCore, Wire, WireFault};
@@ -60,6 +62,36 @@ where
     watch: Mutex<Watch>,
 }
 
+/// The memory of a replica: the places for jobs, the words of the status, and the queue.
+#[derive(Drop)]
+struct Made {
+    kept: Kept,
+    status: Status,
+    watch: Watch,
+    jobs: Arc<Jobs>,
+    outlet: Outlet,
+}
+
+impl Made {
+    fn new(alloc: Global) -> Result<Made, Memory>
+        ensures kept { IfOk result (λ made. made.kept ≡ []) }
+        ensures status { IfOk result (λ made. made.status.stored ≡ []) }
+        ensures outlet { IfOk result (λ made. made.outlet ≡ empty_outlet) }
+    {
+        let kept = Kept::new(alloc)?;
+        let mut status = Status::new(alloc)?;
+        let watch = status.watch()?;
+        let (jobs, outlet) = Outlet::new(alloc)?;
+        Ok(Made {
+            kept,
+            status,
+            watch,
+            jobs,
+            outlet,
+        })
+    }
+}
+
 impl<S: RowStore + Drop, J: ReplicaNaming> SharedReplica<S, J> {
     /// Over a new core, and a publisher that has published the load of the same rows alone, with the seats that it has. Both keep the
     /// order of the log, or neither does.
@@ -82,26 +114,46 @@ impl<S: RowStore + Drop, J: ReplicaNaming> SharedReplica<S, J> {
         requires base { core.base ≡ J.base }
         requires order { core.preserve ≡ J.preserve }
     {
-        let (places, status, watch) = match parts(alloc) {
-            Ok(parts) => parts,
+        match Made::new(alloc) {
+            Ok(made) => Ok(SharedReplica::over(core, publisher, seats, made)),
             Err(memory) => {
                 drop(publisher.close(rt));
-                return Err(memory);
+                Err(memory)
             }
-        };
-        let (jobs, outlet) = match Outlet::new(alloc) {
-            Ok(queue) => queue,
-            Err(memory) => {
-                drop(publisher.close(rt));
-                return Err(memory);
-            }
-        };
-        Ok(SharedReplica {
-            lock: Lock::new(Coordinator::new(core, publisher, status, places, outlet)),
+        }
+    }
+
+    // The same in memory that was taken.
+    fn over(
+        core: ReplicaCore<S>,
+        publisher: Publisher<S, J>,
+        seats: Vec<ReadSeat<S, J>>,
+        made: Made,
+    ) -> SharedReplica<S, J>
+        requires core { core ≡ new_over core.tables core.source core.base core.workers core.preserve }
+        requires publisher { publisher ≡ record { published = Load core.base ∷ []; waiting = []; history = Load core.base ∷ [] } }
+        requires seats { All (λ seat. seat ≡ Load core.base ∷ []) seats.items }
+        requires tables { core.tables ≡ J.tables }
+        requires source { core.source ≡ J.source }
+        requires base { core.base ≡ J.base }
+        requires order { core.preserve ≡ J.preserve }
+        requires kept { made.kept ≡ [] }
+        requires status { made.status.stored ≡ [] }
+        requires outlet { made.outlet ≡ empty_outlet }
+    {
+        let Made {
+            kept,
+            status,
+            watch,
+            jobs,
+            outlet,
+        } = made;
+        SharedReplica {
+            lock: Lock::new(Coordinator::new(core, publisher, status, kept, outlet)),
             jobs,
             seats: Mutex::new(Seats::new(seats)),
             watch: Mutex::new(watch),
-        })
+        }
     }
 
     /// Accepts a copy of the record where it is the next, as the core's `receive` does; then what may be dispatched is. The time

@@ -22,6 +22,7 @@ mod flushing;
 mod kin;
 pub mod laws;
 mod machine;
+mod making;
 mod moved;
 mod rooms;
 mod session;
