@@ -4,6 +4,7 @@ pub mod Command
 pub mod Lines
 pub mod Events
 pub mod Script
+pub mod Any
 pub mod Options
 pub mod Pair
 pub mod Printing

@@ -68,10 +68,17 @@ pub record IsEnded {S T : Type 0} (plan : Plan) (e : Ended S T) : Type 0 where
   pub counted : e.replica.published ≡ commits_in shown
   pub told : All (λ v. AreTold e.replica.preserve shown v.items) e.readings.items
 
--- as many workers did all that there was, and as many readers read, as planned
+-- a reader read a hundred times at least
+abbrev pub has_read : List Shown → Bool
+has_read shown = nat_le 100 (length shown)
+
+-- as many workers did all that there was, and as many readers read as often as they are to, as planned; and each row of the sessions
+-- was found as they left it
 pub record TookPart {S T : Type 0} (plan : Plan) (e : Ended S T) : Type 0 where
-  pub workers : e.workers ≡ plan.sides.workers
+  pub workers : e.counts.workers ≡ plan.sides.workers
   pub readers : length e.readings.items ≡ plan.seats
+  pub reads : list_all (λ v. has_read v.items) e.readings.items ≡ true
+  pub rows : e.counts.rows ≡ plan.sessions * plan.transactions
 
 -- What was compared: all that was planned took part, both sides began with the same rows, and what the replica accepted is a
 -- beginning of the source's log; it published as many commits as it told, and no reader saw more.
@@ -101,7 +108,7 @@ pub record AreOfSource (s : Source) (r : Replica) (most : ℕ) (shown : List Sho
 -- beginning of the source's log, which is legal over these. The receipts are those of committed records, the greatest of them
 -- this one; so many commits are published at the replica, which kept the order of the log or did not, as planned. Whatever its readers
 -- saw, the source's database had: in the order of the log after its first records, in any order as the records of some commits leave it.
--- All workers and readers that were planned took part.
+-- All workers and readers that were planned took part, and each row was found.
 pub record AreEqual {S T : Type 0} (log published : ℕ) (plan : Plan) (e : Ended S T) : Type 0 where
   pub took_part : TookPart plan e
   pub order : e.replica.preserve ≡ plan.sides.preserve

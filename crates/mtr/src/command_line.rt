@@ -355,7 +355,7 @@ fn source_command<'a>(
             "history",
             1_000_000,
             "25000",
-            "The digests of written rows that a tracker keeps, 1 to 1000000",
+            "The digests of written rows and unique values that a tracker keeps, 1 to 1000000",
         ))
 }
 

@@ -2,12 +2,15 @@
 //! source and a replica in many threads, and compares them; or it prints the records of a log file.
 //!
 //! `command_line` reads what the words ask for. To run a script, `script` reads the whole of it, and `pair` makes the
-//! two sides; so nothing is done before all is read and checked. `run` runs the events, which are kept short (`kept`),
-//! piece by piece (`events`), and what they print stands in `printing`, over `short`. `threads` runs both sides in many threads. To
-//! print a log file, `decode` reads it by `hex` and prints the lines of `log_lines`. Each fault and its exit status stand
-//! in `ending`; `serve` does it all over any reader and two writers.
+//! two sides, with the store and the tracker that are asked for (`any_store`, `any_tracker`); so nothing is done before all is
+//! read and checked. `run` runs the events, which are kept short (`kept`), piece by piece (`events`), and what they print stands
+//! in `printing`, over `short`. `threads` runs both sides in many threads. To print a log file, `decode` reads it by `hex` and
+//! prints the lines of `log_lines`. Each fault and its exit status stand in `ending`; `serve` does it all over any reader and
+//! two writers.
 #![tactic(auto)]
 
+mod any_store;
+mod any_tracker;
 mod command;
 mod command_line;
 mod cut;

@@ -99,6 +99,19 @@ pub struct Plan {
     pub seats: usize,
 }
 
+impl Plan {
+    ghost use Rattle.std.specs.Prelude.{◌≡◌, ◌*◌, ◌≤◌};
+
+    /// The transactions of all sessions.
+    pub fn transactions_in_all(&self) -> usize
+        requires sessions { self.now.sessions ≤ 16 }
+        requires transactions { self.now.transactions ≤ 1000 }
+        ensures { result ≡ self.now.sessions * self.now.transactions }
+    {
+        self.sessions * self.transactions
+    }
+}
+
 /// Why the words ask for nothing.
 #[derive(Debug, Drop, Error)]
 pub enum LineFault {

@@ -7,7 +7,7 @@ ghost use Rattle.std.specs.Map.{keys_of};
 ghost use Rattle.schema.specs.RowId.{same_row};
 ghost use Rattle.mtr.specs.Pair.{present};
 
-use btree_store::BTreeStore;
+use crate::options::Store;
 use log_device::{Device, FaultyDevice, MemoryDevice};
 use rows::Row;
 use schema::{Memory, RowId};
@@ -15,7 +15,6 @@ use std::alloc::{AllocError, Global};
 use std::collections::VecDeque;
 use store_trait::{Batch, RowStore};
 use tracker_trait::Tracker;
-use vector_store::VectorStore;
 use world::PairParts;
 
 /// The identifier of the program's source, 6d747200-0000-4000-8000-000000000001.
@@ -74,27 +73,16 @@ fn entries_of(alloc: Global, rows: &[(RowId, Row)]) -> Result<Vec<(RowId, Option
 
 /// A store of which both sides can have as many as they need.
 pub trait NewStore: RowStore + Drop + Send + Sync {
-    /// One without rows. It takes no memory.
-    fn without_rows(alloc: Global) -> Self
+    /// One of this kind, without rows. It takes no memory.
+    fn without_rows(alloc: Global, store: Store) -> Self
         ensures { Self.contents result ≡ empty };
 }
 
-impl NewStore for BTreeStore {
-    fn without_rows(alloc: Global) -> BTreeStore {
-        BTreeStore::new(alloc)
-    }
-}
-
-impl NewStore for VectorStore {
-    fn without_rows(alloc: Global) -> VectorStore {
-        VectorStore::new(alloc)
-    }
-}
-
-/// The parts of a pair over no rows, whose records get their parents by this tracker and whose log is on this device. It takes
-/// no memory.
+/// The parts of a pair over no rows, in stores of this kind, whose records get their parents by this tracker and whose log is on
+/// this device. It takes no memory.
 pub fn parts_over<S: NewStore, T: Tracker, D: Device>(
     alloc: Global,
+    store: Store,
     tracker: T,
     device: D,
 ) -> PairParts<S, T, D>
@@ -104,8 +92,8 @@ pub fn parts_over<S: NewStore, T: Tracker, D: Device>(
     ensures device { result.device ≡ device }
 {
     PairParts {
-        rows: S::without_rows(alloc),
-        copy: S::without_rows(alloc),
+        rows: S::without_rows(alloc, store),
+        copy: S::without_rows(alloc, store),
         tracker,
         device,
     }

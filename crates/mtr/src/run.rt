@@ -11,25 +11,23 @@ ghost use Rattle.mtr.specs.Ending.{IsCutOff, PrintsNoReply};
 ghost use Rattle.mtr.specs.Options.{AreSides, kind_for};
 ghost use Rattle.mtr.specs.Pair.{IsNewTracker, BeginsWith, GoesOn, Prints, PrintsText};
 
+use crate::any_store::AnyStore;
+use crate::any_tracker::AnyTracker;
 use crate::ending::Stop;
 use crate::events::Piece;
-use crate::options::{Sides, Store};
+use crate::options::Sides;
 use crate::pair::{Devices, MAX_RECORDS, NewStore, SOURCE, base_of, parts_over};
 use crate::printing::write_replies;
 use crate::script::Script;
-use btree_store::BTreeStore;
-use commit_order_tracker::CommitOrder;
 use log_device::Device;
 use rows::Row;
 use schema::{RowId, Schema, Table};
 use std::alloc::Global;
 use std::io::{BufReader, Read, Write};
 use store_trait::RowStore;
-use tracker_trait::{Tracker, Tracking};
+use tracker_trait::Tracker;
 use uuid::Uuid;
-use vector_store::VectorStore;
 use world::{Reply, World, pair_of};
-use writeset_trackers::{WriteSetSession, WriteSetTracker};
 
 /// As many bytes of a script are read at once.
 const CHUNK: usize = 65536;
@@ -54,85 +52,25 @@ pub fn run_text<D: Device + Drop, R: Read, W: Write>(
     ensures refused { IfErr result (PrintsNoReply (W.contents output.old) (W.contents output.new)) }
 {
     let mut input = BufReader::with_capacity(alloc, CHUNK, input)?;
-    run_by_mode(
-        alloc,
-        sides,
-        devices,
-        Script::read(alloc, &mut input)?,
-        output,
-    )
-}
-
-/// Runs a script over a new pair whose source finds parents in the way that is asked for.
-fn run_by_mode<D: Device + Drop, W: Write>(
-    alloc: Global,
-    sides: Sides,
-    devices: Devices<D>,
-    script: Script,
-    output: &mut W,
-) -> Result<(), Stop>
-    requires sides { AreSides sides }
-    requires devices { length devices.spare.items ≡ 15 }
-    ensures prints { OnOk result (Prints (kind_for sides) sides.workers sides.preserve (said script) (W.contents output.old)
-        (W.contents output.new)) }
-    ensures refused { IfErr result (PrintsNoReply (W.contents output.old) (W.contents output.new)) }
-{
-    let limit = sides.history as u32;
-    match sides.tracker {
-        Tracking::CommitOrder => run_by(alloc, CommitOrder, sides, devices, script, output),
-        Tracking::Writeset => {
-            let tracker = WriteSetTracker::with_limit(alloc, limit)?;
-            run_by(alloc, tracker, sides, devices, script, output)
-        }
-        Tracking::WritesetSession => {
-            let tracker = WriteSetSession::with_limit(alloc, limit)?;
-            run_by(alloc, tracker, sides, devices, script, output)
-        }
-    }
+    let script = Script::read(alloc, &mut input)?;
+    let tracker = AnyTracker::of(alloc, sides)?;
+    run_script::<AnyStore, AnyTracker, D, W>(alloc, sides, tracker, devices, script, output)
 }
 
 /// Runs a script over a new pair with this tracker.
-fn run_by<T: Tracker + Drop, D: Device + Drop, W: Write>(
-    alloc: Global,
-    tracker: T,
-    sides: Sides,
-    devices: Devices<D>,
-    script: Script,
-    output: &mut W,
-) -> Result<(), Stop>
-    requires tracker { IsNewTracker T.agrees tracker }
-    requires devices { length devices.spare.items ≡ 15 }
-    requires sides { AreSides sides }
-    ensures prints { OnOk result (Prints (T.kind tracker) sides.workers sides.preserve (said script) (W.contents output.old)
-        (W.contents output.new)) }
-    ensures refused { IfErr result (PrintsNoReply (W.contents output.old) (W.contents output.new)) }
-{
-    let (workers, preserve) = (sides.workers, sides.preserve);
-    match sides.store {
-        Store::BTree => run_script::<BTreeStore, T, D, W>(
-            alloc, tracker, devices, workers, preserve, script, output,
-        ),
-        Store::Vector => run_script::<VectorStore, T, D, W>(
-            alloc, tracker, devices, workers, preserve, script, output,
-        ),
-    }
-}
-
-/// Runs a script over a new pair.
 fn run_script<S: NewStore, T: Tracker + Drop, D: Device + Drop, W: Write>(
     alloc: Global,
+    sides: Sides,
     tracker: T,
     devices: Devices<D>,
-    workers: usize,
-    preserve: bool,
     script: Script,
     output: &mut W,
 ) -> Result<(), Stop>
+    requires sides { AreSides sides }
     requires tracker { IsNewTracker T.agrees tracker }
     requires devices { length devices.spare.items ≡ 15 }
-    requires some { 1 ≤ workers }
-    requires few { workers ≤ 64 }
-    ensures prints { OnOk result (Prints (T.kind tracker) workers preserve (said script) (W.contents output.old) (W.contents output.new)) }
+    ensures prints { OnOk result (Prints (T.kind tracker) sides.workers sides.preserve (said script) (W.contents output.old)
+        (W.contents output.new)) }
     ensures refused { IfErr result (PrintsNoReply (W.contents output.old) (W.contents output.new)) }
 {
     let Script {
@@ -140,27 +78,28 @@ fn run_script<S: NewStore, T: Tracker + Drop, D: Device + Drop, W: Write>(
         base,
         events,
     } = script;
-    let mut world = open::<S, T, D>(alloc, tracker, devices, workers, preserve, tables, &base)?;
+    let mut world = open::<S, T, D>(alloc, sides, tracker, devices, tables, &base)?;
     drop(base);
-    run_pieces(alloc, &mut world, events.into_pieces(), output)
+    let done = run_pieces(alloc, &mut world, events.into_pieces(), output);
+    drop(world);
+    done
 }
 
-/// A new world over a script's tables and rows at the start, with so many workers, which commits in the order of the
-/// log or does not.
+/// A new world over a script's tables and rows at the start, with as many workers as the sides have, in stores and in an order of
+/// commits as theirs.
 fn open<S: NewStore, T: Tracker + Drop, D: Device + Drop>(
     alloc: Global,
+    sides: Sides,
     tracker: T,
     devices: Devices<D>,
-    workers: usize,
-    preserve: bool,
     tables: Vec<Table>,
     rows: &[(RowId, Row)],
 ) -> Result<World<S, T, D, S>, Stop>
+    requires sides { AreSides sides }
     requires tracker { IsNewTracker T.agrees tracker }
     requires devices { length devices.spare.items ≡ 15 }
-    requires some { 1 ≤ workers }
-    requires few { workers ≤ 64 }
-    ensures { IfOk result (λ world. BeginsWith S.contents (T.kind tracker) workers preserve tables.items rows.now (seen world)) }
+    ensures { IfOk result (λ world. BeginsWith S.contents (T.kind tracker) sides.workers sides.preserve tables.items rows.now
+        (seen world)) }
 {
     let schema = Schema::new(tables)?;
     let Some(base) = base_of(alloc, rows)? else {
@@ -168,18 +107,18 @@ fn open<S: NewStore, T: Tracker + Drop, D: Device + Drop>(
     };
     let from = Uuid::from_bytes(SOURCE);
     let Devices { first, spare } = devices;
-    let parts = parts_over::<S, T, D>(alloc, tracker, first);
+    let parts = parts_over::<S, T, D>(alloc, sides.store, tracker, first);
     match pair_of(
         alloc,
         schema,
         from,
         &base,
         MAX_RECORDS,
-        workers,
-        preserve,
+        sides.workers,
+        sides.preserve,
         parts,
     )? {
-        Some(pair) => Ok(pair.into_world(alloc, base, S::without_rows(alloc), spare)?),
+        Some(pair) => Ok(pair.into_world(alloc, base, S::without_rows(alloc, sides.store), spare)?),
         None => Err(Stop::BadBase),
     }
 }

@@ -4,27 +4,23 @@ ghost use Rattle.std.specs.Prelude.{◌≡◌, ◌≢◌, ◌≤◌, ◌⊎◌, 
 ghost use Rattle.std.specs.Io.KnownBytes.{Appends, Keeps};
 ghost use Rattle.mtr.specs.Ending.{ending_of, stop_text, notice, PrintsNoReply};
 ghost use Rattle.mtr.specs.Options.{IsInRange, AreSides, kind_for};
-ghost use Rattle.mtr.specs.Pair.{IsNewTracker, PrintsText};
+ghost use Rattle.mtr.specs.Pair.{PrintsText};
 
+use crate::any_store::AnyStore;
+use crate::any_tracker::AnyTracker;
 use crate::command_line::{NOT_UTF8, asked};
 use crate::decode::decode;
 use crate::ending::{Ending, Stop};
-use crate::options::{LineFault, Options, Plan, Sides, Store};
+use crate::options::{LineFault, Options, Plan, Sides};
 use crate::pair::devices_in_memory;
 use crate::run::run_text;
 use crate::threads::run_threads;
-use btree_store::BTreeStore;
-use commit_order_tracker::CommitOrder;
-use schema::Memory;
 use std::alloc::Global;
 use std::env::Args;
 use std::io;
 use std::io::{ErrorKind, IsTerminal, Read, Write};
 use std::sync::Wait;
 use std::thread::Threads;
-use tracker_trait::{Tracker, Tracking};
-use vector_store::VectorStore;
-use writeset_trackers::{WriteSetSession, WriteSetTracker};
 
 /// What is said at a terminal.
 const NOTICE: &str = "mtr run reads a script from standard input\n";
@@ -127,7 +123,7 @@ fn announce<R: IsTerminal, E: Write>(input: &R, errors: &mut E) -> io::Result<()
     }
 }
 
-/// Runs both sides in many threads, with the tracker that the plan asks for.
+/// Runs both sides in many threads, where there is memory for the tracker.
 fn threads<H: Threads + Wait + Sync, W: Write, E: Write>(
     rt: &H,
     alloc: Global,
@@ -137,45 +133,12 @@ fn threads<H: Threads + Wait + Sync, W: Write, E: Write>(
 ) -> Ending
     requires { IsInRange (Options.Threads plan.now) }
 {
-    let limit = plan.sides.history as u32;
-    match plan.sides.tracker {
-        Tracking::CommitOrder => threads_by(rt, alloc, Ok(CommitOrder), plan, output, errors),
-        Tracking::Writeset => {
-            let tracker = WriteSetTracker::with_limit(alloc, limit);
-            threads_by(rt, alloc, tracker, plan, output, errors)
-        }
-        Tracking::WritesetSession => {
-            let tracker = WriteSetSession::with_limit(alloc, limit);
-            threads_by(rt, alloc, tracker, plan, output, errors)
-        }
-    }
-}
-
-/// Runs both sides in many threads with this tracker, where there is memory for it, over the plan's store.
-fn threads_by<T: Tracker + Drop + Send + Sync, H: Threads + Wait + Sync, W: Write, E: Write>(
-    rt: &H,
-    alloc: Global,
-    tracker: Result<T, Memory>,
-    plan: &Plan,
-    output: &mut W,
-    errors: &mut E,
-) -> Ending
-    requires tracker { IfOk tracker (IsNewTracker T.agrees) }
-    requires plan { IsInRange (Options.Threads plan.now) }
-{
-    let tracker = match tracker {
-        Ok(tracker) => tracker,
-        Err(memory) => return Stop::from(memory).tell(errors),
-    };
-    match plan.sides.store {
-        Store::BTree => tell_ending(
-            run_threads::<BTreeStore, T, H, W>(rt, alloc, tracker, plan, output),
+    match AnyTracker::of(alloc, plan.sides) {
+        Ok(tracker) => tell_ending(
+            run_threads::<AnyStore, AnyTracker, H, W>(rt, alloc, tracker, plan, output),
             errors,
         ),
-        Store::Vector => tell_ending(
-            run_threads::<VectorStore, T, H, W>(rt, alloc, tracker, plan, output),
-            errors,
-        ),
+        Err(memory) => Stop::from(memory).tell(errors),
     }
 }
 

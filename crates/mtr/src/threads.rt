@@ -82,7 +82,8 @@ pub fn run_threads<
 
 /// The verdict of two sides; different where a call was refused before they ended.
 fn verdict_of<S: RowStore, T: Tracker>(plan: &Plan, ended: &Option<Ended<S, T>>) -> Verdict
-    requires { IfSome ended.now (IsEnded plan.now) }
+    requires plan { IsInRange (Options.Threads plan.now) }
+    requires ended { IfSome ended.now (IsEnded plan.now) }
     ensures { IsVerdictOf result plan.now ended.now }
 {
     match ended {

@@ -2,16 +2,27 @@
 
 ghost use Rattle.std.specs.Prelude.{◌≡◌, true};
 ghost use Rattle.std.specs.List.{list_all};
-ghost use Rattle.mtr.specs.Threads.{IsLast, IsEnded, Holds, TookPart, are_within};
+ghost use Rattle.mtr.specs.Options.{IsInRange};
+ghost use Rattle.mtr.specs.Threads.{IsLast, IsEnded, Holds, TookPart, are_within, has_read};
 
 use super::Verdict;
 use super::reading::Shown;
-use crate::options::Plan;
+use super::serving::READS;
+use crate::options::{Options, Plan};
 use replica_core::ReplicaCore;
 use source_core::{Receipt, SourceCore};
 use store_trait::RowStore;
 use tracker_trait::Tracker;
 use world::begins;
+
+/// What was counted while both sides worked.
+#[derive(Clone, Copy)]
+pub struct Counts {
+    /// How many workers did all that there was.
+    pub workers: usize,
+    /// How many rows both sides have as the sessions left them.
+    pub rows: usize,
+}
 
 /// Both sides as they ended, what the sessions were given, and what the readers saw.
 #[derive(Drop)]
@@ -24,18 +35,19 @@ pub struct Ended<S: RowStore, T: Tracker> {
     pub receipts: Vec<Receipt>,
     /// What each reader saw, in order.
     pub readings: Vec<Vec<Shown>>,
-    /// How many workers did all that there was.
-    pub workers: usize,
+    /// What was counted.
+    pub counts: Counts,
     /// How many commits the replica told that it has published.
     pub published: u64,
 }
 
 impl<S: RowStore, T: Tracker> Ended<S, T> {
-    /// Whether both sides came to the same: as many workers and readers took part as planned, the replica published as many
-    /// commits as it told, what it accepted is a beginning of the source's log, and no reader saw more commits. The time is that
-    /// of the records, the receipts and the answers.
+    /// Whether both sides came to the same: as many workers and readers took part as planned, each reader read as often as it is to,
+    /// both have each row of the sessions as these left it, the replica published as many commits as it told, what it accepted is a
+    /// beginning of the source's log, and no reader saw more commits. The time is that of the records, the receipts and the answers.
     pub fn verdict(&self, plan: &Plan) -> Verdict
-        requires { IsEnded plan.now self.now }
+        requires plan { IsInRange (Options.Threads plan.now) }
+        requires ended { IsEnded plan.now self.now }
         ensures { Holds result plan.now self.now }
     {
         let published = self.published;
@@ -52,13 +64,24 @@ impl<S: RowStore, T: Tracker> Ended<S, T> {
         }
     }
 
-    // Whether as many workers and readers took part as planned.
+    // Whether as many workers and readers took part as planned, each reader read as often as it is to, and each row was compared.
     fn took_part(&self, plan: &Plan) -> bool
+        requires plan { IsInRange (Options.Threads plan.now) }
         ensures yes { result ≡ true → TookPart plan.now self.now }
         ensures no { TookPart plan.now self.now → result ≡ true }
     {
-        self.workers == plan.sides.workers && self.readings.len() == plan.seats
+        self.counts.workers == plan.sides.workers
+            && self.readings.len() == plan.seats
+            && have_all_read(&self.readings)
+            && self.counts.rows == plan.transactions_in_all()
     }
+}
+
+/// Whether each of these readers read as often as it is to.
+fn have_all_read(readings: &[Vec<Shown>]) -> bool
+    ensures { result ≡ list_all (λ v. has_read v.items) readings.now }
+{
+    readings.iter().all(|shown| shown.len() >= READS)
 }
 
 /// Whether none of these readers saw more commits.

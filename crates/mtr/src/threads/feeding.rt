@@ -18,6 +18,10 @@ use uuid::Uuid;
 /// So many bytes of the log are sent at once.
 const PIECE: usize = 7;
 
+/// So many are sent first. Each record of a session has a multiple of seven bytes: so each ends within a piece, and in front of the
+/// next one's beginning.
+const FIRST: usize = 3;
+
 /// So many bytes of the log are taken from the source at once, or those of one record where it has more.
 const ROOM: usize = 4096;
 
@@ -86,22 +90,44 @@ impl<
         Ok(source.commit(rt, seat)?)
     }
 
-    /// Sends the source's log to the replica until the sessions have ended and all was sent. It sleeps while there is nothing to
-    /// send. The bytes are kept of as many records as there is room for, and of one at least.
+    /// Sends the source's log to the replica until the sessions have ended and all was sent. The bytes are kept of as many records
+    /// as there is room for, and of one at least.
     fn carry_all(&self) -> Result<(), Trouble> {
         let mut wire = Wire::new(self.alloc, Uuid::from_bytes(SOURCE));
         let mut bytes = Vec::with_capacity(self.alloc, ROOM)?;
         let mut sent = 0u64;
         for _ in self.rt.forever() {
-            bytes.clear();
-            let count = self.source.bytes_past(self.rt, sent, &mut bytes)?;
+            let count = self.carry_past(sent, &mut wire, &mut bytes)?;
             if count == 0 {
                 return Ok(());
             }
-            self.send(&mut wire, &bytes)?;
             sent = sent.saturating_add(count);
         }
         unreachable!()
+    }
+
+    /// Sends records behind so many, once there are any, and answers how many: 0 where no more come. What is no whole piece is kept,
+    /// and sent with the bytes behind it or at the end.
+    fn carry_past(&self, sent: u64, wire: &mut Wire, bytes: &mut Vec<u8>) -> Result<u64, Trouble> {
+        let count = self.source.bytes_past(self.rt, sent, bytes)?;
+        if count == 0 {
+            self.send(wire, bytes)?;
+            return Ok(0);
+        }
+        if sent == 0 {
+            self.send_off(wire, bytes, FIRST)?;
+        }
+        let whole = bytes.len() - bytes.len() % PIECE;
+        self.send_off(wire, bytes, whole)?;
+        Ok(count)
+    }
+
+    /// Sends the first bytes over the wire, so many of them, and takes them off.
+    fn send_off(&self, wire: &mut Wire, bytes: &mut Vec<u8>, count: usize) -> Result<(), Trouble> {
+        let count = count.min(bytes.len());
+        self.send(wire, &bytes[..count])?;
+        bytes.drain(..count);
+        Ok(())
     }
 
     /// Sends bytes over the wire, in pieces.

@@ -4,18 +4,18 @@ ghost use Rattle.std.specs.Prelude.{◌≡◌, ◌≤◌, ◌∷◌, [], All, No
 ghost use Rattle.source_core.specs.Source.{new_source};
 ghost use Rattle.replica_core.specs.Calls.{new_over};
 ghost use Rattle.log_file.specs.Log.{IsNew};
-ghost use Rattle.mtr.specs.Options.{IsInRange};
+ghost use Rattle.mtr.specs.Options.{AreSides, IsInRange};
 ghost use Rattle.mtr.specs.Pair.{IsNewTracker};
 ghost use Rattle.mtr.specs.Reading.{AreTold};
 ghost use Rattle.mtr.specs.Threads.{IsEnded};
 ghost use Rattle.source_shared.specs.Engine.{IsCommitted};
 
 use super::changes::TABLE;
-use super::ended::Ended;
+use super::ended::{Counts, Ended};
 use super::reading::Shown;
 use super::shared::{Met, Replica, Shared, Source};
 use super::trouble::Trouble;
-use crate::options::{Options, Plan};
+use crate::options::{Options, Plan, Sides};
 use crate::pair::{MAX_RECORDS, NewStore, SOURCE, parts_over};
 use log_device::MemoryDevice;
 use published::{LeftRight, OpenError, Publisher, open};
@@ -37,7 +37,7 @@ use world::{Pair, pair_of};
 type Cores<S, T> = Pair<S, T, MemoryDevice>;
 
 /// What the threads come to, with what each reader saw in place of the readers.
-type Told<J> = (Vec<Receipt<J>>, Vec<Vec<Shown>>, usize);
+type Told<J> = (Vec<Receipt<J>>, Vec<Vec<Shown>>, Counts);
 
 /// Opens both sides over no rows, runs all threads, compares the rows, and ends both.
 pub fn open_and_run<S: NewStore, T: Tracker + Drop + Send + Sync, H: Threads + Wait + Sync>(
@@ -50,8 +50,14 @@ pub fn open_and_run<S: NewStore, T: Tracker + Drop + Send + Sync, H: Threads + W
     requires plan { IsInRange (Options.Threads plan.now) }
     ensures { IfOk result (IsEnded plan.now) }
 {
-    let cores = new_cores::<S, T>(alloc, tracker, plan.sides.workers, plan.sides.preserve)?;
-    let base = cores.replica.base().copy()?;
+    let cores = new_cores::<S, T>(alloc, plan.sides, tracker)?;
+    let base = match cores.replica.base().copy() {
+        Ok(base) => base,
+        Err(fault) => {
+            drop(cores);
+            return Err(fault.into());
+        }
+    };
     run_named::<S, T, Brand, Brand, H>(
         rt,
         alloc,
@@ -72,28 +78,27 @@ fn schema(alloc: Global) -> Result<Schema, Trouble> {
     }
 }
 
-/// A new source, a new log file and a new replica of so many workers, which commits in the order of the log or does not, over no rows.
+/// A new source, a new log file and a new replica over no rows, of which the sides say how many workers it has, and whether it commits
+/// in the order of the log.
 fn new_cores<S: NewStore, T: Tracker + Drop>(
     alloc: Global,
+    sides: Sides,
     tracker: T,
-    workers: usize,
-    preserve: bool,
 ) -> Result<Cores<S, T>, Trouble>
+    requires sides { AreSides sides }
     requires tracker { IsNewTracker T.agrees tracker }
-    requires some { 1 ≤ workers }
-    requires few { workers ≤ 64 }
     ensures source { IfOk result (λ made. made.source ≡ new_source made.source.tables made.source.base made.source.limit made.source.kind) }
     ensures log { IfOk result (λ made. IsNew made.log.log) }
     ensures replica { IfOk result (λ made. made.replica ≡ new_over made.replica.tables made.replica.source made.replica.base
         made.replica.workers made.replica.preserve) }
-    ensures order { IfOk result (λ made. made.replica.preserve ≡ preserve) }
+    ensures order { IfOk result (λ made. made.replica.preserve ≡ sides.preserve) }
     ensures tables { IfOk result (λ made. made.replica.tables ≡ made.source.tables) }
 {
     let (schema, from) = (schema(alloc)?, Uuid::from_bytes(SOURCE));
     let device = MemoryDevice::new(alloc);
     let (base, parts) = (
         Batch::new(alloc),
-        parts_over::<S, T, MemoryDevice>(alloc, tracker, device),
+        parts_over::<S, T, MemoryDevice>(alloc, sides.store, tracker, device),
     );
     match pair_of(
         alloc,
@@ -101,8 +106,8 @@ fn new_cores<S: NewStore, T: Tracker + Drop>(
         from,
         &base,
         MAX_RECORDS,
-        workers,
-        preserve,
+        sides.workers,
+        sides.preserve,
         parts,
     )? {
         Some(cores) => Ok(cores),
@@ -146,14 +151,7 @@ fn run_named<
     ensures source { IfOk result (λ ended. (ended.source.tables ≡ J.tables) × (ended.source.base ≡ J.base)) }
     ensures replica { IfOk result (λ ended. (ended.replica.tables ≡ K.tables) × (ended.replica.base ≡ K.base)) }
 {
-    let (source, replica) = share::<S, T, J, K, H>(
-        rt,
-        alloc,
-        plan.seats,
-        cores,
-        receipts,
-        publication,
-    )?;
+    let (source, replica) = share::<S, T, J, K, H>(rt, alloc, plan, cores, receipts, publication)?;
     let shared = Shared {
         rt,
         alloc,
@@ -166,7 +164,7 @@ fn run_named<
     end_all(rt, alloc, plan, source, replica, met, published)
 }
 
-/// Both sides for many threads, with so many seats.
+/// Both sides for many threads.
 fn share<
     S: NewStore,
     T: Tracker + Drop + Send + Sync,
@@ -176,13 +174,12 @@ fn share<
 >(
     rt: &H,
     alloc: Global,
-    seats: usize,
+    plan: &Plan,
     cores: Cores<S, T>,
     receipts: source_shared::Beginning,
     publication: published::Beginning,
 ) -> Result<(Source<S, T, J>, Replica<S, K>), Trouble>
-    requires some { 1 ≤ seats }
-    requires few { seats ≤ 32 }
+    requires plan { IsInRange (Options.Threads plan.now) }
     requires source { cores.source ≡ new_source cores.source.tables cores.source.base cores.source.limit cores.source.kind }
     requires log { IsNew cores.log.log }
     requires replica { cores.replica ≡ new_over cores.replica.tables cores.replica.source cores.replica.base cores.replica.workers
@@ -202,9 +199,20 @@ fn share<
         log,
         replica,
     } = cores;
-    let source = SharedSource::new(alloc, source, log, receipts)?;
-    let replica = new_replica(rt, alloc, seats, replica, publication)?;
-    Ok((source, replica))
+    let source = match SharedSource::new(alloc, source, log, receipts) {
+        Ok(source) => source,
+        Err(fault) => {
+            drop(replica);
+            return Err(fault.into());
+        }
+    };
+    match new_replica(rt, alloc, plan, replica, publication) {
+        Ok(replica) => Ok((source, replica)),
+        Err(trouble) => {
+            drop(source);
+            Err(trouble)
+        }
+    }
 }
 
 /// Both sides as they ended, once the threads came to this and the replica told that it has published so many commits.
@@ -232,14 +240,26 @@ fn end_all<
     let (replica, publisher) = replica.end();
     let told = tell_all(alloc, met, &publisher);
     drop(publisher.close(rt));
-    let (receipts, readings, workers) = told?;
-    let (source, given) = end_source(alloc, source, receipts)?;
+    let (receipts, readings, counts) = match told {
+        Ok(told) => told,
+        Err(trouble) => {
+            drop((source, replica));
+            return Err(trouble);
+        }
+    };
+    let (source, given) = match end_source(alloc, source, receipts) {
+        Ok(ended) => ended,
+        Err(fault) => {
+            drop(replica);
+            return Err(fault.into());
+        }
+    };
     Ok(Ended {
         source,
         replica,
         receipts: given,
         readings,
-        workers,
+        counts,
         published,
     })
 }
@@ -266,12 +286,12 @@ fn tell_all<S: NewStore, J: SourceNaming, K: ReplicaNaming>(
 ) -> Result<Told<J>, Trouble>
     ensures { IfOk result (λ told. All (λ v. AreTold K.preserve publisher.now.published v.items) told.1.items) }
 {
-    let (receipts, readers, workers) = met?;
+    let (receipts, readers, counts) = met?;
     let mut readings = Vec::with_capacity(alloc, readers.len())?;
     for reader in readers {
         readings.push(reader.into_shown(publisher.tell()))?;
     }
-    Ok((receipts, readings, workers))
+    Ok((receipts, readings, counts))
 }
 
 /// The receipts, as the core gave them.
@@ -288,16 +308,15 @@ fn given_all<J: SourceNaming>(
     Ok(all)
 }
 
-/// The replica for many threads, with so many seats.
+/// The replica for many threads, with the seats of the plan.
 fn new_replica<S: NewStore, K: ReplicaNaming, H: Wait>(
     rt: &H,
     alloc: Global,
-    seats: usize,
+    plan: &Plan,
     core: ReplicaCore<S>,
     publication: published::Beginning,
 ) -> Result<Replica<S, K>, Trouble>
-    requires some { 1 ≤ seats }
-    requires few { seats ≤ 32 }
+    requires plan { IsInRange (Options.Threads plan.now) }
     requires core { core ≡ new_over core.tables core.source core.base core.workers core.preserve }
     requires tables { core.tables ≡ K.tables }
     requires source { core.source ≡ K.source }
@@ -306,12 +325,19 @@ fn new_replica<S: NewStore, K: ReplicaNaming, H: Wait>(
     requires publication { publication.book ≡ K.book }
     requires published { publication.base ≡ core.base }
 {
-    let first = S::without_rows(alloc);
-    let second = S::without_rows(alloc);
-    let preserve = core.preserve();
+    let (first, second) = (
+        S::without_rows(alloc, plan.sides.store),
+        S::without_rows(alloc, plan.sides.store),
+    );
+    let (preserve, seats) = (core.preserve(), plan.seats);
     match open::<S, K, H, LeftRight>(rt, alloc, publication, preserve, first, second, seats) {
         Ok((publisher, seats)) => Ok(SharedReplica::new(rt, alloc, core, publisher, seats)?),
-        Err(OpenError::Memory) => Err(Trouble::Memory),
-        Err(OpenError::SeatRefused) => Err(Trouble::Different),
+        Err(fault) => {
+            drop(core);
+            Err(match fault {
+                OpenError::Memory => Trouble::Memory,
+                OpenError::SeatRefused => Trouble::Different,
+            })
+        }
     }
 }

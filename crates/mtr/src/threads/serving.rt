@@ -12,7 +12,7 @@ use std::thread::{Threads, map_indices};
 use tracker_trait::Tracker;
 
 /// How often each reader reads.
-const READS: u16 = 100;
+pub const READS: usize = 100;
 
 impl<
     S: NewStore,
@@ -50,7 +50,7 @@ impl<
     /// Takes a seat and reads the first row of the first session, again and again. Each read has to answer.
     fn read_many(&self) -> Result<Reader<S, K>, Trouble> {
         let seat = self.replica.seat(self.rt).ok_or(Trouble::Different)?;
-        let mut reader = Reader::new(self.alloc, seat, READS as usize)?;
+        let mut reader = Reader::new(self.alloc, seat, READS)?;
         for _ in 0..READS {
             reader.read(row_of(1, 1))?;
         }

@@ -3,6 +3,7 @@
 ghost use Rattle.mtr.specs.Options.{IsInRange};
 ghost use Rattle.mtr.specs.declared.options.Options.TheVariants as asked;
 
+use super::ended::Counts;
 use super::reading::Reader;
 use super::trouble::Trouble;
 use crate::options::Plan;
@@ -21,8 +22,8 @@ pub type Source<S, T, J> = SharedSource<S, T, MemoryDevice, J>;
 /// The replica.
 pub type Replica<S, K> = SharedReplica<S, K>;
 
-/// What the threads come to: the receipts of all sessions, all readers, and how many workers did all that there was.
-pub type Met<S, J, K> = (Vec<Receipt<J>>, Vec<Reader<S, K>>, usize);
+/// What the threads come to: the receipts of all sessions, all readers, and what was counted.
+pub type Met<S, J, K> = (Vec<Receipt<J>>, Vec<Reader<S, K>>, Counts);
 
 /// Both sides, the plan of what is done with them, and what starts threads.
 #[derive(Drop)]
@@ -57,8 +58,8 @@ impl<
         let workers = worked?;
         let mut readers = readers?;
         let reader = readers.last_mut().ok_or(Trouble::Different)?;
-        self.compare(reader, &receipts)?;
-        Ok((receipts, readers, workers))
+        let rows = self.compare(reader, &receipts)?;
+        Ok((receipts, readers, Counts { workers, rows }))
     }
 
     /// Runs the workers beside those who feed the replica.

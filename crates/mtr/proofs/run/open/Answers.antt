@@ -49,8 +49,8 @@ returns-in_ok-into_world-in-Some-2 g c =
     let identifier = c.from_bytes-from.result in
     let source : c.in-Some-2.pair.source ≡ new_source schema rows 9223372036854775807 kind =
     subst (λ o. IfSome o (λ pair. pair.source ≡ new_source schema rows 9223372036854775807 kind)) c.in-Some-2.is c.in_ok-pair.ensures.source in
-    let replica : c.in-Some-2.pair.replica ≡ new_over schema identifier rows c.args.workers c.args.preserve =
-    subst (λ o. IfSome o (λ pair. pair.replica ≡ new_over schema identifier rows c.args.workers c.args.preserve)) c.in-Some-2.is c.in_ok-pair.ensures.replica in
+    let replica : c.in-Some-2.pair.replica ≡ new_over schema identifier rows c.args.sides.workers c.args.sides.preserve =
+    subst (λ o. IfSome o (λ pair. pair.replica ≡ new_over schema identifier rows c.args.sides.workers c.args.sides.preserve)) c.in-Some-2.is c.in_ok-pair.ensures.replica in
     let named : c.in-Some-2.pair.log.log.head.source ≡ identifier =
     subst (λ o. IfSome o (λ pair. pair.log.log.head.source ≡ identifier)) c.in-Some-2.is c.in_ok-pair.ensures.identifier in
     record {
@@ -59,7 +59,7 @@ returns-in_ok-into_world-in-Some-2 g c =
       starts = subst (λ setup. HasRun g.S.RowStore.contents setup [] [] (seen c.in_ok-into_world-in-Some-2.field-0))
           (c.in_ok-into_world-in-Some-2.ensures.setup
           ∙ set_up c.in-Some-2.pair.source c.in-Some-2.pair.replica c.in-Some-2.pair.log.log.head.source identifier own schema c.args.tables.items rows 9223372036854775807 kind
-          (g.T.Tracker.kind c.args.tracker) c.args.workers c.args.preserve
+          (g.T.Tracker.kind c.args.tracker) c.args.sides.workers c.args.sides.preserve
           source named replica c.from_bytes-from.ensures c.in_ok-schema.ensures.value (ap g.T.Tracker.kind c.parts_over-parts.ensures.tracker))
           c.in_ok-into_world-in-Some-2.ensures.starts;
     }

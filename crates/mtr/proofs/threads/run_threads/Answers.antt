@@ -1,9 +1,13 @@
-use Rattle.std.proofs.Common.{rules, ◌++◌, ◌∷◌, []}
-use Rattle.std.specs.Io.KnownBytes.{Appends}
-use Rattle.mtr.specs.Threads.{verdict_text}
+use Rattle.std.proofs.KnownBytes.{Appends-kept}
 use Rattle.mtr.proofs.threads.run_threads.Goals as goal
 
+-- what stands behind the verdict's line is a flush, which keeps it
 pub returns : goal.returns
 returns g c =
-    let line : Appends (g.W.Write.contents c.args.output.now) (g.W.Write.contents c.flush.new.self) (verdict_text c.verdict_of-verdict.result ++ 10 ∷ []) = search rules in
-    record { verdict = c.verdict_of-verdict.result; holds = c.verdict_of-verdict.ensures; ends = c.ending.ensures; line = line }
+    let before = g.W.Write.contents c.args.output.now in
+    record {
+      verdict = c.verdict_of-verdict.result;
+      holds = c.verdict_of-verdict.ensures;
+      ends = c.ending.ensures;
+      line = Appends-kept before (g.W.Write.contents c.write_verdict.new.out) (g.W.Write.contents c.flush.new.self) _ c.in_ok-write_verdict.ensures c.in_ok-flush.ensures.bytes;
+    }

@@ -9,13 +9,13 @@ returns-clause-ended g c =
     let order = c.end-replica.ensures.order in
     record {
       order = order ∙ c.requires.order;
-      tables = c.end-replica.ensures.tables ∙ c.requires.tables ∙ sym c.in_ok-source.ensures.tables;
-      given = c.in_ok-source.ensures.receipts;
+      tables = c.end-replica.ensures.tables ∙ c.requires.tables ∙ sym c.in-Ok-end_source.ensures.tables;
+      given = c.in-Ok-end_source.ensures.receipts;
       shown = c.end-replica.result.1.published;
       are = c.end-replica.ensures.published;
       in_order = λ kept. c.end-replica.ensures.in_order (sym order ∙ kept);
       within = c.end-replica.ensures.within;
       counted = c.end-replica.ensures.shown;
       told =
-          subst (λ (b : Bool). All (λ (v : Vec Shown Global). AreTold b c.end-replica.result.1.published v.items) c.in_ok-receipts.readings.items) (sym order) c.in_ok-receipts.ensures;
+          subst (λ (b : Bool). All (λ (v : Vec Shown Global). AreTold b c.end-replica.result.1.published v.items) c.in-Ok.told.1.items) (sym order) c.in-Ok.ensures;
     }

@@ -11,4 +11,4 @@ new-requires-clause-seats g c =
     let base = c.args.core.base in
     let same : Load c.args.publication.base ∷ [] ≡ Load base ∷ [] = ap (λ (b : List Entry). Load b ∷ []) c.requires.published in
     subst (All (λ (seat : List Op). seat ≡ Load base ∷ [])) (sym c.in-Ok.ensures.seats)
-    (All-replicate (λ (seat : List Op). seat ≡ Load base ∷ []) c.args.seats (Load c.args.publication.base ∷ []) same)
+    (All-replicate (λ (seat : List Op). seat ≡ Load base ∷ []) c.args.plan.now.seats (Load c.args.publication.base ∷ []) same)
