@@ -15,11 +15,15 @@ use replica_shared::{ReplicaNaming, SharedReplica};
 use source_shared::{SharedSource, SourceNaming};
 use std::alloc::Global;
 use std::sync::Wait;
-use std::thread::yield_now;
+use std::thread::sleep;
+use std::time::{Clock, Duration};
 use uuid::Uuid;
 
 /// The source's identifier.
 pub const SOURCE: [u8; 16] = [7; 16];
+
+/// So often a call for which memory lacks is made again, a millisecond later each time.
+pub const TRIES: usize = 100;
 
 /// The source, with its log in memory.
 pub type Source<J> = SharedSource<BTreeStore, CommitOrder, MemoryDevice, J>;
@@ -55,16 +59,16 @@ pub fn new_replica<K: ReplicaNaming>(
     Ok(SharedReplica::new(rt, alloc, core, publisher, seats)?)
 }
 
-/// Sends all that is synced, as bytes. The source was closed, so this ends.
+/// Sends all that is synced and that the replica has not, as bytes. The source was closed, so this ends.
 pub fn send<J: SourceNaming, K: ReplicaNaming>(
-    rt: &impl Wait,
+    rt: &(impl Wait + Clock),
     alloc: Global,
     source: &Source<J>,
     replica: &Replica<K>,
 ) -> Result<(), Trouble> {
     let mut wire = Wire::new(alloc, Uuid::from_bytes(SOURCE));
+    let mut sent = replica.status(rt).received;
     let mut bytes = Vec::with_capacity(alloc, 4096)?;
-    let mut sent = 0u64;
     for _ in rt.forever() {
         bytes.clear();
         let count = source.bytes_past(rt, sent, &mut bytes)?;
@@ -80,13 +84,13 @@ pub fn send<J: SourceNaming, K: ReplicaNaming>(
 /// Hands the bytes over, and calls again where memory lacks: with the same bytes where none of them was taken, else with none, for the
 /// records that wait.
 fn feed<K: ReplicaNaming>(
-    rt: &impl Wait,
+    rt: &(impl Wait + Clock),
     replica: &Replica<K>,
     wire: &mut Wire,
     bytes: &[u8],
 ) -> Result<(), WireFault> {
     let mut piece = bytes;
-    for _ in rt.forever() {
+    for _ in 0..TRIES {
         match replica.feed(rt, wire, piece) {
             Ok(_) => return Ok(()),
             Err(WireFault::Codec(CodecFault::Memory)) => {}
@@ -94,7 +98,13 @@ fn feed<K: ReplicaNaming>(
             Err(WireFault::Replica(ReplicaFault::Memory)) => piece = &[],
             Err(fault) => return Err(fault),
         }
-        yield_now();
+        pause(rt);
     }
-    unreachable!()
+    replica.feed(rt, wire, piece)?;
+    Ok(())
+}
+
+/// Waits for a millisecond, in which memory may come back.
+pub fn pause(rt: &impl Clock) {
+    sleep(rt, Duration::from_millis(1));
 }

@@ -1,6 +1,6 @@
-//! A program of one's own over the pair. Two threads commit at the source; its log goes to the replica as bytes; a reader
-//! waits there for both commits, and reads. Then both sides end, and are compared. Where memory lacks, what leaves something under way
-//! is called again; else both sides end, and the program says why.
+//! A program of one's own over the pair. Two threads commit at the source; its log goes to the replica as bytes; each commit is
+//! waited for there, and read. Then both sides end, and are compared. Where memory lacks, what leaves something under way is called again,
+//! up to a bound; behind that, and where anything else is refused, both sides end, and the program says why.
 //!
 //! `docs/EMBEDDING.md` goes through it.
 #![tactic(auto)]
@@ -15,10 +15,11 @@ mod trouble;
 
 use btree_store::BTreeStore;
 use commit_order_tracker::CommitOrder;
-use connecting::{Replica, SOURCE, Source, new_replica, send};
+use connecting::{Replica, SOURCE, Source, TRIES, new_replica, pause, send};
 use log_device::MemoryDevice;
-use published::Notice;
+use published::{Answer, ReadSeat};
 use relay::ReplicaFault;
+use replica_core::ReplicaCore;
 use replica_shared::{NoGate, ReplicaNaming};
 use rows::{Change, Row};
 use schema::{RowId, Schema, Table};
@@ -30,14 +31,18 @@ use std::io;
 use std::marker::Brand;
 use std::process::ExitCode;
 use std::sync::Wait;
-use std::thread::{Threads, join, yield_now};
-use store_trait::Batch;
+use std::thread::{Threads, join};
+use std::time::Clock;
+use store_trait::{Batch, RowStore};
 use trouble::Trouble;
 use uuid::Uuid;
 use world::{Pair, PairParts, begins, pair_of};
 
-/// The accounts, each with an owner and a balance.
-const ACCOUNTS: u16 = 1;
+/// The owners, each with a number that no other one has.
+const OWNERS: u16 = 1;
+
+/// The accounts, each with the key of its owner, and a balance.
+const ACCOUNTS: u16 = 2;
 
 /// What is told at the end.
 #[derive(Clone, Copy)]
@@ -45,6 +50,7 @@ struct Told {
     commits: u64,
     first: Option<Row>,
     second: Option<Row>,
+    sum: i64,
     is_beginning: bool,
 }
 
@@ -67,6 +73,7 @@ fn fail<D: Display>(rt: &impl Eprint, why: &D) -> ExitCode {
 fn tell(rt: &impl Print, told: &Told) -> io::Result<()> {
     println!(rt; "{} commits at the replica", told.commits)?;
     println!(rt; "{} {}", balance(&told.first), balance(&told.second))?;
+    println!(rt; "{} in all accounts", told.sum)?;
     println!(rt; "a beginning of the source's log: {}", told.is_beginning)
 }
 
@@ -78,20 +85,22 @@ fn balance(row: &Option<Row>) -> i64 {
     }
 }
 
-/// Opens both sides over a schema and no rows, and runs them.
-fn open<R: Threads + Wait + Sync>(rt: &R, alloc: Global) -> Result<Told, Trouble> {
-    let tables = vec![in alloc; Table::new(ACCOUNTS, 2, true)]?;
+/// Opens both sides over a schema and two owners, and runs them.
+fn open<R: Threads + Wait + Clock + Sync>(rt: &R, alloc: Global) -> Result<Told, Trouble> {
+    let owners = Table::new(OWNERS, 1, true).with_unique(0);
+    let accounts = Table::new(ACCOUNTS, 2, true).child_of(0, OWNERS);
+    let tables = vec![in alloc; owners, accounts]?;
+    let schema = Schema::new(tables)?;
+    let source = Uuid::from_bytes(SOURCE);
+    let base = two_owners(alloc)?;
     let parts = PairParts {
         rows: BTreeStore::new(alloc),
         copy: BTreeStore::new(alloc),
         tracker: CommitOrder,
         device: MemoryDevice::new(alloc),
     };
-    let schema = Schema::new(tables)?;
-    let source = Uuid::from_bytes(SOURCE);
     // 1000 records at most, two workers, and commits in the order of the log.
-    let none = Batch::new(alloc);
-    let pair = pair_of(alloc, schema, source, &none, 1000, 2, true, parts)?;
+    let pair = pair_of(alloc, schema, source, &base, 1000, 2, true, parts)?;
     let pair = pair.ok_or(Trouble::Misfit)?;
     let base = pair.replica.base().copy()?;
     run::<Brand, Brand, R>(
@@ -103,8 +112,21 @@ fn open<R: Threads + Wait + Sync>(rt: &R, alloc: Global) -> Result<Told, Trouble
     )
 }
 
+/// The rows of the start.
+fn two_owners(alloc: Global) -> Result<Batch, Trouble> {
+    let (first, second) = (owner(1), owner(2));
+    let one = Row::new(&[3001]).ok_or(Trouble::Misfit)?;
+    let two = Row::new(&[3002]).ok_or(Trouble::Misfit)?;
+    let entries = vec![in alloc; (first, Some(one)), (second, Some(two))]?;
+    Batch::from_entries(entries).ok_or(Trouble::Misfit)
+}
+
 /// Runs both sides, each under a name of its own, up to their end.
-fn run<J: SourceNaming + Send + Sync, K: ReplicaNaming + Send + Sync, R: Threads + Wait + Sync>(
+fn run<
+    J: SourceNaming + Send + Sync,
+    K: ReplicaNaming + Send + Sync,
+    R: Threads + Wait + Clock + Sync,
+>(
     rt: &R,
     alloc: Global,
     pair: Pair<BTreeStore, CommitOrder, MemoryDevice>,
@@ -135,14 +157,30 @@ fn run<J: SourceNaming + Send + Sync, K: ReplicaNaming + Send + Sync, R: Threads
     // No thread is left, whatever they came to. A publisher has to be closed; a source may be dropped.
     let (replica, publisher) = replica.end();
     drop(publisher.close(rt));
+    let told = compare(source, &replica, met);
+    drop(replica);
+    told
+}
+
+/// What is told once no thread is left. A source that ends wants the receipts that it gave.
+fn compare<J: SourceNaming>(
+    source: Source<J>,
+    replica: &ReplicaCore<BTreeStore>,
+    met: Result<(Vec<Receipt<J>>, Told), Trouble>,
+) -> Result<Told, Trouble> {
     let (receipts, mut told) = met?;
+    told.sum = sum(replica.store())?;
     let source = source.end(&receipts);
-    told.is_beginning = begins(&source, &replica);
+    told.is_beginning = begins(&source, replica);
     Ok(told)
 }
 
-/// What both sides do between their opening and their end. A source that ends wants the receipts that it gave.
-fn meet<J: SourceNaming + Send + Sync, K: ReplicaNaming + Send + Sync, R: Threads + Wait + Sync>(
+/// What both sides do between their opening and their end.
+fn meet<
+    J: SourceNaming + Send + Sync,
+    K: ReplicaNaming + Send + Sync,
+    R: Threads + Wait + Clock + Sync,
+>(
     rt: &R,
     alloc: Global,
     source: &Source<J>,
@@ -158,16 +196,16 @@ fn meet<J: SourceNaming + Send + Sync, K: ReplicaNaming + Send + Sync, R: Thread
     let sent = send(rt, alloc, source, replica);
     replica.close(rt);
     sent?;
-    let receipts = vec![in alloc; first?, second?]?;
-    // Of two closures the second is called first where no thread can be made, so the one that waits is the first.
-    let (published, worked) = join(rt, || replica.wait_for(rt, 2), || work(rt, alloc, replica));
-    worked?;
-    Ok((receipts, read(rt, replica, published?)?))
+    let (first, second) = (first?, second?);
+    // Nobody waits at the replica meanwhile: for what a worker that gives up leaves he would wait for ever.
+    work(rt, alloc, replica)?;
+    let told = read_both(rt, replica, &first, &second)?;
+    Ok((vec![in alloc; first, second]?, told))
 }
 
 /// One session's transaction: an account, with its balance.
 fn commit<J: SourceNaming>(
-    rt: &impl Wait,
+    rt: &(impl Wait + Clock),
     source: &Source<J>,
     session: u16,
     account: i64,
@@ -190,17 +228,23 @@ fn commit<J: SourceNaming>(
 
 /// Commits the seat's transaction. Where memory lacks it stays where it is in the stages, and the same call takes it up there.
 fn commit_prepared<J: SourceNaming>(
-    rt: &impl Wait,
+    rt: &(impl Wait + Clock),
     source: &Source<J>,
     seat: &mut SessionSeat<J>,
 ) -> Result<Receipt<J>, SourceFault> {
-    for _ in rt.forever() {
+    for _ in 0..TRIES {
         match source.commit(rt, seat) {
-            Err(SourceFault::Memory) => yield_now(),
+            Err(SourceFault::Memory) => pause(rt),
             answer => return answer,
         }
     }
-    unreachable!()
+    source.commit(rt, seat)
+}
+
+/// The row of an owner.
+fn owner(key: i64) -> RowId {
+    let table = OWNERS;
+    RowId { table, key }
 }
 
 /// The row of an account.
@@ -211,36 +255,65 @@ fn row(account: i64) -> RowId {
     }
 }
 
-/// Works until all is committed, since the replica was told that no more comes. A worker that lacks memory ends, and wakes one more,
-/// which may end too: the whole pool may end so, and who waits for a commit waits on. So it is called again.
+/// Works until all is committed, since the replica was told that no more comes. A worker that lacks memory ends, and what it left is kept:
+/// so it is called again.
 fn work<K: ReplicaNaming>(
-    rt: &impl Wait,
+    rt: &(impl Wait + Clock),
     alloc: Global,
     replica: &Replica<K>,
 ) -> Result<(), ReplicaFault> {
-    for _ in rt.forever() {
+    for _ in 0..TRIES {
         match replica.worker(rt, alloc, &NoGate) {
-            Err(ReplicaFault::Memory) => yield_now(),
+            Err(ReplicaFault::Memory) => pause(rt),
             ended => return ended,
         }
     }
-    unreachable!()
+    replica.worker(rt, alloc, &NoGate)
 }
 
-/// What a reader sees that was told of the commits.
-fn read<K: ReplicaNaming>(
+/// What a reader sees of both accounts.
+fn read_both<J: SourceNaming, K: ReplicaNaming>(
     rt: &impl Wait,
     replica: &Replica<K>,
-    published: Notice<K>,
+    first: &Receipt<J>,
+    second: &Receipt<J>,
 ) -> Result<Told, Trouble> {
     let mut reader = replica.seat(rt).ok_or(Trouble::Misfit)?;
-    reader.learn(published);
-    let first = reader.read(row(10)).ok_or(Trouble::Misfit)?;
-    let second = reader.read(row(20)).ok_or(Trouble::Misfit)?;
+    let one = read_own(rt, replica, &mut reader, first, row(10))?;
+    let two = read_own(rt, replica, &mut reader, second, row(20))?;
     Ok(Told {
-        commits: second.upto,
-        first: first.row,
-        second: second.row,
+        commits: two.upto,
+        first: one.row,
+        second: two.row,
+        sum: 0,
         is_beginning: false,
     })
+}
+
+/// Reads at the replica what was written at the source: waits until the commit of the receipt is published there, and answers the row as
+/// that commit or a later one leaves it.
+fn read_own<J: SourceNaming, K: ReplicaNaming>(
+    rt: &impl Wait,
+    replica: &Replica<K>,
+    reader: &mut ReadSeat<BTreeStore, K>,
+    receipt: &Receipt<J>,
+    row: RowId,
+) -> Result<Answer, Trouble> {
+    let notice = replica.wait_for(rt, receipt.given().gno)?;
+    reader.learn(notice);
+    reader.read(row).ok_or(Trouble::Misfit)
+}
+
+/// The sum of all balances: a walk over the rows of a table, in the order of their keys.
+fn sum<S: RowStore>(store: &S) -> Result<i64, Trouble> {
+    let (mut sum, mut last) = (0i64, None);
+    for _ in 0..store.len() {
+        let Some((key, row)) = store.next_in_table(ACCOUNTS, last) else {
+            break;
+        };
+        let with = sum.checked_add(balance(&Some(row)));
+        sum = with.ok_or(Trouble::Misfit)?;
+        last = Some(key);
+    }
+    Ok(sum)
 }

@@ -15,9 +15,11 @@ mod trouble;
 
 use btree_store::BTreeStore;
 use commit_order_tracker::CommitOrder;
-use files::{OnFile, feed, open_file, open_log};
+use files::feed;
+use replica_core::ReplicaCore;
 use schema::{Schema, Table};
 use sessions::{ROWS, Source, commit_all, seats};
+use source_core::SourceCore;
 use source_shared::{Receipt, SharedSource, SourceNaming};
 use std::alloc::Global;
 use std::env::Args;
@@ -29,8 +31,10 @@ use std::process::ExitCode;
 use std::rt::Files;
 use std::sync::Wait;
 use std::thread::Threads;
+use std::time::Clock;
 use std::{env, io};
 use store_trait::Batch;
+use stored_log::{OnFile, next_file};
 use trouble::Trouble;
 use uuid::Uuid;
 use world::{Pair, PairParts, begins, pair_of};
@@ -70,7 +74,7 @@ fn fail<D: Display>(rt: &impl Eprint, why: &D) -> ExitCode {
 }
 
 /// Does what the words ask for.
-fn serve<R: Files<File = File> + Threads + Wait + Sync, W: Write>(
+fn serve<R: Files<File = File> + Threads + Wait + Clock + Sync, W: Write>(
     rt: &R,
     alloc: Global,
     words: io::Result<Args>,
@@ -107,30 +111,34 @@ fn number(word: Option<String>, most: u32) -> Result<u32, Trouble> {
 }
 
 /// Opens both sides over a schema and no rows, with the log in a new file, and runs them.
-fn open<R: Files<File = File> + Threads + Wait + Sync, W: Write>(
+fn open<R: Files<File = File> + Threads + Wait + Clock + Sync, W: Write>(
     rt: &R,
     alloc: Global,
     asked: &Asked,
     out: &mut W,
 ) -> Result<(), Trouble> {
     let tables = vec![in alloc; Table::new(ROWS, 2, true)]?;
+    let schema = Schema::new(tables)?;
+    let source = Uuid::from_bytes(SOURCE);
+    let none = Batch::new(alloc);
     let parts = PairParts {
         rows: BTreeStore::new(alloc),
         copy: BTreeStore::new(alloc),
         tracker: CommitOrder,
-        device: open_file(rt, alloc, &asked.prefix, 1)?,
+        device: next_file(rt, alloc, &asked.prefix, 1)?,
     };
-    let schema = Schema::new(tables)?;
-    let source = Uuid::from_bytes(SOURCE);
     // One worker, and commits in the order of the log.
-    let none = Batch::new(alloc);
     let pair = pair_of(alloc, schema, source, &none, RECORDS, 1, true, parts)?;
     let pair = pair.ok_or(Trouble::Misfit)?;
     run::<Brand, R, W>(rt, alloc, asked, pair, source_shared::Beginning::new(), out)
 }
 
 /// Runs the source, under a name of its own, up to its end, and hands what its files have then to the replica.
-fn run<J: SourceNaming + Send + Sync, R: Files<File = File> + Threads + Wait + Sync, W: Write>(
+fn run<
+    J: SourceNaming + Send + Sync,
+    R: Files<File = File> + Threads + Wait + Clock + Sync,
+    W: Write,
+>(
     rt: &R,
     alloc: Global,
     asked: &Asked,
@@ -150,41 +158,74 @@ fn run<J: SourceNaming + Send + Sync, R: Files<File = File> + Threads + Wait + S
         mut replica,
     } = pair;
     let source: Source<J> = SharedSource::new(alloc, source, log, receipts)?;
-    let receipts = commit_in_both(rt, alloc, asked, &source)?;
-    writeln!(out, "{} commits", source.flushed(rt)?)?;
-    out.flush()?;
+    let receipts = commit_in_both(rt, alloc, asked, &source, out);
+    let told = end_and_show(rt, alloc, asked, source, receipts, &mut replica, out);
+    drop(replica);
+    told
+}
+
+/// Ends the source, whose sessions were given these receipts, and shows what its files hold.
+fn end_and_show<J: SourceNaming, R: Files<File = File> + Wait, W: Write>(
+    rt: &R,
+    alloc: Global,
+    asked: &Asked,
+    source: Source<J>,
+    receipts: Result<Vec<Receipt<J>>, Trouble>,
+    replica: &mut ReplicaCore<BTreeStore>,
+    out: &mut W,
+) -> Result<(), Trouble> {
+    let receipts = receipts?;
     source.close(rt);
     // The devices go with the shared source: so the files are closed, and may be opened again.
     let source = source.end(&receipts);
-    let log = open_log(rt, alloc, &asked.prefix)?;
-    writeln!(
-        out,
-        "{} records in {} files",
-        log.records().len(),
-        log.firsts().len()
-    )?;
-    feed(alloc, log.source(), log.records(), &mut replica)?;
-    writeln!(out, "{} commits at the replica", replica.committed())?;
-    writeln!(
-        out,
-        "a beginning of the source's log: {}",
-        begins(&source, &replica)
-    )?;
+    let shown = show(rt, alloc, asked, &source, replica, out);
+    drop(source);
+    shown
+}
+
+/// Opens the log's files, hands what they hold to the replica, and shows what came of it.
+fn show<R: Files<File = File>, W: Write>(
+    rt: &R,
+    alloc: Global,
+    asked: &Asked,
+    source: &SourceCore<BTreeStore, CommitOrder>,
+    replica: &mut ReplicaCore<BTreeStore>,
+    out: &mut W,
+) -> Result<(), Trouble> {
+    let log = stored_log::open(rt, alloc, &asked.prefix)?;
+    let log = log.ok_or(Trouble::NoLog)?;
+    let (records, files) = (log.records().len(), log.firsts().len());
+    let fed = feed(alloc, log.source(), log.records(), replica);
+    drop(log);
+    writeln!(out, "{records} records in {files} files")?;
+    fed?;
+    let committed = replica.committed();
+    writeln!(out, "{committed} commits at the replica")?;
+    let is_beginning = begins(source, replica);
+    writeln!(out, "a beginning of the source's log: {is_beginning}")?;
     Ok(out.flush()?)
 }
 
-/// All sessions commit in the first file, and in the next one. It answers the last receipt of each session in each file.
-fn commit_in_both<J: SourceNaming + Send + Sync, R: Files<File = File> + Threads + Wait + Sync>(
+/// All sessions commit in the first file, and in the next one, and how many commits that makes is told. It answers the last receipt of
+/// each session in each file.
+fn commit_in_both<
+    J: SourceNaming + Send + Sync,
+    R: Files<File = File> + Threads + Wait + Clock + Sync,
+    W: Write,
+>(
     rt: &R,
     alloc: Global,
     asked: &Asked,
     source: &Source<J>,
+    out: &mut W,
 ) -> Result<Vec<Receipt<J>>, Trouble> {
     let seats = seats(rt, alloc, source, asked.sessions)?;
     let mut receipts = commit_all(rt, alloc, source, &seats, 0, asked.count)?;
-    let next = open_file(rt, alloc, &asked.prefix, 2)?;
+    let next = next_file(rt, alloc, &asked.prefix, 2)?;
     source.rotate(rt, next)?;
     let mut more = commit_all(rt, alloc, source, &seats, asked.count, asked.count)?;
     receipts.append(&mut more)?;
+    writeln!(out, "{} commits", source.flushed(rt)?)?;
+    out.flush()?;
     Ok(receipts)
 }

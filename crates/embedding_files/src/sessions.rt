@@ -1,6 +1,5 @@
 //! What the sessions commit.
 
-use crate::files::OnFile;
 use crate::trouble::Trouble;
 use btree_store::BTreeStore;
 use commit_order_tracker::CommitOrder;
@@ -10,10 +9,15 @@ use source_core::SourceFault;
 use source_shared::{Receipt, SessionSeat, SharedSource, SourceNaming};
 use std::alloc::Global;
 use std::sync::{Mutex, Wait};
-use std::thread::{Threads, map_indices, yield_now};
+use std::thread::{Threads, map_indices, sleep};
+use std::time::{Clock, Duration};
+use stored_log::OnFile;
 
 /// The rows, each with its session and its number.
 pub const ROWS: u16 = 1;
+
+/// So often a call for which memory lacks is made again.
+const TRIES: usize = 100;
 
 /// The keys of two sessions are so far apart.
 const APART: i64 = 4294967296;
@@ -41,7 +45,7 @@ pub fn seats<J: SourceNaming>(
 
 /// Each session commits so many transactions, in a thread of its own, the first of which has this number. It answers the last receipt of
 /// each.
-pub fn commit_all<J: SourceNaming + Send + Sync, R: Threads + Wait + Sync>(
+pub fn commit_all<J: SourceNaming + Send + Sync, R: Threads + Wait + Clock + Sync>(
     rt: &R,
     alloc: Global,
     source: &Source<J>,
@@ -64,7 +68,7 @@ pub fn commit_all<J: SourceNaming + Send + Sync, R: Threads + Wait + Sync>(
 
 /// The transactions of one session. Of their receipts it answers the last: a source that runs for long keeps none of the others.
 fn commit_some<J: SourceNaming>(
-    rt: &impl Wait,
+    rt: &(impl Wait + Clock),
     source: &Source<J>,
     seat: &Mutex<SessionSeat<J>>,
     first: u32,
@@ -80,7 +84,7 @@ fn commit_some<J: SourceNaming>(
 
 /// One transaction: a row, with its session and its number.
 fn commit<J: SourceNaming>(
-    rt: &impl Wait,
+    rt: &(impl Wait + Clock),
     source: &Source<J>,
     seat: &mut SessionSeat<J>,
     number: u32,
@@ -97,17 +101,18 @@ fn commit<J: SourceNaming>(
     Ok(commit_prepared(rt, source, seat)?)
 }
 
-/// Commits the seat's transaction. Where memory lacks it stays where it is in the stages, and the same call takes it up there.
+/// Commits the seat's transaction. Where memory lacks it stays where it is in the stages, and the same call takes it up there, a
+/// millisecond later: the last of them tells the refusal.
 fn commit_prepared<J: SourceNaming>(
-    rt: &impl Wait,
+    rt: &(impl Wait + Clock),
     source: &Source<J>,
     seat: &mut SessionSeat<J>,
 ) -> Result<Receipt<J>, SourceFault> {
-    for _ in rt.forever() {
+    for _ in 0..TRIES {
         match source.commit(rt, seat) {
-            Err(SourceFault::Memory) => yield_now(),
+            Err(SourceFault::Memory) => sleep(rt, Duration::from_millis(1)),
             answer => return answer,
         }
     }
-    unreachable!()
+    source.commit(rt, seat)
 }

@@ -1,12 +1,12 @@
 //! Why the program stops.
 
-use file_device::OpenFault;
 use log_file::LogFault;
 use relay::ReplicaFault;
 use schema::{Memory, SchemaFault};
 use source_core::SourceFault;
 use std::alloc::{AllocError, AllocFailed};
 use std::io;
+use stored_log::StoreFault;
 use thiserror::Error;
 
 /// Why the program stops: each crate's own fault, and what does not happen over the schema and the rows of this program.
@@ -16,10 +16,10 @@ pub enum Trouble {
     Usage,
     #[error("the schema: {0}")]
     Schema(#[from] SchemaFault),
-    #[error("the files: {0}")]
-    Files(#[from] OpenFault),
     #[error("the log: {0}")]
-    Log(#[from] LogFault),
+    Log(#[from] StoreFault),
+    #[error("no log in the files")]
+    NoLog,
     #[error("the source: {0}")]
     Source(#[from] SourceFault),
     #[error("the replica: {0}")]
@@ -30,6 +30,13 @@ pub enum Trouble {
     Memory(#[from] Memory),
     #[error("rows that do not fit the schema")]
     Misfit,
+}
+
+// A log that is made is refused for its first file.
+impl From<LogFault> for Trouble {
+    fn from(fault: LogFault) -> Trouble {
+        Trouble::Log(StoreFault::of_content(1, fault))
+    }
 }
 
 impl From<AllocError> for Trouble {

@@ -1,6 +1,6 @@
 //! What the sessions commit, and what readers see of it.
 
-use crate::connecting::{Replica, SEATS, Source};
+use crate::connecting::{Replica, SEATS, Source, pause};
 use crate::trouble::Trouble;
 use btree_store::BTreeStore;
 use published::{Answer, ReadSeat};
@@ -11,7 +11,8 @@ use source_core::SourceFault;
 use source_shared::{Receipt, SessionSeat, SourceNaming};
 use std::alloc::Global;
 use std::sync::{Mutex, OnceLock, Wait};
-use std::thread::{Threads, map_indices, yield_now};
+use std::thread::{Threads, map_indices};
+use std::time::Clock;
 
 /// The accounts, each with the session that wrote it last, and a balance.
 pub const ACCOUNTS: u16 = 1;
@@ -39,7 +40,7 @@ impl Client {
 pub type Served<J> = Result<(Trouble, Vec<Receipt<J>>), Trouble>;
 
 /// Serves all clients, each in a thread of its own. However that ends, nobody waits on: each client was told, and no more comes.
-pub fn serve<J: SourceNaming + Send + Sync, R: Threads + Wait + Sync>(
+pub fn serve<J: SourceNaming + Send + Sync, R: Threads + Wait + Clock + Sync>(
     rt: &R,
     alloc: Global,
     source: &Source<J>,
@@ -53,7 +54,7 @@ pub fn serve<J: SourceNaming + Send + Sync, R: Threads + Wait + Sync>(
     served
 }
 
-fn serve_all<J: SourceNaming + Send + Sync, R: Threads + Wait + Sync>(
+fn serve_all<J: SourceNaming + Send + Sync, R: Threads + Wait + Clock + Sync>(
     rt: &R,
     alloc: Global,
     source: &Source<J>,
@@ -76,7 +77,7 @@ fn serve_all<J: SourceNaming + Send + Sync, R: Threads + Wait + Sync>(
 /// Two sessions in one thread. The first deletes the joint account, and so holds its row; the second is refused; the first takes its
 /// transaction back, which leaves no trace, and the second tries again.
 fn try_again<J: SourceNaming>(
-    rt: &impl Wait,
+    rt: &(impl Wait + Clock),
     source: &Source<J>,
 ) -> Result<(Trouble, Receipt<J>), Trouble> {
     let mut first = source.session(rt, 4)?;
@@ -94,7 +95,7 @@ fn try_again<J: SourceNaming>(
 
 /// A client's session: it opens an account, and gives to the joint one. Then its reader is told.
 fn visit<J: SourceNaming>(
-    rt: &impl Wait,
+    rt: &(impl Wait + Clock),
     alloc: Global,
     source: &Source<J>,
     client: &Client,
@@ -113,13 +114,13 @@ fn visit<J: SourceNaming>(
 
 /// Gives, and tries again while another session holds the joint account. It holds nothing while it waits.
 fn give_at_last<J: SourceNaming>(
-    rt: &impl Wait,
+    rt: &(impl Wait + Clock),
     source: &Source<J>,
     seat: &mut SessionSeat<J>,
 ) -> Result<Receipt<J>, Trouble> {
     for _ in rt.forever() {
         match give(rt, source, seat) {
-            Err(Trouble::Source(SourceFault::RowLocked)) => yield_now(),
+            Err(Trouble::Source(SourceFault::RowLocked)) => pause(rt),
             answer => return answer,
         }
     }
@@ -129,7 +130,7 @@ fn give_at_last<J: SourceNaming>(
 /// Gives to the joint account. Where that is refused the transaction is taken back, so that the row is free for others, who may try for it
 /// without an end. One that is queued already is not: `abort` is refused then.
 fn give<J: SourceNaming>(
-    rt: &impl Wait,
+    rt: &(impl Wait + Clock),
     source: &Source<J>,
     seat: &mut SessionSeat<J>,
 ) -> Result<Receipt<J>, Trouble> {
@@ -142,7 +143,7 @@ fn give<J: SourceNaming>(
 }
 
 fn add_and_commit<J: SourceNaming>(
-    rt: &impl Wait,
+    rt: &(impl Wait + Clock),
     source: &Source<J>,
     seat: &mut SessionSeat<J>,
 ) -> Result<Receipt<J>, Trouble> {
@@ -173,14 +174,14 @@ fn set(column: u8, value: i64) -> Result<Change, Trouble> {
 
 /// Commits what the seat wrote. Where memory lacks it stays where it is in the stages, and the same call takes it up there.
 fn commit<J: SourceNaming>(
-    rt: &impl Wait,
+    rt: &(impl Wait + Clock),
     source: &Source<J>,
     seat: &mut SessionSeat<J>,
 ) -> Result<Receipt<J>, Trouble> {
     source.prepare(rt, seat)?;
     for _ in rt.forever() {
         match source.commit(rt, seat) {
-            Err(SourceFault::Memory) => yield_now(),
+            Err(SourceFault::Memory) => pause(rt),
             answer => return Ok(answer?),
         }
     }

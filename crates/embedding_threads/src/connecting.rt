@@ -16,7 +16,8 @@ use source_core::SourceFault;
 use source_shared::{SharedSource, SourceNaming};
 use std::alloc::Global;
 use std::sync::Wait;
-use std::thread::yield_now;
+use std::thread::sleep;
+use std::time::{Clock, Duration};
 use uuid::Uuid;
 
 /// The source's identifier.
@@ -60,9 +61,9 @@ pub fn new_replica<K: ReplicaNaming>(
 }
 
 /// The wire: sends what is synced, as soon as it is, until the source was closed and all is sent; then tells the replica that no more
-/// comes. It gives up for no want of memory, since readers wait for what it sends.
+/// comes. For want of memory it never gives up, since readers wait for what it sends: it tries again each millisecond.
 pub fn carry<J: SourceNaming, K: ReplicaNaming>(
-    rt: &impl Wait,
+    rt: &(impl Wait + Clock),
     alloc: Global,
     source: &Source<J>,
     replica: &Replica<K>,
@@ -74,14 +75,14 @@ pub fn carry<J: SourceNaming, K: ReplicaNaming>(
 
 /// Without room in the vector the bytes are those of one record at a time, for which the source asks for memory.
 fn send<J: SourceNaming, K: ReplicaNaming>(
-    rt: &impl Wait,
+    rt: &(impl Wait + Clock),
     alloc: Global,
     source: &Source<J>,
     replica: &Replica<K>,
 ) -> Result<(), Trouble> {
     let mut wire = Wire::new(alloc, Uuid::from_bytes(SOURCE));
+    let mut sent = replica.status(rt).received;
     let mut bytes = Vec::new(alloc);
-    let mut sent = 0u64;
     for _ in rt.forever() {
         bytes.clear();
         match source.bytes_past(rt, sent, &mut bytes) {
@@ -90,7 +91,7 @@ fn send<J: SourceNaming, K: ReplicaNaming>(
                 feed(rt, replica, &mut wire, &bytes)?;
                 sent = sent.saturating_add(count);
             }
-            Err(SourceFault::Memory) => yield_now(),
+            Err(SourceFault::Memory) => pause(rt),
             Err(fault) => return Err(fault.into()),
         }
     }
@@ -100,7 +101,7 @@ fn send<J: SourceNaming, K: ReplicaNaming>(
 /// Hands the bytes over, and calls again where memory lacks: with the same bytes where none of them was taken, else with none, for the
 /// records that wait.
 fn feed<K: ReplicaNaming>(
-    rt: &impl Wait,
+    rt: &(impl Wait + Clock),
     replica: &Replica<K>,
     wire: &mut Wire,
     bytes: &[u8],
@@ -114,23 +115,28 @@ fn feed<K: ReplicaNaming>(
             Err(WireFault::Replica(ReplicaFault::Memory)) => piece = &[],
             Err(fault) => return Err(fault),
         }
-        yield_now();
+        pause(rt);
     }
     unreachable!()
 }
 
-/// A worker: executes what comes until all is committed behind the replica's `close`. One that lacks memory is called again, since readers
-/// wait for what it left.
+/// A worker: executes what comes until all is committed behind the replica's `close`. One that lacks memory is called again, each
+/// millisecond, since readers wait for what it left.
 pub fn work<K: ReplicaNaming>(
-    rt: &impl Wait,
+    rt: &(impl Wait + Clock),
     alloc: Global,
     replica: &Replica<K>,
 ) -> Result<(), ReplicaFault> {
     for _ in rt.forever() {
         match replica.worker(rt, alloc, &NoGate) {
-            Err(ReplicaFault::Memory) => yield_now(),
+            Err(ReplicaFault::Memory) => pause(rt),
             ended => return ended,
         }
     }
     unreachable!()
+}
+
+/// Waits for a millisecond, in which memory may come back, or a row be let go.
+pub fn pause(rt: &impl Clock) {
+    sleep(rt, Duration::from_millis(1));
 }

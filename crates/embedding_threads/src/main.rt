@@ -20,6 +20,7 @@ use commit_order_tracker::CommitOrder;
 use connecting::{Replica, SOURCE, Source, carry, new_replica, work};
 use log_device::MemoryDevice;
 use published::Answer;
+use replica_core::ReplicaCore;
 use replica_shared::ReplicaNaming;
 use rows::Row;
 use schema::{Schema, Table};
@@ -31,6 +32,7 @@ use std::marker::Brand;
 use std::process::ExitCode;
 use std::sync::Wait;
 use std::thread::{Threads, join};
+use std::time::Clock;
 use store_trait::Batch;
 use trouble::Trouble;
 use uuid::Uuid;
@@ -72,19 +74,19 @@ fn tell(rt: &impl Print, told: &Told) -> io::Result<()> {
 }
 
 /// Opens both sides over a schema and the joint account, and runs them.
-fn open<R: Threads + Wait + Sync>(rt: &R, alloc: Global) -> Result<Told, Trouble> {
+fn open<R: Threads + Wait + Clock + Sync>(rt: &R, alloc: Global) -> Result<Told, Trouble> {
     let tables = vec![in alloc; Table::new(ACCOUNTS, 2, true)]?;
+    let schema = Schema::new(tables)?;
+    let source = Uuid::from_bytes(SOURCE);
+    let empty = Row::new(&[0, 0]).ok_or(Trouble::Misfit)?;
+    let joint = vec![in alloc; (row(JOINT), Some(empty))]?;
+    let joint = Batch::from_entries(joint).ok_or(Trouble::Misfit)?;
     let parts = PairParts {
         rows: BTreeStore::new(alloc),
         copy: BTreeStore::new(alloc),
         tracker: CommitOrder,
         device: MemoryDevice::new(alloc),
     };
-    let schema = Schema::new(tables)?;
-    let source = Uuid::from_bytes(SOURCE);
-    let empty = Row::new(&[0, 0]).ok_or(Trouble::Misfit)?;
-    let joint = vec![in alloc; (row(JOINT), Some(empty))]?;
-    let joint = Batch::from_entries(joint).ok_or(Trouble::Misfit)?;
     // 1000 records at most, two workers, and commits in the order of the log.
     let pair = pair_of(alloc, schema, source, &joint, 1000, 2, true, parts)?;
     let pair = pair.ok_or(Trouble::Misfit)?;
@@ -99,7 +101,11 @@ fn open<R: Threads + Wait + Sync>(rt: &R, alloc: Global) -> Result<Told, Trouble
 }
 
 /// Runs both sides, each under a name of its own, up to their end.
-fn run<J: SourceNaming + Send + Sync, K: ReplicaNaming + Send + Sync, R: Threads + Wait + Sync>(
+fn run<
+    J: SourceNaming + Send + Sync,
+    K: ReplicaNaming + Send + Sync,
+    R: Threads + Wait + Clock + Sync,
+>(
     rt: &R,
     alloc: Global,
     pair: Pair<BTreeStore, CommitOrder, MemoryDevice>,
@@ -130,15 +136,30 @@ fn run<J: SourceNaming + Send + Sync, K: ReplicaNaming + Send + Sync, R: Threads
     // No thread is left, whatever they came to. A publisher has to be closed; a source may be dropped.
     let (replica, publisher) = replica.end();
     drop(publisher.close(rt));
+    let told = compare(source, &replica, met);
+    drop(replica);
+    told
+}
+
+/// What is told once no thread is left. A source that ends wants the receipts that it gave.
+fn compare<J: SourceNaming>(
+    source: Source<J>,
+    replica: &ReplicaCore<BTreeStore>,
+    met: Result<(Vec<Receipt<J>>, Told), Trouble>,
+) -> Result<Told, Trouble> {
     let (receipts, mut told) = met?;
     let source = source.end(&receipts);
-    told.is_beginning = begins(&source, &replica);
+    told.is_beginning = begins(&source, replica);
     Ok(told)
 }
 
 /// What both sides do between their opening and their end. Of two closures the one that waits for the other is the first: readers wait for
 /// workers, these for the wire, the wire for the sessions, and these for nobody.
-fn meet<J: SourceNaming + Send + Sync, K: ReplicaNaming + Send + Sync, R: Threads + Wait + Sync>(
+fn meet<
+    J: SourceNaming + Send + Sync,
+    K: ReplicaNaming + Send + Sync,
+    R: Threads + Wait + Clock + Sync,
+>(
     rt: &R,
     alloc: Global,
     source: &Source<J>,
