@@ -1,5 +1,7 @@
 //! What crates of tests make alike: rows, changes, tables, the text of a fault, and a call's second try.
 
+ghost use Rattle.std.specs.Prelude.{◌≡◌, IfOk};
+
 use rows::{Change, Named, Row};
 use schema::{Memory, RowId, Schema, Table};
 use std::alloc::{AllocError, Global};
@@ -20,6 +22,17 @@ macro_rules! again {
             done => done,
         }
     };
+}
+
+/// The value in a box, for which a refused request is made once more. To let go of a box is one call, which is proved once; a big value
+/// is gone through at each way out of the test that owns it.
+pub fn boxed<T: Drop>(alloc: Global, value: T) -> Result<Box<T>, AllocError>
+    ensures { IfOk result (λ made. made.value ≡ value) }
+{
+    match Box::new(alloc, value) {
+        Ok(made) => Ok(made),
+        Err(refused) => Ok(Box::new(alloc, refused.value)?),
+    }
 }
 
 /// The row of this key in this table.

@@ -9,12 +9,19 @@ use std::alloc::{AllocError, Global};
 use std::process::Abort;
 use std::test::Fail;
 use tests_log::common::source;
-use tests_stores::common::is_told;
+use tests_stores::common::{boxed, is_told};
 
 /// A device over a file without content that fails its `nth` call. There is room for what the tests write.
-fn device(alloc: Global, nth: u64, outcome: Outcome) -> Result<FileDevice<NotingFile>, AllocError> {
+fn device(
+    alloc: Global,
+    nth: u64,
+    outcome: Outcome,
+) -> Result<Box<FileDevice<NotingFile>>, AllocError> {
     let file = NotingFile::failing(alloc, nth, outcome)?;
-    Ok(FileDevice::new(file, Vec::with_capacity(alloc, 1000)?))
+    boxed(
+        alloc,
+        FileDevice::new(file, Vec::with_capacity(alloc, 1000)?),
+    )
 }
 
 /// Whether the file was asked just this.
@@ -49,7 +56,7 @@ fn ask(device: &mut FileDevice<NotingFile>) -> Result<(usize, [u8; 8]), DeviceFa
 fn what_a_file_is_asked(rt: HostRuntime) -> Result<(), Fail> {
     let mut device = device(rt.alloc(), 0, Outcome::None)?;
     assert_eq!(rt; ask(&mut device), Ok((6, [5, 0, 6, 7, 0, 0, 9, 9])));
-    let file = device.into_file();
+    let file = Box::into_inner(device).into_file();
     let wanted = [
         "write 2 [6, 7, 8]",
         "sync",
@@ -84,7 +91,7 @@ fn fails_at(rt: &(impl Abort + AllocGlobal), nth: usize, left: &[u8]) -> Result<
     );
     assert_eq!(rt; device.failures().saturating_add(nth as u64), 6);
     assert!(rt; device.error().is_some());
-    let file = device.into_file();
+    let file = Box::into_inner(device).into_file();
     assert!(rt; is_asked(rt.alloc(), &file, &calls[..nth.min(4)])?);
     assert_eq!(rt; file.into_content().bytes(), left);
     Ok(())
@@ -157,7 +164,8 @@ fn a_log_on_a_file_that_fails(rt: HostRuntime) -> Result<(), Fail> {
     // gate and a sync.
     for outcome in [Outcome::None, Outcome::Half] {
         for nth in 1..16 {
-            let (synced, file) = write_log(rt.alloc(), device(rt.alloc(), nth, outcome)?)?;
+            let device = Box::into_inner(device(rt.alloc(), nth, outcome)?);
+            let (synced, file) = write_log(rt.alloc(), device)?;
             let wanted = match nth {
                 1 | 2 => None,
                 _ => Some((nth - 3) / 4),

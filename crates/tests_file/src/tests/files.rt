@@ -13,6 +13,7 @@ use std::rt::Files;
 use std::test::Fail;
 use std::{fs, process};
 use tests_log::common::source;
+use tests_stores::common::boxed;
 
 /// A path for such files, which no other process has.
 pub fn path_of(rt: &HostRuntime, name: &str) -> Result<String, AllocError> {
@@ -24,7 +25,7 @@ pub fn path_of(rt: &HostRuntime, name: &str) -> Result<String, AllocError> {
 fn log_on<R: Files<File = File> + AllocGlobal>(
     rt: &R,
     path: &str,
-) -> Result<LogFile<FileDevice<File>>, Fail> {
+) -> Result<Box<LogFile<FileDevice<File>>>, Fail> {
     let device = FileDevice::open(rt, rt.alloc(), path)?;
     let opened = if device.len() == 0 {
         LogFile::create(rt.alloc(), device, source())
@@ -32,7 +33,7 @@ fn log_on<R: Files<File = File> + AllocGlobal>(
         LogFile::open(rt.alloc(), device)
     };
     match opened {
-        Ok(log) => Ok(log),
+        Ok(log) => Ok(boxed(rt.alloc(), log)?),
         Err((fault, _)) => Err(fault)?,
     }
 }
@@ -80,7 +81,7 @@ fn a_log_on_a_file_goes_on(rt: HostRuntime) -> Result<(), Fail> {
 }
 
 fn is_held<R: Files<File = File> + AllocGlobal + Abort>(rt: &R, path: &str) -> Result<(), Fail> {
-    let mut device = FileDevice::open(rt, rt.alloc(), path)?;
+    let mut device = boxed(rt.alloc(), FileDevice::open(rt, rt.alloc(), path)?)?;
     device.write_at(2, &[1, 2])?;
     assert!(rt; matches!(FileDevice::open(rt, rt.alloc(), path), Err(OpenFault::Busy)));
     device.write_at(6, &[])?;

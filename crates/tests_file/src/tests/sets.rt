@@ -17,6 +17,7 @@ use std::rt::Files;
 use std::test::Fail;
 use tests_log::common::source;
 use tests_stores::again;
+use tests_stores::common::boxed;
 
 /// The first file of a log in two: the insert of (1, 10) = [5, 6], gno 1, sequence 1, parent 0. The group's gate is byte 32, and the
 /// last one is open.
@@ -53,10 +54,13 @@ fn created<D: Device + Drop>(alloc: Global, device: D) -> Result<LogFile<D>, Log
 }
 
 /// A log of that file alone.
-fn new_set<D: Device + Drop>(alloc: Global, device: D) -> Result<LogSet<D>, LogFault> {
+fn new_set<D: Device + Drop>(alloc: Global, device: D) -> Result<Box<LogSet<D>>, LogFault> {
     match LogSet::new(alloc, created(alloc, device)?) {
-        Ok(set) => Ok(set),
-        Err((_, file)) => LogSet::new(alloc, file).map_err(|_| LogFault::Memory),
+        Ok(set) => Ok(boxed(alloc, set)?),
+        Err((_, file)) => {
+            let set = LogSet::new(alloc, file).map_err(|_| LogFault::Memory)?;
+            Ok(boxed(alloc, set)?)
+        }
     }
 }
 
@@ -78,7 +82,7 @@ fn rotate<D: Device>(set: &mut LogSet<D>, device: D) -> Result<(), (LogFault, D)
 }
 
 /// A log in several files, which have so many groups.
-fn set_of(alloc: Global, groups: &[u64]) -> Result<LogSet<MemoryDevice>, LogFault> {
+fn set_of(alloc: Global, groups: &[u64]) -> Result<Box<LogSet<MemoryDevice>>, LogFault> {
     let mut set = new_set(alloc, MemoryDevice::new(alloc))?;
     for (at, count) in groups.iter().enumerate() {
         if at > 0 {
@@ -107,11 +111,11 @@ fn texts_again<D: Device>(alloc: Global, set: &LogSet<D>) -> Result<Vec<Vec<u8>>
 /// Compares the texts of all files, and what stands on their devices.
 fn has_texts(
     rt: &(impl Abort + AllocGlobal),
-    set: LogSet<MemoryDevice>,
+    set: Box<LogSet<MemoryDevice>>,
     wanted: &[&[u8]],
 ) -> Result<(), Fail> {
     let texts = texts_again(rt.alloc(), &set)?;
-    let (past, last) = set.into_devices();
+    let (past, last) = Box::into_inner(set).into_devices();
     assert_eq!(rt; (texts.len(), past.len() + 1), (wanted.len(), wanted.len()));
     for (text, wanted) in texts.iter().zip(wanted) {
         assert_eq!(rt; text.as_slice(), *wanted);
@@ -210,14 +214,15 @@ fn fails_at(
 /// The log of one group takes nothing more, and so many files are found on its device and the one that it handed back.
 fn is_left(
     rt: &(impl Abort + AllocGlobal),
-    set: LogSet<FaultyDevice<MemoryDevice>>,
+    set: Box<LogSet<FaultyDevice<MemoryDevice>>>,
     back: FaultyDevice<MemoryDevice>,
     files: usize,
 ) -> Result<(), Fail> {
     let mut set = set;
     assert_eq!(rt; put_next(rt.alloc(), &mut set), Err(LogFault::Device));
     assert_eq!(rt; (set.records().len(), set.firsts()), (1, [1].as_slice()));
-    let mut devices = [set.into_devices().1.into_inner(), back.into_inner()];
+    let (_, last) = Box::into_inner(set).into_devices();
+    let mut devices = [last.into_inner(), back.into_inner()];
     assert_eq!(rt; found_on(rt.alloc(), &mut devices)?, (files, 2));
     Ok(())
 }
@@ -245,12 +250,13 @@ fn devices_with(alloc: Global, contents: &[&[u8]]) -> Result<Vec<MemoryDevice>, 
 }
 
 /// The log on devices with these contents.
-fn open_on(alloc: Global, contents: &[&[u8]]) -> Result<LogSet<MemoryDevice>, LogFault> {
-    match open(alloc, devices_with(alloc, contents)?) {
-        Err((LogFault::Memory, devices)) => open(alloc, devices).map_err(|e| e.0),
-        Err((fault, _)) => Err(fault),
-        Ok(set) => Ok(set),
-    }
+fn open_on(alloc: Global, contents: &[&[u8]]) -> Result<Box<LogSet<MemoryDevice>>, LogFault> {
+    let set = match open(alloc, devices_with(alloc, contents)?) {
+        Err((LogFault::Memory, devices)) => open(alloc, devices).map_err(|e| e.0)?,
+        Err((fault, _)) => return Err(fault),
+        Ok(set) => set,
+    };
+    Ok(boxed(alloc, set)?)
 }
 
 /// The log on these devices; without one there is none.
@@ -297,7 +303,7 @@ fn a_file_behind_an_unfinished_one_is_dropped_again(rt: HostRuntime) -> Result<(
     let mut set = open_on(alloc, &[&open_end, &SECOND[..33]])?;
     assert_eq!(rt; (set.records().len(), set.firsts()), (1, [1].as_slice()));
     put_next(alloc, &mut set)?;
-    let (past, last) = set.into_devices();
+    let (past, last) = Box::into_inner(set).into_devices();
     assert_eq!(rt; (past.len(), last.bytes().len()), (0, 101 + 4 + 56 + 1));
     Ok(())
 }

@@ -4,12 +4,13 @@ use log_device::{CrashDevice, Device, DeviceFault, MemoryDevice};
 use std::alloc::AllocError;
 use std::test::Fail;
 use tests_stores::again;
+use tests_stores::common::boxed;
 
 /// A write that finds no memory past some length; a fill that is not zeros; a short read that spoils its room; a cut at the
 /// wrong end.
 #[test]
 fn writes_reads_and_cuts_again(rt: HostRuntime) -> Result<(), Fail> {
-    let mut device = MemoryDevice::new(rt.alloc());
+    let mut device = boxed(rt.alloc(), MemoryDevice::new(rt.alloc()))?;
     for (at, bytes) in [(2, [6, 7, 8]), (5_000_000, [1, 2, 3])] {
         again!(device.write_at(at, &bytes))?;
     }
@@ -29,7 +30,7 @@ fn writes_reads_and_cuts_again(rt: HostRuntime) -> Result<(), Fail> {
 /// may be left.
 #[test]
 fn what_a_crash_may_leave_again(rt: HostRuntime) -> Result<(), Fail> {
-    let mut device = CrashDevice::new(rt.alloc());
+    let mut device = boxed(rt.alloc(), CrashDevice::new(rt.alloc()))?;
     again!(device.write_at(1, &[1, 2]))?;
     again!(device.sync())?;
     again!(device.cut(2))?;
@@ -55,7 +56,7 @@ fn what_a_crash_may_leave_again(rt: HostRuntime) -> Result<(), Fail> {
 /// A failed write of which a crash leaves nothing.
 #[test]
 fn a_failed_write_may_stand(rt: HostRuntime) -> Result<(), Fail> {
-    let mut device = CrashDevice::failing(rt.alloc(), 1);
+    let mut device = boxed(rt.alloc(), CrashDevice::failing(rt.alloc(), 1))?;
     assert_eq!(rt; device.write_at(0, &[5]), Err(DeviceFault::Failed));
     assert_eq!(rt; device.len(), 0);
     if device.moments() == 1 {
@@ -72,7 +73,7 @@ fn a_failed_write_may_stand(rt: HostRuntime) -> Result<(), Fail> {
 /// A cut that every crash leaves made, or none does; a failed cut of which a crash leaves nothing.
 #[test]
 fn a_failed_cut_may_stand(rt: HostRuntime) -> Result<(), Fail> {
-    let mut device = CrashDevice::failing(rt.alloc(), 3);
+    let mut device = boxed(rt.alloc(), CrashDevice::failing(rt.alloc(), 3))?;
     if device.write_at(0, &[5, 6]).is_err() || device.sync().is_err() {
         return Err(AllocError)?;
     }

@@ -5,7 +5,7 @@ use schema::{Flags, Mark, Memory, RowId};
 use std::alloc::Global;
 use std::test::Fail;
 use tests_stores::again;
-use tests_stores::common::{five_tables, row};
+use tests_stores::common::{boxed, five_tables, row};
 
 fn rows(alloc: Global, list: &[RowId]) -> Result<Rows, Memory> {
     Ok(Rows::new(again!(list.to_vec(alloc))?))
@@ -62,16 +62,17 @@ fn push_next(log: &mut Log, footprint: Footprint) -> Result<(), Memory> {
 /// A copy that finds no memory past some number of rows or marks.
 #[test]
 fn an_entry_at_the_bound_is_copied_again(rt: HostRuntime) -> Result<(), Fail> {
-    let mut entry = Entry {
+    let entry = Entry {
         sequence: 1,
         parent: 0,
         session: 256,
         footprint: footprint(rt.alloc(), row(4, 9), row(3, 1))?,
     };
+    let mut entry = boxed(rt.alloc(), entry)?;
     entry.footprint.writes = rows(rt.alloc(), &[row(4, 9); 1024])?;
     entry.footprint.refs = rows(rt.alloc(), &[row(3, 1); 2048])?;
     entry.footprint.marks = marks(rt.alloc(), &[Mark::new(4, 5); 2048])?;
-    let copy = again!(entry.copy())?;
+    let copy = boxed(rt.alloc(), again!(entry.copy())?)?;
     assert_eq!(rt; copy.footprint.writes.list().len(), 1024);
     assert_eq!(rt; copy.footprint.refs.list().len(), 2048);
     assert_eq!(rt; copy.footprint.marks.list().len(), 2048);

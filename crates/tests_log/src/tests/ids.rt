@@ -6,6 +6,7 @@ use schema::Gtid;
 use std::alloc::{AllocError, Global};
 use std::test::Fail;
 use tests_stores::again;
+use tests_stores::common::boxed;
 use uuid::Uuid;
 
 /// The identifier of `source`.
@@ -89,7 +90,7 @@ fn intervals_are_read_again(rt: HostRuntime) -> Result<(), Fail> {
 /// An id that is told to be new and is not, that is put beside an interval, or that joins no two.
 #[test]
 fn ids_are_put_in_again(rt: HostRuntime) -> Result<(), Fail> {
-    let mut set = GtidSet::new(rt.alloc());
+    let mut set = boxed(rt.alloc(), GtidSet::new(rt.alloc()))?;
     assert!(rt; set.is_empty() && set.source().is_none());
     for (gno, new, wanted) in [
         (7, true, ":7"),

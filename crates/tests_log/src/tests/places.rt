@@ -11,6 +11,7 @@ use record_codec::{CodecFault, Version};
 use std::alloc::Global;
 use std::test::Fail;
 use tests_stores::again;
+use tests_stores::common::boxed;
 use uuid::Uuid;
 
 /// The place behind a file of the source, which goes on with this gno.
@@ -154,7 +155,10 @@ fn two_files() -> ([u8; 101], [u8; 101]) {
 #[test]
 fn two_files_are_one_log_again(rt: HostRuntime) -> Result<(), Fail> {
     let (alloc, (first, second)) = (rt.alloc(), two_files());
-    let all = again!(LogFault::Memory => joined(alloc, &first, &second))?;
+    let all = boxed(
+        alloc,
+        again!(LogFault::Memory => joined(alloc, &first, &second))?,
+    )?;
     assert_eq!(rt; (all.first(), all.records().len()), (1, 2));
     assert_eq!(rt; all.groups().len(), 2);
     let text = again!(all.file_text(alloc, 1, 0, 1, true))?;

@@ -7,6 +7,7 @@ use record_codec::{Record, Version, encode, encoded_len, record_in, same_records
 use std::alloc::Global;
 use std::test::Fail;
 use tests_stores::again;
+use tests_stores::common::boxed;
 
 /// Whether the record is written as these bytes in this form, and read from them.
 fn is_spelled(
@@ -50,11 +51,11 @@ fn records_are_spelled_again(rt: HostRuntime) -> Result<(), Fail> {
 fn the_greatest_record_again(rt: HostRuntime) -> Result<(), Fail> {
     for (version, marks) in [(Version::One, 0), (Version::Two, 2048)] {
         let bytes = greatest(rt.alloc(), version)?;
-        let record = decode_again(rt.alloc(), version, &bytes)?;
+        let record = boxed(rt.alloc(), decode_again(rt.alloc(), version, &bytes)?)?;
         assert_eq!(rt; record.refs.rows().len(), 2048);
         assert_eq!(rt; record.marks.list().len(), marks);
         assert_eq!(rt; record.changes.list().len(), 1024);
-        let copy = again!(record.copy())?;
+        let copy = boxed(rt.alloc(), again!(record.copy())?)?;
         assert!(rt;
             is_spelled(rt.alloc(), version, &copy, &bytes)?,
             "{version:?}"
@@ -68,7 +69,7 @@ fn the_greatest_record_again(rt: HostRuntime) -> Result<(), Fail> {
 fn a_group_of_three_again(rt: HostRuntime) -> Result<(), Fail> {
     let records = three(rt.alloc())?;
     let group = group_of(rt.alloc(), Version::Two, &records)?;
-    let copy = again!(group.copy())?;
+    let copy = boxed(rt.alloc(), again!(group.copy())?)?;
     assert_eq!(rt;
         (copy.first(), copy.last(), copy.bytes().len()),
         (1, 3, 185_507)

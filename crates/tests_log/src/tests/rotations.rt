@@ -11,6 +11,7 @@ use std::alloc::Global;
 use std::process::Abort;
 use std::test::Fail;
 use tests_stores::again;
+use tests_stores::common::boxed;
 
 /// The header of a file whose first record is to have the gno 5.
 const HEADER: [u8; 32] = [
@@ -140,14 +141,19 @@ fn of_one(alloc: Global, nth: u64) -> Result<LogFile<CrashDevice>, LogFault> {
     }
 }
 
+/// The file of these bytes.
+fn opened_on(alloc: Global, bytes: Vec<u8>) -> Result<Box<LogFile<MemoryDevice>>, LogFault> {
+    let file = LogFile::open(alloc, MemoryDevice::of(bytes)).map_err(|e| e.0)?;
+    Ok(boxed(alloc, file)?)
+}
+
 /// Opens both files: the old one has its record, and where it is finished the next one goes on behind that.
 fn open_both(rt: &(impl Abort + AllocGlobal), old: Vec<u8>, next: &[u8]) -> Result<(), Fail> {
     let alloc = rt.alloc();
-    let file = LogFile::open(alloc, MemoryDevice::of(old)).map_err(|e| e.0)?;
+    let file = opened_on(alloc, old)?;
     assert_eq!(rt; (file.first(), file.records().len()), (1, 1));
     if file.finished() {
-        let next = MemoryDevice::of(next.to_vec(alloc)?);
-        let file = LogFile::open(alloc, next).map_err(|e| e.0)?;
+        let file = opened_on(alloc, next.to_vec(alloc)?)?;
         assert_eq!(rt;
             (file.first(), file.finished(), file.records().len()),
             (2, false, 0)

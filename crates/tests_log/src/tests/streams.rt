@@ -52,11 +52,12 @@ fn two_records_cut_at_any_two_places(rt: HostRuntime) -> Result<(), Fail> {
         let (bytes, wanted) = (joined(rt.alloc(), version)?, records(rt.alloc(), version)?);
         let [_, end, ..] = ends(version);
         let bytes = bytes.get(..end).ok_or("two records")?;
+        let wanted = wanted.get(..2).ok_or("two records")?;
         for second in 0..=bytes.len() {
             let (front, back) = bytes.split_at(second);
             for first in 0..=front.len() {
                 let (one, two) = front.split_at(first);
-                is_whole_with_each(&rt, version, [one, two, back], &wanted[..2])?;
+                is_whole_with_each(&rt, version, [one, two, back], wanted)?;
             }
         }
     }

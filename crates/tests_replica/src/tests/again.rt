@@ -19,12 +19,12 @@ use tests_stores::again;
 use tests_stores::common::{insert, row, unique_tables};
 
 /// A replica of no rows, of tables with unique columns.
-fn new_replica(alloc: Global) -> Result<Replica, Memory> {
+fn new_replica(alloc: Global) -> Result<Box<Replica>, Memory> {
     replica_over(alloc, unique_tables(alloc)?, BTreeStore::new(alloc), 2)
 }
 
 /// The same, which commits in the order in which jobs are finished.
-fn new_unordered(alloc: Global) -> Result<Replica, Memory> {
+fn new_unordered(alloc: Global) -> Result<Box<Replica>, Memory> {
     unordered_over(alloc, unique_tables(alloc)?, 2)
 }
 

@@ -80,7 +80,7 @@ fn three_hundred_commits_are_published_in_parts(rt: HostRuntime) -> Result<(), F
 }
 
 /// A replica of the rows that the greatest record writes, and of 2048 others.
-fn large_replica(alloc: Global) -> Result<Replica, Memory> {
+fn large_replica(alloc: Global) -> Result<Box<Replica>, Memory> {
     let mut store = BTreeStore::new(alloc);
     store.put_all(&rows_of_greatest(alloc, Some(-1))?)?;
     replica_of(alloc, store, 1)

@@ -53,7 +53,7 @@ fn moves(alloc: Global) -> Result<Record, Memory> {
 }
 
 /// A replica of the rows that it moves.
-fn replica_of_moves(alloc: Global) -> Result<Replica, Memory> {
+fn replica_of_moves(alloc: Global) -> Result<Box<Replica>, Memory> {
     let mut store = BTreeStore::new(alloc);
     store.put_all(&rows_of_greatest(alloc, None)?)?;
     replica_over(alloc, family(alloc)?, store, 1)

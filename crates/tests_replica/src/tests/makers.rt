@@ -110,12 +110,13 @@ fn new_replica(
     store: BTreeStore,
     workers: usize,
     preserve: bool,
-) -> Result<Replica, Memory>
+) -> Result<Box<Replica>, Memory>
     requires some { 1 ≤ workers }
     requires few { workers ≤ 64 }
 {
     if fits(&schema, &store) {
-        ReplicaCore::new(alloc, schema, source(), store, workers, preserve)
+        let core = ReplicaCore::new(alloc, schema, source(), store, workers, preserve)?;
+        Ok(common::boxed(alloc, core)?)
     } else {
         Err(Memory)
     }
@@ -127,7 +128,7 @@ pub fn replica_over(
     schema: Schema,
     store: BTreeStore,
     workers: usize,
-) -> Result<Replica, Memory>
+) -> Result<Box<Replica>, Memory>
     requires some { 1 ≤ workers }
     requires few { workers ≤ 64 }
 {
@@ -135,7 +136,7 @@ pub fn replica_over(
 }
 
 /// The same of these rows.
-pub fn replica_of(alloc: Global, store: BTreeStore, workers: usize) -> Result<Replica, Memory>
+pub fn replica_of(alloc: Global, store: BTreeStore, workers: usize) -> Result<Box<Replica>, Memory>
     requires some { 1 ≤ workers }
     requires few { workers ≤ 64 }
 {
@@ -143,7 +144,7 @@ pub fn replica_of(alloc: Global, store: BTreeStore, workers: usize) -> Result<Re
 }
 
 /// The same of no rows.
-pub fn replica(alloc: Global, workers: usize) -> Result<Replica, Memory>
+pub fn replica(alloc: Global, workers: usize) -> Result<Box<Replica>, Memory>
     requires some { 1 ≤ workers }
     requires few { workers ≤ 64 }
 {
@@ -151,7 +152,7 @@ pub fn replica(alloc: Global, workers: usize) -> Result<Replica, Memory>
 }
 
 /// A new replica of these tables and no rows, which commits in the order in which jobs are finished.
-pub fn unordered_over(alloc: Global, schema: Schema, workers: usize) -> Result<Replica, Memory>
+pub fn unordered_over(alloc: Global, schema: Schema, workers: usize) -> Result<Box<Replica>, Memory>
     requires some { 1 ≤ workers }
     requires few { workers ≤ 64 }
 {
@@ -159,7 +160,7 @@ pub fn unordered_over(alloc: Global, schema: Schema, workers: usize) -> Result<R
 }
 
 /// The same of the tables of `schema`.
-pub fn unordered(alloc: Global, workers: usize) -> Result<Replica, Memory>
+pub fn unordered(alloc: Global, workers: usize) -> Result<Box<Replica>, Memory>
     requires some { 1 ≤ workers }
     requires few { workers ≤ 64 }
 {

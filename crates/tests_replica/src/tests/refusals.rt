@@ -29,7 +29,7 @@ fn tables(alloc: Global) -> Result<Schema, Memory> {
 }
 
 /// A new replica of these tables, in which (3, 1) = [0] and its child (4, 9) = [1] are.
-fn of_tables(alloc: Global) -> Result<Replica, Memory> {
+fn of_tables(alloc: Global) -> Result<Box<Replica>, Memory> {
     let base = vec![in alloc; (row(3, 1), Row::new(&[0])), (row(4, 9), Row::new(&[1]))]?;
     let mut store = BTreeStore::new(alloc);
     store.put_all(&Batch::from_entries(base).ok_or(Memory)?)?;

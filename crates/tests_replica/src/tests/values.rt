@@ -18,7 +18,7 @@ use tests_log::common::{marks_of, record};
 use tests_stores::common::{insert, row, unique_tables, update};
 
 /// A new replica in which (1, 10) = [5] and (2, 1) = [8, 7] are.
-fn of_values(alloc: Global) -> Result<Replica, Memory> {
+fn of_values(alloc: Global) -> Result<Box<Replica>, Memory> {
     let base = vec![in alloc;
         (row(1, 10), Row::new(&[5])),
         (row(2, 1), Row::new(&[8, 7])),

@@ -1,16 +1,21 @@
 //! Which locks clash, how many there may be, and that a refused call may be made again.
 
 use row_locks::{LockFault, LockTable, MAX_SESSIONS, Mode};
-use schema::{Mark, RowId};
+use schema::{Mark, Memory, RowId};
 use std::alloc::Global;
 use std::test::Fail;
 use tests_stores::again;
-use tests_stores::common::row;
+use tests_stores::common::{boxed, row};
+
+/// A table of no locks.
+fn new_table(alloc: Global) -> Result<Box<LockTable>, Memory> {
+    Ok(boxed(alloc, LockTable::new(alloc)?)?)
+}
 
 /// Catches a definition of clashes that has the two modes in each other's place, or that forgets whose a lock is.
 #[test]
 fn two_clash_unless_both_share(rt: HostRuntime) -> Result<(), Fail> {
-    let mut locks = LockTable::new(rt.alloc())?;
+    let mut locks = new_table(rt.alloc())?;
     let (shared, own) = (row(1, 10), row(2, 10));
     locks.take(1, &[(shared, Mode::Share), (own, Mode::Exclusive)])?;
     for (session, asked, mode, clashes) in [
@@ -33,7 +38,7 @@ fn two_clash_unless_both_share(rt: HostRuntime) -> Result<(), Fail> {
 /// Catches a `take_all` that takes some where one clashes, or a row's lock that is a mark's; and marks that outlive their session.
 #[test]
 fn values_are_locked_with_their_rows(rt: HostRuntime) -> Result<(), Fail> {
-    let mut locks = LockTable::new(rt.alloc())?;
+    let mut locks = new_table(rt.alloc())?;
     let (five, six) = (Mark::new(1, 5), Mark::new(1, 6));
     let (first, second) = (
         [(row(1, 10), Mode::Exclusive)],
@@ -92,7 +97,7 @@ fn most_marks(alloc: Global) -> Result<Vec<Mark>, Fail> {
 /// Catches a `take_all` that gives up at long lists, or for good once it was refused memory.
 #[test]
 fn the_longest_lists_are_taken_again(rt: HostRuntime) -> Result<(), Fail> {
-    let mut locks = again!(LockTable::new(rt.alloc()))?;
+    let mut locks = again!(new_table(rt.alloc()))?;
     let (list, marks) = (longest_list(rt.alloc())?, most_marks(rt.alloc())?);
     again!(locks.take_all(256, &list, &marks))?;
     assert_eq!(rt; again!(locks.take(1, &list)), Err(LockFault::Clash));
@@ -108,7 +113,7 @@ fn the_longest_lists_are_taken_again(rt: HostRuntime) -> Result<(), Fail> {
 /// Catches a `take` that gives up where many hold the row.
 #[test]
 fn all_sessions_share_a_row_again(rt: HostRuntime) -> Result<(), Fail> {
-    let mut locks = again!(LockTable::new(rt.alloc()))?;
+    let mut locks = again!(new_table(rt.alloc()))?;
     let shared = [(row(256, i64::MIN), Mode::Share)];
     for session in 1..=MAX_SESSIONS {
         again!(locks.take(session, &shared))?;

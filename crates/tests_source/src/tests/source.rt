@@ -14,7 +14,7 @@ use std::process::Abort;
 use std::test::Fail;
 use store_trait::fits;
 use tests_stores::again;
-use tests_stores::common::{insert, row, unique_tables};
+use tests_stores::common::{boxed, insert, row, unique_tables};
 
 /// Catches a text that no clause fixes.
 #[test]
@@ -46,13 +46,14 @@ fn texts_of_source_faults(rt: HostRuntime) -> Result<(), Fail> {
 type Source = SourceCore<BTreeStore, CommitOrder>;
 
 /// A source of no rows, of tables with unique columns.
-fn source(alloc: Global) -> Result<Source, Memory> {
+fn source(alloc: Global) -> Result<Box<Source>, Memory> {
     let schema = unique_tables(alloc)?;
     let store = BTreeStore::new(alloc);
     if !fits(&schema, &store) {
         return Err(Memory);
     }
-    SourceCore::new(alloc, schema, store, CommitOrder, 256)
+    let core = SourceCore::new(alloc, schema, store, CommitOrder, 256)?;
+    Ok(boxed(alloc, core)?)
 }
 
 /// Writes the change in a transaction of the session, and queues it.
@@ -101,17 +102,10 @@ fn commit_two(rt: &impl Abort, source: &mut Source) -> Result<(), Fail> {
     Ok(())
 }
 
-fn make_group(rt: &impl Abort, source: &mut Source) -> Result<(), Fail> {
-    sync_two(source)?;
-    commit_two(rt, source)
-}
-
-/// Catches a call that gives up for good once it was refused memory, or that keeps half of what it was to do. No `?` stands
-/// where the source is owned: each would be one more way to drop it, which costs most of a minute to prove.
+/// Catches a call that gives up for good once it was refused memory, or that keeps half of what it was to do.
 #[test]
 fn a_group_is_made_again(rt: HostRuntime) -> Result<(), Fail> {
-    match again!(source(rt.alloc())) {
-        Ok(mut source) => make_group(&rt, &mut source),
-        Err(Memory) => Err("no source")?,
-    }
+    let mut source = again!(source(rt.alloc()))?;
+    sync_two(&mut source)?;
+    commit_two(&rt, &mut source)
 }
