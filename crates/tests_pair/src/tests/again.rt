@@ -121,7 +121,9 @@ fn answer_all<S: RowStore + Drop, T: Tracker + Drop>(
 ) -> Result<(), Fail>
     requires { IsWorld S.contents (seen world) }
 {
-    answer_both(rt, alloc, &mut world, source, replica)
+    let told = answer_both(rt, alloc, &mut world, source, replica);
+    drop(world);
+    told
 }
 
 fn answer_both<S: RowStore, T: Tracker, D: Device, R: RowStore>(

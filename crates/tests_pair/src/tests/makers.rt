@@ -219,11 +219,11 @@ fn world_of<S: RowStore + Drop, T: Tracker + Drop>(
     requires shown { S.contents shown ≡ empty }
     ensures { IfOk result (λ world. IsWorld S.contents (seen world)) }
 {
-    let identifier = Uuid::from_bytes(SOURCE);
+    let (identifier, spare) = (Uuid::from_bytes(SOURCE), spare(alloc)?);
     match pair_of(
         alloc, schema, identifier, &base, LIMIT, workers, preserve, parts,
     )? {
-        Some(sides) => Ok(sides.into_world(alloc, base, shown, spare(alloc)?)?),
+        Some(sides) => Ok(sides.into_world(alloc, base, shown, spare)?),
         None => Err(LogFault::OutOfTurn),
     }
 }

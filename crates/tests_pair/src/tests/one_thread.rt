@@ -83,12 +83,36 @@ fn over_source<J: SourceNaming + Send + Sync, R: Threads + Wait + Abort + Sync>(
     requires named { (core.base ≡ J.base) × (core.tables ≡ J.tables) × (receipts ≡ J.book) }
     requires replica { replica ≡ new_over replica.tables replica.source replica.base replica.workers replica.preserve }
 {
-    let source: Source<J> = SharedSource::new(alloc, core, log, receipts)?;
-    let publication = published::Beginning::of(replica.base().copy()?);
-    let ended = over_both::<J, Brand, R>(rt, alloc, course, &source, replica, publication)?;
-    let (receipts, core) = ended;
-    assert!(rt; begins(&source.end(&receipts), &core));
-    Ok(())
+    let source: Source<J> = match SharedSource::new(alloc, core, log, receipts) {
+        Ok(source) => source,
+        Err(fault) => {
+            drop(replica);
+            return Err(fault)?;
+        }
+    };
+    let base = match replica.base().copy() {
+        Ok(base) => base,
+        Err(refused) => {
+            drop(source);
+            drop(replica);
+            return Err(refused)?;
+        }
+    };
+    let publication = published::Beginning::of(base);
+    match over_both::<J, Brand, R>(rt, alloc, course, &source, replica, publication) {
+        Ok((receipts, core)) => {
+            let source = source.end(&receipts);
+            let is_beginning = begins(&source, &core);
+            drop(source);
+            drop(core);
+            assert!(rt; is_beginning);
+            Ok(())
+        }
+        Err(fail) => {
+            drop(source);
+            Err(fail)
+        }
+    }
 }
 
 /// Opens the replica, with one seat. It answers the source's receipts, and the replica's core.
@@ -111,8 +135,14 @@ where
 {
     let (first, second) = (BTreeStore::new(alloc), BTreeStore::new(alloc));
     let preserve = core.preserve();
-    let opened = open::<_, K, R, LeftRight>(rt, alloc, publication, preserve, first, second, 1)?;
-    let (publisher, seats) = opened;
+    let opened = open::<_, K, R, LeftRight>(rt, alloc, publication, preserve, first, second, 1);
+    let (publisher, seats) = match opened {
+        Ok(opened) => opened,
+        Err(fault) => {
+            drop(core);
+            return Err(fault)?;
+        }
+    };
     let replica: Replica<K> = SharedReplica::new(rt, alloc, core, publisher, seats)?;
     let met = Rig {
         rt,
@@ -122,7 +152,13 @@ where
     }
     .run(course);
     let core = core_of(rt, replica);
-    Ok((met?, core))
+    match met {
+        Ok(receipts) => Ok((receipts, core)),
+        Err(fail) => {
+            drop(core);
+            Err(fail)
+        }
+    }
 }
 
 /// The core of a replica that has ended.

@@ -1,7 +1,6 @@
-use Rattle.std.proofs.Common.{◌≡◌, refl, sym, subst, ℕ, ℤ, List, Option}
+use Rattle.std.proofs.Common.{◌≡◌, refl, sym, subst, ℕ, List}
 use Rattle.std.specs.FinMap.{empty}
 use Rattle.std.specs.Option.{IfSome}
-use Rattle.schema.specs.declared.RowId.{RowId}
 use Rattle.schema.specs.declared.Table.{Table}
 use Rattle.store_trait.specs.Batch.{Entry, put_batch, all_rows}
 use Rattle.tracker_trait.specs.Kind.{Kind}
@@ -17,6 +16,5 @@ into_world-requires-clause-source g c =
     let s = c.in-Some.sides.source in
     let base : List Entry = all_rows (put_batch c.args.base empty) in
     let kind : Kind = g.T.Tracker.kind c.args.parts.tracker in
-    subst (λ (entries : List (RowId × Option (List ℤ))). s ≡ new_source s.tables (all_rows (put_batch entries empty)) s.limit s.kind) (sym c.base.view_is)
-    (new_of_its_own s c.args.schema base 66000 kind
-    (subst (λ o. IfSome o (λ pair. pair.source ≡ new_source c.args.schema base 66000 kind)) c.in-Some.is c.in_ok-sides.ensures.source))
+    new_of_its_own s c.args.schema base 66000 kind
+    (subst (λ o. IfSome o (λ pair. pair.source ≡ new_source c.args.schema base 66000 kind)) c.in-Some.is c.in_ok-sides.ensures.source)
