@@ -8,7 +8,7 @@
 ghost use Rattle.std.specs.Prelude.{◌≡◌};
 
 use log_index::{Footprint, Log};
-use tracker_trait::Tracker;
+use tracker_trait::{Resumable, Tracker};
 use write_set::WriteSet;
 
 /// It answers order parents. It has no state.
@@ -32,4 +32,8 @@ impl Tracker for CommitOrder {
     ) -> u64 {
         order_parent
     }
+}
+
+impl Resumable for CommitOrder {
+    fn observe(&mut self, _log: &Log, _t: &Footprint, _w: &WriteSet) {}
 }

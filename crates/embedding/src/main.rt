@@ -5,17 +5,17 @@
 //! `docs/EMBEDDING.md` goes through it.
 #![tactic(auto)]
 
-ghost use Rattle.std.specs.Prelude.{◌≡◌, true};
+ghost use Rattle.std.specs.Prelude.{◌≡◌};
 ghost use Rattle.source_core.specs.Source.{new_source};
-ghost use Rattle.replica_core.specs.Calls.{new_over};
 ghost use Rattle.log_file.specs.Log.{IsNew};
+ghost use Rattle.replica_shared.specs.Names.{OpensReplica};
 
 mod connecting;
 mod trouble;
 
 use btree_store::BTreeStore;
 use commit_order_tracker::CommitOrder;
-use connecting::{Replica, SOURCE, Source, TRIES, new_replica, pause, send};
+use connecting::{Replica, Source, TRIES, new_replica, pause, send};
 use log_device::MemoryDevice;
 use published::{Answer, ReadSeat};
 use relay::ReplicaFault;
@@ -30,6 +30,7 @@ use std::fmt::Display;
 use std::io;
 use std::marker::Brand;
 use std::process::ExitCode;
+use std::random::RandomSource;
 use std::sync::Wait;
 use std::thread::{Threads, join};
 use std::time::Clock;
@@ -86,12 +87,15 @@ fn balance(row: &Option<Row>) -> i64 {
 }
 
 /// Opens both sides over a schema and two owners, and runs them.
-fn open<R: Threads + Wait + Clock + Sync>(rt: &R, alloc: Global) -> Result<Told, Trouble> {
+fn open<R: RandomSource + Threads + Wait + Clock + Sync>(
+    rt: &R,
+    alloc: Global,
+) -> Result<Told, Trouble> {
     let owners = Table::new(OWNERS, 1, true).with_unique(0);
     let accounts = Table::new(ACCOUNTS, 2, true).child_of(0, OWNERS);
     let tables = vec![in alloc; owners, accounts]?;
     let schema = Schema::new(tables)?;
-    let source = Uuid::from_bytes(SOURCE);
+    let source = Uuid::try_new_v4(rt).map_err(|error| Trouble::NoIdentifier(error))?;
     let base = two_owners(alloc)?;
     let parts = PairParts {
         rows: BTreeStore::new(alloc),
@@ -135,25 +139,20 @@ fn run<
 ) -> Result<Told, Trouble>
     requires source { pair.source ≡ new_source pair.source.tables pair.source.base pair.source.limit pair.source.kind }
     requires log { IsNew pair.log.log }
-    requires replica { pair.replica ≡ new_over pair.replica.tables pair.replica.source pair.replica.base pair.replica.workers true }
     requires source_base { pair.source.base ≡ J.base }
     requires source_tables { pair.source.tables ≡ J.tables }
     requires receipts { receipts ≡ J.book }
-    requires replica_tables { pair.replica.tables ≡ K.tables }
-    requires replica_source { pair.replica.source ≡ K.source }
-    requires replica_base { pair.replica.base ≡ K.base }
-    requires order { K.preserve ≡ true }
-    requires publication { publication.book ≡ K.book }
-    requires published { publication.base ≡ pair.replica.base }
+    requires replica { OpensReplica K.names K.preserve K.book pair.replica publication }
 {
     let Pair {
         source,
         log,
         replica,
     } = pair;
+    let from = replica.source();
     let source: Source<J> = SharedSource::new(alloc, source, log, receipts)?;
     let replica: Replica<K> = new_replica(rt, alloc, replica, publication)?;
-    let met = meet(rt, alloc, &source, &replica);
+    let met = meet(rt, alloc, from, &source, &replica);
     // No thread is left, whatever they came to. A publisher has to be closed; a source may be dropped.
     let (replica, publisher) = replica.end();
     drop(publisher.close(rt));
@@ -183,6 +182,7 @@ fn meet<
 >(
     rt: &R,
     alloc: Global,
+    from: Uuid,
     source: &Source<J>,
     replica: &Replica<K>,
 ) -> Result<(Vec<Receipt<J>>, Told), Trouble> {
@@ -193,7 +193,7 @@ fn meet<
     );
     // However these end, each side is told that no more comes.
     source.close(rt);
-    let sent = send(rt, alloc, source, replica);
+    let sent = send(rt, alloc, from, source, replica);
     replica.close(rt);
     sent?;
     let (first, second) = (first?, second?);

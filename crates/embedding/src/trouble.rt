@@ -7,11 +7,14 @@ use replica_core::WireFault;
 use schema::{Memory, SchemaFault};
 use source_core::SourceFault;
 use std::alloc::{AllocError, AllocFailed};
+use std::io;
 use thiserror::Error;
 
 /// Why the program stops: each crate's own fault, and what does not happen over the schema and the rows of this program.
 #[derive(Clone, Copy, Debug, Error)]
 pub enum Trouble {
+    #[error("no identifier: {0}")]
+    NoIdentifier(io::Error),
     #[error("the schema: {0}")]
     Schema(#[from] SchemaFault),
     #[error("the log: {0}")]

@@ -1,26 +1,25 @@
-//! A third program of one's own over the pair, whose log is in files: `embedding_files PREFIX SESSIONS COUNT`. So many sessions commit so
-//! many transactions each, at a source whose log is in the file PREFIX.1; the log goes on in PREFIX.2, and they commit as many more. Then
-//! the source ends, both files are opened again, and their records are handed to a replica.
+//! A third program of one's own over the pair, whose log is in files and outlives its source: `embedding_files PREFIX SESSIONS COUNT`.
+//! Three sources live one after another over the log PREFIX.1, PREFIX.2 and so on. Each opens the files, or makes the log where there
+//! is none, and goes on where it ends: so many sessions commit so many transactions each. The first one goes on in a next file, and
+//! commits as many more; the last one is let go of in the middle, as a kill leaves it. Then the files are opened once more, and their
+//! records are handed to a replica. A fourth word says that fewer sources live, 1 or 2. What an earlier run left is gone on from too.
 //!
 //! `docs/EMBEDDING.md` goes through it.
 #![tactic(auto)]
 
 ghost use Rattle.std.specs.Prelude.{◌≡◌};
-ghost use Rattle.source_core.specs.Source.{new_source};
-ghost use Rattle.log_file.specs.Log.{IsNew};
+ghost use Rattle.source_core.specs.AtLog.{source_at};
+ghost use Rattle.source_shared.specs.Engine.{HoldsAll};
 
-mod files;
+mod opening;
 mod sessions;
+mod showing;
 mod trouble;
 
-use btree_store::BTreeStore;
-use commit_order_tracker::CommitOrder;
-use files::feed;
-use replica_core::ReplicaCore;
-use schema::{Schema, Table};
-use sessions::{ROWS, Source, commit_all, seats};
-use source_core::SourceCore;
-use source_shared::{Receipt, SharedSource, SourceNaming};
+use opening::{Opened, open_or_make};
+use sessions::{Source, commit_all, leave_open, seats};
+use showing::show;
+use source_shared::{Beginning, Receipt, SharedSource, SourceNaming};
 use std::alloc::Global;
 use std::env::Args;
 use std::fmt::Display;
@@ -28,36 +27,32 @@ use std::fs::File;
 use std::io::Write;
 use std::marker::Brand;
 use std::process::ExitCode;
+use std::random::RandomSource;
 use std::rt::Files;
 use std::sync::Wait;
 use std::thread::Threads;
 use std::time::Clock;
 use std::{env, io};
-use store_trait::Batch;
-use stored_log::{OnFile, next_file};
+use stored_log::next_file;
 use trouble::Trouble;
-use uuid::Uuid;
-use world::{Pair, PairParts, begins, pair_of};
-
-/// The source's identifier.
-const SOURCE: [u8; 16] = [7; 16];
 
 /// So many sessions there may be.
 const SESSIONS: u32 = 16;
 
-/// So many transactions each of them may commit in each file.
+/// So many transactions each of them may commit at a time.
 const COUNT: u32 = 1000000;
 
-/// So many records the log may have: those that so many sessions commit in both files.
-const RECORDS: u64 = 2 * SESSIONS as u64 * COUNT as u64;
+/// So many sources live one after another, unless a word says fewer.
+const LIVES: u32 = 3;
 
 /// What the words ask for.
 #[derive(Drop)]
 struct Asked {
-    /// The path of the log's files, which end with .1 and .2.
+    /// The path of the log's files, which end with .1, .2 and so on.
     prefix: String,
     sessions: u16,
     count: u32,
+    lives: u32,
 }
 
 fn main(rt: HostRuntime) -> ExitCode {
@@ -74,14 +69,17 @@ fn fail<D: Display>(rt: &impl Eprint, why: &D) -> ExitCode {
 }
 
 /// Does what the words ask for.
-fn serve<R: Files<File = File> + Threads + Wait + Clock + Sync, W: Write>(
+fn serve<R: Files<File = File> + RandomSource + Threads + Wait + Clock + Sync, W: Write>(
     rt: &R,
     alloc: Global,
     words: io::Result<Args>,
     out: &mut W,
 ) -> Result<(), Trouble> {
     let asked = read_words(words?)?;
-    open(rt, alloc, &asked, out)
+    for life in 1..=asked.lives {
+        live(rt, alloc, &asked, life, out)?;
+    }
+    show(rt, alloc, &asked.prefix, out)
 }
 
 /// What the words ask for, of which the first is the program's name.
@@ -91,11 +89,16 @@ fn read_words(words: Args) -> Result<Asked, Trouble> {
     let sessions = number(words.next(), SESSIONS)?;
     let sessions = u16::try_from(sessions).map_err(|_| Trouble::Usage)?;
     let count = number(words.next(), COUNT)?;
+    let lives = match words.next() {
+        None => LIVES,
+        fewer => number(fewer, LIVES)?,
+    };
     match words.next() {
         None => Ok(Asked {
             prefix,
             sessions,
             count,
+            lives,
         }),
         Some(_) => Err(Trouble::Usage),
     }
@@ -110,30 +113,21 @@ fn number(word: Option<String>, most: u32) -> Result<u32, Trouble> {
     }
 }
 
-/// Opens both sides over a schema and no rows, with the log in a new file, and runs them.
-fn open<R: Files<File = File> + Threads + Wait + Clock + Sync, W: Write>(
+/// One life of a source over the log's files.
+fn live<R: Files<File = File> + RandomSource + Threads + Wait + Clock + Sync, W: Write>(
     rt: &R,
     alloc: Global,
     asked: &Asked,
+    life: u32,
     out: &mut W,
 ) -> Result<(), Trouble> {
-    let tables = vec![in alloc; Table::new(ROWS, 2, true)]?;
-    let schema = Schema::new(tables)?;
-    let source = Uuid::from_bytes(SOURCE);
-    let none = Batch::new(alloc);
-    let parts = PairParts {
-        rows: BTreeStore::new(alloc),
-        copy: BTreeStore::new(alloc),
-        tracker: CommitOrder,
-        device: next_file(rt, alloc, &asked.prefix, 1)?,
-    };
-    // One worker, and commits in the order of the log.
-    let pair = pair_of(alloc, schema, source, &none, RECORDS, 1, true, parts)?;
-    let pair = pair.ok_or(Trouble::Misfit)?;
-    run::<Brand, R, W>(rt, alloc, asked, pair, source_shared::Beginning::new(), out)
+    let opened = open_or_make(rt, alloc, &asked.prefix)?;
+    let next = opened.log.records().len().saturating_add(1);
+    writeln!(out, "life {life} goes on at {next}")?;
+    run::<Brand, R, W>(rt, alloc, asked, life, opened, Beginning::new(), out)
 }
 
-/// Runs the source, under a name of its own, up to its end, and hands what its files have then to the replica.
+/// Runs the source, under a name of its own, up to its end. What is told of it outlives it, also where it is let go of.
 fn run<
     J: SourceNaming + Send + Sync,
     R: Files<File = File> + Threads + Wait + Clock + Sync,
@@ -142,73 +136,26 @@ fn run<
     rt: &R,
     alloc: Global,
     asked: &Asked,
-    pair: Pair<BTreeStore, CommitOrder, OnFile>,
-    receipts: source_shared::Beginning,
+    life: u32,
+    opened: Opened,
+    receipts: Beginning,
     out: &mut W,
 ) -> Result<(), Trouble>
-    requires source { pair.source ≡ new_source pair.source.tables pair.source.base pair.source.limit pair.source.kind }
-    requires log { IsNew pair.log.log }
-    requires source_base { pair.source.base ≡ J.base }
-    requires source_tables { pair.source.tables ≡ J.tables }
+    requires core { opened.core ≡ source_at opened.core.tables opened.core.base opened.core.limit opened.core.kind opened.core.log }
+    requires log { HoldsAll opened.log.log opened.core.log }
+    requires base { opened.core.base ≡ J.base }
+    requires tables { opened.core.tables ≡ J.tables }
     requires receipts { receipts ≡ J.book }
 {
-    let Pair {
-        source,
-        log,
-        mut replica,
-    } = pair;
-    let source: Source<J> = SharedSource::new(alloc, source, log, receipts)?;
-    let receipts = commit_in_both(rt, alloc, asked, &source, out);
-    let told = end_and_show(rt, alloc, asked, source, receipts, &mut replica, out);
-    drop(replica);
-    told
+    let Opened { core, log } = opened;
+    let files = log.firsts().len();
+    let source: Source<J> = SharedSource::resume(alloc, core, log, receipts)?;
+    let receipts = commit_and_tell(rt, alloc, asked, life, files, &source, out);
+    end(rt, life, source, receipts)
 }
 
-/// Ends the source, whose sessions were given these receipts, and shows what its files hold.
-fn end_and_show<J: SourceNaming, R: Files<File = File> + Wait, W: Write>(
-    rt: &R,
-    alloc: Global,
-    asked: &Asked,
-    source: Source<J>,
-    receipts: Result<Vec<Receipt<J>>, Trouble>,
-    replica: &mut ReplicaCore<BTreeStore>,
-    out: &mut W,
-) -> Result<(), Trouble> {
-    let receipts = receipts?;
-    source.close(rt);
-    // The devices go with the shared source: so the files are closed, and may be opened again.
-    let source = source.end(&receipts);
-    let shown = show(rt, alloc, asked, &source, replica, out);
-    drop(source);
-    shown
-}
-
-/// Opens the log's files, hands what they hold to the replica, and shows what came of it.
-fn show<R: Files<File = File>, W: Write>(
-    rt: &R,
-    alloc: Global,
-    asked: &Asked,
-    source: &SourceCore<BTreeStore, CommitOrder>,
-    replica: &mut ReplicaCore<BTreeStore>,
-    out: &mut W,
-) -> Result<(), Trouble> {
-    let log = stored_log::open(rt, alloc, &asked.prefix)?;
-    let log = log.ok_or(Trouble::NoLog)?;
-    let (records, files) = (log.records().len(), log.firsts().len());
-    let fed = feed(alloc, log.source(), log.records(), replica);
-    drop(log);
-    writeln!(out, "{records} records in {files} files")?;
-    fed?;
-    let committed = replica.committed();
-    writeln!(out, "{committed} commits at the replica")?;
-    let is_beginning = begins(source, replica);
-    writeln!(out, "a beginning of the source's log: {is_beginning}")?;
-    Ok(out.flush()?)
-}
-
-/// All sessions commit in the first file, and in the next one, and how many commits that makes is told. It answers the last receipt of
-/// each session in each file.
-fn commit_in_both<
+/// Commits what one life does, and tells how many commits are in its log's files then.
+fn commit_and_tell<
     J: SourceNaming + Send + Sync,
     R: Files<File = File> + Threads + Wait + Clock + Sync,
     W: Write,
@@ -216,16 +163,57 @@ fn commit_in_both<
     rt: &R,
     alloc: Global,
     asked: &Asked,
+    life: u32,
+    files: usize,
     source: &Source<J>,
     out: &mut W,
 ) -> Result<Vec<Receipt<J>>, Trouble> {
-    let seats = seats(rt, alloc, source, asked.sessions)?;
-    let mut receipts = commit_all(rt, alloc, source, &seats, 0, asked.count)?;
-    let next = next_file(rt, alloc, &asked.prefix, 2)?;
-    source.rotate(rt, next)?;
-    let mut more = commit_all(rt, alloc, source, &seats, asked.count, asked.count)?;
-    receipts.append(&mut more)?;
+    let receipts = commit_in_life(rt, alloc, asked, life, files, source)?;
     writeln!(out, "{} commits", source.flushed(rt)?)?;
     out.flush()?;
+    Ok(receipts)
+}
+
+/// Ends one life. The last one is let go of as it is, as a kill leaves it, and so is one that had trouble.
+fn end<J: SourceNaming + Send + Sync, R: Wait>(
+    rt: &R,
+    life: u32,
+    source: Source<J>,
+    receipts: Result<Vec<Receipt<J>>, Trouble>,
+) -> Result<(), Trouble> {
+    let receipts = receipts?;
+    if life < LIVES {
+        source.close(rt);
+        let (core, log) = source.end_with_log(&receipts);
+        // The devices are in the log: with it the files are closed, and may be opened again.
+        drop(log);
+        drop(core);
+    }
+    Ok(())
+}
+
+/// What the sessions do in this life, over a log that has so many files. It answers the last receipt of each session in each file.
+fn commit_in_life<
+    J: SourceNaming + Send + Sync,
+    R: Files<File = File> + Threads + Wait + Clock + Sync,
+>(
+    rt: &R,
+    alloc: Global,
+    asked: &Asked,
+    life: u32,
+    files: usize,
+    source: &Source<J>,
+) -> Result<Vec<Receipt<J>>, Trouble> {
+    let seats = seats(rt, alloc, source, asked.sessions)?;
+    let mut receipts = commit_all(rt, alloc, source, &seats, asked.count)?;
+    if life == 1 {
+        let next = next_file(rt, alloc, &asked.prefix, files.saturating_add(1))?;
+        source.rotate(rt, next)?;
+        let mut more = commit_all(rt, alloc, source, &seats, asked.count)?;
+        receipts.append(&mut more)?;
+    }
+    if life == LIVES {
+        leave_open(rt, source, &seats)?;
+    }
     Ok(receipts)
 }

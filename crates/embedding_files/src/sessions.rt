@@ -1,5 +1,6 @@
 //! What the sessions commit.
 
+use crate::opening::ROWS;
 use crate::trouble::Trouble;
 use btree_store::BTreeStore;
 use commit_order_tracker::CommitOrder;
@@ -13,9 +14,6 @@ use std::thread::{Threads, map_indices, sleep};
 use std::time::{Clock, Duration};
 use stored_log::OnFile;
 
-/// The rows, each with its session and its number.
-pub const ROWS: u16 = 1;
-
 /// So often a call for which memory lacks is made again.
 const TRIES: usize = 100;
 
@@ -28,7 +26,7 @@ pub type Source<J> = SharedSource<BTreeStore, CommitOrder, OnFile, J>;
 /// The seats of the sessions, each of which a thread has for some transactions.
 pub type Seats<J> = Vec<Mutex<SessionSeat<J>>>;
 
-/// The seats of the sessions from 1 to so many. A seat is given once for the life of the source, so they are kept from file to file.
+/// The seats of the sessions from 1 to so many. A seat is given once for the life of a source, so they are kept from file to file.
 pub fn seats<J: SourceNaming>(
     rt: &impl Wait,
     alloc: Global,
@@ -43,16 +41,16 @@ pub fn seats<J: SourceNaming>(
     Ok(seats)
 }
 
-/// Each session commits so many transactions, in a thread of its own, the first of which has this number. It answers the last receipt of
-/// each.
+/// Each session commits so many transactions, in a thread of its own. The first of these has the number of records that are there: so no
+/// session takes a number again, of whichever life. It answers the last receipt of each.
 pub fn commit_all<J: SourceNaming + Send + Sync, R: Threads + Wait + Clock + Sync>(
     rt: &R,
     alloc: Global,
     source: &Source<J>,
     seats: &Seats<J>,
-    first: u32,
     count: u32,
 ) -> Result<Vec<Receipt<J>>, Trouble> {
+    let first = flushed(rt, source)?;
     let each = map_indices(
         rt,
         alloc,
@@ -66,6 +64,12 @@ pub fn commit_all<J: SourceNaming + Send + Sync, R: Threads + Wait + Clock + Syn
     Ok(receipts)
 }
 
+/// How many records the log has, all of them flushed.
+fn flushed<J: SourceNaming>(rt: &impl Wait, source: &Source<J>) -> Result<u32, Trouble> {
+    let flushed = source.flushed(rt)?;
+    u32::try_from(flushed).map_err(|_| Trouble::Misfit)
+}
+
 /// The transactions of one session. Of their receipts it answers the last: a source that runs for long keeps none of the others.
 fn commit_some<J: SourceNaming>(
     rt: &(impl Wait + Clock),
@@ -77,18 +81,31 @@ fn commit_some<J: SourceNaming>(
     let mut seat = seat.lock(rt);
     let mut last = None;
     for number in first..first.saturating_add(count) {
-        last = Some(commit(rt, source, &mut seat, number)?);
+        write(rt, source, &mut seat, number)?;
+        source.prepare(rt, &mut seat)?;
+        last = Some(commit_prepared(rt, source, &mut seat)?);
     }
     last.ok_or(Trouble::Misfit)
 }
 
-/// One transaction: a row, with its session and its number.
-fn commit<J: SourceNaming>(
-    rt: &(impl Wait + Clock),
+/// A transaction that is not committed, of the first session.
+pub fn leave_open<J: SourceNaming>(
+    rt: &impl Wait,
+    source: &Source<J>,
+    seats: &Seats<J>,
+) -> Result<(), Trouble> {
+    let seat = seats.first().ok_or(Trouble::Misfit)?;
+    let number = flushed(rt, source)?;
+    write(rt, source, &mut seat.lock(rt), number)
+}
+
+/// Begins a transaction, which writes a row with its session and its number.
+fn write<J: SourceNaming>(
+    rt: &impl Wait,
     source: &Source<J>,
     seat: &mut SessionSeat<J>,
     number: u32,
-) -> Result<Receipt<J>, Trouble> {
+) -> Result<(), Trouble> {
     let (session, number) = (i64::from(seat.session()), i64::from(number));
     let values = Row::new(&[session, number]).ok_or(Trouble::Misfit)?;
     let row = RowId {
@@ -96,9 +113,7 @@ fn commit<J: SourceNaming>(
         key: session * APART + number,
     };
     source.begin(rt, seat)?;
-    source.write(rt, seat, Change::Insert { row, values })?;
-    source.prepare(rt, seat)?;
-    Ok(commit_prepared(rt, source, seat)?)
+    Ok(source.write(rt, seat, Change::Insert { row, values })?)
 }
 
 /// Commits the seat's transaction. Where memory lacks it stays where it is in the stages, and the same call takes it up there, a

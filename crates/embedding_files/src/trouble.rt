@@ -1,6 +1,6 @@
 //! Why the program stops.
 
-use log_file::LogFault;
+use recovery::RecoveryFault;
 use relay::ReplicaFault;
 use schema::{Memory, SchemaFault};
 use source_core::SourceFault;
@@ -12,14 +12,18 @@ use thiserror::Error;
 /// Why the program stops: each crate's own fault, and what does not happen over the schema and the rows of this program.
 #[derive(Clone, Copy, Debug, Error)]
 pub enum Trouble {
-    #[error("usage: embedding_files PREFIX SESSIONS COUNT")]
+    #[error("usage: embedding_files PREFIX SESSIONS COUNT [LIVES]")]
     Usage,
     #[error("the schema: {0}")]
     Schema(#[from] SchemaFault),
     #[error("the log: {0}")]
     Log(#[from] StoreFault),
-    #[error("no log in the files")]
-    NoLog,
+    #[error("the log is of an earlier form, which no source writes")]
+    OldForm,
+    #[error("the records: {0}")]
+    Records(#[from] RecoveryFault),
+    #[error("no identifier: {0}")]
+    NoIdentifier(io::Error),
     #[error("the source: {0}")]
     Source(#[from] SourceFault),
     #[error("the replica: {0}")]
@@ -30,13 +34,6 @@ pub enum Trouble {
     Memory(#[from] Memory),
     #[error("rows that do not fit the schema")]
     Misfit,
-}
-
-// A log that is made is refused for its first file.
-impl From<LogFault> for Trouble {
-    fn from(fault: LogFault) -> Trouble {
-        Trouble::Log(StoreFault::of_content(1, fault))
-    }
 }
 
 impl From<AllocError> for Trouble {

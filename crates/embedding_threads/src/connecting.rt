@@ -1,7 +1,6 @@
 //! The replica's opening, and what carries the log to it and executes it while sessions commit.
 
-ghost use Rattle.std.specs.Prelude.{◌≡◌, true};
-ghost use Rattle.replica_core.specs.Calls.{new_over};
+ghost use Rattle.replica_shared.specs.Names.{OpensReplica};
 
 use crate::trouble::Trouble;
 use btree_store::BTreeStore;
@@ -20,9 +19,6 @@ use std::thread::sleep;
 use std::time::{Clock, Duration};
 use uuid::Uuid;
 
-/// The source's identifier.
-pub const SOURCE: [u8; 16] = [7; 16];
-
 /// So many seats all readers share.
 pub const SEATS: usize = 2;
 
@@ -39,20 +35,15 @@ pub fn new_replica<K: ReplicaNaming>(
     core: ReplicaCore<BTreeStore>,
     publication: published::Beginning,
 ) -> Result<Replica<K>, Trouble>
-    requires core { core ≡ new_over core.tables core.source core.base core.workers true }
-    requires tables { core.tables ≡ K.tables }
-    requires source { core.source ≡ K.source }
-    requires base { core.base ≡ K.base }
-    requires order { K.preserve ≡ true }
-    requires publication { publication.book ≡ K.book }
-    requires published { publication.base ≡ core.base }
+    requires { OpensReplica K.names K.preserve K.book core publication }
 {
     let (first, second) = (BTreeStore::new(alloc), BTreeStore::new(alloc));
+    let preserve = core.preserve();
     let (publisher, seats) = open::<BTreeStore, K, _, LeftRight>(
         rt,
         alloc,
         publication,
-        true,
+        preserve,
         first,
         second,
         SEATS,
@@ -65,10 +56,11 @@ pub fn new_replica<K: ReplicaNaming>(
 pub fn carry<J: SourceNaming, K: ReplicaNaming>(
     rt: &(impl Wait + Clock),
     alloc: Global,
+    from: Uuid,
     source: &Source<J>,
     replica: &Replica<K>,
 ) -> Result<(), Trouble> {
-    let sent = send(rt, alloc, source, replica);
+    let sent = send(rt, alloc, from, source, replica);
     replica.close(rt);
     sent
 }
@@ -77,10 +69,11 @@ pub fn carry<J: SourceNaming, K: ReplicaNaming>(
 fn send<J: SourceNaming, K: ReplicaNaming>(
     rt: &(impl Wait + Clock),
     alloc: Global,
+    from: Uuid,
     source: &Source<J>,
     replica: &Replica<K>,
 ) -> Result<(), Trouble> {
-    let mut wire = Wire::new(alloc, Uuid::from_bytes(SOURCE));
+    let mut wire = Wire::new(alloc, from);
     let mut sent = replica.status(rt).received;
     let mut bytes = Vec::new(alloc);
     for _ in rt.forever() {

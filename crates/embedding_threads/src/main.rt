@@ -5,10 +5,10 @@
 //! `docs/EMBEDDING.md` goes through it.
 #![tactic(auto)]
 
-ghost use Rattle.std.specs.Prelude.{◌≡◌, true};
+ghost use Rattle.std.specs.Prelude.{◌≡◌};
 ghost use Rattle.source_core.specs.Source.{new_source};
-ghost use Rattle.replica_core.specs.Calls.{new_over};
 ghost use Rattle.log_file.specs.Log.{IsNew};
+ghost use Rattle.replica_shared.specs.Names.{OpensReplica};
 
 mod clients;
 mod connecting;
@@ -17,7 +17,7 @@ mod trouble;
 use btree_store::BTreeStore;
 use clients::{ACCOUNTS, Client, JOINT, balance, pool, read, read_all, row, serve};
 use commit_order_tracker::CommitOrder;
-use connecting::{Replica, SOURCE, Source, carry, new_replica, work};
+use connecting::{Replica, Source, carry, new_replica, work};
 use log_device::MemoryDevice;
 use published::Answer;
 use replica_core::ReplicaCore;
@@ -30,6 +30,7 @@ use std::fmt::Display;
 use std::io;
 use std::marker::Brand;
 use std::process::ExitCode;
+use std::random::RandomSource;
 use std::sync::Wait;
 use std::thread::{Threads, join};
 use std::time::Clock;
@@ -74,10 +75,13 @@ fn tell(rt: &impl Print, told: &Told) -> io::Result<()> {
 }
 
 /// Opens both sides over a schema and the joint account, and runs them.
-fn open<R: Threads + Wait + Clock + Sync>(rt: &R, alloc: Global) -> Result<Told, Trouble> {
+fn open<R: RandomSource + Threads + Wait + Clock + Sync>(
+    rt: &R,
+    alloc: Global,
+) -> Result<Told, Trouble> {
     let tables = vec![in alloc; Table::new(ACCOUNTS, 2, true)]?;
     let schema = Schema::new(tables)?;
-    let source = Uuid::from_bytes(SOURCE);
+    let source = Uuid::try_new_v4(rt).map_err(|error| Trouble::NoIdentifier(error))?;
     let empty = Row::new(&[0, 0]).ok_or(Trouble::Misfit)?;
     let joint = vec![in alloc; (row(JOINT), Some(empty))]?;
     let joint = Batch::from_entries(joint).ok_or(Trouble::Misfit)?;
@@ -114,25 +118,20 @@ fn run<
 ) -> Result<Told, Trouble>
     requires source { pair.source ≡ new_source pair.source.tables pair.source.base pair.source.limit pair.source.kind }
     requires log { IsNew pair.log.log }
-    requires replica { pair.replica ≡ new_over pair.replica.tables pair.replica.source pair.replica.base pair.replica.workers true }
     requires source_base { pair.source.base ≡ J.base }
     requires source_tables { pair.source.tables ≡ J.tables }
     requires receipts { receipts ≡ J.book }
-    requires replica_tables { pair.replica.tables ≡ K.tables }
-    requires replica_source { pair.replica.source ≡ K.source }
-    requires replica_base { pair.replica.base ≡ K.base }
-    requires order { K.preserve ≡ true }
-    requires publication { publication.book ≡ K.book }
-    requires published { publication.base ≡ pair.replica.base }
+    requires replica { OpensReplica K.names K.preserve K.book pair.replica publication }
 {
     let Pair {
         source,
         log,
         replica,
     } = pair;
+    let from = replica.source();
     let source: Source<J> = SharedSource::new(alloc, source, log, receipts)?;
     let replica: Replica<K> = new_replica(rt, alloc, replica, publication)?;
-    let met = meet(rt, alloc, &source, &replica);
+    let met = meet(rt, alloc, from, &source, &replica);
     // No thread is left, whatever they came to. A publisher has to be closed; a source may be dropped.
     let (replica, publisher) = replica.end();
     drop(publisher.close(rt));
@@ -162,6 +161,7 @@ fn meet<
 >(
     rt: &R,
     alloc: Global,
+    from: Uuid,
     source: &Source<J>,
     replica: &Replica<K>,
 ) -> Result<(Vec<Receipt<J>>, Told), Trouble> {
@@ -175,7 +175,7 @@ fn meet<
             || join(rt, || work(rt, alloc, replica), || work(rt, alloc, replica)),
             || join(
                 rt,
-                || carry(rt, alloc, source, replica),
+                || carry(rt, alloc, from, source, replica),
                 || serve(rt, alloc, source, &clients),
             ),
         ),

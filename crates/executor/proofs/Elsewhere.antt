@@ -7,7 +7,7 @@ use Rattle.schema.specs.declared.RowId.{RowId}
 use Rattle.schema.specs.Rows.{has_row, SameRows}
 use Rattle.rows.specs.Database.{Database, writes, effect, kin, marks}
 use Rattle.rows.proofs.Apply.{has_row-left, has_row-right}
-use Rattle.rows.proofs.Frame.{looks_only}
+use Rattle.rows.proofs.Frame.{looks_only, same_kin, same_marks}
 use Rattle.rows.proofs.Holders.{holders_are_same}
 use Rattle.store_trait.specs.Batch.{Entry, rows_in}
 use Rattle.record_codec.specs.declared.records.Record.{Record}
@@ -40,8 +40,8 @@ good_elsewhere ts rec db other apart apart_there good look =
     record {
       leaves = same.leaves;
       applies = same.defined;
-      refs = λ q. good.refs q ∙ ap (λ l. has_row l q) (sym same.same_kin);
-      marks = λ q. good.marks q ∙ ap (λ l. has_row l q) (sym same.same_marks);
+      refs = λ q. good.refs q ∙ ap (λ l. has_row l q) (sym (same_kin same));
+      marks = λ q. good.marks q ∙ ap (λ l. has_row l q) (sym (same_marks same));
     }
 
 -- ---- what comes of a record over a database

@@ -1,5 +1,5 @@
 -- What is handed out with a record: copies of rows, and the holders of marks. And which databases a job may be of.
-use Rattle.std.proofs.Common.{◌≡◌, sym, ap, ◌∙◌, refl, ℕ, ℤ, Bool, true, false, cond, List, [], ◌∷◌, ◌++◌, map, Option, Some, None, unwrap_or, inl, inr, true≢false, is_lt, Less, ◌⊎◌}
+use Rattle.std.proofs.Common.{◌≡◌, sym, ap, ◌∙◌, refl, ℕ, ℤ, true, cond, List, [], ◌∷◌, ◌++◌, map, Option, Some, None, unwrap_or, inl, inr, true≢false, is_lt, Less, ◌⊎◌}
 use Rattle.std.specs.Prelude.{slice_get, option_and_then, option_to_list}
 use Rattle.std.specs.Option.{option_map}
 use Rattle.std.specs.FinMap.{get, empty, is_sorted}
@@ -19,8 +19,9 @@ use Rattle.rows.proofs.Apply.{has_row-right, same_row_itself}
 use Rattle.rows.proofs.Holders.{row_with, holder_there}
 use Rattle.store_trait.specs.Batch.{rows_in}
 use Rattle.store_trait.specs.Operation.{loaded}
-use Rattle.store_trait.proofs.Batches.{get-put_batch, same_batch, rows_in_rise, find-rows_in, find-of_each}
+use Rattle.store_trait.proofs.Batches.{get-put_batch, rows_in_rise, find-rows_in, find-of_each}
 use Rattle.record_codec.specs.Record.{is_rising}
+use Rattle.overlay.proofs.Follow.{rows_in-alike}
 use Rattle.executor.specs.Held.{Holder, held}
 use Rattle.executor.specs.Job.{rows_of}
 use Rattle.executor.specs.Laws.{InputIsRows, SameRowsIn, HoldersRise, HoldersAreHeld, SameHandedOver, HandedAgrees, AgreesWithoutUnique}
@@ -34,14 +35,8 @@ input_is_rows rows db q is =
     ∙ ap (λ found. unwrap_or found (get none q)) (find-rows_in rows db q)
     ∙ ap (λ b. unwrap_or (cond b (Some (get db q)) None) (get none q)) is
 
-alike : {X : Type 0} (b : Bool) (x y : X) → (b ≡ true → x ≡ y) → cond b (Some x) None ≡ cond b (Some y) None
-alike true x y same = ap Some (same refl)
-alike false x y same = refl
-
 pub same_rows_in : SameRowsIn
-same_rows_in rows a b agree =
-    same_batch (rows_in rows a) (rows_in rows b) (rows_in_rise rows a) (rows_in_rise rows b) (λ q.
-    find-rows_in rows a q ∙ alike (has_row rows q) (get a q) (get b q) (agree q) ∙ sym (find-rows_in rows b q))
+same_rows_in = rows_in-alike
 
 -- a row that is among the ones or the others
 pub in_either : (xs ys : List RowId) (q : RowId) → has_row (xs ++ ys) q ≡ true → (has_row xs q ≡ true) ⊎ (has_row ys q ≡ true)

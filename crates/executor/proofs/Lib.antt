@@ -1,4 +1,3 @@
-pub mod KeySets
 pub mod Sets
 pub mod Handed
 pub mod Searched

@@ -1,5 +1,5 @@
 -- Lists of row ids as sets: the test of two of them.
-use Rattle.std.proofs.Common.{◌≡◌, sym, ap, ◌∙◌, refl, true, false, List, [], ◌∷◌, inl, inr, true≢false}
+use Rattle.std.proofs.Common.{◌≡◌, sym, ap, ◌∙◌, refl, true, List, [], ◌∷◌, inl, inr, true≢false}
 use Rattle.std.specs.List.{list_all}
 use Rattle.std.proofs.lemmas.Bool.{and_from, and_parts, or_cases, or_left, or_right}
 use Rattle.schema.specs.declared.RowId.{RowId}

@@ -1,9 +1,8 @@
 -- Jobs and what comes of them.
-use Rattle.std.specs.Prelude.{◌≡◌, ◌⊎◌, ◌++◌, Bool, true, ◌&&◌, if◌then◌else◌, List, Option, Some, None}
+use Rattle.std.specs.Prelude.{◌≡◌, ◌⊎◌, ◌++◌, true, ◌&&◌, if◌then◌else◌, List, Option, Some, None}
 use Rattle.std.specs.Option.{option_map_or}
 use Rattle.schema.specs.declared.Table.{Table}
 use Rattle.schema.specs.declared.RowId.{RowId}
-use Rattle.schema.specs.RowId.{row_cmp}
 use Rattle.schema.specs.Rows.{Mark, has_row}
 use Rattle.rows.specs.Database.{Database, effect, writes, kin, marks, NoValueTwice}
 use Rattle.rows.specs.Frame.{AgreeOn}
@@ -11,8 +10,8 @@ use Rattle.rows.specs.Given.{given_parents, given_marks}
 use Rattle.rows.specs.Holders.{holder_of}
 use Rattle.store_trait.specs.Batch.{Entry, rows_in}
 use Rattle.store_trait.specs.Operation.{loaded}
+pub use Rattle.overlay.specs.Pending.{same_rows}
 use Rattle.record_codec.specs.declared.records.Record.{Record}
-use Rattle.executor.specs.Keys.{same_keys}
 use Rattle.executor.specs.Held.{held}
 use Rattle.executor.specs.declared.Job.{Job}
 use Rattle.executor.specs.declared.Outcome.{Outcome}
@@ -21,10 +20,6 @@ use Rattle.executor.specs.declared.Outcome.TheVariants.{Output, Undefined, Wrong
 -- the rows that are handed out with a record: those that it writes and those that it states as its refs
 abbrev pub rows_of : Record → List RowId
 rows_of rec = writes rec.changes ++ rec.refs
-
--- whether two lists are one set of rows, or of marks
-abbrev pub same_rows : List RowId → List RowId → Bool
-same_rows xs ys = same_keys row_cmp xs ys
 
 -- What comes of a record whose changes have these kin and marks, and leave these rows of those that they write: the rows, or that
 -- the record's refs or its marks are not exactly these.

@@ -1,4 +1,3 @@
-pub mod Keys
 pub mod Held
 pub mod Shown
 pub mod Job

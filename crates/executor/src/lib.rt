@@ -14,16 +14,15 @@ ghost use Rattle.std.specs.Prelude.{◌≡◌, ◌⊎◌, ◌↔◌, IsTrue, IfO
 ghost use Rattle.rows.specs.Database.{Database};
 ghost use Rattle.executor.specs.Job.{outcome_of, outcome_over, output_of, Agrees, IsResult};
 
+mod changes;
 mod holders;
-mod keys;
-mod kin;
 pub mod laws;
 mod room;
 mod same;
 
+use changes::run_changes;
 pub use holders::Holders;
-use keys::are_exactly;
-use kin::{Run, run_changes};
+use overlay::Pending;
 use record_codec::{Record, same_records};
 pub use room::Room;
 use same::{same_batches, same_holders, same_schemas};
@@ -217,7 +216,7 @@ fn run(room: &mut Room, job: &Job) -> Result<Outcome, Memory>
     room.rows.put_all(&job.input)?;
     let changes = job.rec.changes.list();
     let applies = run_changes(
-        &mut room.run,
+        &mut room.pending,
         &job.schema,
         &job.holders,
         &room.rows,
@@ -226,19 +225,16 @@ fn run(room: &mut Room, job: &Job) -> Result<Outcome, Memory>
     if !applies {
         return Ok(Outcome::Undefined);
     }
-    outcome_of(&job.rec, &mut room.run)
+    outcome_of(&job.rec, &mut room.pending, room.alloc)
 }
 
-/// What comes of a record whose changes were run: the rows that they leave, where it states their kin and their marks. The lists of
-/// both are sorted here.
-fn outcome_of(rec: &Record, run: &mut Run) -> Result<Outcome, Memory>
-    ensures { IfOk result (λ outcome. outcome ≡ outcome_of rec.now run.old.kin.items run.old.marks.items run.old.overlay.left) }
+/// What comes of a record whose changes were run: the rows that they leave, where it states their kin and their marks, which are sorted
+/// here.
+fn outcome_of(rec: &Record, pending: &mut Pending, alloc: Global) -> Result<Outcome, Memory>
+    ensures { IfOk result (λ outcome. outcome ≡ outcome_of rec.now pending.old.kin pending.old.marks pending.old.left) }
 {
-    if !are_exactly(rec.refs.rows(), &mut run.kin)
-        || !are_exactly(rec.marks.list(), &mut run.marks)
-    {
+    if !pending.touches_exactly(rec.refs.list(), rec.marks.list()) {
         return Ok(Outcome::WrongRefs);
     }
-    let alloc = run.alloc();
-    Ok(Outcome::Output(run.overlay.batch(alloc)?))
+    Ok(Outcome::Output(pending.batch(alloc)?))
 }

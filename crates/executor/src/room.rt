@@ -1,7 +1,7 @@
 //! The room of jobs that were executed, for those that come.
 
 use crate::Job;
-use crate::kin::Run;
+use overlay::Pending;
 use std::alloc::Global;
 use vector_store::VectorStore;
 
@@ -18,7 +18,8 @@ const MOST_ROWS: usize = 3 * MOST_CHANGES;
 #[derive(Debug, Drop)]
 pub struct Room {
     pub(crate) rows: VectorStore,
-    pub(crate) run: Run,
+    pub(crate) pending: Pending,
+    pub(crate) alloc: Global,
 }
 
 impl Room {
@@ -26,15 +27,15 @@ impl Room {
     pub fn new(alloc: Global) -> Room {
         Room {
             rows: VectorStore::new(alloc),
-            run: Run::new(alloc),
+            pending: Pending::new(alloc),
+            alloc,
         }
     }
 
     /// Keeps the memory behind this job, or gives it back where the job had many changes or rows. It takes none.
     pub(crate) fn keep_behind(&mut self, job: &Job) {
         if job.rec.changes.list().len() > MOST_CHANGES || job.input.entries().len() > MOST_ROWS {
-            let alloc = self.run.alloc();
-            *self = Room::new(alloc);
+            *self = Room::new(self.alloc);
         }
     }
 }

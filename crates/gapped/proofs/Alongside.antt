@@ -14,6 +14,7 @@ use Rattle.rows.specs.Database.{Database, writes, effect, parent_of, parent_in, 
 use Rattle.rows.specs.Frame.{SameEffect}
 use Rattle.rows.proofs.Apply.{has_row-right, parent_alike}
 use Rattle.rows.proofs.Effect.{changes_only_writes, changes_only_marks, values_stay_apart}
+use Rattle.rows.proofs.Frame.{same_kin, same_marks}
 use Rattle.rows.proofs.Holders.{holders_are_same}
 use Rattle.rows.proofs.Parents.{left_parent_is_kin}
 use Rattle.record_codec.specs.declared.records.Record.{Record}
@@ -243,8 +244,8 @@ alongside_taken ts gnos log whole left next along before good kept is =
     let there : IsGood ts next left = record {
       leaves = same.leaves;
       applies = same.defined;
-      refs = λ q. good.refs q ∙ ap (λ l. has_row l q) (sym same.same_kin);
-      marks = λ q. good.marks q ∙ ap (λ l. has_row l q) (sym same.same_marks);
+      refs = λ q. good.refs q ∙ ap (λ l. has_row l q) (sym (same_kin same));
+      marks = λ q. good.marks q ∙ ap (λ l. has_row l q) (sym (same_marks same));
     } in
     let others = waiting_taken ts gnos log left next along.left_apart along.waiting before there in
     record {

@@ -44,6 +44,8 @@ impl Ending {
 pub enum Stop {
     /// A file of the log was refused or failed, or memory ran out.
     Store(StoreFault),
+    /// The system gave no random bytes for an identifier. This is what it said.
+    NoIdentifier(io::Error),
     /// The log's last file was refused or failed.
     Log(LogFault),
     /// The log has an earlier form, in which it has one file alone.
@@ -143,7 +145,7 @@ impl Stop {
                     ..
                 },
             ) => Ending::BadLog,
-            Stop::Store(_) => Ending::Failed,
+            Stop::Store(_) | Stop::NoIdentifier(_) => Ending::Failed,
             Stop::Log(LogFault::Device | LogFault::Memory) => Ending::Failed,
             Stop::Log(_) | Stop::OneFile | Stop::Replica { .. } | Stop::Schema(_) => Ending::BadLog,
             Stop::Stream => Ending::Stream,
@@ -168,6 +170,7 @@ impl Stop {
                 "{prefix}.{number}: {fault}"
             ),
             Stop::Store(StoreFault::Memory) => writeln!(errors, "{}", LogFault::Memory),
+            Stop::NoIdentifier(error) => writeln!(errors, "no identifier: {error}"),
             Stop::Log(fault) => writeln!(errors, "{prefix}: {fault}"),
             Stop::OneFile => writeln!(
                 errors,

@@ -6,7 +6,7 @@ use Rattle.std.proofs.Math.ListN.{set}
 use Rattle.std.proofs.lemmas.List.{take-append-le, drop-append-le, take_all, length-drop}
 use Rattle.std.proofs.lemmas.List.Sums.{sum_by-cons}
 use Rattle.world.specs.declared.events.Event.{Event}
-use Rattle.mtr.specs.declared.kept.Kept.{Kept}
+use Rattle.mtr.specs.declared.kept.KeptEvent.{KeptEvent}
 use Rattle.mtr.specs.Events.{AreWhole, Keeps, one_or_none, width_of, event_of, events_of, events_in}
 
 nothing : (columns : List ℤ) → 0 ≡ length columns → columns ≡ []
@@ -14,7 +14,7 @@ nothing [] e = refl
 nothing (c ∷ cs) e = absurd (omega arith)
 
 -- an event more, with its columns
-pub events_more : (kept : List Kept) (k : Kept) (columns own : List ℤ) → sum_by width_of kept ≡ length columns → width_of k ≡ length own →
+pub events_more : (kept : List KeptEvent) (k : KeptEvent) (columns own : List ℤ) → sum_by width_of kept ≡ length columns → width_of k ≡ length own →
     events_of (kept ++ k ∷ []) (columns ++ own) ≡ events_of kept columns ++ event_of k own ∷ []
 events_more [] k columns own sum width =
     let none : columns ≡ [] = nothing columns sum in
@@ -30,7 +30,7 @@ events_more (x ∷ xs) k columns own sum width =
     ∙ ap (λ events. event_of x (take w columns) ∷ events) (events_more xs k (drop w columns) own left width)
 
 -- what is kept of an event that was tried, behind others
-pub kept_more : (kept : List Kept) (columns new : List ℤ) (event : Option Event) (k : Kept) → AreWhole kept columns → Keeps event (Some k) columns new →
+pub kept_more : (kept : List KeptEvent) (columns new : List ℤ) (event : Option Event) (k : KeptEvent) → AreWhole kept columns → Keeps event (Some k) columns new →
     events_of (kept ++ k ∷ []) new ≡ events_of kept columns ++ one_or_none event
 kept_more kept columns new event k h keeps =
     ap (events_of (kept ++ k ∷ [])) keeps.2 ∙ events_more kept k columns keeps.0 h.width keeps.4 ∙ ap (λ e. events_of kept columns ++ one_or_none e) (sym keeps.1)

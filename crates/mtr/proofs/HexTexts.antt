@@ -149,7 +149,6 @@ some_alike (x ∷ xs) (y ∷ ys) e =
     ap₂ (λ z zs. z ∷ zs) first (some_alike xs ys rest)
 
 pub says_digits : {V : Type 0} (items : V → List ℕ) (o : Option V) (text digits : List ℕ) → digits_read text ≡ map Some digits
-    → MatchOption o ((bytes : List ℕ) → digits ≡ digits_of bytes → ⊥) (λ v. digits ≡ digits_of (items v))
-    → MatchResult (ok_or o stops.BadHexadecimal) (λ v. SaysBytes text (items v)) (IsUnread text)
+    → MatchOption o ((bytes : List ℕ) → digits ≡ digits_of bytes → ⊥) (λ v. digits ≡ digits_of (items v)) → MatchResult (ok_or o stops.BadHexadecimal) (λ v. SaysBytes text (items v)) (IsUnread text)
 says_digits items (Some v) text digits e h = e ∙ ap (map Some) h
 says_digits items None text digits e h = λ bytes says. h bytes (some_alike digits (digits_of bytes) (sym e ∙ says))

@@ -1,17 +1,18 @@
 -- Columns that are put behind others, word by word.
-use Rattle.std.proofs.Common.{◌≡◌, ◌∙◌, sym, ap, refl, ℕ, ◌+◌, ◌*◌, ◌%◌, ◌^◌, ◌<◌, ◌≤◌, ◌⊎◌, Bool, true, false, cond, ◌&&◌, leb, nat_le, nat_lt, List, [], ◌∷◌, ◌++◌, length, map, sum_by}
-use Rattle.std.proofs.Common.{count_ones, take, ℤ, Option, Some, None, inl, inr, append_assoc, append-nil, length-append, add-one, arith}
-use Rattle.std.proofs.lemmas.List.{length-map, take-append-le, take_all}
+use Rattle.std.proofs.Common.{◌≡◌, ◌∙◌, sym, ap, refl, ℕ, ◌+◌, ◌*◌, ◌^◌, ◌<◌, ◌≤◌, ◌⊎◌, Bool, true, false, cond, ◌&&◌, leb, nat_le, nat_lt, List, [], ◌∷◌, ◌++◌, length, map, sum_by}
+use Rattle.std.proofs.Common.{count_ones, ℤ, Option, Some, None, inl, inr, append_assoc, append-nil, length-append, arith}
+use Rattle.std.proofs.lemmas.List.{length-map}
 use Rattle.std.proofs.lemmas.List.Sums.{sum_by-append, sum_by-cons}
 use Rattle.std.specs.Option.{option_map}
-use Rattle.std.proofs.Math.Nat.{pow-suc, pow-le-pow_right}
+use Rattle.std.proofs.Math.Nat.{pow-le-pow_right}
+use Rattle.std.proofs.lemmas.Grind.{pow_more}
 use Rattle.std.proofs.lemmas.Bool.{and_right}
 use Rattle.std.proofs.lemmas.Bool.Decides.{nat_tests}
 use lib.Count.{ones_cat, ones-ones}
 use Rattle.rows.specs.Naming.{NamedColumns, rise_from, naming_from}
 use Rattle.mtr.proofs.WordLists.{then_rest, then_first, front_more, no_item, item_past, all_read, no_row}
 use Rattle.mtr.specs.Number.{integer}
-use Rattle.mtr.specs.Words.{Word, ◌>>=◌, first_word, all_in, row_in, assignment, naming_in, PutsNumbers, PutsValues, PutsRow, PutsNamed}
+use Rattle.mtr.specs.Words.{Word, ◌>>=◌, first_word, all_in, row_in, assignment, naming_in, PutsNumbers, PutsValues}
 
 -- ---- numbers
 
@@ -29,48 +30,44 @@ same_items (Some r) = refl
 pub put_none : (words : List Word) (old : List ℤ) → PutSoFar words words 0 old old
 put_none words old = record { own = []; stand = sym (append-nil old); so_far = same_items (all_in integer words); many = refl }
 
-pub put_more : (initial words rest : List Word) (word : Word) (count : ℕ) (old new after : List ℤ) (x written : ℤ) → PutSoFar initial words count old new →
-    first_word words ≡ Some (word, rest) → integer word ≡ Some x → written ≡ x → after ≡ new ++ written ∷ [] → PutSoFar initial rest (count + 1) old after
-put_more initial words rest word count old new after x written h first e same is = record {
-  own = h.own ++ x ∷ [];
-  stand = is ∙ ap (λ y. new ++ y ∷ []) same ∙ ap (λ l. l ++ x ∷ []) h.stand ∙ append_assoc old h.own (x ∷ []);
-  so_far = front_more integer h.own words rest word x first e ∙ h.so_far;
-  many = length-append h.own (x ∷ []) ∙ ap (λ n. n + 1) h.many;
-}
-
 abbrev row_of : Option (List ℤ) → Option (List ℤ)
 row_of o = o >>= λ columns. cond (leb 1 (length columns) && leb (length columns) 16) (Some columns) None
-
--- a word that is no number,
-pub put_refused : (initial words rest : List Word) (word : Word) (count : ℕ) (old new : List ℤ) → PutSoFar initial words count old new → first_word words ≡ Some (word, rest) → integer word ≡ None →
-    PutsNumbers (row_in initial) old new None
-unfolding row_in
-put_refused initial words rest word count old new h first none = (h.own, ap row_of (no_item integer h.own initial words rest word none first h.so_far), h.stand)
-
--- a word behind sixteen numbers,
-pub put_full : (initial words rest : List Word) (word : Word) (count : ℕ) (old new : List ℤ) → PutSoFar initial words count old new → first_word words ≡ Some (word, rest) → count ≡ 16 →
-    PutsNumbers (row_in initial) old new None
-put_full initial words rest word count old new h first full =
-    (h.own, sym (no_row initial count full (λ all is. omega (arith, h.many, item_past integer h.own initial words rest word all first h.so_far is))), h.stand)
 
 without : (own : List ℤ) → length own ≡ 0 → row_of (Some own) ≡ None
 without own none = let b : (leb 1 (length own) && leb (length own) 16) ≡ false = grind (arith, nat_tests) in ap (λ b. cond b (Some own) None) b
 
--- no word at all,
-pub put_nothing : (initial words : List Word) (count : ℕ) (old new : List ℤ) → PutSoFar initial words count old new → words ≡ [] → count ≡ 0 → PutsNumbers (row_in initial) old new None
-unfolding row_in
-put_nothing initial words count old new h none zero_count =
-    (h.own, ap row_of (all_read integer h.own words initial none h.so_far) ∙ without h.own (h.many ∙ zero_count), h.stand)
-
 fits : (own : List ℤ) (n : ℕ) → 1 ≤ n → n ≤ 16 → length own ≡ n → row_of (Some own) ≡ Some own
 fits own n some few many = let b : (leb 1 (length own) && leb (length own) 16) ≡ true = grind (arith, nat_tests) in ap (λ b. cond b (Some own) None) b
 
--- and all words
-pub put_all : (initial words : List Word) (count : ℕ) (old new : List ℤ) → PutSoFar initial words count old new → words ≡ [] → 1 ≤ count → count ≤ 16 →
-    PutsNumbers (row_in initial) old new (Some count)
-unfolding row_in
-put_all initial words count old new h none some few =
-    (h.own, ap row_of (all_read integer h.own words initial none h.so_far) ∙ fits h.own count some few h.many, h.stand, some, few, sym h.many)
+module _ {initial words : List Word} {count : ℕ} {old new : List ℤ} (h : PutSoFar initial words count old new) where
+  pub put_more : {rest : List Word} {word : Word} {x written : ℤ} {after : List ℤ} → first_word words ≡ Some (word, rest) → integer word ≡ Some x → written ≡ x → after ≡ new ++ written ∷ [] →
+      PutSoFar initial rest (count + 1) old after
+  put_more {rest = rest} {word = word} {x = x} first e same is = record {
+    own = h.own ++ x ∷ [];
+    stand = is ∙ ap (λ y. new ++ y ∷ []) same ∙ ap (λ l. l ++ x ∷ []) h.stand ∙ append_assoc old h.own (x ∷ []);
+    so_far = front_more integer h.own words rest word x first e ∙ h.so_far;
+    many = length-append h.own (x ∷ []) ∙ ap (λ n. n + 1) h.many;
+  }
+
+  -- a word that is no number,
+  pub put_refused : {rest : List Word} {word : Word} → first_word words ≡ Some (word, rest) → integer word ≡ None → PutsNumbers (row_in initial) old new None
+  unfolding row_in
+  put_refused {rest = rest} {word = word} first none = (h.own, ap row_of (no_item integer h.own initial words rest word none first h.so_far), h.stand)
+
+  -- a word behind sixteen numbers,
+  pub put_full : {rest : List Word} {word : Word} → first_word words ≡ Some (word, rest) → count ≡ 16 → PutsNumbers (row_in initial) old new None
+  put_full {rest = rest} {word = word} first full =
+      (h.own, sym (no_row initial count full (λ all is. omega (arith, h.many, item_past integer h.own initial words rest word all first h.so_far is))), h.stand)
+
+  -- no word at all,
+  pub put_nothing : words ≡ [] → count ≡ 0 → PutsNumbers (row_in initial) old new None
+  unfolding row_in
+  put_nothing none zero_count = (h.own, ap row_of (all_read integer h.own words initial none h.so_far) ∙ without h.own (h.many ∙ zero_count), h.stand)
+
+  -- and all words
+  pub put_all : words ≡ [] → 1 ≤ count → count ≤ 16 → PutsNumbers (row_in initial) old new (Some count)
+  unfolding row_in
+  put_all none some few = (h.own, ap row_of (all_read integer h.own words initial none h.so_far) ∙ fits h.own count some few h.many, h.stand, some, few, sym h.many)
 
 -- ---- columns that are named
 
@@ -85,45 +82,13 @@ pub record NamedSoFar (initial words : List Word) (least mask : ℕ) (old new : 
   pub few : least ≤ 16
   pub each : count_ones mask ≡ length pairs
 
-pub named_none : (words : List Word) (old : List ℤ) → NamedSoFar words words 0 0 old old
-named_none words old = record {
-  pairs = [];
-  stand = sym (append-nil old);
-  so_far = same_items (all_in assignment words);
-  rises = λ more. refl;
-  columns = refl;
-  below = omega arith;
-  few = omega arith;
-  each = ones-ones 0;
-}
-
-pow_more : (c : ℕ) → 2 ^ (c + 1) ≡ 2 ^ c * 2
-pow_more c = ap (λ n. 2 ^ n) (add-one c) ∙ pow-suc 2 c
-
 -- a bit above all the others is one more
 one_more : (mask c : ℕ) → mask < 2 ^ c → count_ones (mask + 2 ^ c) ≡ count_ones mask + 1
-one_more mask c low =
-    let order : mask + 2 ^ c ≡ 1 * 2 ^ c + mask = omega arith in
-    let one : count_ones 1 ≡ 1 = ones-ones 1 in
-    ap count_ones order ∙ ones_cat c 1 mask low ∙ (omega arith)
-
--- one bit of sixteen
-pub one_bit : (c : ℕ) → c ≤ 15 → 1 * 2 ^ c % 65536 ≡ 2 ^ c
-one_bit c few = let low : 2 ^ c ≤ 2 ^ 15 = pow-le-pow_right (omega arith) few in omega arith
-
--- and the mask with it
-pub mask_fits : (mask least c bit : ℕ) → mask < 2 ^ least → least ≤ c → c ≤ 15 → bit ≡ 2 ^ c → mask + bit < 65536
-mask_fits mask least c bit low from few is =
-    let over : 2 ^ least ≤ 2 ^ c = pow-le-pow_right (omega arith) from in
-    let high : 2 ^ c ≤ 2 ^ 15 = pow-le-pow_right (omega arith) few in
-    omega arith
+one_more mask c low = let order : mask + 2 ^ c ≡ 1 * 2 ^ c + mask = omega arith in let one : count_ones 1 ≡ 1 = ones-ones 1 in ap count_ones order ∙ ones_cat c 1 mask low ∙ (omega arith)
 
 -- the test of the next pair
 rises_more : (least c : ℕ) (rest : Bool) → least ≤ c → c ≤ 15 → (nat_le least c && nat_lt c 16 && rest) ≡ rest
-rises_more least c rest from few =
-    let low : nat_le least c ≡ true = grind (arith, nat_tests) in
-    let high : nat_lt c 16 ≡ true = grind (arith, nat_tests) in
-    λ i. low i && high i && rest
+rises_more least c rest from few = let both : (nat_le least c && nat_lt c 16) ≡ true = grind (arith, nat_tests) in ap (λ b. b && rest) both
 
 rises_not : (least c : ℕ) (rest : Bool) → (c < least) ⊎ (15 < c) → (nat_le least c && nat_lt c 16 && rest) ≡ false
 rises_not least c rest (inl below) = let low : nat_le least c ≡ false = grind (arith, nat_tests) in λ i. low i && nat_lt c 16 && rest
@@ -141,24 +106,6 @@ columns_more pairs p =
     let one = sum_by-cons (λ (q : ℕ × ℤ). 2 ^ q.0) p [] in
     omega (arith, parts, one)
 
-pub named_more : (initial words rest : List Word) (word : Word) (least mask c bit : ℕ) (x written : ℤ) (old new after : List ℤ) → NamedSoFar initial words least mask old new →
-    first_word words ≡ Some (word, rest) → assignment word ≡ Some (c, x) → least ≤ c → c ≤ 15 → bit ≡ 2 ^ c → written ≡ x → after ≡ new ++ written ∷ [] →
-    NamedSoFar initial rest (c + 1) (mask + bit) old after
-named_more initial words rest word least mask c bit x written old new after h first e from few is same stands =
-    let over : 2 ^ least ≤ 2 ^ c = pow-le-pow_right (omega arith) from in
-    let under : mask < 2 ^ c = omega (arith, h.below) in
-    let pair : ℕ × ℤ = (c, x) in
-    record {
-      pairs = h.pairs ++ pair ∷ [];
-      stand = stands ∙ ap (λ y. new ++ y ∷ []) same ∙ ap (λ l. l ++ x ∷ []) h.stand ∙ append_assoc old (map (λ p. p.1) h.pairs) (x ∷ []) ∙ ap (λ l. old ++ l) (sym (values_more h.pairs pair));
-      so_far = front_more assignment h.pairs words rest word pair first e ∙ h.so_far;
-      rises = λ more. ap (rise_from 0) (append_assoc h.pairs (pair ∷ []) more) ∙ h.rises (pair ∷ more) ∙ rises_more least c (rise_from (c + 1) more) from few;
-      columns = (λ j. h.columns j + is j) ∙ sym (columns_more h.pairs pair);
-      below = omega (arith, pow_more c);
-      few = omega arith;
-      each = ap (λ n. count_ones (mask + n)) is ∙ one_more mask c under ∙ ap (λ n. n + 1) h.each ∙ sym (length-append h.pairs (pair ∷ []));
-    }
-
 -- no naming of pairs that are read so
 abbrev naming_of : Option (List (ℕ × ℤ)) → Option NamedColumns
 naming_of o = o >>= λ pairs. cond (nat_le 1 (length pairs) && rise_from 0 pairs) (Some (naming_from pairs)) None
@@ -170,24 +117,6 @@ not_rising pairs pair first (Some xs) e h =
     ap (λ f. naming_of (option_map (λ r. pairs ++ r) (f >>= λ x. Some (x ∷ xs)))) e
     ∙ ap (λ b. cond b (Some (naming_from (pairs ++ pair ∷ xs))) None) (and_right (nat_le 1 (length (pairs ++ pair ∷ xs))) (rise_from 0 (pairs ++ pair ∷ xs)) (h xs))
 
--- a word that is no column and its value
-pub named_refused : (initial words rest : List Word) (word : Word) (least mask : ℕ) (old new : List ℤ) → NamedSoFar initial words least mask old new → first_word words ≡ Some (word, rest) →
-    assignment word ≡ None → PutsValues (naming_in initial) old new None
-unfolding naming_in
-named_refused initial words rest word least mask old new h first none =
-    (map (λ pair. pair.1) h.pairs, ap naming_of (no_item assignment h.pairs initial words rest word none first h.so_far), h.stand)
-
--- a column that is too low or too high
-pub named_falls : (initial words rest : List Word) (word : Word) (least mask c : ℕ) (x : ℤ) (old new : List ℤ) → NamedSoFar initial words least mask old new → first_word words ≡ Some (word, rest) →
-    assignment word ≡ Some (c, x) → (c < least) ⊎ (15 < c) → PutsValues (naming_in initial) old new None
-unfolding naming_in all_in
-named_falls initial words rest word least mask c x old new h first e out =
-    let none : (more : List (ℕ × ℤ)) → rise_from 0 (h.pairs ++ (c, x) ∷ more) ≡ false = λ more. h.rises ((c, x) ∷ more) ∙ rises_not least c (rise_from (c + 1) more) out in (
-      map (λ pair. pair.1) h.pairs,
-      ap naming_of (sym h.so_far ∙ sym (then_first assignment h.pairs words rest word first)) ∙ not_rising h.pairs (c, x) (assignment word) (all_in assignment rest) e none,
-      h.stand,
-    )
-
 named_whole : (pairs : List (ℕ × ℤ)) (mask n : ℕ) → 1 ≤ n → length pairs ≡ n → rise_from 0 pairs ≡ true → mask ≡ sum_by (λ (p : ℕ × ℤ). 2 ^ p.0) pairs →
     naming_of (Some pairs) ≡ Some (record { mask = mask; values = map (λ pair. pair.1) pairs })
 named_whole pairs mask n some many rises is =
@@ -198,41 +127,61 @@ some_pairs : (pairs : List (ℕ × ℤ)) (mask : ℕ) → mask ≡ sum_by (λ (p
 some_pairs [] mask is some = absurd (omega (arith, is, some))
 some_pairs (pair ∷ pairs) mask is some = omega arith
 
--- all words
-pub named_all : (initial words : List Word) (least mask : ℕ) (old new : List ℤ) → NamedSoFar initial words least mask old new → words ≡ [] → 1 ≤ mask →
-    PutsValues (naming_in initial) old new (Some mask)
-unfolding naming_in
-named_all initial words least mask old new h none some =
-    let all = all_read assignment h.pairs words initial none h.so_far in
-    let rises : rise_from 0 h.pairs ≡ true = ap (rise_from 0) (sym (append-nil h.pairs)) ∙ h.rises [] in
-    let wide : length (map (λ (pair : ℕ × ℤ). pair.1) h.pairs) ≡ length h.pairs = length-map h.pairs (λ (pair : ℕ × ℤ). pair.1) in (
-      map (λ pair. pair.1) h.pairs,
-      ap naming_of all ∙ named_whole h.pairs mask (length h.pairs) (some_pairs h.pairs mask h.columns some) refl rises h.columns,
-      h.stand,
-      some,
-      h.each ∙ sym wide,
-    )
-
 no_pairs : (pairs : List (ℕ × ℤ)) → length pairs ≡ 0 → naming_of (Some pairs) ≡ None
 no_pairs pairs none = let low : nat_le 1 (length pairs) ≡ false = grind (arith, nat_tests) in λ i. cond (low i && rise_from 0 pairs) (Some (naming_from pairs)) None
 
--- no word at all
-pub named_nothing : (initial words : List Word) (least mask : ℕ) (old new : List ℤ) → NamedSoFar initial words least mask old new → words ≡ [] → mask ≡ 0 →
-    PutsValues (naming_in initial) old new None
-unfolding naming_in
-named_nothing initial words least mask old new h none empty =
-    let few : length h.pairs ≡ 0 = sym h.each ∙ ap count_ones empty ∙ ones-ones 0 in
-    (map (λ pair. pair.1) h.pairs, ap naming_of (all_read assignment h.pairs words initial none h.so_far) ∙ no_pairs h.pairs few, h.stand)
+module _ {initial words : List Word} {least mask : ℕ} {old new : List ℤ} (h : NamedSoFar initial words least mask old new) where
+  pub named_more : {rest : List Word} {word : Word} {c bit : ℕ} {x written : ℤ} {after : List ℤ} → first_word words ≡ Some (word, rest) → assignment word ≡ Some (c, x) → least ≤ c → c ≤ 15 →
+      bit ≡ 2 ^ c → written ≡ x → after ≡ new ++ written ∷ [] → NamedSoFar initial rest (c + 1) (mask + bit) old after
+  named_more {rest = rest} {word = word} {c = c} {x = x} first e from few is same stands =
+      let over : 2 ^ least ≤ 2 ^ c = pow-le-pow_right (omega arith) from in
+      let under : mask < 2 ^ c = omega (arith, h.below) in
+      let pair : ℕ × ℤ = (c, x) in
+      record {
+        pairs = h.pairs ++ pair ∷ [];
+        stand = stands ∙ ap (λ y. new ++ y ∷ []) same ∙ ap (λ l. l ++ x ∷ []) h.stand ∙ append_assoc old (map (λ p. p.1) h.pairs) (x ∷ []) ∙ ap (λ l. old ++ l) (sym (values_more h.pairs pair));
+        so_far = front_more assignment h.pairs words rest word pair first e ∙ h.so_far;
+        rises = λ more. ap (rise_from 0) (append_assoc h.pairs (pair ∷ []) more) ∙ h.rises (pair ∷ more) ∙ rises_more least c (rise_from (c + 1) more) from few;
+        columns = (λ j. h.columns j + is j) ∙ sym (columns_more h.pairs pair);
+        below = omega (arith, pow_more 2 c);
+        few = omega arith;
+        each = ap (λ n. count_ones (mask + n)) is ∙ one_more mask c under ∙ ap (λ n. n + 1) h.each ∙ sym (length-append h.pairs (pair ∷ []));
+      }
 
--- what was put is cut off again
-cut_off : (before : ℕ) (old mid new cut some : List ℤ) → new ≡ mid ++ some → mid ≡ old → before ≡ length mid → cut ≡ take before new → cut ≡ old
-cut_off before old mid new cut some stands same len is =
-    is ∙ ap (take before) stands ∙ take-append-le before mid some (omega (arith, len)) ∙ take_all before mid (omega (arith, len)) ∙ same
+  -- a word that is no column and its value
+  pub named_refused : {rest : List Word} {word : Word} → first_word words ≡ Some (word, rest) → assignment word ≡ None → PutsValues (naming_in initial) old new None
+  unfolding naming_in
+  named_refused {rest = rest} {word = word} first none =
+      (map (λ pair. pair.1) h.pairs, ap naming_of (no_item assignment h.pairs initial words rest word none first h.so_far), h.stand)
 
-pub row_cut : (words : List Word) (before : ℕ) (old mid new cut : List ℤ) → PutsNumbers (row_in words) mid new None → mid ≡ old → before ≡ length mid → cut ≡ take before new →
-    PutsRow (row_in words) None old cut
-row_cut words before old mid new cut put same len is = (put.1, cut_off before old mid new cut put.0 put.2 same len is)
+  -- a column that is too low or too high
+  pub named_falls : {rest : List Word} {word : Word} {c : ℕ} {x : ℤ} → first_word words ≡ Some (word, rest) → assignment word ≡ Some (c, x) → (c < least) ⊎ (15 < c) →
+      PutsValues (naming_in initial) old new None
+  unfolding naming_in all_in
+  named_falls {rest = rest} {word = word} {c = c} {x = x} first e out =
+      let none : (more : List (ℕ × ℤ)) → rise_from 0 (h.pairs ++ (c, x) ∷ more) ≡ false = λ more. h.rises ((c, x) ∷ more) ∙ rises_not least c (rise_from (c + 1) more) out in (
+        map (λ pair. pair.1) h.pairs,
+        ap naming_of (sym h.so_far ∙ sym (then_first assignment h.pairs words rest word first)) ∙ not_rising h.pairs (c, x) (assignment word) (all_in assignment rest) e none,
+        h.stand,
+      )
 
-pub named_cut : (words : List Word) (before : ℕ) (old mid new cut : List ℤ) → PutsValues (naming_in words) mid new None → mid ≡ old → before ≡ length mid → cut ≡ take before new →
-    PutsNamed (naming_in words) None old cut
-named_cut words before old mid new cut put same len is = (put.1, cut_off before old mid new cut put.0 put.2 same len is)
+  -- all words
+  pub named_all : words ≡ [] → 1 ≤ mask → PutsValues (naming_in initial) old new (Some mask)
+  unfolding naming_in
+  named_all none some =
+      let all = all_read assignment h.pairs words initial none h.so_far in
+      let rises : rise_from 0 h.pairs ≡ true = ap (rise_from 0) (sym (append-nil h.pairs)) ∙ h.rises [] in
+      let wide : length (map (λ (pair : ℕ × ℤ). pair.1) h.pairs) ≡ length h.pairs = length-map h.pairs (λ (pair : ℕ × ℤ). pair.1) in (
+        map (λ pair. pair.1) h.pairs,
+        ap naming_of all ∙ named_whole h.pairs mask (length h.pairs) (some_pairs h.pairs mask h.columns some) refl rises h.columns,
+        h.stand,
+        some,
+        h.each ∙ sym wide,
+      )
+
+  -- no word at all
+  pub named_nothing : words ≡ [] → mask ≡ 0 → PutsValues (naming_in initial) old new None
+  unfolding naming_in
+  named_nothing none empty =
+      let few : length h.pairs ≡ 0 = sym h.each ∙ ap count_ones empty ∙ ones-ones 0 in
+      (map (λ pair. pair.1) h.pairs, ap naming_of (all_read assignment h.pairs words initial none h.so_far) ∙ no_pairs h.pairs few, h.stand)

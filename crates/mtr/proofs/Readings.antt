@@ -1,7 +1,7 @@
 -- What a reader saw, one answer more at a time, and what it is at the source.
 use mathlib.Core.List.{IsPrefix}
 use base.Growing.{prefix_refl, prefix_trans}
-use Rattle.std.proofs.Common.{◌≡◌, ◌∙◌, sym, ap, subst, ◌+◌, ◌≤◌, Bool, true, List, [], ◌∷◌, ◌++◌, get_or, arith}
+use Rattle.std.proofs.Common.{◌≡◌, ◌∙◌, sym, ap, ◌+◌, ◌≤◌, Bool, true, List, [], ◌∷◌, ◌++◌, get_or, arith}
 use Rattle.std.specs.FinMap.{get as row_of}
 use Rattle.std.proofs.lemmas.List.Elements.{All-push, All-weaker}
 use Rattle.std.proofs.lemmas.List.Quantifiers.{all_pairs_push}

@@ -1,6 +1,6 @@
 -- Two sides that agree are equal.
 use mathlib.Core.List.{IsPrefix}
-use Rattle.std.proofs.Common.{◌≡◌, ◌∙◌, sym, ap, subst, refl, ℕ, ◌≤◌, ◌+◌, Bool, List, [], ◌++◌, length, take, get_or, Some, true, arith}
+use Rattle.std.proofs.Common.{◌≡◌, ◌∙◌, sym, ap, subst, refl, ℕ, ◌≤◌, ◌+◌, List, [], ◌++◌, length, take, get_or, Some, true, arith}
 use Rattle.std.specs.FinMap.{get}
 use Rattle.std.specs.Option.{option_and_then}
 use Rattle.std.proofs.lemmas.Bool.{leb-true}
@@ -11,7 +11,7 @@ use Rattle.record_codec.specs.declared.records.Record.{Record}
 use Rattle.record_codec.specs.Group.{AreNumbered}
 use Rattle.record_codec.specs.Log.{after}
 use Rattle.record_codec.proofs.Logs.{part_is_numbered}
-use Rattle.scheduler.specs.Gnos.{low_of, has_gno}
+use Rattle.scheduler.specs.Gnos.{low_of}
 use Rattle.scheduler.proofs.Gnos.{has_gno-take}
 use Rattle.gapped.specs.Gapped.{chosen, gapped, IsClosed}
 use Rattle.gapped.proofs.Choosing.{AreWithin, longer_log, closed_longer}
@@ -55,8 +55,7 @@ module _ {S T : Type 0} (plan : Plan) (e : Ended S T) (h : IsEnded plan e) (lega
       ∙ ap (option_and_then (λ db. get db s.id)) law)
 
   -- what was seen, of no more commits than were published, is the row at the source
-  of_source : (known : List Op) → IsPrefix h.shown known → (s : Shown) → IsSeen e.replica.preserve known s → s.answer.upto + s.answer.more ≤ e.published
-      → IsOfSource e.source e.replica e.published s
+  of_source : (known : List Op) → IsPrefix h.shown known → (s : Shown) → IsSeen e.replica.preserve known s → s.answer.upto + s.answer.more ≤ e.published → IsOfSource e.source e.replica e.published s
   of_source known learnt s x within =
       let n = commits_in x.seen in
       let gnos = take n e.replica.commits in

@@ -2,6 +2,7 @@
 use Rattle.std.specs.Prelude.{◌^◌, ℕ, ◌==◌, if◌then◌else◌, List, length, codes, Option, Some, None, option_map}
 use Rattle.std.specs.Str.{bytes_eq}
 use Rattle.schema.specs.declared.RowId.{RowId}
+use Rattle.rows.specs.declared.Change.{Change}
 use Rattle.rows.specs.declared.Change.TheVariants.{Insert, Update, Delete}
 use Rattle.world.specs.declared.events.Event.{Event}
 use Rattle.world.specs.declared.events.Event.TheVariants as events
@@ -25,19 +26,20 @@ written_of words = do
   id ← row_id_in session.1
   Some (session.0, id.0, id.1)
 
--- an insert of all columns of a row
-unfoldable pub insert_of : List Word → Option Event
-insert_of words = do
+-- a write of columns that are read to the end of the line
+unfoldable pub write_of : {T : Type 0} → (List Word → Option T) → (RowId → T → Change) → List Word → Option Event
+write_of read change words = do
   at ← written_of words
-  columns ← row_in at.2
-  Some (events.Write at.0 (Insert at.1 columns))
+  columns ← read at.2
+  Some (events.Write at.0 (change at.1 columns))
+
+-- an insert of all columns of a row
+abbrev pub insert_of : List Word → Option Event
+insert_of words = write_of row_in (λ id columns. Insert id columns) words
 
 -- a change of the named columns of a row
-unfoldable pub set_of : List Word → Option Event
-set_of words = do
-  at ← written_of words
-  columns ← naming_in at.2
-  Some (events.Write at.0 (Update at.1 columns))
+abbrev pub set_of : List Word → Option Event
+set_of words = write_of naming_in (λ id columns. Update id columns) words
 
 -- a delete of a row
 abbrev pub delete_of : List Word → Option Event

@@ -4,33 +4,33 @@ use Rattle.std.specs.List.{flat_map}
 use Rattle.rows.specs.declared.Change.TheVariants.{Insert, Update, Delete}
 use Rattle.world.specs.declared.events.Event.{Event}
 use Rattle.world.specs.declared.events.Event.TheVariants as events
-use Rattle.mtr.specs.declared.kept.Kept.{Kept}
-use Rattle.mtr.specs.declared.kept.Kept.TheVariants as kepts
+use Rattle.mtr.specs.declared.kept.KeptEvent.{KeptEvent}
+use Rattle.mtr.specs.declared.kept.KeptEvent.TheVariants as kepts
 
 abbrev pub one_or_none : {A : Type 0} → Option A → List A
 one_or_none None = []
 one_or_none (Some x) = x ∷ []
 
 -- how many columns are kept of an event
-abbrev pub width_of : Kept → ℕ
+abbrev pub width_of : KeptEvent → ℕ
 width_of (kepts.Insert session table count key) = count
 width_of (kepts.Update session table mask key) = count_ones mask
 width_of _ = 0
 
 -- an event may have so many columns
-abbrev pub IsWhole : Kept → Type 0
+abbrev pub IsWhole : KeptEvent → Type 0
 IsWhole (kepts.Insert session table count key) = (1 ≤ count) × (count ≤ 16)
 IsWhole (kepts.Update session table mask key) = 1 ≤ mask
 IsWhole _ = Unit {0}
 
 -- it has none
-abbrev pub IsBare : Kept → Type 0
+abbrev pub IsBare : KeptEvent → Type 0
 IsBare (kepts.Insert session table count key) = ⊥
 IsBare (kepts.Update session table mask key) = ⊥
 IsBare _ = Unit {0}
 
 -- what is kept is this event, with these columns
-abbrev pub event_of : Kept → List ℤ → Event
+abbrev pub event_of : KeptEvent → List ℤ → Event
 event_of (kepts.Begin session) columns = events.Begin session
 event_of (kepts.Insert session table count key) columns = events.Write session (Insert (record { table = table; key = key }) columns)
 event_of (kepts.Update session table mask key) columns = events.Write session (Update (record { table = table; key = key }) (record { mask = mask; values = columns }))
@@ -53,17 +53,17 @@ event_of kepts.Rotate columns = events.Rotate
 event_of kepts.Log columns = events.Log
 
 -- where there is an event this is kept of it, and its own columns stand behind the others
-abbrev pub Keeps : Option Event → Option Kept → List ℤ → List ℤ → Type 0
+abbrev pub Keeps : Option Event → Option KeptEvent → List ℤ → List ℤ → Type 0
 Keeps event None old new = (event ≡ None) × (new ≡ old)
 Keeps event (Some kept) old new = (own : List ℤ) × (event ≡ Some (event_of kept own)) × (new ≡ old ++ own) × IsWhole kept × (width_of kept ≡ length own)
 
 -- the events in order, each with the next of the columns
-abbrev pub events_of : List Kept → List ℤ → List Event
+abbrev pub events_of : List KeptEvent → List ℤ → List Event
 events_of [] columns = []
 events_of (kept ∷ rest) columns = event_of kept (take (width_of kept) columns) ∷ events_of rest (drop (width_of kept) columns)
 
 -- the columns are those of all events
-pub record AreWhole (kept : List Kept) (columns : List ℤ) : Type 0 where
+pub record AreWhole (kept : List KeptEvent) (columns : List ℤ) : Type 0 where
   pub each : All IsWhole kept
   pub width : sum_by width_of kept ≡ length columns
 

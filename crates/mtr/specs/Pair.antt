@@ -59,8 +59,8 @@ pub record GoesOn {D R : Type 0} (contents : R → Database) (old new : World D 
 
 -- What a script prints: over a pair of this tracker, of so many workers and of this order of commits, which begins with its tables and
 -- its rows, one reply to each of its events.
--- They are legal over one log that is legal over the rows: each read at the replica answers as the source's
--- database after one beginning of that log. Their lines are appended, in order.
+-- They are legal over one log that is legal over the rows. With the order of the log kept each read at the replica answers as the source's
+-- database after one beginning of that log, else as after the records whose commits it shows, in log order. Their lines are appended, in order.
 pub record Prints (kind : Kind) (workers : ℕ) (preserve : Bool) (script : Said) (before printed : Option (List ℕ)) : Type 0 where
   pub base : List Entry
   pub given : IsPermutation (map present script.base) base

@@ -12,7 +12,7 @@ use commit_order_tracker::CommitOrder;
 use log_index::{Footprint, Log};
 use schema::Memory;
 use std::alloc::Global;
-use tracker_trait::{Tracker, Tracking};
+use tracker_trait::{Resumable, Tracker, Tracking};
 use write_set::WriteSet;
 use writeset_trackers::{WriteSetSession, WriteSetTracker};
 
@@ -68,6 +68,16 @@ impl Tracker for AnyTracker {
             AnyTracker::CommitOrder(tracker) => tracker.stamp(log, t, w, session, order_parent),
             AnyTracker::Writeset(tracker) => tracker.stamp(log, t, w, session, order_parent),
             AnyTracker::WritesetSession(tracker) => tracker.stamp(log, t, w, session, order_parent),
+        }
+    }
+}
+
+impl Resumable for AnyTracker {
+    fn observe(&mut self, log: &Log, t: &Footprint, w: &WriteSet) {
+        match self {
+            AnyTracker::CommitOrder(tracker) => tracker.observe(log, t, w),
+            AnyTracker::Writeset(tracker) => tracker.observe(log, t, w),
+            AnyTracker::WritesetSession(tracker) => tracker.observe(log, t, w),
         }
     }
 }

@@ -1,11 +1,12 @@
 //! The event that a line's words are, as it is kept.
 
 ghost use Rattle.std.specs.Prelude.{◌≡◌, ◌≢◌, ◌^◌, ◌==◌, [], if◌then◌else◌, length, option_map, slice_get, IfOk, IfSome, OnErr, Some, None};
+ghost use Rattle.std.specs.Str.{bytes_eq};
 ghost use Rattle.mtr.specs.Words.{alone, number_in, row_id_in};
-ghost use Rattle.mtr.specs.Command.{at_row, written_of, insert_of, set_of, delete_of, see_of, read_of, event_of};
+ghost use Rattle.mtr.specs.Command.{at_row, written_of, insert_of, set_of, event_of};
 ghost use Rattle.mtr.specs.Events.{IsBare, Keeps, event_of as whole};
 
-use crate::kept::Kept;
+use crate::kept::KeptEvent;
 use crate::words::Words;
 use schema::{Memory, RowId};
 
@@ -27,7 +28,7 @@ pub fn alone<T: Drop>(found: Option<(T, Words)>) -> Option<T>
 
 /// What is kept of the event of this name and the words behind it; its columns go behind others. `None`, and none of these, where
 /// no event has the name, or the words are not its parameters. The name is compared with those alone that begin with its first letter.
-pub fn keep(name: &str, words: Words, columns: &mut Vec<i64>) -> Result<Option<Kept>, Memory>
+pub fn keep(name: &str, words: Words, columns: &mut Vec<i64>) -> Result<Option<KeptEvent>, Memory>
     ensures kept { IfOk result (λ found. Keeps (event_of name.now words.entry) found columns.old.items columns.new.items) }
     ensures err { OnErr result (columns.new.items ≡ columns.old.items) }
 {
@@ -39,8 +40,12 @@ pub fn keep(name: &str, words: Words, columns: &mut Vec<i64>) -> Result<Option<K
         },
         Some(b's') => match name {
             "set" => set_of(words, columns),
-            "see" => Ok(see_of(words)),
-            "sync" => Ok(bare(Kept::Sync, words)),
+            "see" => Ok(at_row(words).map(|(session, RowId { table, key })| KeptEvent::See {
+                session,
+                table,
+                key,
+            })),
+            "sync" => Ok(bare(KeptEvent::Sync, words)),
             _ => Ok(None),
         },
         Some(letter) => Ok(bare_of(letter, name, words)),
@@ -48,7 +53,7 @@ pub fn keep(name: &str, words: Words, columns: &mut Vec<i64>) -> Result<Option<K
 }
 
 /// What is kept of an event without columns whose name begins with this letter, which is neither i nor s.
-fn bare_of(letter: u8, name: &str, words: Words) -> Option<Kept>
+fn bare_of(letter: u8, name: &str, words: Words) -> Option<KeptEvent>
     requires first { slice_get name.now 0 ≡ Some letter }
     requires not_i { letter ≢ 105 }
     requires not_s { letter ≢ 115 }
@@ -56,57 +61,60 @@ fn bare_of(letter: u8, name: &str, words: Words) -> Option<Kept>
     ensures bare { IfSome result IsBare }
 {
     match letter {
-        b'a' => match name {
-            "abort" => session_of(words).map(|session| Kept::Abort { session }),
-            _ => None,
-        },
-        b'b' => match name {
-            "begin" => session_of(words).map(|session| Kept::Begin { session }),
-            _ => None,
-        },
-        b'c' => match name {
-            "commit" => bare(Kept::Commit, words),
-            _ => None,
-        },
+        b'a' => named(
+            name,
+            "abort",
+            session_of(words).map(|session| KeptEvent::Abort { session }),
+        ),
+        b'b' => named(
+            name,
+            "begin",
+            session_of(words).map(|session| KeptEvent::Begin { session }),
+        ),
+        b'c' => named(name, "commit", bare(KeptEvent::Commit, words)),
         b'd' => match name {
-            "delete" => delete_of(words),
-            "deliver" => gno_of(words).map(|gno| Kept::Deliver { gno }),
-            "dispatch" => bare(Kept::Dispatch, words),
+            "delete" => at_row(words).map(|(session, RowId { table, key })| KeptEvent::Delete {
+                session,
+                table,
+                key,
+            }),
+            "deliver" => gno_of(words).map(|gno| KeptEvent::Deliver { gno }),
+            "dispatch" => bare(KeptEvent::Dispatch, words),
             _ => None,
         },
-        b'e' => match name {
-            "executed" => bare(Kept::Executed, words),
-            _ => None,
-        },
+        b'e' => named(name, "executed", bare(KeptEvent::Executed, words)),
         b'f' => match name {
-            "flush" => bare(Kept::Flush, words),
-            "finish" => gno_of(words).map(|gno| Kept::Finish { gno }),
+            "flush" => bare(KeptEvent::Flush, words),
+            "finish" => gno_of(words).map(|gno| KeptEvent::Finish { gno }),
             _ => None,
         },
-        b'l' => match name {
-            "log" => bare(Kept::Log, words),
-            _ => None,
-        },
-        b'n' => match name {
-            "next" => bare(Kept::Next, words),
-            _ => None,
-        },
+        b'l' => named(name, "log", bare(KeptEvent::Log, words)),
+        b'n' => named(name, "next", bare(KeptEvent::Next, words)),
         b'p' => match name {
-            "prepare" => session_of(words).map(|session| Kept::Prepare { session }),
-            "publish" => bare(Kept::Publish, words),
+            "prepare" => session_of(words).map(|session| KeptEvent::Prepare { session }),
+            "publish" => bare(KeptEvent::Publish, words),
             _ => None,
         },
-        b'q' => match name {
-            "queue" => session_of(words).map(|session| Kept::Queue { session }),
-            _ => None,
-        },
+        b'q' => named(
+            name,
+            "queue",
+            session_of(words).map(|session| KeptEvent::Queue { session }),
+        ),
         b'r' => match name {
-            "read" => read_of(words),
-            "rotate" => bare(Kept::Rotate, words),
+            "read" => row_of(words).map(|RowId { table, key }| KeptEvent::Read { table, key }),
+            "rotate" => bare(KeptEvent::Rotate, words),
             _ => None,
         },
         _ => None,
     }
+}
+
+/// What was read for the one event of its letter, where the name is that event's.
+#[inline(always)]
+fn named(name: &str, own: &str, found: Option<KeptEvent>) -> Option<KeptEvent>
+    ensures { result ≡ (if bytes_eq name.now own.now then found else None) }
+{
+    if name == own { found } else { None }
 }
 
 /// A session, to the end of the line.
@@ -131,14 +139,14 @@ fn row_of(words: Words) -> Option<RowId>
 }
 
 /// An event without parameters.
-fn bare(kept: Kept, words: Words) -> Option<Kept>
+fn bare(kept: KeptEvent, words: Words) -> Option<KeptEvent>
     ensures { result ≡ (if length words.entry == 0 then Some kept else None) }
 {
     if words.is_empty() { Some(kept) } else { None }
 }
 
 /// An insert, with its columns behind others.
-fn insert_of(words: Words, columns: &mut Vec<i64>) -> Result<Option<Kept>, Memory>
+fn insert_of(words: Words, columns: &mut Vec<i64>) -> Result<Option<KeptEvent>, Memory>
     ensures kept { IfOk result (λ found. Keeps (insert_of words.entry) found columns.old.items columns.new.items) }
     ensures err { OnErr result (columns.new.items ≡ columns.old.items) }
 {
@@ -148,7 +156,7 @@ fn insert_of(words: Words, columns: &mut Vec<i64>) -> Result<Option<Kept>, Memor
     let Some(count) = words.put_row(columns)? else {
         return Ok(None);
     };
-    Ok(Some(Kept::Insert {
+    Ok(Some(KeptEvent::Insert {
         session,
         table,
         count,
@@ -157,7 +165,7 @@ fn insert_of(words: Words, columns: &mut Vec<i64>) -> Result<Option<Kept>, Memor
 }
 
 /// A `set`, with its columns behind others.
-fn set_of(words: Words, columns: &mut Vec<i64>) -> Result<Option<Kept>, Memory>
+fn set_of(words: Words, columns: &mut Vec<i64>) -> Result<Option<KeptEvent>, Memory>
     ensures kept { IfOk result (λ found. Keeps (set_of words.entry) found columns.old.items columns.new.items) }
     ensures err { OnErr result (columns.new.items ≡ columns.old.items) }
 {
@@ -167,7 +175,7 @@ fn set_of(words: Words, columns: &mut Vec<i64>) -> Result<Option<Kept>, Memory>
     let Some(mask) = words.put_named(columns)? else {
         return Ok(None);
     };
-    Ok(Some(Kept::Update {
+    Ok(Some(KeptEvent::Update {
         session,
         table,
         mask,
@@ -183,38 +191,6 @@ fn written_of(words: Words) -> Option<(u16, RowId, Words)>
     let (session, words) = words.u16()?;
     let (row, words) = words.row_id()?;
     Some((session, row, words))
-}
-
-fn delete_of(words: Words) -> Option<Kept>
-    ensures event { option_map (λ kept. whole kept []) result ≡ delete_of words.entry }
-    ensures bare { IfSome result IsBare }
-{
-    let (session, RowId { table, key }) = at_row(words)?;
-    Some(Kept::Delete {
-        session,
-        table,
-        key,
-    })
-}
-
-fn see_of(words: Words) -> Option<Kept>
-    ensures event { option_map (λ kept. whole kept []) result ≡ see_of words.entry }
-    ensures bare { IfSome result IsBare }
-{
-    let (session, RowId { table, key }) = at_row(words)?;
-    Some(Kept::See {
-        session,
-        table,
-        key,
-    })
-}
-
-fn read_of(words: Words) -> Option<Kept>
-    ensures event { option_map (λ kept. whole kept []) result ≡ read_of words.entry }
-    ensures bare { IfSome result IsBare }
-{
-    let RowId { table, key } = row_of(words)?;
-    Some(Kept::Read { table, key })
 }
 
 /// A session and a row, to the end of the line.

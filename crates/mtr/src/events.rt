@@ -5,7 +5,7 @@ ghost use Rattle.mtr.specs.Command.{event_of};
 ghost use Rattle.mtr.specs.Events.{AreWhole, events_of, one_or_none, events_in};
 
 use crate::command::keep;
-use crate::kept::Kept;
+use crate::kept::KeptEvent;
 use crate::words::Words;
 use rows::Change;
 use schema::Memory;
@@ -19,7 +19,7 @@ const PIECE: usize = 1000;
 /// Events, in order.
 #[derive(Drop)]
 pub struct Piece {
-    kept: Vec<Kept>,
+    kept: Vec<KeptEvent>,
     /// The columns of all of them, in order.
     columns: Vec<i64>,
 }
@@ -74,7 +74,7 @@ impl Piece {
 }
 
 /// Puts events behind others, where there is room for them.
-fn put_all(kept: &[Kept], columns: &[i64], events: &mut Vec<Event>)
+fn put_all(kept: &[KeptEvent], columns: &[i64], events: &mut Vec<Event>)
     requires whole { AreWhole kept.now columns.now }
     requires room { vec_len events.old + length kept.now ≤ vec_capacity events.old }
     ensures { events.new.items ≡ events.old.items ++ events_of kept.now columns.now }

@@ -11,7 +11,7 @@ use world::Event;
 
 /// An event without its columns. A row's table and key stand apart, since a `RowId` has six bytes more.
 #[derive(Clone, Copy)]
-pub enum Kept {
+pub enum KeptEvent {
     Begin {
         session: u16,
     },
@@ -69,14 +69,14 @@ pub enum Kept {
     Log,
 }
 
-impl Kept {
+impl KeptEvent {
     /// How many columns it has.
     pub fn width(self) -> usize
         ensures { result ≡ width_of self }
     {
         match self {
-            Kept::Insert { count, .. } => count as usize,
-            Kept::Update { mask, .. } => mask.count_ones() as usize,
+            KeptEvent::Insert { count, .. } => count as usize,
+            KeptEvent::Update { mask, .. } => mask.count_ones() as usize,
             _ => 0,
         }
     }
@@ -88,25 +88,25 @@ impl Kept {
         ensures { result ≡ event_of self columns.now }
     {
         match self {
-            Kept::Begin { session } => Event::Begin { session },
-            Kept::Insert {
+            KeptEvent::Begin { session } => Event::Begin { session },
+            KeptEvent::Insert {
                 session,
                 table,
                 key,
                 ..
             } => inserted(session, RowId { table, key }, columns),
-            Kept::Update {
+            KeptEvent::Update {
                 session,
                 table,
                 mask,
                 key,
             } => updated(session, RowId { table, key }, mask, columns),
-            Kept::Delete {
+            KeptEvent::Delete {
                 session,
                 table,
                 key,
             } => deleted(session, RowId { table, key }),
-            Kept::See {
+            KeptEvent::See {
                 session,
                 table,
                 key,
@@ -114,23 +114,23 @@ impl Kept {
                 session,
                 row: RowId { table, key },
             },
-            Kept::Prepare { session } => Event::Prepare { session },
-            Kept::Queue { session } => Event::Queue { session },
-            Kept::Abort { session } => Event::Abort { session },
-            Kept::Flush => Event::Flush,
-            Kept::Sync => Event::Sync,
-            Kept::Commit => Event::Commit,
-            Kept::Deliver { gno } => Event::Deliver { gno },
-            Kept::Dispatch => Event::Dispatch,
-            Kept::Finish { gno } => Event::Finish { gno },
-            Kept::Next => Event::Next,
-            Kept::Publish => Event::Publish,
-            Kept::Executed => Event::Executed,
-            Kept::Read { table, key } => Event::Read {
+            KeptEvent::Prepare { session } => Event::Prepare { session },
+            KeptEvent::Queue { session } => Event::Queue { session },
+            KeptEvent::Abort { session } => Event::Abort { session },
+            KeptEvent::Flush => Event::Flush,
+            KeptEvent::Sync => Event::Sync,
+            KeptEvent::Commit => Event::Commit,
+            KeptEvent::Deliver { gno } => Event::Deliver { gno },
+            KeptEvent::Dispatch => Event::Dispatch,
+            KeptEvent::Finish { gno } => Event::Finish { gno },
+            KeptEvent::Next => Event::Next,
+            KeptEvent::Publish => Event::Publish,
+            KeptEvent::Executed => Event::Executed,
+            KeptEvent::Read { table, key } => Event::Read {
                 row: RowId { table, key },
             },
-            Kept::Rotate => Event::Rotate,
-            Kept::Log => Event::Log,
+            KeptEvent::Rotate => Event::Rotate,
+            KeptEvent::Log => Event::Log,
         }
     }
 }

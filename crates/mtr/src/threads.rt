@@ -2,8 +2,8 @@
 //!
 //! Each session, each worker and each reader has a thread of its own, and so has the wire that sends the source's log to the
 //! replica, as bytes in pieces. `lifecycle` opens both sides and ends them; in between they are `Shared`, with the plan, and all work over
-//! them is a method of that. `changes` is what a session writes and what its rows are in the end; `feeding` is the work of the sessions and
-//! of the wire, `serving` that of the workers and the readers. Once all threads have ended `comparing` reads each row on both sides.
+//! them is a method of that: what the workers and the readers do, and the comparison of each row once all threads have ended. `feeding` has
+//! the work of the sessions and of the wire. `changes` is what a session writes and what its rows are in the end.
 //! `reading` keeps what a reader saw, and `ended` judges what came of both sides.
 //!
 //! No thread waits for one that may never come: the wire is told when the sessions have ended, whatever they came to, and
@@ -13,12 +13,10 @@
 //! one that it does not see. Once the last of all commits is published both are the same.
 
 mod changes;
-mod comparing;
 mod ended;
 mod feeding;
 mod lifecycle;
 mod reading;
-mod serving;
 mod shared;
 mod trouble;
 

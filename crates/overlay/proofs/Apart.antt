@@ -17,7 +17,7 @@ use Rattle.rows.specs.Database.{Database, writes, effect, kin, marks}
 use Rattle.rows.specs.Frame.{SameEffect}
 use Rattle.rows.proofs.Apply.{has_row-left}
 use Rattle.rows.proofs.Effect.{effect_joined}
-use Rattle.rows.proofs.Frame.{applies_behind, not_in_first}
+use Rattle.rows.proofs.Frame.{applies_behind, not_in_first, same_kin, same_marks}
 use Rattle.store_trait.specs.Batch.{Entry, IsRising, put_batch}
 use Rattle.store_trait.proofs.Batches.{get-put_batch}
 use Rattle.overlay.specs.Pending.{Pending, left_at}
@@ -86,15 +86,15 @@ module _ {ts : List Table} {db : Database} {first : Pending} {mid : Database} (f
   apart_moved earlier stay (pending ∷ pendings) each apart were =
       let same = moved pending each.0.0 each.0.1 apart.0 in
       let here : IsApart ts mid earlier pending = record {
-        rows = ap (λ l. meets (writes earlier.changes) (writes pending.changes ++ l)) same.same_kin ∙ were.0.rows;
-        marks = (λ i. meets (stay i) (same.same_marks i)) ∙ were.0.marks;
+        rows = ap (λ l. meets (writes earlier.changes) (writes pending.changes ++ l)) (same_kin same) ∙ were.0.rows;
+        marks = (λ i. meets (stay i) (same_marks same i)) ∙ were.0.marks;
       } in
       (here, apart_moved earlier stay pendings each.1 apart.1 were.1)
 
   all_apart_moved : (pendings : List Pending) → EachFollows ts db pendings → AllByRecursion (IsApart ts db first) pendings → AllApart ts db pendings → AllApart ts mid pendings
   all_apart_moved [] each apart were = tt
   all_apart_moved (pending ∷ pendings) each apart were =
-      let stay = (moved pending each.0.0 each.0.1 apart.0).same_marks in
+      let stay = same_marks (moved pending each.0.0 each.0.1 apart.0) in
       (apart_moved pending stay pendings each.1 apart.1 were.0, all_apart_moved pendings each.1 apart.1 were.1)
 
   -- what the first leaves of a row, none of the others changes

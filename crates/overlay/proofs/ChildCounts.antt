@@ -13,10 +13,10 @@ use Rattle.std.proofs.lemmas.List.Sums.{sum_by-cons}
 use Rattle.schema.specs.declared.Table.{Table}
 use Rattle.schema.specs.declared.RowId.{RowId}
 use Rattle.schema.specs.RowId.{row_cmp, same_row, row_total, exact_row}
-use Rattle.schema.proofs.RowMaps.{row_is, same_row_itself}
+use Rattle.schema.proofs.RowMaps.{row_is}
 use Rattle.schema.proofs.Telling.{both_or_none}
 use Rattle.rows.specs.Database.{Database, put_row}
-use Rattle.rows.proofs.Apply.{get-put_row}
+use Rattle.rows.proofs.Apply.{get-put_row, put_there}
 use Rattle.store_trait.specs.Batch.{Entry, IsRising, put_batch, in_order}
 use Rattle.store_trait.proofs.Batches.{less_apart, holds, find_below, find-in_order}
 use Rattle.overlay.specs.Pending.{Pending, seen}
@@ -119,13 +119,10 @@ module _ (ts : List Table) (row : RowId) where
   put_apart : (db : Database) (id : RowId) (left : Option (List ℤ)) (q : RowId) → same_row id q ≡ false → get (put_row db id left) q ≡ get db q
   put_apart db id left q other = get-put_row db id q left ∙ ap (λ b. cond b left (get db q)) ((eq_by_cmp_equiv row_total).symm q id ∙ other)
 
-  put_here : (db : Database) (id : RowId) (left : Option (List ℤ)) → get (put_row db id left) id ≡ left
-  put_here db id left = get-put_row db id id left ∙ ap (λ b. cond b left (get db id)) (same_row_itself id)
-
   one_moved : (db : Database) (id : RowId) (left : Option (List ℤ)) → child_count ts (put_row db id left) row + one_if (names_at db id) ≡ child_count ts db row + one_if (left_names ts row (id, left))
   one_moved db id left =
       moved_count (λ (e : RowId × List ℤ). names_row ts row e.0.table e.1) id db (put_row db id left) (put_apart db id left)
-      ∙ ap (λ o. child_count ts db row + one_if (left_names ts row (id, o))) (put_here db id left)
+      ∙ ap (λ o. child_count ts db row + one_if (left_names ts row (id, o))) (put_there db id left)
 
   others_stay : (db : Database) (id : RowId) (left : Option (List ℤ)) (es : List Entry) → below_all row_cmp id es ≡ true →
       count_by (λ (e : Entry). names_at (put_row db id left) e.0) es ≡ count_by (λ (e : Entry). names_at db e.0) es

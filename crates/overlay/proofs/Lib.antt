@@ -2,8 +2,8 @@ pub mod Order
 pub mod Follow
 pub mod Apart
 pub mod Joining
-pub mod Steps
 pub mod Entries
 pub mod ChildRows
 pub mod ChildCounts
 pub mod ValueRows
+pub mod KeySets

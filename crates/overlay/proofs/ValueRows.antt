@@ -1,5 +1,5 @@
 -- Whether no other row that a transaction sees has a mark.
-use Rattle.std.proofs.Common.{◌≡◌, ◌∙◌, sym, ap, refl, inl, inr, Bool, true, false, true≢false, not, ◌&&◌, ◌||◌, cond, ℤ, List, Option, Some, None, is_some, Ok}
+use Rattle.std.proofs.Common.{◌≡◌, ◌∙◌, sym, ap, refl, inl, inr, Bool, true, false, true≢false, not, ◌&&◌, ◌||◌, cond, ℤ, List, Option, Some, None, is_some}
 use Rattle.std.specs.Prelude.{unwrap_or, option_and_then}
 use Rattle.std.specs.List.{list_any}
 use Rattle.std.specs.Option.{option_map_or}
@@ -13,10 +13,10 @@ use Rattle.schema.proofs.RowMaps.{row_is, same_row_itself}
 use Rattle.schema.proofs.Telling.{both_or_none}
 use Rattle.rows.specs.declared.Change.{Change}
 use Rattle.rows.specs.declared.Change.TheVariants.{Insert, Update, Delete}
-use Rattle.rows.specs.Change.{changed}
 use Rattle.rows.specs.Database.{Database, target, mark_of, mark_in, is_taken_by, is_free, names_unique, NoValueTwice}
 use Rattle.rows.specs.Effect.{row_is_free}
 use Rattle.rows.specs.Holders.{holder_of}
+use Rattle.rows.proofs.Apply.{delete_left}
 use Rattle.rows.proofs.Holders.{holder_has_it}
 use Rattle.rows.proofs.Marks.{mark_there, there_marked, free_by_rows}
 use Rattle.store_trait.specs.Batch.{IsRising}
@@ -119,16 +119,11 @@ module _ (ts : List Table) (db : Database) (pending : Pending) (left : Option (L
   where_moved id true held = row_over ts db pending id left holder apart rising held
   where_moved id false held = refl
 
--- a delete leaves nothing of its row
-deleted : (row : RowId) (before left : Option (List ℤ)) → changed (Delete row) before ≡ Ok left → left ≡ None
-deleted row None left fits = cc
-deleted row (Some there) left fits = cc
-
 pub value_is_over : ValueOver
 value_is_over ts (Insert row columns) db pending left holder fits apart rising held = where_moved ts db pending left holder apart rising row true held
 value_is_over ts (Update row named) db pending left holder fits apart rising held = where_moved ts db pending left holder apart rising row (names_unique ts row.table named.mask) held
 value_is_over ts (Delete row) db pending left holder fits apart rising held =
-    ap (λ l. option_map_or (λ mark. free_over ts pending row mark holder) (option_and_then (mark_of ts row.table) l) true) (deleted row (get (seen pending db) row) left fits)
+    ap (λ l. option_map_or (λ mark. free_over ts pending row mark holder) (option_and_then (mark_of ts row.table) l) true) (delete_left row (get (seen pending db) row) left fits)
 
 -- what tells it, where the change gives a value
 pub value_told : (ts : List Table) (pending : Pending) (change : Change) (takes : Option Mark) (holder : Option ℤ) (mark : Mark) (other way : Bool) → takes ≡ Some mark →

@@ -15,7 +15,7 @@ use Rattle.rows.specs.Holders.{has_mark, holder_of}
 use Rattle.store_trait.specs.Batch.{Entry, IsRising}
 use Rattle.store_trait.specs.Contents.{row_at}
 use Rattle.overlay.specs.Pending.{Pending, left_at, seen}
-use Rattle.overlay.specs.Step.{mark_moved}
+use Rattle.rows.specs.Step.{mark_moved}
 
 -- what is left of a row is there, and has the mark
 abbrev pub left_has : List Table → Mark → Entry → Bool

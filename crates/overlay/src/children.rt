@@ -8,9 +8,9 @@ ghost use Rattle.schema.specs.RowId.{same_row};
 ghost use Rattle.store_trait.specs.Batch.{Entry, IsRising};
 ghost use Rattle.overlay.specs.Children.{names_row, left_names, has_child_by};
 
-use crate::{Overlay, parent_row};
+use crate::Pending;
 use indexmap::IndexMap;
-use rows::Row;
+use rows::{Row, parent_of};
 use schema::{RowId, Schema};
 use store_trait::RowStore;
 
@@ -19,16 +19,16 @@ use store_trait::RowStore;
 /// over the rows that the transaction changed, and, unless `count` is 0 or one that they leave does, of a look-up in the store for each
 /// of them whose table's parent is the row's table. For each of these rows the schema's tables are walked.
 pub fn has_child<S: RowStore>(
-    overlay: &Overlay,
+    pending: &Pending,
     schema: &Schema,
     store: &S,
     count: usize,
     row: RowId,
 ) -> bool
-    ensures value { result ≡ has_child_by schema.now (S.contents store.now) overlay.now count row }
-    ensures rising { IsRising overlay.now.left }
+    ensures value { result ≡ has_child_by schema.now (S.contents store.now) pending.now count row }
+    ensures rising { IsRising pending.now.left }
 {
-    let left = &overlay.left;
+    let left = &pending.lists.left;
     any_left_names(schema, left, row) || has_more(schema, store, left, count, row)
 }
 
@@ -94,7 +94,7 @@ fn stored_names<S: RowStore>(schema: &Schema, store: &S, id: RowId, row: RowId) 
 fn names_row(schema: &Schema, table: u16, columns: &Row, row: RowId) -> bool
     ensures { result ≡ names_row schema.now row table columns.now }
 {
-    parent_row(schema, table, columns).is_some_and(|parent| is_same(row, parent))
+    parent_of(schema, table, columns.columns()).is_some_and(|parent| is_same(row, parent))
 }
 
 fn is_same(a: RowId, b: RowId) -> bool

@@ -9,7 +9,7 @@ ghost use Rattle.store_trait.specs.Batch.{IsRising};
 ghost use Rattle.overlay.specs.Pending.{left_at};
 ghost use Rattle.overlay.specs.Joining.{joined};
 
-use crate::Overlay;
+use crate::Pending;
 use indexmap::IndexMap;
 use rows::Row;
 use schema::{Memory, RowId};
@@ -49,14 +49,14 @@ impl Joined {
 
     /// Adds what a transaction leaves of each row that its changes are of, where none of these rows is there yet.
     /// Where memory runs out nothing changes. The time is that of a walk over the rows added.
-    pub fn add(&mut self, overlay: &Overlay) -> Result<(), Memory>
-        requires apart { (q : RowId) → IsSome (left_at overlay.now q) → find row_cmp q self.old ≡ None }
-        ensures ok { OnOk result (self.new ≡ joined self.old overlay.now) }
+    pub fn add(&mut self, pending: &Pending) -> Result<(), Memory>
+        requires apart { (q : RowId) → IsSome (left_at pending.now q) → find row_cmp q self.old ≡ None }
+        ensures ok { OnOk result (self.new ≡ joined self.old pending.now) }
         ensures err { OnErr result (self.new ≡ self.old) }
         ensures rising { IsRising self.new }
-        ensures left { IsRising overlay.now.left }
+        ensures left { IsRising pending.now.left }
     {
-        append(&mut self.entries, &overlay.left)?;
+        append(&mut self.entries, &pending.lists.left)?;
         Ok(())
     }
 

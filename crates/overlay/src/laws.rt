@@ -1,14 +1,13 @@
 //! What follows from the definitions alone. Each function states a law by its contract, and does nothing.
 
 ghost use Rattle.overlay.specs.Follows.{NoneFollows, StepFollows, PushedFollows, ShowsRows, SeesAfter, MovesOver};
-ghost use Rattle.overlay.specs.Step.{StepsWhereItApplies, KinOfStep, MarksOfStep};
 ghost use Rattle.overlay.specs.Children.{TellsChildren, TellsByCount};
 ghost use Rattle.overlay.specs.Values.{ValueOver};
 ghost use Rattle.overlay.specs.Joining.{ApartGoesOn, ApartWithoutConflict, JoinedGoesOn, JoinedHasRows, JoinedRises, NotYetJoined};
 ghost use Rattle.overlay.specs.Joining.{JoinedIsAfter, BatchIsAfter};
 
-/// How the overlay of changes that apply one after another goes on: from no changes, by a change that applies,
-/// and over another database to which the changes do the same.
+/// What is pending of changes that apply one after another, with their kin and marks: from no changes, by a change that applies, and over
+/// another database to which the changes do the same.
 pub fn follows()
     ensures none { NoneFollows }
     ensures step { StepFollows }
@@ -16,7 +15,7 @@ pub fn follows()
     ensures moved { MovesOver }
 {}
 
-/// What the overlay of changes that apply one after another shows: the rows that the changes leave, and nothing
+/// What is pending of changes that apply one after another shows: the rows that the changes leave, and nothing
 /// else. So its batch leaves the database that the changes leave.
 pub fn shows()
     ensures rows { ShowsRows }
@@ -45,14 +44,9 @@ pub fn joined_is_after()
     ensures batch { BatchIsAfter }
 {}
 
-/// What a transaction sees of a change and of children: a change applies just where it has a step, the parent row that it gives
-/// its own is there, and no other row has the value that it gives it, and then it does to its row what the step says, and its kin and
-/// its marks are the step's; whether a row has a child tells whether some row names it as its parent; and `has_child` tells it from the
-/// number of the rows below that do.
+/// What a transaction sees of children: whether a row has a child tells whether some row names it as its parent; and `has_child` tells it
+/// from the number of the rows below that do.
 pub fn sees()
-    ensures steps { StepsWhereItApplies }
-    ensures kin { KinOfStep }
-    ensures marks { MarksOfStep }
     ensures children { TellsChildren }
     ensures by_count { TellsByCount }
 {}

@@ -1,76 +1,74 @@
 //! A transaction's pending changes and their effect.
 //!
-//! An `Overlay` has the changes of a transaction in the order in which they were made, and what they leave of
-//! each row that they are of. Laid over the committed rows it shows what the transaction sees; its batch, put
-//! into them, commits it. `Joined` makes one batch of what several transactions leave. `row_seen`, `step_seen`,
-//! `parent_holds` and `has_child` look through an overlay into a store: a `Step` is what a change does to its row, with the value
-//! in a unique column that it takes from it and the one that it gives it. `value_holds` tells whether no other row has that value:
-//! by the overlay, and by the row that has it in the store, which its caller knows. `laws` states what the overlay of changes that
-//! apply one after another shows, what steps have to do with the effect of changes, and what the joined batch of transactions
-//! leaves that do not touch each other's rows and values.
+//! A `Pending` has the changes of a transaction in the order in which they were made, what they leave of each row that they are of,
+//! their kin and their marks. Laid over the committed rows it shows what the transaction sees; its batch, put into them, commits it.
+//! `Joined` makes one batch of what several transactions leave. `row_seen`, `step_seen`, `parent_holds` and `has_child` look through
+//! it into a store. `value_holds` tells whether no other row has the value that a step takes: by what is pending, and by the row that has
+//! it in the store, which its caller knows. `laws` states what is pending of changes that apply one after another, what it shows, and
+//! what the joined batch of transactions leaves that do not touch each other's rows and values.
 #![tactic(auto)]
 
-ghost use Rattle.std.specs.Prelude.{◌≡◌, ◌↔◌, [], length, IsTrue, IfOk, OnOk, OnErr, unwrap_or, option_copied};
+ghost use Rattle.std.specs.Prelude.{◌≡◌, ◌↔◌, ◌&&◌, [], length, IsTrue, IfOk, IfErr, OnOk, OnErr, unwrap_or, option_copied};
+ghost use Rattle.std.specs.List.Sorted.{IsSorted};
 ghost use Rattle.std.specs.FinMap.{get as row_of};
-ghost use Rattle.rows.specs.Database.{parent_of, has_parent};
-ghost use Rattle.rows.specs.Effect.{parent_stands, sets_parent};
+ghost use Rattle.schema.specs.RowId.{row_cmp};
+ghost use Rattle.rows.specs.Step.{target, step_of};
+ghost use Rattle.rows.specs.Database.{has_parent, parent_stands, sets_parent};
 ghost use Rattle.store_trait.specs.Batch.{IsRising};
-ghost use Rattle.overlay.specs.Pending.{none_pending, pushed, left_at, seen};
+ghost use Rattle.overlay.specs.Pending.{none_pending, pushed, left_at, seen, same_rows, HasRoom};
 
 mod children;
 mod joined;
+mod keys;
 pub mod laws;
-mod roomy;
-mod step;
+mod room;
 mod values;
 
 pub use children::has_child;
-use indexmap::IndexMap;
 pub use joined::Joined;
-pub use roomy::Roomy;
-use rows::{Change, Row};
-use schema::{Memory, RowId, Schema};
+use keys::are_exactly;
+use room::Lists;
+pub use room::Roomy;
+use rows::{Change, ChangeFault, Row, Step, apply_one, parent_of, step_from};
+use schema::{Mark, Memory, RowId, Schema};
 use std::alloc::Global;
 use std::marker::Model;
 use std::mem::replace;
-pub use step::{Step, step_seen};
 use store_trait::{Batch, RowStore};
 pub use values::value_holds;
 
-/// The changes of a transaction, and what they leave of each row that they are of.
+/// The changes of a transaction, what they leave of each row that they are of, the parent rows that these rows name before each change and
+/// after it, and the values of unique columns that each change takes from its row and gives it.
 #[derive(Debug, Drop)]
-pub struct Overlay {
-    changes: Vec<Change>,
-    left: IndexMap<RowId, Option<Row>>,
+pub struct Pending {
+    lists: Lists,
 }
 
-impl Model for Overlay {
-    ghost use Rattle.store_trait.specs.Batch.{in_order};
-    ghost use Rattle.overlay.specs.Pending.{Pending};
+impl Model for Pending {
+    ghost use Rattle.overlay.specs.Pending.{Pending as Held, pending_in};
 
-    ghost Value = { Pending };
+    ghost Value = { Held };
 
-    ghost view = { λ o. record { changes = o.changes.items; left = in_order o.left.entries } };
+    ghost view = { λ p. pending_in p.lists };
 }
 
-impl Overlay {
+impl Pending {
     /// No changes. It takes no memory.
-    pub fn new(alloc: Global) -> Overlay
+    pub fn new(alloc: Global) -> Pending
         ensures { result ≡ none_pending }
     {
-        Overlay {
-            changes: Vec::new(alloc),
-            left: IndexMap::new(alloc),
+        Pending {
+            lists: Lists::new(alloc),
         }
     }
 
     /// Takes the changes out, and leaves none. It takes no memory.
-    pub fn take(&mut self) -> Overlay
+    pub fn take(&mut self) -> Pending
         ensures taken { result ≡ self.old }
         ensures none { self.new ≡ none_pending }
     {
-        let alloc = *self.changes.allocator();
-        replace(self, Overlay::new(alloc))
+        let alloc = *self.lists.changes.allocator();
+        replace(self, Pending::new(alloc))
     }
 
     /// Lets go of all changes, and keeps their room for others. It takes no memory. The time is that of a walk over
@@ -78,8 +76,10 @@ impl Overlay {
     pub fn clear(&mut self)
         ensures { self.new ≡ none_pending }
     {
-        self.changes.clear();
-        self.left.clear();
+        self.lists.changes.clear();
+        self.lists.left.clear();
+        self.lists.kin.clear();
+        self.lists.marks.clear();
     }
 
     /// What the changes leave of the row: its columns, or `None` where they remove it. No answer where no
@@ -88,21 +88,35 @@ impl Overlay {
         ensures value { result ≡ left_at self.now id }
         ensures rising { IsRising self.now.left }
     {
-        if self.left.is_empty() {
+        if self.lists.left.is_empty() {
             // Where there are no changes, the row is not even hashed.
             return None;
         }
-        self.left.get(&id).copied()
+        self.lists.left.get(&id).copied()
     }
 
-    /// Adds a change behind the others, with what it leaves of its row. Where memory runs out nothing changes.
-    pub fn push(&mut self, change: Change, left: Option<Row>) -> Result<(), Memory>
-        ensures ok { OnOk result (self.new ≡ pushed self.old change left) }
+    /// The same changes, with room for one more that has this step. Where memory runs out they come back as they are. No memory is
+    /// asked for kin or marks where the step has none.
+    pub fn reserve(self, step: &Step) -> Result<Roomy, (Memory, Pending)>
+        ensures ok { IfOk result (λ roomy. roomy.pending ≡ self) }
+        ensures room { IfOk result (λ roomy. HasRoom roomy step.now) }
+        ensures err { IfErr result (λ refused. refused.1 ≡ self) }
+    {
+        let Pending { mut lists } = self;
+        match lists.make_all_room(step) {
+            Ok(()) => Ok(Roomy { lists }),
+            Err(memory) => Err((memory, Pending { lists })),
+        }
+    }
+
+    /// Adds a change behind the others, with its step. Where memory runs out nothing changes.
+    pub fn push(&mut self, change: Change, step: &Step) -> Result<(), Memory>
+        ensures ok { OnOk result (self.new ≡ pushed self.old change step.now) }
         ensures err { OnErr result (self.new ≡ self.old) }
     {
-        self.changes.reserve(1)?;
-        self.left.insert(change.target(), left)?;
-        self.changes.push(change)?;
+        self.lists.make_room(step)?;
+        self.lists.left.insert(change.target(), step.left)?;
+        self.lists.put_last(change, step);
         Ok(())
     }
 
@@ -110,21 +124,47 @@ impl Overlay {
     pub fn changes(&self) -> &[Change]
         ensures { result.now ≡ self.now.changes }
     {
-        &self.changes
+        &self.lists.changes
     }
 
     /// The number of changes.
     pub fn len(&self) -> usize
         ensures { result ≡ length self.now.changes }
     {
-        self.changes.len()
+        self.lists.changes.len()
     }
 
     /// Whether there are no changes.
     pub fn is_empty(&self) -> bool
         ensures { IsTrue result ↔ (self.now.changes ≡ []) }
     {
-        self.changes.is_empty()
+        self.lists.changes.is_empty()
+    }
+
+    /// The parent rows, before and after each change, of the child rows changed, in the order of the changes.
+    pub fn kin(&self) -> &[RowId]
+        ensures { result.now ≡ self.now.kin }
+    {
+        &self.lists.kin
+    }
+
+    /// The marks that each change takes from its row and gives it, in the order of the changes.
+    pub fn marks(&self) -> &[Mark]
+        ensures { result.now ≡ self.now.marks }
+    {
+        &self.lists.marks
+    }
+
+    /// Whether the kin are exactly the rows of the first list, and the marks exactly those of the second: neither list falls, and each
+    /// of the kin and the marks may come in any place and more than once. Both are sorted here. It takes no memory. With s rows and marks
+    /// stated, and k kin and marks, the time is that of sorting k, and of s + k searches.
+    pub fn touches_exactly(&mut self, refs: &[RowId], marks: &[Mark]) -> bool
+        requires refs { IsSorted row_cmp refs.now }
+        requires marks { IsSorted row_cmp marks.now }
+        ensures value { result ≡ (same_rows refs.now self.old.kin && same_rows marks.now self.old.marks) }
+        ensures left { self.new.left ≡ self.old.left }
+    {
+        are_exactly(refs, &mut self.lists.kin) && are_exactly(marks, &mut self.lists.marks)
     }
 
     /// Each row that the changes are of with what they leave of it; a row inserted and deleted again is there as
@@ -140,42 +180,48 @@ impl Overlay {
 
 /// The row as the transaction sees it: as its changes leave it, and else the store's. It takes no memory. The
 /// time is that of one look-up in the store.
-pub fn row_seen<S: RowStore>(overlay: &Overlay, store: &S, id: RowId) -> Option<Row>
-    ensures first { result ≡ unwrap_or (left_at overlay.now id) (row_of (S.contents store.now) id) }
-    ensures value { result ≡ row_of (seen overlay.now (S.contents store.now)) id }
+pub fn row_seen<S: RowStore>(pending: &Pending, store: &S, id: RowId) -> Option<Row>
+    ensures first { result ≡ unwrap_or (left_at pending.now id) (row_of (S.contents store.now) id) }
+    ensures value { result ≡ row_of (seen pending.now (S.contents store.now)) id }
 {
-    match overlay.see(id) {
+    match pending.see(id) {
         Some(left) => left,
         None => store.get(id),
     }
 }
 
-/// The parent row that these columns of a row of the table name, where the table has a parent and they have
-/// the column that names it. It takes no memory.
-fn parent_row(schema: &Schema, table: u16, columns: &Row) -> Option<RowId>
-    ensures { result ≡ parent_of schema.now table columns.now }
+/// What the change does to its row as the transaction sees it, or why it does not fit that row. Whether a parent is there, and
+/// whether another row has the value that the row takes, is not looked at: `parent_holds` and `value_holds` tell it. It takes no
+/// memory. The time is that of at most one look-up in the store.
+pub fn step_seen<S: RowStore>(
+    pending: &Pending,
+    schema: &Schema,
+    store: &S,
+    change: &Change,
+) -> Result<Step, ChangeFault>
+    ensures { result ≡ step_of schema.now change.now (row_of (seen pending.now (S.contents store.now)) (target change.now)) }
 {
-    let (column, parent) = schema.link_of(table)?;
-    let key = *columns.columns().get(column as usize)?;
-    Some(RowId { table: parent, key })
+    let before = row_seen(pending, store, change.target());
+    let left = apply_one(change, before.as_ref())?;
+    Ok(step_from(schema, change, before.as_ref(), left))
 }
 
 /// Whether a row of the table may have these columns, as the transaction sees the rows: the table has no
 /// parent, or they name a parent row that is there. It takes no memory.
 fn parent_seen<S: RowStore>(
-    overlay: &Overlay,
+    pending: &Pending,
     schema: &Schema,
     store: &S,
     table: u16,
     columns: &Row,
 ) -> bool
-    ensures { result ≡ has_parent schema.now (seen overlay.now (S.contents store.now)) table columns.now }
+    ensures { result ≡ has_parent schema.now (seen pending.now (S.contents store.now)) table columns.now }
 {
     if schema.link_of(table).is_none() {
         return true;
     }
-    match parent_row(schema, table, columns) {
-        Some(parent) => row_seen(overlay, store, parent).is_some(),
+    match parent_of(schema, table, columns.columns()) {
+        Some(parent) => row_seen(pending, store, parent).is_some(),
         None => false,
     }
 }
@@ -183,17 +229,17 @@ fn parent_seen<S: RowStore>(
 /// Whether the parent that the change gives its row, which it leaves so, is there, if it gives one. It takes no memory.
 /// The time is that of at most one look-up in the store.
 pub fn parent_holds<S: RowStore>(
-    overlay: &Overlay,
+    pending: &Pending,
     schema: &Schema,
     store: &S,
     change: &Change,
     left: Option<&Row>,
 ) -> bool
-    ensures { result ≡ parent_stands schema.now change.now (seen overlay.now (S.contents store.now)) (option_copied left.entry) }
+    ensures { result ≡ parent_stands schema.now change.now (seen pending.now (S.contents store.now)) (option_copied left.entry) }
 {
     match left {
         Some(columns) if gives_parent(schema, change) => {
-            parent_seen(overlay, schema, store, change.target().table, columns)
+            parent_seen(pending, schema, store, change.target().table, columns)
         }
         _ => true,
     }

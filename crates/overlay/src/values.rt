@@ -10,7 +10,7 @@ ghost use Rattle.store_trait.specs.Contents.{row_at};
 ghost use Rattle.rows.specs.Holders.{has_mark};
 ghost use Rattle.overlay.specs.Values.{other_has, gives_way, value_over};
 
-use crate::Overlay;
+use crate::Pending;
 use indexmap::IndexMap;
 use rows::{Change, Row, mark_of};
 use schema::{Mark, RowId, Schema};
@@ -20,21 +20,21 @@ use schema::{Mark, RowId, Schema};
 /// there. It takes no memory. The time is that of a walk over the rows that the transaction changed, and of one over the
 /// schema's tables for each of these; none where the change gives no value.
 pub fn value_holds(
-    overlay: &Overlay,
+    pending: &Pending,
     schema: &Schema,
     change: &Change,
     takes: Option<Mark>,
     holder: Option<i64>,
 ) -> bool
-    ensures value { result ≡ value_over schema.now overlay.now change.now takes holder }
-    ensures rising { IsRising overlay.now.left }
+    ensures value { result ≡ value_over schema.now pending.now change.now takes holder }
+    ensures rising { IsRising pending.now.left }
 {
-    let left = &overlay.left;
+    let left = &pending.lists.left;
     let Some(mark) = takes else {
         return true;
     };
     let row = change.target();
-    !any_other_has(schema, left, row, mark) && holder_gives_way(overlay, row, mark, holder)
+    !any_other_has(schema, left, row, mark) && holder_gives_way(pending, row, mark, holder)
 }
 
 /// Whether one of these rows is another than this one, and what is left of it has the mark.
@@ -69,10 +69,10 @@ fn has_mark(schema: &Schema, mark: Mark, table: u16, columns: &Row) -> bool
 }
 
 /// Whether the holder of the mark, if any, is this row, or one that the transaction changed.
-fn holder_gives_way(overlay: &Overlay, row: RowId, mark: Mark, holder: Option<i64>) -> bool
-    ensures { result ≡ option_map_or (λ key. gives_way overlay.now row (row_at mark.table key)) holder true }
+fn holder_gives_way(pending: &Pending, row: RowId, mark: Mark, holder: Option<i64>) -> bool
+    ensures { result ≡ option_map_or (λ key. gives_way pending.now row (row_at mark.table key)) holder true }
 {
-    holder.is_none_or(|key| gives_way(overlay, row, row_of(mark, key)))
+    holder.is_none_or(|key| gives_way(pending, row, row_of(mark, key)))
 }
 
 /// The row of the mark's table with this key.
@@ -86,8 +86,8 @@ fn row_of(mark: Mark, key: i64) -> RowId
 }
 
 /// Whether the holder is this row, or one that the transaction changed.
-fn gives_way(overlay: &Overlay, row: RowId, holder: RowId) -> bool
-    ensures { result ≡ gives_way overlay.now row holder }
+fn gives_way(pending: &Pending, row: RowId, holder: RowId) -> bool
+    ensures { result ≡ gives_way pending.now row holder }
 {
-    holder == row || overlay.see(holder).is_some()
+    holder == row || pending.see(holder).is_some()
 }

@@ -1,6 +1,7 @@
 -- How many of the numbers are above a mark up to which all are among them.
 use Rattle.std.proofs.Common.{◌≡◌, ℕ, zero, suc, ◌+◌, ◌≤◌, ◌==◌, ◌||◌, Bool, true, false, cond, List, [], ◌∷◌, ◌++◌, length, refl, sym, ap, subst, ◌∙◌, arith, length-append}
 use Rattle.std.specs.Prelude.{nat_lt}
+use Rattle.std.proofs.lemmas.Bool.{or_parts}
 use Rattle.std.proofs.lemmas.Bool.Decides.{nat_tests}
 use Rattle.std.proofs.lemmas.List.Sums.{sum_by-append, sum_by-cons}
 use Rattle.store_trait.specs.declared.Op.{Op}
@@ -14,10 +15,6 @@ use Rattle.published.proofs.Histories.{history_distinct, count_gnos, gnos_in_ord
 count_cons : (n x : ℕ) (gnos : List ℕ) → count_above n (x ∷ gnos) ≡ cond (nat_lt n x) 1 0 + count_above n gnos
 count_cons n x gnos = sum_by-cons (λ (gno : ℕ). cond (nat_lt n gno) 1 0) x gnos
 
-neither : (a b : Bool) → (a || b) ≡ false → (a ≡ false) × (b ≡ false)
-neither true b p = absurd (cc (p))
-neither false b p = (refl, p)
-
 -- another number than the next is above both this one and the next, or above none
 same_side : (n x : ℕ) → (x == n + 1) ≡ false → nat_lt n x ≡ nat_lt (n + 1) x
 same_side n x other = sides n x (nat_lt n x) (nat_lt (n + 1) x) other refl refl where
@@ -30,7 +27,7 @@ same_side n x other = sides n x (nat_lt n x) (nat_lt (n + 1) x) other refl refl 
 above_lacks : (n : ℕ) (gnos : List ℕ) → has_gno gnos (n + 1) ≡ false → count_above n gnos ≡ count_above (n + 1) gnos
 above_lacks n [] none = refl
 above_lacks n (x ∷ gnos) none =
-    let parts = neither (x == n + 1) (has_gno gnos (n + 1)) none in
+    let parts = or_parts (x == n + 1) (has_gno gnos (n + 1)) none in
     count_cons n x gnos
     ∙ ap (λ b. cond b 1 0 + count_above n gnos) (same_side n x parts.0) ∙ ap (λ m. cond (nat_lt (n + 1) x) 1 0 + m) (above_lacks n gnos parts.1)
     ∙ sym (count_cons (n + 1) x gnos)
@@ -39,8 +36,7 @@ above_has : (n : ℕ) (gnos : List ℕ) → AreDistinct gnos → has_gno gnos (n
 above_has n [] d there = absurd (cc (there))
 above_has n (x ∷ gnos) d there = split n x gnos (x == n + 1) refl d there (above_has n gnos d.1) where
   split : (n x : ℕ) (gnos : List ℕ) (b : Bool) → (x == n + 1) ≡ b → AreDistinct (x ∷ gnos) → has_gno (x ∷ gnos) (n + 1) ≡ true
-      → (has_gno gnos (n + 1) ≡ true → count_above n gnos ≡ count_above (n + 1) gnos + 1)
-      → count_above n (x ∷ gnos) ≡ count_above (n + 1) (x ∷ gnos) + 1
+      → (has_gno gnos (n + 1) ≡ true → count_above n gnos ≡ count_above (n + 1) gnos + 1) → count_above n (x ∷ gnos) ≡ count_above (n + 1) (x ∷ gnos) + 1
   split n x gnos true is d there rest =
       let same : x ≡ n + 1 = grind (arith, nat_tests, is) in
       let low : nat_lt n x ≡ true = grind (arith, nat_tests, same) in
@@ -57,13 +53,12 @@ above_has n (x ∷ gnos) d there = split n x gnos (x == n + 1) refl d there (abo
 above_zero : (gnos : List ℕ) → has_gno gnos 0 ≡ false → count_above 0 gnos ≡ length gnos
 above_zero [] none = refl
 above_zero (x ∷ gnos) none =
-    let parts = neither (x == 0) (has_gno gnos 0) none in
+    let parts = or_parts (x == 0) (has_gno gnos 0) none in
     let some : nat_lt 0 x ≡ true = grind (arith, nat_tests, parts.0) in
     let here : count_above 0 (x ∷ gnos) ≡ 1 + count_above 0 gnos = count_cons 0 x gnos ∙ ap (λ b. cond b 1 0 + count_above 0 gnos) some in
     omega (arith, here, above_zero gnos parts.1)
 
-above_low : (low : ℕ) (gnos : List ℕ) → AreDistinct gnos → has_gno gnos 0 ≡ false
-    → ((gno : ℕ) → 1 ≤ gno → gno ≤ low → has_gno gnos gno ≡ true) → count_above low gnos + low ≡ length gnos
+above_low : (low : ℕ) (gnos : List ℕ) → AreDistinct gnos → has_gno gnos 0 ≡ false → ((gno : ℕ) → 1 ≤ gno → gno ≤ low → has_gno gnos gno ≡ true) → count_above low gnos + low ≡ length gnos
 above_low zero gnos d none all = omega (arith, above_zero gnos none)
 above_low (suc n) gnos d none all =
     let step : count_above n gnos ≡ count_above (n + 1) gnos + 1 = above_has n gnos d (all (n + 1) (omega arith) (omega arith)) in
@@ -87,8 +82,7 @@ no_zero false (Load base ∷ ops) h = none [] ops h where
 no_zero false (Commit gno batch ∷ ops) h = absurd h
 
 -- of a history's commits those above the mark and those up to it are all
-pub history_above : (preserve : Bool) (ops : List Op) → IsHistory preserve ops
-    → count_above (low_of (gnos_of ops)) (gnos_of ops) + low_of (gnos_of ops) ≡ commits_in ops
+pub history_above : (preserve : Bool) (ops : List Op) → IsHistory preserve ops → count_above (low_of (gnos_of ops)) (gnos_of ops) + low_of (gnos_of ops) ≡ commits_in ops
 history_above preserve ops h =
     above_low (low_of (gnos_of ops)) (gnos_of ops) (history_distinct preserve ops h) (no_zero preserve ops h) (λ gno some le. below_low (gnos_of ops) gno some le) ∙ count_gnos preserve ops h
 
@@ -110,8 +104,7 @@ above_rise n least most (x ∷ xs) le r =
     omega (arith, here, above_rise n x most xs (omega (arith, le, r.0)) r.2)
 
 -- the same of the numbers that are noted: those up to the mark, and those ahead of a gap
-pub noted_above : (upto most : ℕ) (ahead : List ℕ) → RiseBetween (upto + 1) most ahead
-    → count_above upto (first_gnos upto ++ ahead) + upto ≡ length (first_gnos upto ++ ahead)
+pub noted_above : (upto most : ℕ) (ahead : List ℕ) → RiseBetween (upto + 1) most ahead → count_above upto (first_gnos upto ++ ahead) + upto ≡ length (first_gnos upto ++ ahead)
 noted_above upto most ahead r =
     let parts : count_above upto (first_gnos upto ++ ahead) ≡ count_above upto (first_gnos upto) + count_above upto ahead =
     sum_by-append (λ (gno : ℕ). cond (nat_lt upto gno) 1 0) (first_gnos upto) ahead in

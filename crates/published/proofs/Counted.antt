@@ -3,14 +3,13 @@ use Rattle.std.proofs.Common.{◌≡◌, ℕ, ◌+◌, ◌-◌, ◌≤◌, ◌==
 use Rattle.std.proofs.lemmas.Bool.{false≢true}
 use Rattle.store_trait.specs.Batch.{Entry}
 use Rattle.store_trait.specs.declared.Op.{Op}
-use Rattle.store_trait.specs.declared.Op.TheVariants.{Load, Commit}
+use Rattle.store_trait.specs.declared.Op.TheVariants.{Commit}
 use Rattle.scheduler.specs.Gnos.{has_gno, low_of, first_gnos}
 use Rattle.scheduler.proofs.Gnos.{has_gno-push, low_of_same, low_of_first, first_gnos-next, past_low}
 use Rattle.published.specs.Plain.{Shown, MayFollow, IsCounted}
 
 -- in the order of the log the mark is their number
-pub low_counted : (preserve : Bool) (upto more : ℕ) (gnos : List ℕ) (waiting : List (List Entry))
-    → IsCounted preserve upto more gnos waiting → preserve ≡ true → low_of gnos ≡ upto + length waiting
+pub low_counted : (preserve : Bool) (upto more : ℕ) (gnos : List ℕ) (waiting : List (List Entry)) → IsCounted preserve upto more gnos waiting → preserve ≡ true → low_of gnos ≡ upto + length waiting
 low_counted preserve upto more gnos waiting c order =
     low_of_same gnos (first_gnos (length gnos)) (λ gno some. c.first order gno)
     ∙ low_of_first (length gnos)
@@ -39,15 +38,10 @@ new_if false shown gno batch c may = record { some = may.0; none = may.1; next =
 
 -- the gno of a commit that may be appended is from 1 on, and none of those appended
 pub follows : {S : Type 0} (shown : Shown S) (op : Op) (gno : ℕ) (batch : List Entry) → IsCounted shown.preserve shown.upto shown.more shown.gnos shown.waiting
-    → MayFollow shown.preserve shown op → op ≡ Commit gno batch
-    → (1 ≤ gno) × (has_gno shown.gnos gno ≡ false)
+    → MayFollow shown.preserve shown op → op ≡ Commit gno batch → (1 ≤ gno) × (has_gno shown.gnos gno ≡ false)
 follows shown op gno batch c may is =
     let new = new_if shown.preserve shown gno batch c (subst (MayFollow shown.preserve shown) is may) in
     (new.some, new.none)
-
-pub no_load : {S : Type 0} (preserve : Bool) (shown : Shown S) (batch : List Entry) → MayFollow preserve shown (Load batch) → ⊥
-no_load true shown batch may = may
-no_load false shown batch may = may
 
 -- one more
 pub counted_put : {S : Type 0} (shown : Shown S) (op : Op) (gno : ℕ) (batch : List Entry) (gnos : List ℕ) (waiting : List (List Entry)) (last : List Entry)
@@ -71,16 +65,14 @@ counted_put shown op gno batch gnos waiting last c may is has count waits = reco
 
 -- all that waited is shown
 pub shown_in_order : (preserve : Bool) (upto more : ℕ) (gnos : List ℕ) (waiting : List (List Entry)) (count low : ℕ)
-    → IsCounted preserve upto more gnos waiting → count ≡ length gnos → low ≡ low_of gnos → preserve ≡ true
-    → (low ≡ upto + length waiting) × (count - low ≡ 0)
+    → IsCounted preserve upto more gnos waiting → count ≡ length gnos → low ≡ low_of gnos → preserve ≡ true → (low ≡ upto + length waiting) × (count - low ≡ 0)
 shown_in_order preserve upto more gnos waiting count low c is mark order =
     let reached : low ≡ upto + length waiting = mark ∙ low_counted preserve upto more gnos waiting c order in
     (reached, omega (arith, is, c.number, c.none order, reached))
 
 -- once all is shown the commits are counted as those up to the mark and those above it
 pub counted_shown : (preserve : Bool) (upto more : ℕ) (gnos : List ℕ) (waiting rest : List (List Entry)) (count low : ℕ)
-    → IsCounted preserve upto more gnos waiting → rest ≡ [] → count ≡ length gnos → low ≡ low_of gnos → low ≤ length gnos
-    → IsCounted preserve low (count - low) gnos rest
+    → IsCounted preserve upto more gnos waiting → rest ≡ [] → count ≡ length gnos → low ≡ low_of gnos → low ≤ length gnos → IsCounted preserve low (count - low) gnos rest
 counted_shown preserve upto more gnos waiting rest count low c empty is mark within = record {
   number = omega (arith, is, within, ap (λ (l : List (List Entry)). length l) empty);
   first = c.first;

@@ -1,34 +1,6 @@
 -- Beginnings of one history, a history with one more commit, and the numbers in it.
-use Rattle.std.proofs.Common.{
-  ◌≡◌,
-  ◌≢◌,
-  ℕ,
-  ◌+◌,
-  ◌<◌,
-  ◌≤◌,
-  Bool,
-  true,
-  false,
-  List,
-  [],
-  ◌∷◌,
-  ◌++◌,
-  length,
-  refl,
-  sym,
-  ap,
-  ◌∙◌,
-  subst,
-  arith,
-  length-append,
-  append_assoc,
-  add-zero,
-  MatchBool,
-  zero,
-  suc,
-  slice_get,
-  Some,
-}
+use Rattle.std.proofs.Common.{◌≡◌, ◌≢◌, ℕ, ◌+◌, ◌<◌, ◌≤◌, Bool, true, false, List, [], ◌∷◌, ◌++◌, length, refl, sym, ap, ◌∙◌, subst, arith, length-append, append_assoc, add-zero, MatchBool, zero, suc}
+use Rattle.std.proofs.Common.{slice_get, Some}
 use Rattle.std.proofs.lemmas.Bool.{false≢true}
 use Rattle.std.proofs.lemmas.Bool.Decides.{nat_tests}
 use Rattle.std.specs.Prelude.{nat_le}
@@ -89,8 +61,7 @@ pub commits_in-with : (ops more : List Op) → 1 ≤ length ops → commits_in (
 commits_in-with ops more some = omega (arith, length-append ops more)
 
 -- of two beginnings of one list the one with no more commits begins the other
-pub begins_by : (a b whole : List Op) → IsPrefix a whole → IsPrefix b whole → 1 ≤ length a → 1 ≤ length b → (t : Bool)
-    → nat_le (commits_in a) (commits_in b) ≡ t
+pub begins_by : (a b whole : List Op) → IsPrefix a whole → IsPrefix b whole → 1 ≤ length a → 1 ≤ length b → (t : Bool) → nat_le (commits_in a) (commits_in b) ≡ t
     → MatchBool t (IsPrefix a b) (IsPrefix b a)
 begins_by a b whole p q ha hb true is =
     let le : commits_in a ≤ commits_in b = grind (arith, nat_tests) in
@@ -167,8 +138,7 @@ count_new gone [] h = refl
 count_new gone (Load base ∷ ops) h = absurd h
 count_new gone (Commit gno batch ∷ ops) h = ap suc (count_new (gone ++ gno ∷ []) ops h.2)
 
-new_with : (gone : List ℕ) (ops : List Op) (gno : ℕ) (batch : List Entry) → AreNew gone ops → 1 ≤ gno
-    → has_gno (gone ++ gnos_of ops) gno ≡ false → AreNew gone (ops ++ Commit gno batch ∷ [])
+new_with : (gone : List ℕ) (ops : List Op) (gno : ℕ) (batch : List Entry) → AreNew gone ops → 1 ≤ gno → has_gno (gone ++ gnos_of ops) gno ≡ false → AreNew gone (ops ++ Commit gno batch ∷ [])
 new_with gone [] gno batch h some none = (some, subst (λ l. has_gno l gno ≡ false) (append-nil gone) none, tt)
 new_with gone (Load base ∷ ops) gno batch h some none = absurd h
 new_with gone (Commit other left ∷ ops) gno batch h some none =
@@ -211,14 +181,8 @@ no_gnos preserve ops h none = length_zero (gnos_of ops) (count_gnos preserve ops
   length_zero [] is = refl
   length_zero (x ∷ l) is = absurd (omega (arith, is))
 
--- no load may be appended
-pub no_load : (preserve : Bool) (ops : List Op) (batch : List Entry) → MayAppend preserve ops (Load batch) → ⊥
-no_load true ops batch may = may
-no_load false ops batch may = may
-
 -- one more commit
-pub history_put : (preserve : Bool) (ops : List Op) (op : Op) → IsHistory preserve ops → MayAppend preserve ops op
-    → IsHistory preserve (ops ++ op ∷ [])
+pub history_put : (preserve : Bool) (ops : List Op) (op : Op) → IsHistory preserve ops → MayAppend preserve ops op → IsHistory preserve (ops ++ op ∷ [])
 history_put true [] op h may = absurd h
 history_put true (Load base ∷ ops) op h may = commits_with 1 ops (op ∷ []) h (subst (IsCommit op) (omega arith) may, tt)
 history_put true (Commit gno batch ∷ ops) op h may = absurd h
@@ -228,18 +192,12 @@ history_put false (Load base ∷ ops) (Commit gno batch) h may = new_with [] ops
 history_put false (Commit gno batch ∷ ops) op h may = absurd h
 
 -- its number is none of those before
-pub put_is_new : (preserve : Bool) (ops : List Op) (gno : ℕ) (batch : List Entry) → IsHistory preserve ops
-    → MayAppend preserve ops (Commit gno batch) → (1 ≤ gno) × (has_gno (gnos_of ops) gno ≡ false)
+pub put_is_new : (preserve : Bool) (ops : List Op) (gno : ℕ) (batch : List Entry) → IsHistory preserve ops → MayAppend preserve ops (Commit gno batch) → (1 ≤ gno) × (has_gno (gnos_of ops) gno ≡ false)
 put_is_new true ops gno batch h may =
     let some = begun true ops h in
     let next : gno ≡ commits_in ops + 1 = may ∙ count_begun ops some in
     (omega (arith, next), subst (λ g. has_gno (gnos_of ops) g ≡ false) (sym next) (subst (λ n. has_gno (gnos_of ops) (n + 1) ≡ false) (low_in_order ops h) (past_low (gnos_of ops))))
 put_is_new false ops gno batch h may = may
-
--- and in the order of the log it is the one behind the mark
-pub put_is_next : (ops : List Op) (gno : ℕ) (batch : List Entry) → IsHistory true ops → MayAppend true ops (Commit gno batch)
-    → gno ≡ low_of (gnos_of ops) + 1
-put_is_next ops gno batch h may = may ∙ count_begun ops (begun true ops h) ∙ ap (λ n. n + 1) (sym (low_in_order ops h))
 
 -- a beginning of a history is one
 pub history_front : (preserve : Bool) (ops more : List Op) → 1 ≤ length ops → IsHistory preserve (ops ++ more) → IsHistory preserve ops

@@ -1,43 +1,10 @@
 -- Numbers up to a mark, and rising numbers ahead of it.
-use Rattle.std.proofs.Common.{
-  ◌≡◌,
-  ℕ,
-  zero,
-  suc,
-  ◌+◌,
-  ◌-◌,
-  ◌<◌,
-  ◌≤◌,
-  ◌==◌,
-  ◌||◌,
-  ◌&&◌,
-  Bool,
-  true,
-  false,
-  List,
-  [],
-  ◌∷◌,
-  ◌++◌,
-  length,
-  drop,
-  get_or,
-  refl,
-  sym,
-  ap,
-  subst,
-  ◌∙◌,
-  arith,
-  length-append,
-  append_assoc,
-  add-one,
-  drop-cons,
-  Result,
-  Ok,
-  Err,
-}
+use Rattle.std.proofs.Common.{◌≡◌, ℕ, zero, suc, ◌+◌, ◌-◌, ◌<◌, ◌≤◌, ◌==◌, ◌||◌, Bool, true, false, List, [], ◌∷◌, ◌++◌, length, drop, get_or, refl, sym, ap, subst, ◌∙◌, arith, length-append}
+use Rattle.std.proofs.Common.{append_assoc, add-one, drop-cons, Result, Ok, Err}
 use Rattle.std.specs.Prelude.{nat_le}
 use Rattle.std.proofs.lemmas.Bool.Decides.{nat_tests}
-use Rattle.std.proofs.lemmas.Bool.{false≢true}
+use Rattle.std.proofs.lemmas.Bool.{false≢true, and_from, and_right}
+use Rattle.std.proofs.Math.Bool.{or_assoc, or_comm, or-false}
 use Rattle.std.proofs.lemmas.List.Sorted.{searched}
 use Rattle.std.specs.List.{insert}
 use Rattle.std.specs.List.Sorted.{IsBinarySearchResult}
@@ -50,17 +17,10 @@ use Rattle.published.specs.Gaps.{RiseBetween}
 -- ---- the numbers from 1 on
 
 first_has : (n gno : ℕ) → 1 ≤ gno → gno ≤ n → has_gno (first_gnos n) gno ≡ true
-first_has n gno some le = has_first n gno ∙ both (nat_le 1 gno) (nat_le gno n) (grind (arith, nat_tests)) (grind (arith, nat_tests)) where
-  both : (a b : Bool) → a ≡ true → b ≡ true → (a && b) ≡ true
-  both true true p q = refl
-  both true false p q = q
-  both false b p q = p
+first_has n gno some le = has_first n gno ∙ and_from (nat_le 1 gno) (nat_le gno n) (grind (arith, nat_tests)) (grind (arith, nat_tests))
 
 first_lacks : (n gno : ℕ) → n < gno → has_gno (first_gnos n) gno ≡ false
-first_lacks n gno more = has_first n gno ∙ none (nat_le 1 gno) (nat_le gno n) (grind (arith, nat_tests)) where
-  none : (a b : Bool) → b ≡ false → (a && b) ≡ false
-  none true b q = q
-  none false b q = refl
+first_lacks n gno more = has_first n gno ∙ and_right (nat_le 1 gno) (nat_le gno n) (grind (arith, nat_tests))
 
 -- ---- rising numbers
 
@@ -80,8 +40,7 @@ rise_few : (least most : ℕ) (xs : List ℕ) → least ≤ most → RiseBetween
 rise_few least most [] le r = omega arith
 rise_few least most (x ∷ xs) le r = omega (arith, r.0, rise_few x most xs r.1 r.2)
 
-pub rise_places : (least most : ℕ) (xs : List ℕ) → RiseBetween least most xs → (i j : ℕ) → i ≤ j → j < length xs
-    → get_or xs i 0 ≤ get_or xs j 0
+pub rise_places : (least most : ℕ) (xs : List ℕ) → RiseBetween least most xs → (i j : ℕ) → i ≤ j → j < length xs → get_or xs i 0 ≤ get_or xs j 0
 rise_places least most [] r i j le in_ = absurd (omega arith)
 rise_places least most (x ∷ xs) r zero zero le in_ = omega arith
 rise_places least most (x ∷ xs) r zero (suc j) le in_ = omega (arith, above x most xs r.2 j (omega arith)) where
@@ -103,20 +62,9 @@ rise_insert least most (x ∷ xs) (suc i) gno r le more fits below above =
 
 -- it is one more of them
 pub has_insert : (xs : List ℕ) (i gno other : ℕ) → has_gno (insert xs i gno) other ≡ (has_gno xs other || (gno == other))
-has_insert xs zero gno other = swap (gno == other) (has_gno xs other) where
-  swap : (a b : Bool) → (a || b) ≡ (b || a)
-  swap true true = refl
-  swap true false = refl
-  swap false true = refl
-  swap false false = refl
-has_insert [] (suc i) gno other = last (gno == other) where
-  last : (a : Bool) → (a || false) ≡ a
-  last true = refl
-  last false = refl
-has_insert (x ∷ xs) (suc i) gno other = ap (λ b. (x == other) || b) (has_insert xs i gno other) ∙ assoc (x == other) (has_gno xs other) (gno == other) where
-  assoc : (a b c : Bool) → (a || (b || c)) ≡ ((a || b) || c)
-  assoc true b c = refl
-  assoc false b c = refl
+has_insert xs zero gno other = or_comm (gno == other) (has_gno xs other)
+has_insert [] (suc i) gno other = or-false (gno == other)
+has_insert (x ∷ xs) (suc i) gno other = ap (λ b. (x == other) || b) (has_insert xs i gno other) ∙ sym (or_assoc (x == other) (has_gno xs other) (gno == other))
 
 -- ---- both
 
@@ -145,25 +93,19 @@ new_is_above upto ahead gno some none =
     ] refl
 
 -- where the next one comes, the numbers are those and the next
-pub has_next : (upto gno : ℕ) (ahead new : List ℕ) → gno ≡ upto + 1 → new ≡ first_gnos gno ++ ahead → (other : ℕ)
-    → has_gno new other ≡ (has_gno (first_gnos upto ++ ahead) other || (gno == other))
+pub has_next : (upto gno : ℕ) (ahead new : List ℕ) → gno ≡ upto + 1 → new ≡ first_gnos gno ++ ahead → (other : ℕ) → has_gno new other ≡ (has_gno (first_gnos upto ++ ahead) other || (gno == other))
 has_next upto gno ahead new next is other =
     ap (λ l. has_gno l other) is
     ∙ has_gno-append (first_gnos gno) ahead other
     ∙ ap (λ l. has_gno l other || has_gno ahead other) (ap first_gnos next ∙ first_gnos-next upto ∙ ap (λ n. first_gnos upto ++ n ∷ []) (sym next))
     ∙ ap (λ b. b || has_gno ahead other) (has_gno-push (first_gnos upto) gno other)
-    ∙ turn (has_gno (first_gnos upto) other) (gno == other) (has_gno ahead other)
-    ∙ ap (λ b. b || (gno == other)) (sym (has_gno-append (first_gnos upto) ahead other)) where
-      turn : (a b c : Bool) → ((a || b) || c) ≡ ((a || c) || b)
-      turn true b c = refl
-      turn false true true = refl
-      turn false true false = refl
-      turn false false true = refl
-      turn false false false = refl
+    ∙ or_assoc (has_gno (first_gnos upto) other) (gno == other) (has_gno ahead other)
+    ∙ ap (λ b. has_gno (first_gnos upto) other || b) (or_comm (gno == other) (has_gno ahead other))
+    ∙ sym (or_assoc (has_gno (first_gnos upto) other) (has_gno ahead other) (gno == other))
+    ∙ ap (λ b. b || (gno == other)) (sym (has_gno-append (first_gnos upto) ahead other))
 
 -- where the next number comes, one more is noted
-pub next_count : (upto gno : ℕ) (ahead new : List ℕ) → gno ≡ upto + 1 → new ≡ first_gnos gno ++ ahead
-    → length new ≡ length (first_gnos upto ++ ahead) + 1
+pub next_count : (upto gno : ℕ) (ahead new : List ℕ) → gno ≡ upto + 1 → new ≡ first_gnos gno ++ ahead → length new ≡ length (first_gnos upto ++ ahead) + 1
 next_count upto gno ahead new next is =
     ap (λ (l : List ℕ). length l) is ∙ sym (count_noted gno ahead) ∙ more gno upto (length ahead) next ∙ ap (λ n. n + 1) (count_noted upto ahead) where
       more : (gno upto n : ℕ) → gno ≡ upto + 1 → gno + n ≡ (upto + n) + 1
@@ -175,15 +117,11 @@ pub has_ahead : (upto : ℕ) (ahead more : List ℕ) (gno : ℕ) → ((other : �
 has_ahead upto ahead more gno has other =
     has_gno-append (first_gnos upto) more other
     ∙ ap (λ b. has_gno (first_gnos upto) other || b) (has other)
-    ∙ assoc (has_gno (first_gnos upto) other) (has_gno ahead other) (gno == other)
-    ∙ ap (λ b. b || (gno == other)) (sym (has_gno-append (first_gnos upto) ahead other)) where
-      assoc : (a b c : Bool) → (a || (b || c)) ≡ ((a || b) || c)
-      assoc true b c = refl
-      assoc false b c = refl
+    ∙ sym (or_assoc (has_gno (first_gnos upto) other) (has_gno ahead other) (gno == other))
+    ∙ ap (λ b. b || (gno == other)) (sym (has_gno-append (first_gnos upto) ahead other))
 
 -- and where one comes ahead
-pub ahead_count : (upto : ℕ) (ahead more : List ℕ) → length more ≡ length ahead + 1
-    → length (first_gnos upto ++ more) ≡ length (first_gnos upto ++ ahead) + 1
+pub ahead_count : (upto : ℕ) (ahead more : List ℕ) → length more ≡ length ahead + 1 → length (first_gnos upto ++ more) ≡ length (first_gnos upto ++ ahead) + 1
 ahead_count upto ahead more is = omega (arith, is, count_noted upto more, count_noted upto ahead)
 
 -- a number that is not noted is not ahead
@@ -196,8 +134,7 @@ at_place : (ahead : List ℕ) (i : ℕ) → i < length ahead → drop i ahead �
 at_place ahead i more = rw add-one (drop-cons ahead i 0 more)
 
 -- the mark passes one more of those ahead
-pub rise_passed : (upto most i : ℕ) (ahead : List ℕ) → i < length ahead → RiseBetween upto most (drop i ahead)
-    → RiseBetween (get_or ahead i 0) most (drop (i + 1) ahead)
+pub rise_passed : (upto most i : ℕ) (ahead : List ℕ) → i < length ahead → RiseBetween upto most (drop i ahead) → RiseBetween (get_or ahead i 0) most (drop (i + 1) ahead)
 rise_passed upto most i ahead more r = (subst (RiseBetween upto most) (at_place ahead i more) r).2
 
 -- the mark may pass a number ahead that is the next one: the same are noted
@@ -215,14 +152,6 @@ same_passed upto i ahead whole more is so_far =
 pub next_is_above : (upto most i : ℕ) (ahead : List ℕ) → i < length ahead → RiseBetween upto most (drop i ahead) → upto < get_or ahead i 0
 next_is_above upto most i ahead more r = (subst (RiseBetween upto most) (at_place ahead i more) r).0
 
--- or stays behind a gap
-pub rise_behind_gap : (upto most i : ℕ) (ahead : List ℕ) → i < length ahead → RiseBetween upto most (drop i ahead)
-    → upto + 1 < get_or ahead i 0 → RiseBetween (upto + 1) most (drop i ahead)
-rise_behind_gap upto most i ahead more r gap =
-    let here = at_place ahead i more in
-    let parts = subst (RiseBetween upto most) here r in
-    subst (RiseBetween (upto + 1) most) (sym here) (gap, parts.1, parts.2)
-
 -- ---- a search by halves
 
 -- the place of a number is between those below it and those above
@@ -230,22 +159,19 @@ abbrev HasPlace : List ℕ → ℕ → ℕ → Type 0
 HasPlace xs gno i = (i ≤ length xs) × ((k : ℕ) → k < i → get_or xs k 0 < gno) × ((k : ℕ) → i ≤ k → k < length xs → gno < get_or xs k 0)
 
 -- one that is not among them is not found
-pub not_found : (most gno i : ℕ) (xs : List ℕ) (r : Result ℕ ℕ) → RiseBetween 0 most xs → has_gno xs gno ≡ false
-    → IsBinarySearchResult (λ y. nat_cmp y gno) xs r → r ≡ Ok i → ⊥
+pub not_found : (most gno i : ℕ) (xs : List ℕ) (r : Result ℕ ℕ) → RiseBetween 0 most xs → has_gno xs gno ≡ false → IsBinarySearchResult (λ y. nat_cmp y gno) xs r → r ≡ Ok i → ⊥
 not_found most gno i xs r rise none told is =
     let P : Result ℕ ℕ → Type 0 = λ o. MatchResult o (λ i. (i < length xs) × (get_or xs i 0 ≡ gno)) (HasPlace xs gno) in
     let there : (i < length xs) × (get_or xs i 0 ≡ gno) = subst P is (searched xs gno r told (rise_places 0 most xs rise)) in
     false≢true (sym none ∙ subst (λ g. has_gno xs g ≡ true) there.1 (has_gno_at xs i 0 there.0))
 
-found_place : (most gno i : ℕ) (xs : List ℕ) (r : Result ℕ ℕ) → RiseBetween 0 most xs → IsBinarySearchResult (λ y. nat_cmp y gno) xs r
-    → r ≡ Err i → HasPlace xs gno i
+found_place : (most gno i : ℕ) (xs : List ℕ) (r : Result ℕ ℕ) → RiseBetween 0 most xs → IsBinarySearchResult (λ y. nat_cmp y gno) xs r → r ≡ Err i → HasPlace xs gno i
 found_place most gno i xs r rise told is =
     let P : Result ℕ ℕ → Type 0 = λ o. MatchResult o (λ i. (i < length xs) × (get_or xs i 0 ≡ gno)) (HasPlace xs gno) in
     subst P is (searched xs gno r told (rise_places 0 most xs rise))
 
 -- a number that is put in its place leaves the others rising
-pub rise_put : (least most gno i : ℕ) (xs new : List ℕ) (r : Result ℕ ℕ) → RiseBetween 0 most xs
-    → IsBinarySearchResult (λ y. nat_cmp y gno) xs r
+pub rise_put : (least most gno i : ℕ) (xs new : List ℕ) (r : Result ℕ ℕ) → RiseBetween 0 most xs → IsBinarySearchResult (λ y. nat_cmp y gno) xs r
     → r ≡ Err i → new ≡ insert xs i gno → gno ≤ most → least < gno → RiseBetween least most xs → RiseBetween least most new
 rise_put least most gno i xs new r rise told is put fits more above =
     let place = found_place most gno i xs r rise told is in

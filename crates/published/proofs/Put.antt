@@ -42,8 +42,7 @@ apart : (a b : RowId) → same_row a b ≡ false → a ≢ b
 apart a b other same = let alike : same_row a b ≡ true = subst (λ (c : RowId). same_row a c ≡ true) same (ap is_eq (tied_itself row_total a)) in cc
 
 -- an entry may go behind others that are not of its row
-put_past : (es : List Entry) (db : Database) (k : RowId) (v : Option (List ℤ)) → NonePasses (is_at (row_cmp k)) es
-    → put_batch es (put_row db k v) ≡ put_row (put_batch es db) k v
+put_past : (es : List Entry) (db : Database) (k : RowId) (v : Option (List ℤ)) → NonePasses (is_at (row_cmp k)) es → put_batch es (put_row db k v) ≡ put_row (put_batch es db) k v
 put_past [] db k v none = refl
 put_past (e ∷ es) db k v none =
     ap (put_batch es) (put_row_swapped db k e.0 v e.1 (apart k e.0 none.0)) ∙ put_past es (put_row db e.0 e.1) k v none.1

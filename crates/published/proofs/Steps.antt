@@ -1,34 +1,6 @@
 -- What a publication does to a copy.
-use Rattle.std.proofs.Common.{
-  ◌≡◌,
-  ℕ,
-  ◌+◌,
-  ◌-◌,
-  ◌≤◌,
-  ◌==◌,
-  ◌||◌,
-  Bool,
-  false,
-  List,
-  [],
-  ◌∷◌,
-  ◌++◌,
-  length,
-  drop,
-  map,
-  fold,
-  refl,
-  sym,
-  ap,
-  subst,
-  ◌∙◌,
-  Option,
-  Some,
-  IfSome,
-  arith,
-  append_assoc,
-  length-append,
-}
+use Rattle.std.proofs.Common.{◌≡◌, ℕ, ◌+◌, ◌-◌, ◌≤◌, ◌==◌, ◌||◌, Bool, false, List, [], ◌∷◌, ◌++◌, length, drop, map, fold, refl, sym, ap, subst, ◌∙◌, Option, Some, IfSome, arith, append_assoc}
+use Rattle.std.proofs.Common.{length-append}
 use Rattle.std.proofs.Math.Seq.{drop-length, drop-nil}
 use Rattle.std.proofs.lemmas.List.{append-nil, drop-append-le, length-drop}
 use Rattle.std.proofs.lemmas.List.Sums.{fold-append}
@@ -40,151 +12,132 @@ use Rattle.store_trait.specs.Operation.{batch_of, left_by}
 use Rattle.scheduler.specs.Gnos.{has_gno, low_of}
 use Rattle.scheduler.proofs.Gnos.{has_gno-push, low_of_same}
 use Rattle.published.specs.History.{IsHistory, MayAppend, gnos_of, commits_in}
-use Rattle.published.specs.Held.{Held}
+use Rattle.published.specs.VersionValue.{VersionValue}
 use Rattle.published.specs.Copies.{after_step, puts_in, Settles}
 use Rattle.published.specs.Publication.{Publishing, unsaid, IsTied}
-use Rattle.published.specs.declared.version.Step.{Step}
-use Rattle.published.specs.declared.version.Step.TheVariants.{Put, Note}
+use Rattle.published.specs.declared.version.CopyStep.{CopyStep}
+use Rattle.published.specs.declared.version.CopyStep.TheVariants.{Put, Note}
 use Rattle.store_trait.proofs.Batches.{left_by-append}
-use Rattle.published.proofs.Histories.{begun, history_put, put_is_new, history_front, commits_in-with, gnos_of-append, no_gnos}
+use Rattle.published.proofs.Histories.{begun, history_put, put_is_new, commits_in-with, gnos_of-append, no_gnos}
 
 module _ {J : Type 0} where
   -- a step that puts an operation adds it
-  pub puts_in-put : (steps : List (Step J)) (op : Op) → puts_in (steps ++ Put op ∷ []) ≡ puts_in steps ++ op ∷ []
+  pub puts_in-put : (steps : List (CopyStep J)) (op : Op) → puts_in (steps ++ Put op ∷ []) ≡ puts_in steps ++ op ∷ []
   puts_in-put [] op = refl
   puts_in-put (Put first ∷ steps) op = ap (λ l. first ∷ l) (puts_in-put steps op)
   puts_in-put (Note ops ∷ steps) op = puts_in-put steps op
 
   -- a step that notes what was published adds none
-  pub puts_in-note : (steps : List (Step J)) (ops : List Op) → puts_in (steps ++ Note ops ∷ []) ≡ puts_in steps
+  pub puts_in-note : (steps : List (CopyStep J)) (ops : List Op) → puts_in (steps ++ Note ops ∷ []) ≡ puts_in steps
   puts_in-note [] ops = refl
   puts_in-note (Put first ∷ steps) ops = ap (λ l. first ∷ l) (puts_in-note steps ops)
   puts_in-note (Note others ∷ steps) ops = puts_in-note steps ops
 
-  rows_after : (steps : List (Step J)) (held : Held) → (fold after_step held steps).rows ≡ put_batches (map batch_of (puts_in steps)) held.rows
+  rows_after : (steps : List (CopyStep J)) (held : VersionValue) → (fold after_step held steps).rows ≡ put_batches (map batch_of (puts_in steps)) held.rows
   rows_after [] held = refl
   rows_after (Put op ∷ steps) held = rows_after steps (after_step {J = J} held (Put op))
   rows_after (Note ops ∷ steps) held = rows_after steps (after_step {J = J} held (Note ops))
 
   -- what waits, and then the note
-  noted : (steps : List (Step J)) (held : Held) (ops : List Op) → fold after_step held (steps ++ Note ops ∷ []) ≡ record { rows = put_batches (map batch_of (puts_in steps)) held.rows; by = ops }
+  noted : (steps : List (CopyStep J)) (held : VersionValue) (ops : List Op) → fold after_step held (steps ++ Note ops ∷ [])
+      ≡ record { rows = put_batches (map batch_of (puts_in steps)) held.rows; by = ops }
   noted steps held ops = fold-append after_step held steps (Note ops ∷ []) ∙ ap (λ db. record { rows = db; by = ops }) (rows_after steps held)
 
   -- the steps of a publication leave what its operations leave
-  pub settles : (rows : Database) (published all : List Op) (steps after : List (Step J)) → rows ≡ left_by published → all ≡ published ++ puts_in steps → after ≡ steps ++ Note all ∷ []
+  pub settles : (rows : Database) (published all : List Op) (steps after : List (CopyStep J)) → rows ≡ left_by published → all ≡ published ++ puts_in steps → after ≡ steps ++ Note all ∷ []
       → Settles (record { rows = rows; by = published }) after
   settles rows published all steps after left whole is =
       let done = ap (fold after_step (record { rows = rows; by = published })) is ∙ noted steps (record { rows = rows; by = published }) all in
       let same : put_batches (map batch_of (puts_in steps)) rows ≡ left_by all =
       ap (put_batches (map batch_of (puts_in steps))) left ∙ sym (left_by-append published (puts_in steps)) ∙ ap left_by (sym whole) in
-      ap (λ (h : Held). h.rows) done ∙ same ∙ ap (λ (h : Held). left_by h.by) (sym done)
+      ap (λ (h : VersionValue). h.rows) done ∙ same ∙ ap (λ (h : VersionValue). left_by h.by) (sym done)
 
   -- and then these are the operations
-  pub published_after : (rows : Database) (published all : List Op) (steps after : List (Step J)) → after ≡ steps ++ Note all ∷ []
+  pub published_after : (rows : Database) (published all : List Op) (steps after : List (CopyStep J)) → after ≡ steps ++ Note all ∷ []
       → (fold after_step (record { rows = rows; by = published }) after).by ≡ all
   published_after rows published all steps after is =
-      ap (λ (h : Held). h.by) (ap (fold after_step (record { rows = rows; by = published })) is ∙ noted steps (record { rows = rows; by = published }) all)
+      ap (λ (h : VersionValue). h.by) (ap (fold after_step (record { rows = rows; by = published })) is ∙ noted steps (record { rows = rows; by = published }) all)
 
--- the history has no more than what is published and what waits
-known_within : (preserve : Bool) (rows : Database) (p : Publishing) (gnos : List ℕ) → IsTied preserve rows p gnos
-    → length p.history - length p.published ≤ length p.waiting
-known_within preserve rows p gnos tied =
-    let sizes = ap length tied.whole in
-    omega (arith, length-append p.history (unsaid p), length-append p.published p.waiting, length-drop (length p.history - length p.published) p.waiting, sizes)
+module _ {preserve : Bool} {rows : Database} {p : Publishing} {gnos : List ℕ} (tied : IsTied preserve rows p gnos) where
+  -- the history has no more than what is published and what waits
+  known_within : length p.history - length p.published ≤ length p.waiting
+  known_within =
+      let sizes = ap length tied.whole in
+      omega (arith, length-append p.history (unsaid p), length-append p.published p.waiting, length-drop (length p.history - length p.published) p.waiting, sizes)
 
--- a commit that may be appended has a number that is not noted
-pub new_number : (preserve : Bool) (rows : Database) (p : Publishing) (gnos : List ℕ) (op : Op) (gno : ℕ) (batch : List Entry)
-    → IsTied preserve rows p gnos → MayAppend preserve (p.published ++ p.waiting) op → op ≡ Commit gno batch → (1 ≤ gno) × (has_gno gnos gno ≡ false)
-new_number preserve rows p gnos op gno batch tied may is =
-    let new = put_is_new preserve (p.published ++ p.waiting) gno batch tied.history (subst (MayAppend preserve (p.published ++ p.waiting)) is may) in
-    (new.0, tied.has gno ∙ new.1)
+  -- a commit that may be appended has a number that is not noted
+  pub new_number : {op : Op} {gno : ℕ} {batch : List Entry} → op ≡ Commit gno batch → MayAppend preserve (p.published ++ p.waiting) op → (1 ≤ gno) × (has_gno gnos gno ≡ false)
+  new_number {gno = gno} {batch = batch} is may =
+      let new = put_is_new preserve (p.published ++ p.waiting) gno batch tied.history (subst (MayAppend preserve (p.published ++ p.waiting)) is may) in
+      (new.0, tied.has gno ∙ new.1)
 
--- one more commit waits
-pub tied_put : (preserve : Bool) (rows : Database) (p : Publishing) (longer : List Op) (gnos more : List ℕ) (op : Op) (gno : ℕ) (batch : List Entry)
-    → IsTied preserve rows p gnos → MayAppend preserve (p.published ++ p.waiting) op → op ≡ Commit gno batch → longer ≡ p.waiting ++ op ∷ []
-    → ((g : ℕ) → has_gno more g ≡ (has_gno gnos g || (gno == g))) → length more ≡ length gnos + 1
-    → IsTied preserve rows (record p { waiting = longer }) more
-tied_put preserve rows p longer gnos more op gno batch tied may is waits has count =
-    let all : p.published ++ longer ≡ (p.published ++ p.waiting) ++ op ∷ [] = ap (λ l. p.published ++ l) waits ∙ sym (append_assoc p.published p.waiting (op ∷ [])) in
-    let some : 1 ≤ length (p.published ++ p.waiting) = begun preserve (p.published ++ p.waiting) tied.history in record {
-      left = tied.left;
-      begun = tied.begun;
-      history = subst (IsHistory preserve) (sym all) (history_put preserve (p.published ++ p.waiting) op tied.history may);
-      has = λ g.
-          has g
-          ∙ ap (λ b. b || (gno == g)) (tied.has g)
-          ∙ sym (has_gno-push (gnos_of (p.published ++ p.waiting)) gno g)
-          ∙ ap (λ l. has_gno (gnos_of (p.published ++ p.waiting) ++ l) g) (sym (ap (λ o. gnos_of (o ∷ [])) is))
-          ∙ ap (λ l. has_gno l g) (sym (gnos_of-append (p.published ++ p.waiting) (op ∷ [])) ∙ ap gnos_of (sym all));
-      number = count ∙ ap (λ n. n + 1) tied.number ∙ sym (ap commits_in all ∙ commits_in-with (p.published ++ p.waiting) (op ∷ []) some);
-      whole =
-          let known = length p.history - length p.published in
-          ap (λ l. p.history ++ drop known l) waits
-          ∙ ap (λ l. p.history ++ l) (drop-append-le known p.waiting (op ∷ []) (known_within preserve rows p gnos tied))
-          ∙ sym (append_assoc p.history (unsaid p) (op ∷ []))
-          ∙ ap (λ l. l ++ op ∷ []) tied.whole
-          ∙ sym all;
-    }
+  -- one more commit waits
+  pub tied_put : {op : Op} {gno : ℕ} {batch : List Entry} {longer : List Op} (more : List ℕ) → op ≡ Commit gno batch → MayAppend preserve (p.published ++ p.waiting) op
+      → longer ≡ p.waiting ++ op ∷ [] → ((g : ℕ) → has_gno more g ≡ (has_gno gnos g || (gno == g))) → length more ≡ length gnos + 1 → IsTied preserve rows (record p { waiting = longer }) more
+  tied_put {op = op} {gno = gno} {longer = longer} more is may waits has count =
+      let all : p.published ++ longer ≡ (p.published ++ p.waiting) ++ op ∷ [] = ap (λ l. p.published ++ l) waits ∙ sym (append_assoc p.published p.waiting (op ∷ [])) in
+      let some : 1 ≤ length (p.published ++ p.waiting) = begun preserve (p.published ++ p.waiting) tied.history in record {
+        left = tied.left;
+        begun = tied.begun;
+        history = subst (IsHistory preserve) (sym all) (history_put preserve (p.published ++ p.waiting) op tied.history may);
+        has = λ g.
+            has g
+            ∙ ap (λ b. b || (gno == g)) (tied.has g)
+            ∙ sym (has_gno-push (gnos_of (p.published ++ p.waiting)) gno g)
+            ∙ ap (λ l. has_gno (gnos_of (p.published ++ p.waiting) ++ l) g) (sym (ap (λ o. gnos_of (o ∷ [])) is))
+            ∙ ap (λ l. has_gno l g) (sym (gnos_of-append (p.published ++ p.waiting) (op ∷ [])) ∙ ap gnos_of (sym all));
+        number = count ∙ ap (λ n. n + 1) tied.number ∙ sym (ap commits_in all ∙ commits_in-with (p.published ++ p.waiting) (op ∷ []) some);
+        whole =
+            let known = length p.history - length p.published in
+            ap (λ l. p.history ++ drop known l) waits
+            ∙ ap (λ l. p.history ++ l) (drop-append-le known p.waiting (op ∷ []) known_within)
+            ∙ sym (append_assoc p.history (unsaid p) (op ∷ []))
+            ∙ ap (λ l. l ++ op ∷ []) tied.whole
+            ∙ sym all;
+      }
 
--- all that waits is in the history
-pub tied_known : (preserve : Bool) (rows : Database) (p : Publishing) (all : List Op) (gnos : List ℕ) → IsTied preserve rows p gnos
-    → all ≡ p.published ++ p.waiting → IsTied preserve rows (record p { history = all }) gnos
-tied_known preserve rows p all gnos tied whole = record {
-  left = tied.left;
-  begun = tied.begun;
-  history = tied.history;
-  has = tied.has;
-  number = tied.number;
-  whole =
-      let none : drop (length all - length p.published) p.waiting ≡ [] =
-      ap (λ n. drop n p.waiting) (omega (arith, ap length whole, length-append p.published p.waiting)) ∙ drop-length p.waiting in
-      ap (λ l. all ++ l) none ∙ append-nil all ∙ whole;
-}
+  -- all that waits is in the history
+  pub tied_known : {all : List Op} → all ≡ p.published ++ p.waiting → IsTied preserve rows (record p { history = all }) gnos
+  tied_known {all = all} whole = record {
+    left = tied.left;
+    begun = tied.begun;
+    history = tied.history;
+    has = tied.has;
+    number = tied.number;
+    whole =
+        let none : drop (length all - length p.published) p.waiting ≡ [] =
+        ap (λ n. drop n p.waiting) (omega (arith, ap length whole, length-append p.published p.waiting)) ∙ drop-length p.waiting in
+        ap (λ l. all ++ l) none ∙ append-nil all ∙ whole;
+  }
 
--- all that waited is published
-pub tied_shown : (preserve : Bool) (rows rows' : Database) (p : Publishing) (by : List Op) (gnos : List ℕ)
-    → IsTied preserve rows p gnos → p.history ≡ p.published ++ p.waiting → rows' ≡ left_by by → by ≡ p.history
-    → IsTied preserve rows' (record { published = by; waiting = []; history = p.history }) gnos
-tied_shown preserve rows rows' p by gnos tied whole left same =
-    let both : by ++ [] ≡ p.published ++ p.waiting = append-nil by ∙ same ∙ whole in record {
-      left = left;
-      begun = subst (λ (l : List Op). 1 ≤ length l) (sym (same ∙ whole)) (begun preserve (p.published ++ p.waiting) tied.history);
-      history = subst (IsHistory preserve) (sym both) tied.history;
-      has = λ g. tied.has g ∙ ap (λ l. has_gno (gnos_of l) g) (sym both);
-      number = tied.number ∙ ap commits_in (sym both);
-      whole = ap (λ l. p.history ++ l) (drop-nil (length p.history - length by)) ∙ ap (λ l. l ++ []) (sym same);
-    }
+  -- all that waited is published
+  pub tied_shown : {rows' : Database} {by : List Op} → p.history ≡ p.published ++ p.waiting → rows' ≡ left_by by → by ≡ p.history
+      → IsTied preserve rows' (record { published = by; waiting = []; history = p.history }) gnos
+  tied_shown {by = by} whole left same =
+      let both : by ++ [] ≡ p.published ++ p.waiting = append-nil by ∙ same ∙ whole in record {
+        left = left;
+        begun = subst (λ (l : List Op). 1 ≤ length l) (sym (same ∙ whole)) (begun preserve (p.published ++ p.waiting) tied.history);
+        history = subst (IsHistory preserve) (sym both) tied.history;
+        has = λ g. tied.has g ∙ ap (λ l. has_gno (gnos_of l) g) (sym both);
+        number = tied.number ∙ ap commits_in (sym both);
+        whole = ap (λ l. p.history ++ l) (drop-nil (length p.history - length by)) ∙ ap (λ l. l ++ []) (sym same);
+      }
 
--- The history, and then what is not in it, is all that was appended: a history, whose number of commits and whose mark are those of what
--- was noted.
-pub whole_history : (preserve : Bool) (rows : Database) (p : Publishing) (gnos : List ℕ) → IsTied preserve rows p gnos
-    → IsHistory preserve (p.history ++ unsaid p)
-whole_history preserve rows p gnos tied = subst (IsHistory preserve) (sym tied.whole) tied.history
+  -- The history, and then what is not in it, is all that was appended: a history, whose number of commits and whose mark are those of what
+  -- was noted.
+  pub whole_history : IsHistory preserve (p.history ++ unsaid p)
+  whole_history = subst (IsHistory preserve) (sym tied.whole) tied.history
 
--- as many are noted as are commits in the history and in what waits and is not in it
-pub whole_number : (preserve : Bool) (rows : Database) (p : Publishing) (gnos : List ℕ) (count : ℕ) → IsTied preserve rows p gnos
-    → count ≡ length gnos → count ≡ commits_in (p.history ++ unsaid p)
-whole_number preserve rows p gnos count tied is = is ∙ tied.number ∙ ap commits_in (sym tied.whole)
+  -- as many are noted as are commits in the history and in what waits and is not in it
+  pub whole_number : {count : ℕ} → count ≡ length gnos → count ≡ commits_in (p.history ++ unsaid p)
+  whole_number is = is ∙ tied.number ∙ ap commits_in (sym tied.whole)
 
--- and the mark is theirs
-pub whole_mark : (preserve : Bool) (rows : Database) (p : Publishing) (gnos : List ℕ) (upto : ℕ) → IsTied preserve rows p gnos
-    → upto ≡ low_of gnos → upto ≡ low_of (gnos_of (p.history ++ unsaid p))
-whole_mark preserve rows p gnos upto tied is =
-    is ∙ low_of_same gnos (gnos_of (p.published ++ p.waiting)) (λ g some. tied.has g) ∙ ap (λ l. low_of (gnos_of l)) (sym tied.whole)
-
--- so many are published, and so many wait
-pub number_of : (preserve : Bool) (rows : Database) (p : Publishing) (gnos : List ℕ) (count : ℕ) → IsTied preserve rows p gnos
-    → count ≡ length gnos → count ≡ commits_in p.published + length p.waiting
-number_of preserve rows p gnos count tied is = is ∙ tied.number ∙ commits_in-with p.published p.waiting tied.begun
-
--- what is published is a history
-pub published_history : (preserve : Bool) (rows : Database) (p : Publishing) (gnos : List ℕ) → IsTied preserve rows p gnos
-    → IsHistory preserve p.published
-published_history preserve rows p gnos tied = history_front preserve p.published p.waiting tied.begun tied.history
+  -- and the mark is theirs
+  pub whole_mark : {upto : ℕ} → upto ≡ low_of gnos → upto ≡ low_of (gnos_of (p.history ++ unsaid p))
+  whole_mark is = is ∙ low_of_same gnos (gnos_of (p.published ++ p.waiting)) (λ g some. tied.has g) ∙ ap (λ l. low_of (gnos_of l)) (sym tied.whole)
 
 -- at first nothing is noted
-pub tied_begun : (preserve : Bool) (rows : Database) (load : List Op) (gnos : List ℕ) → IsHistory preserve load → commits_in load ≡ 0
-    → rows ≡ left_by load → gnos ≡ []
+pub tied_begun : (preserve : Bool) (rows : Database) (load : List Op) (gnos : List ℕ) → IsHistory preserve load → commits_in load ≡ 0 → rows ≡ left_by load → gnos ≡ []
     → IsTied preserve rows (record { published = load; waiting = []; history = load }) gnos
 tied_begun preserve rows load gnos h none left is = record {
   left = left;

@@ -6,10 +6,10 @@ use lib.ListN.{get_elem?}
 use Rattle.atomic_table.proofs.Lists.{at_set, at_snoc, set_again}
 use Rattle.published.specs.declared.counts.Counts.{Counts}
 use Rattle.published.specs.declared.counts.Look.{Look}
-use Rattle.published.specs.Status.{InOrder, NoneFalls, latest, AreReports, Kept, counts_of, beginner, watching, Stores, Finds}
+use Rattle.published.specs.Status.{InOrder, NoneFalls, latest, AreReports, KeepsLatest, counts_of, beginner, watching, Stores, Finds}
 
 -- before the first store the words are 0
-pub begins : Kept (counts_of 0 0 0) (beginner ∷ [])
+pub begins : KeepsLatest (counts_of 0 0 0) (beginner ∷ [])
 begins = record { stored = []; reports = tt; last = refl; writer = 0; seen = alone }
   where
     alone : (j : ℕ) (v : Look) → get_elem? (beginner ∷ []) j ≡ some v → IsSuffix v.seen [] × (v.stores ≡ true → (j ≡ 0) × (v.seen ≡ []))
@@ -34,13 +34,12 @@ finds_no_less before v w x y same told =
     subst (λ l. NoneFalls (latest l) x) same (subst (λ c. NoneFalls (latest v.seen) c) (sym told.found) (rises v.seen w.seen told.later told.reports))
 
 -- the rule after a step that stores nothing
-kept : (x : Counts) (before after : List Look) → (k : Kept x before)
-    → ((j : ℕ) (u : Look) → get_elem? after j ≡ some u → IsSuffix u.seen k.stored × (u.stores ≡ true → (j ≡ k.writer) × (u.seen ≡ k.stored))) → Kept x after
+kept : (x : Counts) (before after : List Look) → (k : KeepsLatest x before)
+    → ((j : ℕ) (u : Look) → get_elem? after j ≡ some u → IsSuffix u.seen k.stored × (u.stores ≡ true → (j ≡ k.writer) × (u.seen ≡ k.stored))) → KeepsLatest x after
 kept x before after k seen = record { stored = k.stored; reports = k.reports; last = k.last; writer = k.writer; seen = seen }
 
 -- who looks finds the words that were stored last
-pub finds : (pass : ℕ) (v : Look) (x : Counts) (views : List Look) → Kept x views → get_elem? views pass ≡ some v
-    → (w : Look) × Kept x (set views pass w) × Finds v x x w
+pub finds : (pass : ℕ) (v : Look) (x : Counts) (views : List Look) → KeepsLatest x views → get_elem? views pass ≡ some v → (w : Look) × KeepsLatest x (set views pass w) × Finds v x x w
 finds pass v x views k at =
     let w : Look = record v { seen = k.stored } in
     let mine = k.seen pass v at in (
@@ -57,8 +56,8 @@ finds pass v x views k at =
     )
 
 -- the one who stores
-pub stores : (pass : ℕ) (v : Look) (x c : Counts) → v.stores ≡ true → InOrder c → NoneFalls (latest v.seen) c → (views : List Look) → Kept x views → get_elem? views pass ≡ some v
-    → (w : Look) × Kept c (set views pass w) × Stores v x c w
+pub stores : (pass : ℕ) (v : Look) (x c : Counts) → v.stores ≡ true → InOrder c → NoneFalls (latest v.seen) c → (views : List Look) → KeepsLatest x views → get_elem? views pass ≡ some v
+    → (w : Look) × KeepsLatest c (set views pass w) × Stores v x c w
 stores pass v x c right order rise views k at =
     let w : Look = record { seen = c ∷ v.seen; stores = true } in
     let mine = (k.seen pass v at).1 right in (
@@ -82,8 +81,7 @@ stores pass v x c right order rise views k at =
     )
 
 -- one more may watch
-pub forks : (pass : ℕ) (v : Look) (x : Counts) (views : List Look) → Kept x views → get_elem? views pass ≡ some v
-    → Kept x (set views pass v ++ watching v ∷ [])
+pub forks : (pass : ℕ) (v : Look) (x : Counts) (views : List Look) → KeepsLatest x views → get_elem? views pass ≡ some v → KeepsLatest x (set views pass v ++ watching v ∷ [])
 forks pass v x views k at =
     kept x views (set views pass v ++ watching v ∷ []) k
     (λ j u there.

@@ -1,7 +1,7 @@
 pub mod History
 pub mod Gaps
 pub mod Book
-pub mod Held
+pub mod VersionValue
 pub mod Copies
 pub mod Plain
 pub mod Publication

@@ -35,7 +35,7 @@ pub record Reported : Type 0 where
 
 -- The words are what was stored last. Each pass has seen all that was stored up to some time, and the one that
 -- stores, of which there is one at most, all of it
-pub record Kept (words : Counts) (views : List Look) : Type 0 where
+pub record KeepsLatest (words : Counts) (views : List Look) : Type 0 where
   pub stored : List Counts
   pub reports : AreReports stored
   pub last : words ≡ latest stored

@@ -27,7 +27,7 @@ pub use publisher::Publisher;
 use rows::Row;
 pub use seat::ReadSeat;
 pub use status::{Status, Watch};
-pub use version::{Common, Step, Version};
+pub use version::{Common, CopyStep, Version};
 
 /// What a read finds.
 #[derive(Clone, Copy, Debug, PartialEq, Eq)]

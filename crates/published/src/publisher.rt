@@ -7,7 +7,7 @@ ghost use Rattle.published.specs.History.{IsHistory, MayAppend, commits_in};
 use crate::book::{Head, Naming, Notice, Part};
 use crate::gaps::Gaps;
 use crate::seat::ReadSeat;
-use crate::version::{Common, Consistent, Step, StoreWriter, Version};
+use crate::version::{Common, Consistent, CopyStep, StoreWriter, Version};
 use core::mem::replace_with;
 use left_right::Absorb;
 use logbook::Plain;
@@ -23,7 +23,7 @@ use store_trait::{Op, RowStore};
 /// publisher in its `drop`.
 pub struct Publisher<S: RowStore + Drop, J: Naming>
 where
-    Version<S, J>: Absorb<Step<J>, State = Common>,
+    Version<S, J>: Absorb<CopyStep<J>, State = Common>,
 {
     writer: StoreWriter<S, J>,
     head: Head<J>,
@@ -34,7 +34,7 @@ where
 
 impl<S: RowStore + Drop, J: Naming> Model for Publisher<S, J>
 where
-    Version<S, J>: Absorb<Step<J>, State = Common>,
+    Version<S, J>: Absorb<CopyStep<J>, State = Common>,
 {
     ghost use Rattle.std.specs.Prelude.{drop};
     ghost use Rattle.published.specs.Copies.{puts_in};
@@ -112,7 +112,10 @@ impl<S: RowStore + Drop, J: Naming> Publisher<S, J> {
         };
         self.appended.room_for(*gno)?;
         let batch = batch.copy()?;
-        add(&mut self.writer, Step::Put(Op::Commit { gno: *gno, batch }))?;
+        add(
+            &mut self.writer,
+            CopyStep::Put(Op::Commit { gno: *gno, batch }),
+        )?;
         self.appended.add(*gno);
         Ok(())
     }
@@ -140,7 +143,7 @@ impl<S: RowStore + Drop, J: Naming> Publisher<S, J> {
             return Err(Memory);
         };
         self.history = history;
-        add(&mut self.writer, Step::Note(self.history.again()))?;
+        add(&mut self.writer, CopyStep::Note(self.history.again()))?;
         show(&mut self.writer, rt)?;
         Ok(self.appended.count())
     }
@@ -165,7 +168,7 @@ impl<S: RowStore + Drop, J: Naming> Publisher<S, J> {
 // Under the bound of the struct, so that the `Drop` of a type that holds a publisher may call it.
 impl<S: RowStore + Drop, J: Naming> Publisher<S, J>
 where
-    Version<S, J>: Absorb<Step<J>, State = Common>,
+    Version<S, J>: Absorb<CopyStep<J>, State = Common>,
 {
     /// Waits for the readers, which from then on get no answer, and gives back the store that was published
     /// last. What waits is dropped.
@@ -186,7 +189,7 @@ where
 // One more step that waits.
 fn add<S: RowStore + Drop, J: Naming>(
     writer: &mut StoreWriter<S, J>,
-    step: Step<J>,
+    step: CopyStep<J>,
 ) -> Result<(), Memory>
     ensures desk { writer.new.desk ≡ writer.old.desk }
     ensures ok { OnOk result (drop writer.new.behind writer.new.log.items ≡ drop writer.old.behind writer.old.log.items ++ step ∷ []) }

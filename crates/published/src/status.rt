@@ -35,16 +35,16 @@ impl Words<3> for Counts {
 struct Ordered;
 
 impl Protocol<Counts, Look> for Ordered {
-    ghost use Rattle.published.specs.Status.{Kept, beginner};
+    ghost use Rattle.published.specs.Status.{KeepsLatest, beginner};
 
-    ghost holds = { Kept };
+    ghost holds = { KeepsLatest };
 
     ghost first = { beginner };
 }
 
-struct Stored;
+struct Storing;
 
-impl Outcome<Counts, Look> for Stored {
+impl Outcome<Counts, Look> for Storing {
     ghost use Rattle.published.specs.Status.{Stores};
 
     ghost then = { Stores };
@@ -137,7 +137,7 @@ impl Status {
         requires rises { NoneFalls (latest self.old.stored) counts }
         ensures { self.new ≡ record self.old { stored = counts ∷ self.old.stored } }
     {
-        self.cell.swap_as::<Stored, R>(rt, &mut self.pass, counts);
+        self.cell.swap_as::<Storing, R>(rt, &mut self.pass, counts);
     }
 
     /// Reads the three words as one: those that were stored last. It waits only where they are stored meanwhile.

@@ -13,7 +13,7 @@ use store_trait::{Op, RowStore};
 
 /// A step on a copy.
 #[derive(Drop)]
-pub enum Step<J: Naming> {
+pub enum CopyStep<J: Naming> {
     /// The batch of the operation is put into the store.
     Put(Op),
     /// It is noted that these operations left the store.
@@ -24,10 +24,10 @@ pub enum Step<J: Naming> {
 pub struct Common;
 
 impl Model for Common {
-    ghost use Rattle.published.specs.Held.{Held, held_code, nothing};
+    ghost use Rattle.published.specs.VersionValue.{VersionValue, held_code, nothing};
     ghost use Rattle.store_trait.specs.contracts.Op as op;
 
-    ghost Value = { Held };
+    ghost Value = { VersionValue };
 
     ghost coded = { held_code op.the_row.coded };
 
@@ -41,7 +41,7 @@ pub struct Version<S: RowStore, J: Naming> {
     pub by: Notice<J>,
 }
 
-impl<S: RowStore, J: Naming> Absorb<Step<J>> for Version<S, J> {
+impl<S: RowStore, J: Naming> Absorb<CopyStep<J>> for Version<S, J> {
     ghost use Rattle.published.specs.Copies.{after_step};
 
     type State = Common;
@@ -52,14 +52,14 @@ impl<S: RowStore, J: Naming> Absorb<Step<J>> for Version<S, J> {
 
     fn absorb_first(
         &mut self,
-        operation: &Step<J>,
+        operation: &CopyStep<J>,
         _other: &Version<S, J>,
     ) -> Result<(), AllocError> {
         match operation {
-            Step::Put(Op::Load(batch)) | Step::Put(Op::Commit { gno: _, batch }) => {
+            CopyStep::Put(Op::Load(batch)) | CopyStep::Put(Op::Commit { gno: _, batch }) => {
                 self.store.put_all(batch).map_err(|_| AllocError)
             }
-            Step::Note(by) => {
+            CopyStep::Note(by) => {
                 self.by = by.again();
                 Ok(())
             }
@@ -80,6 +80,6 @@ impl<S: RowStore, J: Naming> Outcome<Version<S, J>, ()> for Consistent {
     ghost then = { λ v x y w. S.contents y.store ≡ left_by y.by };
 }
 
-pub type StoreWriter<S, J> = Writer<Version<S, J>, Step<J>, (), Consistent>;
+pub type StoreWriter<S, J> = Writer<Version<S, J>, CopyStep<J>, (), Consistent>;
 
 pub type StoreReader<S, J> = Reader<Version<S, J>, (), Consistent>;

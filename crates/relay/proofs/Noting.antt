@@ -1,11 +1,9 @@
 -- The maps of last touches and of last marks as finite maps, and as rows and marks are noted in them.
-use Rattle.std.proofs.Common.{◌≡◌, ◌∙◌, sym, ap, refl, ℕ, ◌+◌, ◌<◌, Bool, true, false, true≢false, ◌||◌, cond, List, [], ◌∷◌, ◌++◌, length, take, get_or, Option, Some, Result, Ok, Err, IsOk, OnOk}
+use Rattle.std.proofs.Common.{◌≡◌, ◌∙◌, sym, ap, refl, ℕ, ◌+◌, ◌<◌, Bool, true, false, ◌||◌, cond, List, [], ◌∷◌, ◌++◌, length, take, get_or, Option, Some}
 use Rattle.std.proofs.Common.{unwrap_or}
 use Rattle.std.specs.FinMap.{get, insert, get-insert}
 use Rattle.std.proofs.lemmas.List.{take_more, map_push}
-use Rattle.indexmap.specs.IndexMap.{IndexMap, Updates}
 use Rattle.schema.specs.declared.RowId.{RowId}
-use Rattle.schema.proofs.RowMaps.{row_eq, rows_of, rows-set}
 use Rattle.schema.specs.RowId.{same_row, row_total}
 use Rattle.schema.specs.Rows.{Mark, has_row}
 use Rattle.rows.specs.declared.Change.{Change}
@@ -13,14 +11,6 @@ use Rattle.rows.specs.Database.{target, writes}
 use Rattle.rows.proofs.Apply.{row_is}
 use Rattle.relay.specs.declared.touches.Touch.{Touch}
 use Rattle.relay.specs.Touches.{LastTouches, LastMarks, untouched, touch_at, written_at, touched_at, stated_at, NotesWrites, NotesRefs, NotesMarks}
-
--- ---- the map
-
--- where the insert could not fail, the row or the mark is set
-pub is_inserted : {X S T E : Type 0} (m n : IndexMap RowId X S) (r : Result T E) (k : RowId) (v : X) → IsOk r → OnOk r (Updates row_eq m n k (Some v)) →
-    rows_of n.entries ≡ insert (rows_of m.entries) k v
-is_inserted m n (Ok x) k v h is = rows-set m.entries n.entries k v is.0
-is_inserted m n (Err e) k v h is = absurd (true≢false (sym h))
 
 -- ---- a row is noted
 

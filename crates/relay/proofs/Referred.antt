@@ -1,6 +1,6 @@
 -- The refs and marks of a record, where these are exactly the parent rows that its changes look at and their marks.
 use Rattle.std.proofs.Common.{◌≡◌, sym, ap, ◌∙◌, refl, ℕ, ◌<◌, ◌≤◌, ◌^◌, Bool, true, false, cond, ◌==◌, List, [], ◌∷◌, ◌++◌, ℤ, Option, Some, None, is_some, true≢false, inl, inr}
-use Rattle.std.specs.Prelude.{slice_get, option_and_then, option_to_list, find}
+use Rattle.std.specs.Prelude.{slice_get, option_and_then, option_to_list, find, flat_map}
 use Rattle.std.specs.List.{list_all, list_any}
 use Rattle.std.specs.Option.{option_map, option_map_or}
 use Rattle.std.specs.FinMap.{get}
@@ -16,7 +16,8 @@ use Rattle.schema.specs.Rows.{Mark, has_row, SameRows}
 use Rattle.schema.specs.Schema.{link_of, unique_of}
 use Rattle.schema.specs.Flags.{is_parent}
 use Rattle.rows.specs.declared.Change.{Change}
-use Rattle.rows.specs.Database.{Database, target, parent_of, parent_in, apply, kin, marks}
+use Rattle.rows.specs.Step.{kin_of}
+use Rattle.rows.specs.Database.{Database, target, parent_of, parent_in, apply, step_between, steps, kin, marks}
 use Rattle.rows.specs.Naming.{names_column}
 use Rattle.rows.proofs.Apply.{row_is, same_row_itself}
 use Rattle.rows.proofs.Marks.{marks_of_unique}
@@ -90,7 +91,7 @@ kin_are_parents ts (change ∷ changes) db =
         ∙ and_from (are_parents ts (xs ++ ys)) (are_parents ts zs) (list_all-append (λ (row : RowId). is_parent ts row.table) xs ys ∙ and_from (are_parents ts xs) (are_parents ts ys) x y) z
 
     by : (o : Option Database) → ((after : Database) → are_parents ts (kin ts changes after) ≡ true) →
-        are_parents ts (option_map_or (λ after. parent_in ts db (target change) ++ parent_in ts after (target change) ++ kin ts changes after) o []) ≡ true
+        are_parents ts (flat_map kin_of (option_map_or (λ after. step_between ts change db after ∷ steps ts changes after) o [])) ≡ true
     by None behind = refl
     by (Some after) behind = three (parent_in ts db (target change)) (parent_in ts after (target change)) (kin ts changes after) (parent_in_is_parent ts db (target change))
         (parent_in_is_parent ts after (target change)) (behind after)

@@ -1,10 +1,9 @@
 -- Which records of a log touched a row last, and which stated a mark last.
-use Rattle.std.specs.Prelude.{◌≡◌, ℕ, Bool, ◌&&◌, ◌||◌, if◌then◌else◌, nat_le, max, List, [], ◌∷◌, unwrap_or, refl}
+use Rattle.std.specs.Prelude.{◌≡◌, ℕ, Bool, ◌&&◌, ◌||◌, if◌then◌else◌, nat_le, max, List, [], ◌∷◌, unwrap_or}
 use Rattle.std.specs.List.{list_all}
-use Rattle.std.specs.Coded.{Coded, code_by, coded×, coded_ℕ}
-use Rattle.std.specs.FinMap.{FinMap, code, get}
+use Rattle.std.specs.FinMap.{FinMap, get}
 use Rattle.schema.specs.declared.RowId.{RowId}
-use Rattle.schema.specs.RowId.{row_cmp, coded_row_id}
+use Rattle.schema.specs.RowId.{row_cmp}
 use Rattle.schema.specs.Rows.{Mark, has_row}
 use Rattle.rows.specs.Database.{writes}
 use Rattle.record_codec.specs.declared.records.Record.{Record}
@@ -33,27 +32,6 @@ LastTouches = FinMap row_cmp Touch
 -- the number of the last record that states it, for each mark that was stated
 abbrev pub LastMarks : Type 0
 LastMarks = FinMap row_cmp ℕ
-
--- with how many more rows, and how many more marks, can be added without memory
-pub record Sheet : Type 0 where
-  pub rows : LastTouches
-  pub room : ℕ
-  pub marks : LastMarks
-  pub places : ℕ
-
-abbrev pub touch_code : Coded Touch
-touch_code = code_by (ℕ × ℕ) (coded× coded_ℕ coded_ℕ) (λ t. (t.written, t.touched)) (λ p. record { written = p.0; touched = p.1 }) (λ _. refl)
-
-abbrev pub touches_code : Coded LastTouches
-touches_code = code coded_row_id touch_code
-
-abbrev pub marks_code : Coded LastMarks
-marks_code = code coded_row_id coded_ℕ
-
-abbrev pub sheet_code : Coded Sheet
-sheet_code =
-    code_by ((LastTouches × ℕ) × (LastMarks × ℕ)) (coded× (coded× touches_code coded_ℕ) (coded× marks_code coded_ℕ)) (λ s. ((s.rows, s.room), (s.marks, s.places)))
-    (λ p. record { rows = p.0.0; room = p.0.1; marks = p.1.0; places = p.1.1 }) (λ _. refl)
 
 abbrev pub untouched : Touch
 untouched = record { written = 0; touched = 0 }

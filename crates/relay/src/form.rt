@@ -3,7 +3,6 @@
 ghost use Rattle.std.specs.Prelude.{◌≡◌, ◌%◌, ◌^◌, ◌<◌, pos, count_ones, slice_index_or, if◌then◌else◌, Some, None};
 ghost use Rattle.std.specs.List.{list_all};
 ghost use Rattle.schema.specs.Flags.{flags_of};
-ghost use Rattle.schema.specs.Rows.{has_row};
 ghost use Rattle.rows.specs.Database.{writes};
 ghost use Rattle.rows.specs.Naming.{names_column};
 ghost use Rattle.rows.specs.Given.{given_value as value_given, given_parent as parent_given, given_mark as mark_given};
@@ -37,7 +36,7 @@ fn flags_of(schema: &Schema, changes: &[Change]) -> Flags
 pub(crate) fn are_parents(schema: &Schema, refs: &Refs) -> bool
     ensures { result ≡ all_are_parents schema.now refs.now }
 {
-    refs.rows().iter().all(|row| schema.is_parent(row.table))
+    refs.list().iter().all(|row| schema.is_parent(row.table))
 }
 
 /// Whether each parent row that the changes give their rows is among the refs. The time is that of a walk over the tables for
@@ -52,7 +51,7 @@ fn has_ref(schema: &Schema, change: &Change, refs: &Refs) -> bool
     ensures { result ≡ refers schema.now refs.now change.now }
 {
     match given_parent(schema, change) {
-        Some(parent) => is_ref(refs, parent),
+        Some(parent) => refs.contains(parent),
         None => true,
     }
 }
@@ -81,7 +80,7 @@ fn states_given(schema: &Schema, change: &Change, marks: &Marks) -> bool
     ensures { result ≡ states schema.now marks.now change.now }
 {
     match given_mark(schema, change) {
-        Some(mark) => is_mark(marks, mark),
+        Some(mark) => marks.contains(mark),
         None => true,
     }
 }
@@ -150,18 +149,4 @@ fn power_of(column: u8) -> u16
     ensures { result ≡ 2 ^ column }
 {
     1 << column
-}
-
-/// Whether the row is among the refs.
-fn is_ref(refs: &Refs, row: RowId) -> bool
-    ensures { result ≡ has_row refs.now row }
-{
-    refs.rows().binary_search(&row).is_ok()
-}
-
-/// Whether the mark is among these.
-fn is_mark(marks: &Marks, mark: Mark) -> bool
-    ensures { result ≡ has_row marks.now mark }
-{
-    marks.list().binary_search(&mark).is_ok()
 }

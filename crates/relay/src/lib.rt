@@ -5,7 +5,7 @@
 //! accepted before. So whatever is received, the records that it keeps may be applied by many workers. What a record's changes
 //! do to the rows is not looked at. Beside the records it keeps their ids as a set, of which it asks whether a record came
 //! before, and which of them touched each row, and stated each mark, last (`touches`), so that no parent is judged by a walk over
-//! them. It stands on `record_codec` for records, on `gtid_set` for ids, and on `indexmap`.
+//! them. It stands on `record_codec` for records, on `gtid_set` for ids, and on `row_map`.
 #![tactic(auto)]
 
 ghost use Rattle.std.specs.Prelude.{◌≡◌, ◌⊎◌, ◌+◌, ◌-◌, ◌^◌, ◌<◌, ◌≤◌, IfOk, IfErr, OnOk, OnErr, IsErrOf, [], Ok, Err, false};
@@ -127,7 +127,7 @@ impl Model for Relay {
 
     ghost view = { λ r. record { tables = r.schema; source = r.source; accepted = r.accepted.items } };
 
-    ghost invariant = { λ r. IsKept r.schema r.source r.accepted.items r.ids r.touches.rows r.touches.marks };
+    ghost invariant = { λ r. IsKept r.schema r.source r.accepted.items r.ids r.touches.rows.map r.touches.marks.map };
 }
 
 impl Relay {
@@ -275,6 +275,21 @@ impl Relay {
     {
         self.source
     }
+
+    /// The tables of the source, and the records accepted, in order, without a copy. The time is that of letting go of what the relay keeps
+    /// of their rows and marks.
+    pub fn into_parts(self) -> (Schema, Vec<Record>)
+        ensures tables { result.0 ≡ self.tables }
+        ensures accepted { result.1.items ≡ self.accepted }
+        ensures valid { AreAcceptable self.tables self.accepted }
+    {
+        let Relay {
+            schema,
+            accepted,
+            ..
+        } = self;
+        (schema, accepted)
+    }
 }
 
 /// Makes room for the record and for what it touches, and puts its id in. Where it can't, the ids are as they were.
@@ -287,10 +302,10 @@ fn take_room(
 ) -> Result<(), Memory>
     requires number { (1 ≤ new.now.gno) × (new.now.gno < 2 ^ 63) }
     requires before { ids.old ≡ first_ids from (new.now.gno - 1) }
-    ensures rows { touches.new.rows ≡ touches.old.rows }
-    ensures marks { touches.new.marks ≡ touches.old.marks }
-    ensures room { OnOk result (length new.now.changes + length new.now.refs ≤ touches.new.room) }
-    ensures places { OnOk result (length new.now.marks ≤ touches.new.places) }
+    ensures rows { touches.new.rows.map ≡ touches.old.rows.map }
+    ensures marks { touches.new.marks.map ≡ touches.old.marks.map }
+    ensures room { OnOk result (length new.now.changes + length new.now.refs ≤ touches.new.rows.room) }
+    ensures places { OnOk result (length new.now.marks ≤ touches.new.marks.room) }
     ensures items { records.new.items ≡ records.old.items }
     ensures one_more { OnOk result (vec_len records.new < vec_capacity records.new) }
     ensures ids { OnOk result (ids.new ≡ first_ids from new.now.gno) }

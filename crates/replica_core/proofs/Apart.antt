@@ -26,6 +26,7 @@ use Rattle.relay.specs.Relay.{IsAcceptable, AreAcceptable}
 use Rattle.gapped.proofs.Meeting.{not_written, conflict_by_mark}
 use Rattle.replica_core.specs.Replica.{Replica, rows_at}
 use Rattle.replica_core.proofs.Commits.{after-next}
+use Rattle.replica_core.proofs.Showing.{Stands}
 
 -- ---- the records of an accepted list
 
@@ -41,8 +42,7 @@ slice_get-take (x ∷ xs) (suc n) zero lt = refl
 slice_get-take (x ∷ xs) (suc n) (suc i) lt = slice_get-take xs n i (omega arith)
 
 -- each of them may stand behind those before it
-pub place_acceptable : (ts : List Table) (log : List Record) (n : ℕ) (rec : Record) → AreAcceptable ts log → slice_get log n ≡ Some rec →
-    IsAcceptable ts (take n log) rec
+pub place_acceptable : (ts : List Table) (log : List Record) (n : ℕ) (rec : Record) → AreAcceptable ts log → slice_get log n ≡ Some rec → IsAcceptable ts (take n log) rec
 place_acceptable ts log n rec h got = h (take n log) rec (drop (suc n) log) (split log n rec got)
 
 covers_at : (past : List (ℕ × Touched)) (rows : Touched) (parent i number : ℕ) (before : Touched) → Covers past rows parent →
@@ -70,14 +70,12 @@ no_conflict ts log i j a b h at_i at_j lt parent =
     absurd (omega arith))
 
 -- the marks that a record states are stated by none that it does not conflict with
-not_stated : (a b : Record) (mark : Mark) → conflicts (touched a) (touched b) ≡ false → has_row b.marks mark ≡ true →
-    has_row a.marks mark ≡ false
+not_stated : (a b : Record) (mark : Mark) → conflicts (touched a) (touched b) ≡ false → has_row b.marks mark ≡ true → has_row a.marks mark ≡ false
 not_stated a b mark apart is =
     false_from_ne_true (has_row a.marks mark) (λ states. absurd (true≢false (sym (conflict_by_mark a b mark is states) ∙ apart)))
 
 -- what holds of each of a part of a list, by its place, holds of all of the part
-all_between : {X : Type 0} (P : X → Type 0) (xs : List X) (c n : ℕ) → ((i : ℕ) (x : X) → c ≤ i → i < n → slice_get xs i ≡ Some x → P x) →
-    AllByRecursion P (drop c (take n xs))
+all_between : {X : Type 0} (P : X → Type 0) (xs : List X) (c n : ℕ) → ((i : ℕ) (x : X) → c ≤ i → i < n → slice_get xs i ≡ Some x → P x) → AllByRecursion P (drop c (take n xs))
 all_between P [] zero zero each = tt
 all_between P [] zero (suc n) each = tt
 all_between P [] (suc c) zero each = tt
@@ -93,8 +91,7 @@ all_between P (x ∷ xs) (suc c) (suc n) each = all_between P xs c n (λ i y low
 
 -- so the rows that it looks at are the same in each database from the k-th on up to its own place, where its parent is at most k
 pub rows_stay : (r : Replica) (k j d : ℕ) (rec : Record) (a b : Database) → AreAcceptable r.tables r.accepted →
-    slice_get r.accepted j ≡ Some rec → rec.parent ≤ k → k + d ≤ j → rows_at r k ≡ Some a → rows_at r (k + d) ≡ Some b →
-    AgreeOn (rows_of rec) a b
+    slice_get r.accepted j ≡ Some rec → rec.parent ≤ k → k + d ≤ j → rows_at r k ≡ Some a → rows_at r (k + d) ≡ Some b → AgreeOn (rows_of rec) a b
 rows_stay r k j zero rec a b h got parent within is_a is_b q looks =
     let same : Some a ≡ Some b = sym is_a ∙ ap (rows_at r) (sym (add-zero k)) ∙ is_b in
     ap (λ (db : Database). get db q) (same_Some a b same)
@@ -113,8 +110,7 @@ rows_stay r k j (suc d) rec a b h got parent within is_a is_b q looks =
     ∙ sym (changes_only_writes r.tables before.changes mid b q last (not_written before rec q apart looks)))
 
 -- the records behind the first k lead from the database after these to those at a later place
-pub leads : (r : Replica) (k n : ℕ) (a b : Database) → k ≤ n → rows_at r k ≡ Some a → rows_at r n ≡ Some b →
-    after r.tables a (drop k (take n r.accepted)) ≡ Some b
+pub leads : (r : Replica) (k n : ℕ) (a b : Database) → k ≤ n → rows_at r k ≡ Some a → rows_at r n ≡ Some b → after r.tables a (drop k (take n r.accepted)) ≡ Some b
 leads r k n a b behind is_a is_b =
     let front = take k r.accepted in
     let part = drop k (take n r.accepted) in
@@ -125,19 +121,16 @@ leads r k n a b behind is_a is_b =
     ∙ ap (after r.tables (loaded r.base)) whole ∙ is_b
 
 -- no two rows of a table have one value in its unique column, wherever the accepted records lead
-pub apart_at : (r : Replica) (n : ℕ) (db : Database) → NoValueTwice r.tables (loaded r.base) → rows_at r n ≡ Some db →
-    NoValueTwice r.tables db
+pub apart_at : (r : Replica) (n : ℕ) (db : Database) → NoValueTwice r.tables (loaded r.base) → rows_at r n ≡ Some db → NoValueTwice r.tables db
 apart_at r n db apart is = apart_after r.tables (loaded r.base) db (take n r.accepted) apart is
 
 -- so the holders of its marks are the same there too, where the records that lead there state their true marks
-pub holders_stay : (r : Replica) (k j n : ℕ) (rec : Record) (a b : Database) → AreAcceptable r.tables r.accepted →
-    NoValueTwice r.tables (loaded r.base) → slice_get r.accepted j ≡ Some rec → rec.parent ≤ k → k ≤ n → n ≤ j → rows_at r k ≡ Some a →
-    rows_at r n ≡ Some b → StateMarks r.tables a (drop k (take n r.accepted)) →
-    (mark : Mark) → has_row rec.marks mark ≡ true → holder_of r.tables a mark ≡ holder_of r.tables b mark
-holders_stay r k j n rec a b h apart got parent behind within is_a is_b stated =
+pub holders_stay : {r : Replica} (k j n : ℕ) {rec : Record} {a b : Database} → Stands r → slice_get r.accepted j ≡ Some rec → rec.parent ≤ k → k ≤ n → n ≤ j → rows_at r k ≡ Some a →
+    rows_at r n ≡ Some b → StateMarks r.tables a (drop k (take n r.accepted)) → (mark : Mark) → has_row rec.marks mark ≡ true → holder_of r.tables a mark ≡ holder_of r.tables b mark
+holders_stay {r = r} k j n {rec = rec} {a = a} {b = b} h got parent behind within is_a is_b stated =
     let part = drop k (take n r.accepted) in
     let same : SameHolders r.tables rec.marks a b = λ mark has q.
     sym (unmarked_stays r.tables a b part mark (leads r k n a b behind is_a is_b) stated
     (all_between (λ before. has_row before.marks mark ≡ false) r.accepted k n (λ i before low high at.
-    not_stated before rec mark (no_conflict r.tables r.accepted i j before rec h at got (omega arith) (omega arith)) has)) q) in
-    (holders_are_same r.tables rec.marks a b (apart_at r k a apart is_a) (apart_at r n b apart is_b)).0 same
+    not_stated before rec mark (no_conflict r.tables r.accepted i j before rec h.acceptable at got (omega arith) (omega arith)) has)) q) in
+    (holders_are_same r.tables rec.marks a b (apart_at r k a h.apart is_a) (apart_at r n b h.apart is_b)).0 same

@@ -29,8 +29,7 @@ take-got (y ∷ xs) (suc n) x is =
 
 -- ---- after
 
-pub after-push : (ts : List Table) (db : Database) (xs : List Record) (r : Record) →
-    after ts db (xs ++ r ∷ []) ≡ option_and_then (effect ts r.changes) (after ts db xs)
+pub after-push : (ts : List Table) (db : Database) (xs : List Record) (r : Record) → after ts db (xs ++ r ∷ []) ≡ option_and_then (effect ts r.changes) (after ts db xs)
 after-push ts db [] r =
     elim (effect ts r.changes db) as (λ o. option_and_then (λ d. after ts d []) o ≡ o) [ None ↦ refl | Some left ↦ refl ]
 after-push ts db (x ∷ xs) r =
@@ -56,8 +55,7 @@ one_commit_more ts db [] r mid leaves is last =
     let here : effect ts r.changes db ≡ Some leaves = ap (effect ts r.changes) (same_Some db mid is) ∙ last in
     λ i. commits_of r (λ left. []) (here i)
 one_commit_more ts db (x ∷ xs) r mid leaves is last =
-    elim (effect ts x.changes db) as (λ o. option_and_then (λ d. after ts d xs) o ≡ Some mid →
-    commits_of x (λ left. commits_from ts left (xs ++ r ∷ [])) o
+    elim (effect ts x.changes db) as (λ o. option_and_then (λ d. after ts d xs) o ≡ Some mid → commits_of x (λ left. commits_from ts left (xs ++ r ∷ [])) o
     ≡ commits_of x (λ left. commits_from ts left xs) o ++ commit_of r leaves ∷ []) [
       | None ↦ λ h. absurd (none-some mid h)
       | Some left ↦ λ h. ap (λ l. commit_of x left ∷ l) (one_commit_more ts left xs r mid leaves h last)
@@ -67,8 +65,7 @@ one_commit_more ts db (x ∷ xs) r mid leaves is last =
 pub one_commit_each : OneCommitEach
 one_commit_each ts db [] mid is = refl
 one_commit_each ts db (x ∷ xs) mid is =
-    elim (effect ts x.changes db) as (λ o. option_and_then (λ d. after ts d xs) o ≡ Some mid →
-    length (commits_of x (λ left. commits_from ts left xs) o) ≡ suc (length xs)) [
+    elim (effect ts x.changes db) as (λ o. option_and_then (λ d. after ts d xs) o ≡ Some mid → length (commits_of x (λ left. commits_from ts left xs) o) ≡ suc (length xs)) [
       | None ↦ λ h. absurd (none-some mid h)
       | Some left ↦ λ h. ap suc (one_commit_each ts left xs mid h)
     ] is
@@ -85,8 +82,7 @@ first_commits ts db (suc n) (x ∷ xs) =
     ]
 
 -- the commits, put in order, leave what the records leave
-pub put_batches-commits_from : (ts : List Table) (db : Database) (xs : List Record) (left : Database) → after ts db xs ≡ Some left →
-    put_batches (map batch_of (commits_from ts db xs)) db ≡ left
+pub put_batches-commits_from : (ts : List Table) (db : Database) (xs : List Record) (left : Database) → after ts db xs ≡ Some left → put_batches (map batch_of (commits_from ts db xs)) db ≡ left
 put_batches-commits_from ts db [] left is = same_Some db left is
 put_batches-commits_from ts db (x ∷ xs) left is =
     elim (effect ts x.changes db) as (λ o. effect ts x.changes db ≡ o → option_and_then (λ d. after ts d xs) o ≡ Some left →
@@ -103,8 +99,7 @@ operations_leave_rows ts base records n left is = put_batches-commits_from ts (p
 -- ---- in the order of the log
 
 -- the commits of records that are numbered one by one have their numbers
-pub numbered_commits : (ts : List Table) (db : Database) (gno : ℕ) (records : List Record) → AreNumbered gno records →
-    commits_from ts db records ≡ numbered_from ts db gno records
+pub numbered_commits : (ts : List Table) (db : Database) (gno : ℕ) (records : List Record) → AreNumbered gno records → commits_from ts db records ≡ numbered_from ts db gno records
 numbered_commits ts db gno [] are = refl
 numbered_commits ts db gno (x ∷ xs) are =
     elim (effect ts x.changes db) as (λ o. commits_of x (λ left. commits_from ts left xs) o

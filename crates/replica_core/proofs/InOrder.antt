@@ -41,8 +41,7 @@ accepted_in_order r h is = by (length r.commits) is
     by (suc n) these = (commits_within r h (suc n) (ap (λ gnos. has_gno gnos (suc n)) these ∙ has_gno_last (first_gnos n) (suc n))).1
 
 -- the records of the first so many, in log order, are the first so many
-rows_of_first : (r : Replica) (gnos : List ℕ) (n : ℕ) → Stands r → gnos ≡ first_gnos n →
-    after r.tables (loaded r.base) (chosen gnos r.accepted) ≡ rows_at r n
+rows_of_first : (r : Replica) (gnos : List ℕ) (n : ℕ) → Stands r → gnos ≡ first_gnos n → after r.tables (loaded r.base) (chosen gnos r.accepted) ≡ rows_at r n
 rows_of_first r gnos n h are =
     ap (λ these. after r.tables (loaded r.base) (chosen these r.accepted)) are
     ∙ ap (after r.tables (loaded r.base)) (first_are_chosen r.accepted n (numbered r h))
@@ -56,8 +55,7 @@ ran_in_order r h is = ap (records_at r.accepted) is ∙ records_of_first r.accep
 -- ---- the rows of a job are those of each database up to its record's place
 
 module _ (r : Replica) (h : Stands r) (ordered : r.commits ≡ first_gnos (length r.commits)) where
-  parent_is_committed : (gno : ℕ) (rec : Record) → IsUnderWay r gno → slice_get r.accepted (gno - 1) ≡ Some rec →
-      rec.parent ≤ length r.commits
+  parent_is_committed : (gno : ℕ) (rec : Record) → IsUnderWay r gno → slice_get r.accepted (gno - 1) ≡ Some rec → rec.parent ≤ length r.commits
   parent_is_committed gno rec under got =
       let parent = (h.eligible gno rec under.0 under.1 got).parent in
       let low = low_in_order r ordered in
@@ -89,8 +87,7 @@ module _ (r : Replica) (h : Stands r) (ordered : r.commits ≡ first_gnos (lengt
       let first = now parts.rows parts.rows_are in
       let alike : LooksAlike r.tables parts.rec parts.rows db = record {
         rows = agree_along gno n job db under low high parts rows_are;
-        holders = holders_stay r (length r.commits) (gno - 1) n parts.rec parts.rows db h.acceptable h.apart parts.got
-            (parent_is_committed gno parts.rec under parts.got) low (omega arith) first rows_are (stated parts.rows first);
+        holders = holders_stay (length r.commits) (gno - 1) n h parts.got (parent_is_committed gno parts.rec under parts.got) low (omega arith) first rows_are (stated parts.rows first);
       } in
       ap (λ (j : Job). j.holders) parts.job_is ∙ (same_handed_over r.tables parts.rec parts.rows db alike).holders
       ∙ ap (λ (j : Job). holders_in r.tables j.rec.marks db) (sym parts.job_is)

@@ -40,8 +40,7 @@ use Rattle.replica_core.proofs.Apart.{split, place_acceptable}
 
 -- ---- the job of a record
 
-pub job_at : (r : Replica) (gno : ℕ) (rec : Record) (rows : Database) → slice_get r.accepted (gno - 1) ≡ Some rec →
-    working_rows r ≡ Some rows → job_of r gno ≡ Some (job_over r.tables gno rec rows)
+pub job_at : (r : Replica) (gno : ℕ) (rec : Record) (rows : Database) → slice_get r.accepted (gno - 1) ≡ Some rec → working_rows r ≡ Some rows → job_of r gno ≡ Some (job_over r.tables gno rec rows)
 job_at r gno rec rows got is =
     λ i. option_and_then (λ (x : Record). option_map (job_over r.tables gno x) (is i)) (got i)
 
@@ -86,8 +85,7 @@ number_there r gno rec h low got =
     omega arith
 
 -- each of them waits: it is not committed, and each earlier record that conflicts with it is
-pub waits_of : (r : Replica) (gno : ℕ) (rec : Record) → Stands r → IsUnderWay r gno → slice_get r.accepted (gno - 1) ≡ Some rec →
-    Waits r.accepted r.commits rec
+pub waits_of : (r : Replica) (gno : ℕ) (rec : Record) → Stands r → IsUnderWay r gno → slice_get r.accepted (gno - 1) ≡ Some rec → Waits r.accepted r.commits rec
 waits_of r gno rec h under got =
     let parts = split r.accepted (gno - 1) rec got in
     let parent = (h.eligible gno rec under.0 under.1 got).parent in
@@ -102,8 +100,7 @@ waits_of r gno rec h under got =
     }
 
 -- its job may be of the working rows
-pub job_agrees_of : (r : Replica) (gno : ℕ) (job : Job) (rows : Database) → Stands r → job_of r gno ≡ Some job →
-    working_rows r ≡ Some rows → Agrees job rows
+pub job_agrees_of : (r : Replica) (gno : ℕ) (job : Job) (rows : Database) → Stands r → job_of r gno ≡ Some job → working_rows r ≡ Some rows → Agrees job rows
 job_agrees_of r gno job rows h is rows_are =
     let parts = job_parts r gno job is in
     let same : parts.rows ≡ rows = same_Some parts.rows rows (sym parts.rows_are ∙ rows_are) in
@@ -138,10 +135,8 @@ leaves_of r gno rec rows h under got rows_are good =
     }
 
 -- what it leaves looks alike to each other record under way, so the job of that one stays
-pub job_stays_of : (r : Replica) (gno other : ℕ) (rec : Record) (rows : Database) → Stands r → IsUnderWay r gno → IsUnderWay r other →
-    (gno ≡ other → ⊥) →
-    slice_get r.accepted (other - 1) ≡ Some rec → working_rows r ≡ Some rows → IsGood r.tables rec rows →
-    job_of (with_commit r other) gno ≡ job_of r gno
+pub job_stays_of : (r : Replica) (gno other : ℕ) (rec : Record) (rows : Database) → Stands r → IsUnderWay r gno → IsUnderWay r other → (gno ≡ other → ⊥) →
+    slice_get r.accepted (other - 1) ≡ Some rec → working_rows r ≡ Some rows → IsGood r.tables rec rows → job_of (with_commit r other) gno ≡ job_of r gno
 job_stays_of r gno other rec rows h under under_other apart got rows_are good = by (slice_get r.accepted (gno - 1)) refl
   where
     by : (o : Option Record) → slice_get r.accepted (gno - 1) ≡ o → job_of (with_commit r other) gno ≡ job_of r gno
@@ -233,8 +228,7 @@ good_here r gno result rows left h rows_are handed came output =
       left_is = there.rows ∙ ap (λ (x : Record). rows_in (writes x.changes) there.after_) of;
     }
 
-pub commit_step : (r : Replica) (gno : ℕ) (result : Finished) (rows : Database) (left : List Entry) → Stands r → IsUnderWay r gno →
-    working_rows r ≡ Some rows →
+pub commit_step : (r : Replica) (gno : ℕ) (result : Finished) (rows : Database) (left : List Entry) → Stands r → IsUnderWay r gno → working_rows r ≡ Some rows →
     job_of r gno ≡ Some result.job → IsResult result → result.outcome ≡ Output left → StepsOn r gno rows left
 commit_step r gno result rows left h under rows_are handed came output =
     let here = good_here r gno result rows left h rows_are handed came output in
@@ -281,8 +275,7 @@ accept_step r new h next =
     let same : working_rows (with_accepted r new) ≡ working_rows r =
     ap (after r.tables (loaded r.base)) (longer_log r.accepted (new ∷ []) r.commits all (λ gno is. (within gno is).1)) in
     let same_ran : ran (with_accepted r new) ≡ ran r = records_at_longer r.accepted (new ∷ []) r.commits within in
-    let front : (gno : ℕ) → 1 ≤ gno → gno ≤ length r.accepted →
-    slice_get (r.accepted ++ new ∷ []) (gno - 1) ≡ slice_get r.accepted (gno - 1) =
+    let front : (gno : ℕ) → 1 ≤ gno → gno ≤ length r.accepted → slice_get (r.accepted ++ new ∷ []) (gno - 1) ≡ slice_get r.accepted (gno - 1) =
     λ gno low high. get_front r.accepted (new ∷ []) (gno - 1) (omega arith) in
     record {
       commits = commits_longer r.tables (loaded r.base) r.accepted (new ∷ []) r.commits all h.commits;

@@ -11,9 +11,7 @@ use Rattle.std.proofs.lemmas.List.{map-append, length_push, length-drop, drop-dr
 use Rattle.schema.specs.declared.Table.{Table}
 use Rattle.rows.specs.Database.{Database, NoValueTwice}
 use Rattle.store_trait.specs.Batch.{Entry, put_batch}
-use Rattle.store_trait.specs.Fits.{Fits}
 use Rattle.store_trait.specs.Operation.{loaded}
-use Rattle.store_trait.proofs.Values.{fits_apart}
 use Rattle.store_trait.specs.declared.Op.{Op}
 use Rattle.store_trait.specs.declared.Op.TheVariants.{Commit}
 use Rattle.record_codec.specs.declared.records.Record.{Record}
@@ -64,10 +62,10 @@ up_to_next n gno = grind (arith, nat_tests)
 
 -- ---- a replica that has accepted nothing
 
-pub kept_new : (ts : List Table) (source : List ℕ) (base : List Entry) (workers : ℕ) (preserve : Bool) (rows : Database) (keys : Keys) → Fits ts rows → loaded base ≡ rows →
+pub kept_new : (ts : List Table) (source : List ℕ) (base : List Entry) (workers : ℕ) (preserve : Bool) (rows : Database) (keys : Keys) → NoValueTwice ts rows → loaded base ≡ rows →
     (NoValueTwice ts (loaded base) → Indexes ts (loaded base) keys) → 1 ≤ workers → workers ≤ 64 →
     ArePartsOf (new_over ts source base workers preserve) none_committed (no_turns preserve) [] rows keys []
-kept_new ts source base workers preserve rows keys fits loads indexed some few = record {
+kept_new ts source base workers preserve rows keys values_apart loads indexed some few = record {
   set_up = record { some = some; few = few };
   log = record {
     acceptable = empty_is_acceptable ts;
@@ -79,8 +77,8 @@ kept_new ts source base workers preserve rows keys fits loads indexed some few =
     ops_are = refl;
   };
   turned = record { preserve = refl; next = λ _. refl; out = refl; done = refl };
+  within = omega arith;
   counted = record {
-    dispatched = omega arith;
     counted = refl;
     busy = omega arith;
     distinct = tt;
@@ -95,7 +93,7 @@ kept_new ts source base workers preserve rows keys fits loads indexed some few =
 }
   where
     apart : NoValueTwice ts (loaded base)
-    apart = subst (NoValueTwice ts) (sym loads) (fits_apart ts rows fits)
+    apart = subst (NoValueTwice ts) (sym loads) values_apart
 
     none_between : (gno : ℕ) → false ≡ (nat_le 1 gno && nat_le gno 0)
     none_between gno = grind (arith, nat_tests)
@@ -103,18 +101,18 @@ kept_new ts source base workers preserve rows keys fits loads indexed some few =
     no_low : (gno : ℕ) → 1 ≤ gno → nat_le gno 0 ≡ false
     no_low gno low = grind (arith, nat_tests)
 
-module _ (r : Replica) (marks : Marks) (line : Line) (handed : List HandedOut) (rows : Database) (keys : Keys) (ops : List Op) where
-  pub stands : ArePartsOf r marks line handed rows keys ops → Stands r
-  stands h = record { acceptable = h.log.acceptable; commits = h.log.commits; apart = h.log.apart; eligible = h.eligible }
+module _ {r : Replica} {marks : Marks} {line : Line} {handed : List HandedOut} {rows : Database} {keys : Keys} {ops : List Op} (h : ArePartsOf r marks line handed rows keys ops) where
+  pub stands : Stands r
+  stands = record { acceptable = h.log.acceptable; commits = h.log.commits; apart = h.log.apart; eligible = h.eligible }
 
-  pub kept_sound : ArePartsOf r marks line handed rows keys ops → IsSound r
-  kept_sound h = record {
+  pub kept_sound : IsSound r
+  kept_sound = record {
     accepted = h.log.acceptable;
     commits = h.log.commits;
     distinct = h.counted.distinct;
     each = h.counted.each;
     published = h.log.published;
-    dispatched = h.counted.dispatched;
+    dispatched = h.within;
     counted = h.counted.counted;
     busy = h.counted.busy;
     some = h.set_up.some;
@@ -123,48 +121,47 @@ module _ (r : Replica) (marks : Marks) (line : Line) (handed : List HandedOut) (
     rows_are = h.log.rows_are;
     apart = h.log.apart;
     eligible = h.eligible;
-    in_order = λ preserve. in_order_of r (stands h) (h.counted.in_turn preserve);
+    in_order = λ preserve. in_order_of r stands (h.counted.in_turn preserve);
   }
 
   -- as what it is seen as
-  pub sound_as_seen : (now : Replica) → ArePartsOf r marks line handed rows keys ops → r ≡ now → IsSound now
-  sound_as_seen now h is = subst IsSound is (kept_sound h)
+  pub sound_as_seen : {now : Replica} → r ≡ now → IsSound now
+  sound_as_seen is = subst IsSound is kept_sound
 
   -- ---- which records are where
 
   -- each that is committed, out or finished was dispatched
-  dispatched_has : (gno : ℕ) → ArePartsOf r marks line handed rows keys ops → has_gno (r.commits ++ (r.out ++ r.finished)) gno ≡ true → (1 ≤ gno) × (gno ≤ r.dispatched)
-  dispatched_has gno h has =
+  dispatched_has : (gno : ℕ) → has_gno (r.commits ++ (r.out ++ r.finished)) gno ≡ true → (1 ≤ gno) × (gno ≤ r.dispatched)
+  dispatched_has gno has =
       let both = and_parts (nat_le 1 gno) (nat_le gno r.dispatched) (sym (h.counted.each gno) ∙ has) in
       (leb-true 1 gno both.0, leb-true gno r.dispatched both.1)
 
   -- and those that are out or finished are not committed
-  under_way : (gno : ℕ) → ArePartsOf r marks line handed rows keys ops → has_gno (r.out ++ r.finished) gno ≡ true → IsUnderWay r gno
-  under_way gno h has =
-      let within = dispatched_has gno h (has_gno_behind r.commits (r.out ++ r.finished) gno has) in
+  under_way : (gno : ℕ) → has_gno (r.out ++ r.finished) gno ≡ true → IsUnderWay r gno
+  under_way gno has =
+      let within = dispatched_has gno (has_gno_behind r.commits (r.out ++ r.finished) gno has) in
       (within.0, within.1, distinct_apart_behind r.commits (r.out ++ r.finished) h.counted.distinct gno has)
 
-  pub out_under_way : (gno : ℕ) → ArePartsOf r marks line handed rows keys ops → has_gno r.out gno ≡ true → IsUnderWay r gno
-  out_under_way gno h has = under_way gno h (has_gno_front r.out r.finished gno has)
+  pub out_under_way : (gno : ℕ) → has_gno r.out gno ≡ true → IsUnderWay r gno
+  out_under_way gno has = under_way gno (has_gno_front r.out r.finished gno has)
 
-  pub finished_under_way : (gno : ℕ) → ArePartsOf r marks line handed rows keys ops → has_gno r.finished gno ≡ true → IsUnderWay r gno
-  finished_under_way gno h has = under_way gno h (has_gno_behind r.out r.finished gno has)
+  pub finished_under_way : (gno : ℕ) → has_gno r.finished gno ≡ true → IsUnderWay r gno
+  finished_under_way gno has = under_way gno (has_gno_behind r.out r.finished gno has)
 
   -- the results that wait are of these
-  finished_has : (gno : ℕ) → ArePartsOf r marks line handed rows keys ops → has_gno (gnos_of line.done) gno ≡ true → has_gno r.finished gno ≡ true
-  finished_has gno h has = ap (λ (l : List ℕ). has_gno l gno) (sym h.turned.done) ∙ has
+  finished_has : (gno : ℕ) → has_gno (gnos_of line.done) gno ≡ true → has_gno r.finished gno ≡ true
+  finished_has gno has = ap (λ (l : List ℕ). has_gno l gno) (sym h.turned.done) ∙ has
 
   -- what is kept of the jobs is of those that are out, where these jobs stay
-  kept_stays : (now : Replica) → ArePartsOf r marks line handed rows keys ops → ((gno : ℕ) → has_gno r.out gno ≡ true → job_of now gno ≡ job_of r gno) →
+  kept_stays : (now : Replica) → ((gno : ℕ) → has_gno r.out gno ≡ true → job_of now gno ≡ job_of r gno) →
       map Some handed ≡ map (λ gno. option_map kept_of (job_of now gno)) r.out
-  kept_stays now h stays =
+  kept_stays now stays =
       h.kept ∙ same_each (λ gno. option_map kept_of (job_of r gno)) (λ gno. option_map kept_of (job_of now gno)) r.out (λ gno has. ap (option_map kept_of) (sym (stays gno has)))
 
   -- what is dispatched, out, finished, published or stopped changes nothing of the log that is kept, but for the operations
-  log_with : (published dispatched : ℕ) (out finished : List ℕ) (stopped : Option ℕ) (left : List Op) → ArePartsOf r marks line handed rows keys ops → published ≤ length r.commits →
-      left ≡ waiting (record r { published = published }) →
-      IsLogKept (record r { published = published; dispatched = dispatched; out = out; finished = finished; stopped = stopped }) rows keys left
-  log_with published dispatched out finished stopped left h few are = record {
+  log_with : {published dispatched : ℕ} {out finished : List ℕ} {stopped : Option ℕ} {left : List Op} → published ≤ length r.commits →
+      left ≡ waiting (record r { published = published }) → IsLogKept (record r { published = published; dispatched = dispatched; out = out; finished = finished; stopped = stopped }) rows keys left
+  log_with few are = record {
     acceptable = h.log.acceptable;
     commits = h.log.commits;
     rows_are = h.log.rows_are;
@@ -175,17 +172,17 @@ module _ (r : Replica) (marks : Marks) (line : Line) (handed : List HandedOut) (
   }
 
   -- nor of what was eligible
-  eligible_with : (published dispatched : ℕ) (out finished : List ℕ) (stopped : Option ℕ) (gno : ℕ) (rec : Record) → IsEligible r gno rec →
+  eligible_with : {published dispatched : ℕ} {out finished : List ℕ} {stopped : Option ℕ} {gno : ℕ} {rec : Record} → IsEligible r gno rec →
       IsEligible (record r { published = published; dispatched = dispatched; out = out; finished = finished; stopped = stopped }) gno rec
-  eligible_with published dispatched out finished stopped gno rec is = record { parent = is.parent; near = is.near }
+  eligible_with is = record { parent = is.parent; near = is.near }
 
   -- ---- one more record accepted
 
-  pub kept_accepted : (new : Record) → ArePartsOf r marks line handed rows keys ops → AreAcceptable r.tables (r.accepted ++ new ∷ []) → ArePartsOf (with_accepted r new) marks line handed rows keys ops
-  kept_accepted new h acceptable =
-      let step : AcceptsOn r new = accept_step r new (stands h) (acceptable r.accepted new [] refl).gno in
+  pub kept_accepted : (new : Record) → AreAcceptable r.tables (r.accepted ++ new ∷ []) → ArePartsOf (with_accepted r new) marks line handed rows keys ops
+  kept_accepted new acceptable =
+      let step : AcceptsOn r new = accept_step r new stands (acceptable r.accepted new [] refl).gno in
       let stays : (gno : ℕ) → IsUnderWay r gno → job_of (with_accepted r new) gno ≡ job_of r gno = λ gno under.
-      step.jobs gno under.0 (let high = under.1 in let all = h.counted.dispatched in omega arith) in
+      step.jobs gno under.0 (let high = under.1 in let all = h.within in omega arith) in
       record {
         set_up = h.set_up;
         log = record {
@@ -197,29 +194,21 @@ module _ (r : Replica) (marks : Marks) (line : Line) (handed : List HandedOut) (
           published = h.log.published;
           ops_are = h.log.ops_are ∙ sym step.ops;
         };
-        turned = record { preserve = h.turned.preserve; next = h.turned.next; out = h.turned.out; done = h.turned.done };
-        counted = record {
-          dispatched = (let all = h.counted.dispatched in omega (arith, length_push r.accepted new));
-          counted = h.counted.counted;
-          busy = h.counted.busy;
-          distinct = h.counted.distinct;
-          each = h.counted.each;
-          marked = h.counted.marked;
-          low = h.counted.low;
-          in_turn = h.counted.in_turn;
-        };
-        eligible = step.eligible h.counted.dispatched;
-        kept = kept_stays (with_accepted r new) h (λ gno has. stays gno (out_under_way gno h has));
+        turned = h.turned;
+        within = (let all = h.within in omega (arith, length_push r.accepted new));
+        counted = h.counted;
+        eligible = step.eligible h.within;
+        kept = kept_stays (with_accepted r new) (λ gno has. stays gno (out_under_way gno has));
         results =
             all_each (λ result. IsTaken (job_of r result.job.gno) result) (λ result. IsTaken (job_of (with_accepted r new) result.job.gno) result) line.done
-            (λ result has is. of_same_job (sym (stays result.job.gno (finished_under_way result.job.gno h (finished_has result.job.gno h has)))) is) h.results;
+            (λ result has is. of_same_job (sym (stays result.job.gno (finished_under_way result.job.gno (finished_has result.job.gno has)))) is) h.results;
       }
 
   -- ---- the next record dispatched
 
-  pub kept_dispatched : (rec : Record) (job : Job) → ArePartsOf r marks line handed rows keys ops → IsNext r rec → job_of r (r.dispatched + 1) ≡ Some job →
+  pub kept_dispatched : (rec : Record) (job : Job) → IsNext r rec → job_of r (r.dispatched + 1) ≡ Some job →
       ArePartsOf (dispatched_next r) marks (entered line (r.dispatched + 1)) (handed ++ kept_of job ∷ []) rows keys ops
-  kept_dispatched rec job h next made =
+  kept_dispatched rec job next made =
       let gno = r.dispatched + 1 in
       let within : r.dispatched < length r.accepted = slice_get_within r.accepted r.dispatched rec next.got in
       let counted = h.counted.counted in
@@ -227,10 +216,10 @@ module _ (r : Replica) (marks : Marks) (line : Line) (handed : List HandedOut) (
       let as_before = λ (number : ℕ). option_map kept_of (job_of r number) in
       record {
         set_up = h.set_up;
-        log = log_with r.published gno (r.out ++ gno ∷ []) r.finished r.stopped ops h h.log.published h.log.ops_are;
+        log = log_with h.log.published h.log.ops_are;
         turned = record { preserve = h.turned.preserve; next = h.turned.next; out = ap (λ (l : List ℕ). l ++ gno ∷ []) h.turned.out; done = h.turned.done };
+        within = omega arith;
         counted = record {
-          dispatched = omega arith;
           counted = omega (arith, length_push r.out gno);
           busy = (let free = next.free in omega (arith, length_push r.out gno));
           distinct = distinct_entered r.commits r.out r.finished gno h.counted.distinct new;
@@ -247,7 +236,7 @@ module _ (r : Replica) (marks : Marks) (line : Line) (handed : List HandedOut) (
               let below = next.parent in
               let near = next.near in
               record { parent = omega arith; near = omega arith }
-          | inr old ↦ eligible_with r.published gno (r.out ++ gno ∷ []) r.finished r.stopped other rec' (h.eligible other rec' low old got)
+          | inr old ↦ eligible_with (h.eligible other rec' low old got)
         ];
         kept =
             map-append Some handed (kept_of job ∷ [])
@@ -258,9 +247,9 @@ module _ (r : Replica) (marks : Marks) (line : Line) (handed : List HandedOut) (
 
   -- ---- a result taken
 
-  pub kept_finished : (result : Finished) (place : ℕ) → ArePartsOf r marks line handed rows keys ops → has_gno r.out result.job.gno ≡ true → place ≡ place_in r.out result.job.gno →
+  pub kept_finished : (result : Finished) (place : ℕ) → has_gno r.out result.job.gno ≡ true → place ≡ place_in r.out result.job.gno →
       IsTaken (job_of r result.job.gno) result → ArePartsOf (with_finished r result.job.gno) marks (with_result line result) (remove handed place) rows keys ops
-  kept_finished result place h out at taken =
+  kept_finished result place out at taken =
       let gno = result.job.gno in
       let counted = h.counted.counted in
       let busy = h.counted.busy in
@@ -269,15 +258,15 @@ module _ (r : Replica) (marks : Marks) (line : Line) (handed : List HandedOut) (
       let as_before = λ (number : ℕ). option_map kept_of (job_of r number) in
       record {
         set_up = h.set_up;
-        log = log_with r.published r.dispatched (without gno r.out) (r.finished ++ gno ∷ []) r.stopped ops h h.log.published h.log.ops_are;
+        log = log_with h.log.published h.log.ops_are;
         turned = record {
           preserve = h.turned.preserve;
           next = h.turned.next;
           out = ap (without gno) h.turned.out;
           done = gnos-with_result line result ∙ ap (λ (l : List ℕ). l ++ gno ∷ []) h.turned.done;
         };
+        within = h.within;
         counted = record {
-          dispatched = h.counted.dispatched;
           counted = omega arith;
           busy = omega arith;
           distinct = distinct_moved_behind r.commits r.out r.finished gno h.counted.distinct out;
@@ -286,7 +275,7 @@ module _ (r : Replica) (marks : Marks) (line : Line) (handed : List HandedOut) (
           low = h.counted.low;
           in_turn = h.counted.in_turn;
         };
-        eligible = λ other rec low high got. eligible_with r.published r.dispatched (without gno r.out) (r.finished ++ gno ∷ []) r.stopped other rec (h.eligible other rec low high got);
+        eligible = λ other rec low high got. eligible_with (h.eligible other rec low high got);
         kept =
             sym (remove-map Some place handed)
             ∙ (λ i. remove (h.kept i) (at i))
@@ -296,75 +285,66 @@ module _ (r : Replica) (marks : Marks) (line : Line) (handed : List HandedOut) (
 
   -- ---- a stop, or more published
 
-  kept_beside : (published : ℕ) (stopped : Option ℕ) (left : List Op) → IsLogKept (record r { published = published; stopped = stopped }) rows keys left →
-      ArePartsOf r marks line handed rows keys ops →
+  kept_beside : {published : ℕ} {stopped : Option ℕ} {left : List Op} → IsLogKept (record r { published = published; stopped = stopped }) rows keys left →
       ArePartsOf (record r { published = published; stopped = stopped }) marks line handed rows keys left
-  kept_beside published stopped left log h = record {
+  kept_beside log = record {
     set_up = h.set_up;
     log = log;
-    turned = record { preserve = h.turned.preserve; next = h.turned.next; out = h.turned.out; done = h.turned.done };
-    counted = record {
-      dispatched = h.counted.dispatched;
-      counted = h.counted.counted;
-      busy = h.counted.busy;
-      distinct = h.counted.distinct;
-      each = h.counted.each;
-      marked = h.counted.marked;
-      low = h.counted.low;
-      in_turn = h.counted.in_turn;
-    };
-    eligible = λ gno rec low high got. eligible_with published r.dispatched r.out r.finished stopped gno rec (h.eligible gno rec low high got);
+    turned = h.turned;
+    within = h.within;
+    counted = h.counted;
+    eligible = λ gno rec low high got. eligible_with (h.eligible gno rec low high got);
     kept = h.kept;
     results = h.results;
   }
 
-  pub kept_stopped : (gno : ℕ) → ArePartsOf r marks line handed rows keys ops → ArePartsOf (stopped_at r gno) marks line handed rows keys ops
-  kept_stopped gno h = kept_beside r.published (Some gno) ops (log_with r.published r.dispatched r.out r.finished (Some gno) ops h h.log.published h.log.ops_are) h
+  pub kept_stopped : (gno : ℕ) → ArePartsOf (stopped_at r gno) marks line handed rows keys ops
+  kept_stopped gno = kept_beside (log_with h.log.published h.log.ops_are)
 
   -- an operation waits for each commit that is not published
-  pub length_ops : ArePartsOf r marks line handed rows keys ops → length ops ≡ length r.commits - r.published
-  length_ops h =
+  pub length_ops : length ops ≡ length r.commits - r.published
+  length_ops =
       let all = commits_from r.tables (loaded r.base) (ran r) in
       let within = commits_are_within r.tables (loaded r.base) r.accepted r.commits (numbered_of r.tables r.accepted h.log.acceptable) h.log.commits in
       ap length h.log.ops_are ∙ length-drop r.published all
-      ∙ ap (λ n. n - r.published) (one_commit_each r.tables (loaded r.base) (ran r) rows (rows_of_ran r rows (stands h) h.log.rows_are) ∙ length_records_at r.accepted r.commits within)
+      ∙ ap (λ n. n - r.published) (one_commit_each r.tables (loaded r.base) (ran r) rows (rows_of_ran r rows stands h.log.rows_are) ∙ length_records_at r.accepted r.commits within)
 
-  pub kept_published : (upto : ℕ) → ArePartsOf r marks line handed rows keys ops → r.published ≤ upto → upto ≤ length r.commits →
+  pub kept_published : (upto : ℕ) → r.published ≤ upto → upto ≤ length r.commits →
       ArePartsOf (with_published r upto) marks line handed rows keys (drop (upto - r.published) ops)
-  kept_published upto h later done =
+  kept_published upto later done =
       let all = commits_from r.tables (loaded r.base) (ran r) in
       let sum : r.published + (upto - r.published) ≡ upto = omega arith in
       let left = drop (upto - r.published) ops in
       let are : left ≡ drop upto all =
       ap (drop (upto - r.published)) h.log.ops_are ∙ drop-drop (upto - r.published) r.published all ∙ ap (λ n. drop n all) sum in
-      kept_beside upto r.stopped left (log_with upto r.dispatched r.out r.finished r.stopped left h done are) h
+      kept_beside (log_with done are)
 
   -- what is published is a gapped state
-  pub shows_gapped : (n : ℕ) → ArePartsOf r marks line handed rows keys ops → n ≤ length r.commits → ShowsGapped r n
-  shows_gapped n h few = published_is_gapped r n (kept_sound h) few
+  pub shows_gapped : (n : ℕ) → n ≤ length r.commits → ShowsGapped r n
+  shows_gapped n few = published_is_gapped r n kept_sound few
 
   -- ---- the next commit
 
-  module _ (result : Finished) (left : List Entry) (h : ArePartsOf r marks line handed rows keys ops) (is : turn line ≡ Some result) (output : result.outcome ≡ Output left) where
+  module _ {result : Finished} {left : List Entry} (is : turn line ≡ Some result) (output : result.outcome ≡ Output left) where
     gno_waits : has_gno r.finished result.job.gno ≡ true
-    gno_waits = finished_has result.job.gno h (turn_waits line result is)
+    gno_waits = finished_has result.job.gno (turn_waits line result is)
 
     taken : IsTaken (job_of r result.job.gno) result
     taken = turn_has (λ other. IsTaken (job_of r other.job.gno) other) line result is h.results
 
     step : StepsOn r result.job.gno rows left
-    step = commit_step r result.job.gno result rows left (stands h) (finished_under_way result.job.gno h gno_waits) h.log.rows_are taken.job taken.came output
+    step = commit_step r result.job.gno result rows left stands (finished_under_way result.job.gno gno_waits) h.log.rows_are taken.job taken.came output
 
     distinct_behind : AreDistinct (r.out ++ r.finished)
     distinct_behind = AreDistinct_behind r.commits (r.out ++ r.finished) h.counted.distinct
 
     -- each other job stays
     out_stays : (other : ℕ) → has_gno r.out other ≡ true → job_of (with_commit r result.job.gno) other ≡ job_of r other
-    out_stays other has = step.jobs other (out_under_way other h has)
+    out_stays other has = step.jobs other (out_under_way other has)
         (λ same. true≢false (sym has ∙ ap (has_gno r.out) same ∙ distinct_apart_behind r.out r.finished distinct_behind result.job.gno gno_waits))
 
     finished_stays : (other : ℕ) → has_gno (without result.job.gno r.finished) other ≡ true → job_of (with_commit r result.job.gno) other ≡ job_of r other
-    finished_stays other has = step.jobs other (finished_under_way other h (has_gno_of_without result.job.gno r.finished other has))
+    finished_stays other has = step.jobs other (finished_under_way other (has_gno_of_without result.job.gno r.finished other has))
         (λ same. true≢false (sym has ∙ ap (has_gno (without result.job.gno r.finished)) same ∙ has_gno-without_same result.job.gno r.finished (AreDistinct_behind r.out r.finished distinct_behind)))
 
     -- in the order of the log it is the next
@@ -385,7 +365,7 @@ module _ (r : Replica) (marks : Marks) (line : Line) (handed : List HandedOut) (
     done_then = gnos-passed line result is ∙ ap (without result.job.gno) h.turned.done
 
     counted_then : (marks_then : Marks) → ((g : ℕ) → is_committed marks_then g ≡ (is_committed marks g || eqb g result.job.gno)) → is_committed marks_then (marks_then.low + 1) ≡ false →
-        IsCounted (with_commit r result.job.gno) marks_then
+        IsCounted r.preserve r.dispatched r.workers (r.commits ++ result.job.gno ∷ []) r.out (without result.job.gno r.finished) marks_then
     counted_then marks_then exact greatest =
         let gno = result.job.gno in
         let counted = h.counted.counted in
@@ -394,7 +374,6 @@ module _ (r : Replica) (marks : Marks) (line : Line) (handed : List HandedOut) (
         let fewer = length-without gno r.finished gno_waits in
         let marked = marks_of_more marks marks_then r.commits gno exact h.counted.marked in
         record {
-          dispatched = h.counted.dispatched;
           counted = omega arith;
           busy = omega arith;
           distinct = distinct_moved_front r.commits r.out r.finished gno h.counted.distinct gno_waits;
@@ -422,9 +401,10 @@ module _ (r : Replica) (marks : Marks) (line : Line) (handed : List HandedOut) (
             ops_are = ap (λ (l : List Op). l ++ Commit gno left ∷ []) h.log.ops_are ∙ sym (step.ops h.log.published);
           };
           turned = record { preserve = h.turned.preserve; next = next_then; out = h.turned.out; done = done_then };
+          within = h.within;
           counted = counted_then marks_then exact greatest;
           eligible = step.eligible;
-          kept = kept_stays (with_commit r gno) h out_stays;
+          kept = kept_stays (with_commit r gno) out_stays;
           results =
               all_each (λ other. IsTaken (job_of r other.job.gno) other) (λ other. IsTaken (job_of (with_commit r gno) other.job.gno) other) (passed line).done
               (λ other has was. of_same_job (sym (finished_stays other.job.gno (ap (λ (l : List ℕ). has_gno l other.job.gno) (sym done_then) ∙ has))) was)

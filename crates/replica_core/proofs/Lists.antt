@@ -1,5 +1,5 @@
 -- Lists of numbers, and of what has a number each.
-use Rattle.std.proofs.Common.{◌≡◌, ◌∙◌, sym, ap, refl, true≢false, ℕ, suc, ◌+◌, Bool, true, false, ◌||◌, not, cond, eqb, inl, inr, List, [], ◌∷◌, ◌++◌, map, take, drop, Some, arith, slice_get}
+use Rattle.std.proofs.Common.{◌≡◌, ◌∙◌, sym, ap, refl, true≢false, ℕ, suc, ◌+◌, Bool, true, ◌||◌, not, cond, eqb, inl, inr, List, [], ◌∷◌, ◌++◌, map, take, drop, Some, arith, slice_get}
 use Rattle.std.specs.List.{AllByRecursion, position_or_len, remove}
 use Rattle.std.proofs.lemmas.Bool.{cases_Bool, eqb-true}
 use Rattle.std.proofs.lemmas.List.{map-append, take-map, drop-map}

@@ -2,6 +2,7 @@
 use Rattle.std.proofs.Common.{◌≡◌, ◌∙◌, sym, ap, subst, refl, true≢false, ℕ, zero, suc, ◌+◌, ◌^◌, if◌then◌else◌, ◌==◌, ◌-◌, ◌<◌, ◌≤◌, Bool, true, false, ◌||◌, ◌&&◌, nat_le, eqb, inl, inr, List, []}
 use Rattle.std.proofs.Common.{◌∷◌, ◌++◌, length, Option, Some, None, is_none, arith}
 use Rattle.std.specs.Prelude.{IfSome}
+use Rattle.std.proofs.Math.Bool.{or-false}
 use Rattle.std.proofs.lemmas.Bool.{cases_Bool, cases_eq, and_parts, and_from, and_left, and_right, or_left, ne_eqb, leb-true, le-leb}
 use Rattle.std.proofs.lemmas.Bool.Decides.{nat_tests}
 use Rattle.gtid_set.specs.Ids.{Ids, IsSet, no_ids, first_ids, Adds}
@@ -89,7 +90,7 @@ source_of_some source ids gno set own has = of ids.source ids.numbers set.source
     of None [] some is has = absurd (true≢false (sym has))
     of None (i ∷ numbers) some is has = absurd (true≢false (some ∙ not_zero (length numbers)))
 
-module _ (r : Replica) (marks : Marks) (ids : Ids) (counted : IsCounted r marks) (h : AreMarked r.source marks r.dispatched ids) where
+module _ (r : Replica) (marks : Marks) (ids : Ids) (counted : IsCounted r.preserve r.dispatched r.workers r.commits r.out r.finished marks) (h : AreMarked r.source marks r.dispatched ids) where
   -- those marked are those of the commits
   marked_has : (n : ℕ) → (nat_le 1 n && nat_le n r.dispatched && is_committed marks n) ≡ has_gno r.commits n
   marked_has n = elim (cases_Bool (has_gno r.commits n)) [
@@ -116,8 +117,8 @@ module _ (r : Replica) (marks : Marks) (ids : Ids) (counted : IsCounted r marks)
           ∙ ap (λ (b : Bool). if b then None else Some r.source) (sym (not_zero (length commits)))
 
 -- a number that is marked is that of a commit
-pub some_commit : (r : Replica) (marks : Marks) → IsCounted r marks → IsMarked marks → 0 < length r.commits
-some_commit r marks counted is = of r.commits (sym (counted.marked is.gno is.from_one) ∙ is.marked)
+pub some_commit : (commits : List ℕ) (marks : Marks) → ((gno : ℕ) → 1 ≤ gno → is_committed marks gno ≡ has_gno commits gno) → IsMarked marks → 0 < length commits
+some_commit commits marks marked is = of commits (sym (marked is.gno is.from_one) ∙ is.marked)
   where
     of : (commits : List ℕ) → has_gno commits is.gno ≡ true → 0 < length commits
     of [] has = absurd (true≢false (sym has))
@@ -126,10 +127,6 @@ some_commit r marks counted is = of r.commits (sym (counted.marked is.gno is.fro
 -- in the order of the log they are the first ids
 one_interval : (source : List ℕ) (n : ℕ) → first_ids source (suc n) ≡ record { source = Some source; numbers = record { first = 1; last = suc n } ∷ [] }
 one_interval source n = ap (λ (b : Bool). if b then no_ids else record { source = Some source; numbers = record { first = 1; last = suc n } ∷ [] }) (not_zero n)
-
-or_false : (b : Bool) → (b || false) ≡ b
-or_false true = refl
-or_false false = refl
 
 pub executed_in_order : (r : Replica) (n : ℕ) → r.commits ≡ first_gnos n → length r.commits ≡ n → n < 2 ^ 63 → AreExecuted r (first_ids r.source n)
 executed_in_order r zero are count few = record {
@@ -142,5 +139,5 @@ executed_in_order r (suc n) are count few =
     (record {
       is_set = record { numbers = (omega arith, omega arith, few, tt); source = sym (not_zero 0) };
       source = sym (ap (λ (k : ℕ). if eqb k 0 then None else Some r.source) count ∙ ap (λ (b : Bool). if b then None else Some r.source) (not_zero n));
-      numbers = λ m. or_false (nat_le 1 m && nat_le m (suc n)) ∙ sym (has_first (suc n) m) ∙ sym (ap (λ (l : List ℕ). has_gno l m) are);
+      numbers = λ m. or-false (nat_le 1 m && nat_le m (suc n)) ∙ sym (has_first (suc n) m) ∙ sym (ap (λ (l : List ℕ). has_gno l m) are);
     })

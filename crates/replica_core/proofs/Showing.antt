@@ -61,8 +61,7 @@ pub state_now : (r : Replica) → Stands r → IsState r.tables (loaded r.base) 
 state_now r h = ran_is_gapped r.tables (loaded r.base) r.accepted r.commits h.apart (numbered r h) h.commits
 
 -- the records in the order of their commits leave the working rows
-pub rows_of_ran : (r : Replica) (rows : Database) → Stands r → working_rows r ≡ Some rows →
-    after r.tables (loaded r.base) (ran r) ≡ Some rows
+pub rows_of_ran : (r : Replica) (rows : Database) → Stands r → working_rows r ≡ Some rows → after r.tables (loaded r.base) (ran r) ≡ Some rows
 rows_of_ran r rows h is =
     let state = state_now r h in
     state.ran ∙ sym state.rows ∙ is
@@ -103,28 +102,24 @@ module _ (ts : List Table) (base : Database) (log : List Record) (numbers : AreN
   found front gno may =
       ap (λ n. slice_get log (n - 1)) (sym may.number) ∙ record_at_number log may.front may.rest may.rec numbers may.split
 
-  first_found : (front rest : List ℕ) (gno : ℕ) (may : MayCommit ts base log front gno) →
-      records_at log (gno ∷ rest) ≡ may.rec ∷ records_at log rest
+  first_found : (front rest : List ℕ) (gno : ℕ) (may : MayCommit ts base log front gno) → records_at log (gno ∷ rest) ≡ may.rec ∷ records_at log rest
   first_found front rest gno may = records_at_first log gno rest may.rec (found front gno may)
 
   applies_here : (front : List ℕ) (gno : ℕ) (mid : Database) (may : MayCommit ts base log front gno) →
       after ts base (records_at log front) ≡ Some mid → effect ts may.rec.changes mid ≡ Some may.good.leaves
   applies_here front gno mid may is = ap (effect ts may.rec.changes) (same_Some mid may.rows (sym is ∙ may.rows_are)) ∙ may.good.applies
 
-  leaves_here : (front : List ℕ) (gno : ℕ) (mid next : Database) (may : MayCommit ts base log front gno) →
-      after ts base (records_at log front) ≡ Some mid → effect ts may.rec.changes mid ≡ Some next
+  leaves_here : (front : List ℕ) (gno : ℕ) (mid next : Database) (may : MayCommit ts base log front gno) → after ts base (records_at log front) ≡ Some mid → effect ts may.rec.changes mid ≡ Some next
       → after ts base (records_at log (front ++ gno ∷ [])) ≡ Some next
   leaves_here front gno mid next may is one =
       ap (after ts base) (records_at_pushed log front gno may.rec (found front gno may))
       ∙ after-push ts base (records_at log front) may.rec ∙ ap (option_and_then (effect ts may.rec.changes)) is ∙ one
 
-  regrouped : (front rest : List ℕ) (gno : ℕ) → AreCommits ts base log (front ++ gno ∷ rest) →
-      AreCommits ts base log ((front ++ gno ∷ []) ++ rest)
+  regrouped : (front rest : List ℕ) (gno : ℕ) → AreCommits ts base log (front ++ gno ∷ rest) → AreCommits ts base log ((front ++ gno ∷ []) ++ rest)
   regrouped front rest gno are = subst (AreCommits ts base log) (sym (append_assoc front (gno ∷ []) rest)) are
 
   -- each record states its marks where it was committed
-  marks_from : (front rest : List ℕ) (mid : Database) → AreCommits ts base log (front ++ rest) →
-      after ts base (records_at log front) ≡ Some mid → StateMarks ts mid (records_at log rest)
+  marks_from : (front rest : List ℕ) (mid : Database) → AreCommits ts base log (front ++ rest) → after ts base (records_at log front) ≡ Some mid → StateMarks ts mid (records_at log rest)
   marks_from front [] mid are is = tt
   marks_from front (gno ∷ rest) mid are is =
       let may = are front gno rest refl in
@@ -136,8 +131,7 @@ module _ (ts : List Table) (base : Database) (log : List Record) (numbers : AreN
             marks_from (front ++ gno ∷ []) rest next (regrouped front rest gno are) (leaves_here front gno mid next may is one),
       )
 
-  gnos_from : (gnos_of : List Op → List ℕ) → TellsGnos gnos_of → (front rest : List ℕ) (mid : Database) →
-      AreCommits ts base log (front ++ rest) → after ts base (records_at log front) ≡ Some mid
+  gnos_from : (gnos_of : List Op → List ℕ) → TellsGnos gnos_of → (front rest : List ℕ) (mid : Database) → AreCommits ts base log (front ++ rest) → after ts base (records_at log front) ≡ Some mid
       → gnos_of (commits_from ts mid (records_at log rest)) ≡ rest
   gnos_from gnos_of tells front [] mid are is = tells.none
   gnos_from gnos_of tells front (gno ∷ rest) mid are is =
@@ -155,8 +149,7 @@ pub commits_state_marks : (r : Replica) → Stands r → StateMarks r.tables (lo
 commits_state_marks r h = marks_from r.tables (loaded r.base) r.accepted (numbered r h) [] r.commits (loaded r.base) h.commits refl
 
 -- of the first n operations the first n commits are told
-pub gnos_of_operations : (gnos_of : List Op → List ℕ) (r : Replica) (n : ℕ) → TellsGnos gnos_of → Stands r →
-    gnos_of (operations r.tables r.base (ran r) n) ≡ take n r.commits
+pub gnos_of_operations : (gnos_of : List Op → List ℕ) (r : Replica) (n : ℕ) → TellsGnos gnos_of → Stands r → gnos_of (operations r.tables r.base (ran r) n) ≡ take n r.commits
 gnos_of_operations gnos_of r n tells h =
     tells.load r.base (commits_from r.tables (loaded r.base) (take n (ran r)))
     ∙ ap (λ l. gnos_of (commits_from r.tables (loaded r.base) l)) (first_ran r n h)

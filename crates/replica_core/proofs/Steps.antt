@@ -12,14 +12,13 @@ use Rattle.schema.proofs.Telling.{not_some}
 use Rattle.schema.proofs.Lists.{option_map_or_true, get_within}
 use Rattle.rows.specs.Database.{Database, NoValueTwice}
 use Rattle.store_trait.specs.Batch.{Entry, put_batch}
-use Rattle.store_trait.specs.Fits.{Fits}
 use Rattle.store_trait.specs.Operation.{loaded}
 use Rattle.store_trait.specs.declared.Op.{Op}
 use Rattle.store_trait.specs.declared.Op.TheVariants.{Commit}
 use Rattle.record_codec.specs.declared.records.Record.{Record}
 use Rattle.executor.specs.declared.Job.{Job}
 use Rattle.executor.specs.declared.Outcome.{Outcome}
-use Rattle.executor.specs.declared.Outcome.TheVariants.{Output, Undefined, WrongRefs, Memory as Lacks}
+use Rattle.executor.specs.declared.Outcome.TheVariants.{Output}
 use Rattle.executor.specs.Job.{Finished, IsResult, output_of}
 use Rattle.relay.specs.declared.ReplicaFault.{ReplicaFault}
 use Rattle.relay.specs.declared.ReplicaFault.TheVariants.{Stopped, Stranger, Double, Memory as NoMemory}
@@ -69,17 +68,8 @@ abbrev pub cause : Option ℕ → Bool → Bool → Option ReplicaFault
 cause stopped known out =
     option_or (option_map_or (λ gno. Some (Stopped gno)) stopped None) (if not known then Some Stranger else if not out then Some Double else None)
 
-abbrev pub refusal : Bool → Bool → Result (Unit {0}) ReplicaFault
-refusal known out = if not known then Err Stranger else if not out then Err Double else Ok tt
-
 abbrev pub told_as : Option ReplicaFault → Result (Unit {0}) ReplicaFault
 told_as fault = option_map_or (λ f. Err f) fault (Ok tt)
-
-pub refusal_is_cause : (stopped : Option ℕ) (known out : Bool) → stopped ≡ None → refusal known out ≡ told_as (cause stopped known out)
-refusal_is_cause None true true running = refl
-refusal_is_cause None true false running = refl
-refusal_is_cause None false out running = refl
-refusal_is_cause (Some gno) known out running = cc
 
 pub err_refuses_so : (fault : Option ReplicaFault) (told : ReplicaFault) → Err told ≡ told_as fault → fault ≡ Some told
 err_refuses_so None told is = cc
@@ -94,15 +84,14 @@ pub judged_err : (r : Replica) (done : Finished) (told : ReplicaFault) (result :
 judged_err r done told (Ok u) is fault = absurd is
 judged_err r done told (Err e) is fault = inl (fault ∙ ap Some (sym is))
 
-no_cause : (stopped : Option ℕ) (known out : Bool) → cause stopped known out ≡ None → out ≡ true
-no_cause None true true is = refl
-no_cause None true false is = cc
-no_cause None false out is = cc
-no_cause (Some gno) known out is = cc
+-- where there is no cause to refuse a result the replica runs, and its record was dispatched and is out
+pub no_cause : (stopped : Option ℕ) (known out : Bool) → cause stopped known out ≡ None → (stopped ≡ None) × (known ≡ true) × (out ≡ true)
+no_cause None true true is = (refl, refl, refl)
+no_cause _ _ _ is = absurd (cc (is))
 
 -- a result that nothing refuses is of a record that is out
 pub out_from : (r : Replica) (gno : ℕ) → finish_fault r gno ≡ None → has_gno r.out gno ≡ true
-out_from r gno is = no_cause r.stopped (nat_le 1 gno && nat_le gno r.dispatched) (has_gno r.out gno) is
+out_from r gno is = (no_cause r.stopped (nat_le 1 gno && nat_le gno r.dispatched) (has_gno r.out gno) is).2
 
 -- ---- the parts
 
@@ -129,10 +118,11 @@ answered (Err fault) told h = tt
 answered (Ok answer) told (inl lacks) = cc
 answered (Ok answer) told (inr is) = sym is
 
-module _ (r : Replica) (marks : Marks) (order : List ℕ) (line : Line) (handed : List HandedOut) (rows : Database) (keys : Keys) (ops : List Op) where
+module _ {r : Replica} {marks : Marks} {line : Line} {handed : List HandedOut} {rows : Database} {keys : Keys} {ops : List Op} (order : List ℕ) (h : ArePartsOf r marks line handed rows keys ops)
+    (seen : commits_seen line.preserve marks.low order ≡ r.commits) where
   -- the parts are seen as the replica whose parts they are
-  pub as_parts : ArePartsOf r marks line handed rows keys ops → commits_seen line.preserve marks.low order ≡ r.commits → with_parts r marks order line ≡ r
-  as_parts h seen =
+  pub as_parts : with_parts r marks order line ≡ r
+  as_parts =
       let all = h.counted.counted in
       let outs = ap (λ (l : List ℕ). length l) h.turned.out in
       let dones = ap (λ (l : List ℕ). length l) h.turned.done in
@@ -141,8 +131,8 @@ module _ (r : Replica) (marks : Marks) (order : List ℕ) (line : Line) (handed 
       omega (arith, length-map line.done (λ (result : Finished). result.job.gno)) in
       λ i. record r { preserve = h.turned.preserve i; commits = seen i; dispatched = count i; out = h.turned.out i; finished = h.turned.done i }
 
-  pub parts_kept : ArePartsOf r marks line handed rows keys ops → commits_seen line.preserve marks.low order ≡ r.commits → ArePartsOf (with_parts r marks order line) marks line handed rows keys ops
-  parts_kept h seen = subst (λ (q : Replica). ArePartsOf q marks line handed rows keys ops) (sym (as_parts h seen)) h
+  pub parts_kept : ArePartsOf (with_parts r marks order line) marks line handed rows keys ops
+  parts_kept = subst (λ (q : Replica). ArePartsOf q marks line handed rows keys ops) (sym as_parts) h
 
 -- ---- a replica that has accepted nothing
 
@@ -161,12 +151,12 @@ module _ (v : relay.Relay) (base : List Entry) (workers : ℕ) (preserve : Bool)
       rw (are.marks_are, are.order_is, are.line_is, none)
       (ap (λ (l : List ℕ). record (new_over v.tables v.source base workers preserve) { commits = l; dispatched = length l + 0 }) (none_seen preserve))
 
-  pub new_kept : AreNew preserve marks order line handed ops → v.accepted ≡ [] → Fits v.tables rows → loaded base ≡ rows →
+  pub new_kept : AreNew preserve marks order line handed ops → v.accepted ≡ [] → NoValueTwice v.tables rows → loaded base ≡ rows →
       (NoValueTwice v.tables (loaded base) → Indexes v.tables (loaded base) keys) → 1 ≤ workers → workers ≤ 64 →
       ArePartsOf (seen_as v base marks order 0 line workers None) marks line handed rows keys ops
-  new_kept are none fits loads indexed some few =
+  new_kept are none apart loads indexed some few =
       subst (λ (q : Replica). ArePartsOf q marks line handed rows keys ops) (sym (new_seen are none))
-      (rw (are.marks_are, are.line_is, are.handed_is, are.ops_are) (kept_new v.tables v.source base workers preserve rows keys fits loads indexed some few))
+      (rw (are.marks_are, are.line_is, are.handed_is, are.ops_are) (kept_new v.tables v.source base workers preserve rows keys apart loads indexed some few))
 
 -- ---- the parts that each call leaves
 
@@ -180,96 +170,88 @@ commits_then false low low_then order gno h = refl
 
 -- a place is near, or no worker is free
 any_order : (parent near worker : Bool) (always : Bool) → (always ≡ true → worker ≡ true → near ≡ true) → ((parent && near) && worker) ≡ ((parent && worker) && (always || near))
-any_order false true true true h = refl
-any_order false true true false h = refl
-any_order false true false always h = refl
-any_order false false true true h = refl
-any_order false false true false h = refl
-any_order false false false always h = refl
+any_order false near worker always h = refl
+any_order true true false always h = refl
 any_order true true true true h = refl
 any_order true true true false h = refl
-any_order true true false true h = refl
-any_order true true false false h = refl
+any_order true false false always h = refl
 any_order true false true true h = h refl refl
 any_order true false true false h = refl
-any_order true false false true h = refl
-any_order true false false false h = refl
 
-module _ (r : Replica) (marks : Marks) (line : Line) (handed : List HandedOut) (rows : Database) (keys : Keys) (ops : List Op) where
+module _ {r : Replica} {marks : Marks} {line : Line} {handed : List HandedOut} {rows : Database} {keys : Keys} {ops : List Op} (h : ArePartsOf r marks line handed rows keys ops) where
   -- ---- receive
 
   -- whatever is refused, and whether the record is given back with it
-  pub received_kept : {E : Type 0} (from : List ℕ) (new : Record) (result : Result Received E) (left : relay.Relay) → ArePartsOf r marks line handed rows keys ops →
-      IfOk result (λ answer. relay.received (relay_of r) from new ≡ Ok answer) → IfOk result (λ answer. left ≡ relay.left_by_receive (relay_of r) new answer) → OnErr result (left ≡ relay_of r) →
+  pub received_kept : {E : Type 0} (from : List ℕ) (new : Record) (result : Result Received E) (left : relay.Relay) → IfOk result (λ answer. relay.received (relay_of r) from new ≡ Ok answer) →
+      IfOk result (λ answer. left ≡ relay.left_by_receive (relay_of r) new answer) → OnErr result (left ≡ relay_of r) →
       ArePartsOf (with_relay r left) marks line handed rows keys ops
-  received_kept from new (Err refused) left h answer ok err = subst (λ (v : relay.Relay). ArePartsOf (with_relay r v) marks line handed rows keys ops) (sym err) h
-  received_kept from new (Ok Skipped) left h answer ok err = subst (λ (v : relay.Relay). ArePartsOf (with_relay r v) marks line handed rows keys ops) (sym ok) h
-  received_kept from new (Ok Accepted) left h answer ok err =
+  received_kept from new (Err refused) left answer ok err = subst (λ (v : relay.Relay). ArePartsOf (with_relay r v) marks line handed rows keys ops) (sym err) h
+  received_kept from new (Ok Skipped) left answer ok err = subst (λ (v : relay.Relay). ArePartsOf (with_relay r v) marks line handed rows keys ops) (sym ok) h
+  received_kept from new (Ok Accepted) left answer ok err =
       let next : IsAcceptable r.tables r.accepted new = ((accepts_the_acceptable (relay_of r) from new).0 answer).1 in
       subst (λ (v : relay.Relay). ArePartsOf (with_relay r v) marks line handed rows keys ops) (sym ok)
-      (kept_accepted r marks line handed rows keys ops new h (next_is_acceptable r.tables r.accepted new h.log.acceptable next))
+      (kept_accepted h new (next_is_acceptable r.tables r.accepted new h.log.acceptable next))
 
   -- ---- dispatch
 
-  pub few_dispatched : ArePartsOf r marks line handed rows keys ops → r.dispatched < 2 ^ 63
-  few_dispatched h = let few = few_accepted r.tables r.accepted h.log.acceptable in let all = h.counted.dispatched in omega arith
+  pub few_dispatched : r.dispatched < 2 ^ 63
+  few_dispatched = let few = few_accepted r.tables r.accepted h.log.acceptable in let all = h.within in omega arith
 
   -- the mark is not above them, and in the order of the log it is the number of the commits
-  pub low_dispatched : ArePartsOf r marks line handed rows keys ops → marks.low ≤ r.dispatched
-  low_dispatched h =
+  pub low_dispatched : marks.low ≤ r.dispatched
+  low_dispatched =
       let few = low_is_few r.commits (AreDistinct_front r.commits (r.out ++ r.finished) h.counted.distinct) in
       let low = h.counted.low in
       let counted = h.counted.counted in
       omega arith
 
-  pub low_in_turn : ArePartsOf r marks line handed rows keys ops → r.preserve ≡ true → marks.low ≡ length r.commits
-  low_in_turn h preserve = h.counted.low ∙ low_in_order r (h.counted.in_turn preserve)
+  pub low_in_turn : r.preserve ≡ true → marks.low ≡ length r.commits
+  low_in_turn preserve = h.counted.low ∙ low_in_order r (h.counted.in_turn preserve)
 
   -- in the order of the log a place is near wherever a worker is free
-  near_in_order : ArePartsOf r marks line handed rows keys ops → r.preserve ≡ true → r.dispatched - length r.commits < r.workers → r.dispatched + 1 ≤ low_water r + 4096
-  near_in_order h preserve free =
+  near_in_order : r.preserve ≡ true → r.dispatched - length r.commits < r.workers → r.dispatched + 1 ≤ low_water r + 4096
+  near_in_order preserve free =
       let low = low_in_order r (h.counted.in_turn preserve) in
       let counted = h.counted.counted in
       let few = h.set_up.few in
       omega arith
 
   -- the line has as many as were dispatched and are not committed
-  length_line : ArePartsOf r marks line handed rows keys ops → length line.out + length line.done ≡ r.dispatched - length r.commits
-  length_line h =
+  length_line : length line.out + length line.done ≡ r.dispatched - length r.commits
+  length_line =
       let counted = h.counted.counted in
       let outs = ap (λ (l : List ℕ). length l) h.turned.out in
       let dones = ap (λ (l : List ℕ). length l) h.turned.done in
       omega (arith, length-map line.done (λ (result : Finished). result.job.gno))
 
   -- whether the next record may be dispatched, as it is tested
-  pub eligible_seen : (next : Record) → ArePartsOf r marks line handed rows keys ops → slice_get r.accepted r.dispatched ≡ Some next →
+  pub eligible_seen : (next : Record) → slice_get r.accepted r.dispatched ≡ Some next →
       ((nat_le next.parent marks.low && nat_le (r.dispatched + 1) (marks.low + 4096)) && nat_lt (length line.out + length line.done) r.workers) ≡ is_eligible r
-  eligible_seen next h got =
-      (λ i. (nat_le next.parent (h.counted.low i) && nat_le (r.dispatched + 1) (h.counted.low i + 4096)) && nat_lt (length_line h i) r.workers)
+  eligible_seen next got =
+      (λ i. (nat_le next.parent (h.counted.low i) && nat_le (r.dispatched + 1) (h.counted.low i + 4096)) && nat_lt (length_line i) r.workers)
       ∙ any_order (nat_le next.parent (low_water r)) (nat_le (r.dispatched + 1) (low_water r + 4096)) (nat_lt (r.dispatched - length r.commits) r.workers) r.preserve
-      (λ preserve free. le-leb (r.dispatched + 1) (low_water r + 4096) (near_in_order h preserve (ltb-true (r.dispatched - length r.commits) r.workers free)))
+      (λ preserve free. le-leb (r.dispatched + 1) (low_water r + 4096) (near_in_order preserve (ltb-true (r.dispatched - length r.commits) r.workers free)))
       ∙ ap (λ (o : Option Record). option_map_or (λ rec. nat_le rec.parent (low_water r)) o false && nat_lt (r.dispatched - length r.commits) r.workers && is_near r) (sym got)
 
-  pub eligible_next : ArePartsOf r marks line handed rows keys ops → is_eligible r ≡ true → (rec : Record) × IsNext r rec
-  eligible_next h is =
+  pub eligible_next : is_eligible r ≡ true → (rec : Record) × IsNext r rec
+  eligible_next is =
       let next = λ (rec : Record). nat_le rec.parent (low_water r) in
       let both = and_parts (option_map_or next (slice_get r.accepted r.dispatched) false && nat_lt (r.dispatched - length r.commits) r.workers) (is_near r) is in
       let parts = and_parts (option_map_or next (slice_get r.accepted r.dispatched) false) (nat_lt (r.dispatched - length r.commits) r.workers) both.0 in
       let found = option_map_or_true next (slice_get r.accepted r.dispatched) parts.0 in
       let free = ltb-true (r.dispatched - length r.commits) r.workers parts.1 in
       let near : r.dispatched + 1 ≤ low_water r + 4096 = elim (or_cases r.preserve (nat_le (r.dispatched + 1) (low_water r + 4096)) both.1) [
-        | inl preserve ↦ near_in_order h preserve free
+        | inl preserve ↦ near_in_order preserve free
         | inr near ↦ leb-true (r.dispatched + 1) (low_water r + 4096) near
       ] in
       (found.0, record { got = found.1; parent = leb-true found.0.parent (low_water r) found.2; free = free; near = near })
 
-  pub dispatched_kept : (job : Job) (line_then : Line) (handed_then : List HandedOut) → ArePartsOf r marks line handed rows keys ops → is_eligible r ≡ true → job_of r (r.dispatched + 1) ≡ Some job →
-      line_then ≡ entered line job.gno → handed_then ≡ handed ++ kept_of job ∷ [] →
-      ArePartsOf (dispatched_next r) marks line_then handed_then rows keys ops
-  dispatched_kept job line_then handed_then h may made is_line is_handed =
-      let next = eligible_next h may in
+  pub dispatched_kept : (job : Job) (line_then : Line) (handed_then : List HandedOut) → is_eligible r ≡ true → job_of r (r.dispatched + 1) ≡ Some job →
+      line_then ≡ entered line job.gno → handed_then ≡ handed ++ kept_of job ∷ [] → ArePartsOf (dispatched_next r) marks line_then handed_then rows keys ops
+  dispatched_kept job line_then handed_then may made is_line is_handed =
+      let next = eligible_next may in
       let number = (job_is_of_its_record r (r.dispatched + 1) job made).gno in
-      rw (is_line ∙ ap (entered line) number, is_handed) (kept_dispatched r marks line handed rows keys ops next.0 job h next.1 made)
+      rw (is_line ∙ ap (entered line) number, is_handed) (kept_dispatched h next.0 job next.1 made)
 
   -- ---- what is kept of a job that is out
 
@@ -286,11 +268,11 @@ module _ (r : Replica) (marks : Marks) (line : Line) (handed : List HandedOut) (
       let rest : map Some kept ≡ map (λ n. option_map kept_of (job_of r n)) out = ap (λ (l : List (Option HandedOut)). drop 1 l) same in
       λ i. kept_gno gno k (job_of r gno) refl (same_Some (Some k) (option_map kept_of (job_of r gno)) first) i ∷ kept_gnos kept out rest i
 
-  pub place_seen : (gno : ℕ) → ArePartsOf r marks line handed rows keys ops → position_or_len (λ (k : HandedOut). eqb k.gno gno) handed ≡ place_in r.out gno
-  place_seen gno h = place-map (λ (k : HandedOut). k.gno) gno handed ∙ ap (λ (l : List ℕ). place_in l gno) (kept_gnos handed r.out h.kept)
+  pub place_seen : (gno : ℕ) → position_or_len (λ (k : HandedOut). eqb k.gno gno) handed ≡ place_in r.out gno
+  place_seen gno = place-map (λ (k : HandedOut). k.gno) gno handed ∙ ap (λ (l : List ℕ). place_in l gno) (kept_gnos handed r.out h.kept)
 
-  pub kept_there : (gno place : ℕ) → ArePartsOf r marks line handed rows keys ops → has_gno r.out gno ≡ true → place ≡ place_in r.out gno → slice_get handed place ≡ option_map kept_of (job_of r gno)
-  kept_there gno place h out at = of_some (slice_get handed place) (option_map kept_of (job_of r gno))
+  pub kept_there : (gno place : ℕ) → has_gno r.out gno ≡ true → place ≡ place_in r.out gno → slice_get handed place ≡ option_map kept_of (job_of r gno)
+  kept_there gno place out at = of_some (slice_get handed place) (option_map kept_of (job_of r gno))
       (sym (slice_get-map Some handed place)
       ∙ ap (λ (l : List (Option HandedOut)). slice_get l place) h.kept
       ∙ slice_get-map (λ n. option_map kept_of (job_of r n)) r.out place
@@ -302,15 +284,14 @@ module _ (r : Replica) (marks : Marks) (line : Line) (handed : List HandedOut) (
       of_some (Some k) b is = same_Some (Some k) b is
 
   -- a job is the one that was handed out exactly where its record is that of its number, and it has what is kept
-  pub handed_is : (job : Job) (place : ℕ) (rec : Record) (kept : HandedOut) (schema : List Table) (told : Type 0) → ArePartsOf r marks line handed rows keys ops → has_gno r.out job.gno ≡ true →
-      place ≡ place_in r.out job.gno →
-      slice_get r.accepted (job.gno - 1) ≡ Some rec → slice_get handed place ≡ Some kept → schema ≡ r.tables →
+  pub handed_is : (job : Job) (place : ℕ) (rec : Record) (kept : HandedOut) (schema : List Table) (told : Type 0) → has_gno r.out job.gno ≡ true →
+      place ≡ place_in r.out job.gno → slice_get r.accepted (job.gno - 1) ≡ Some rec → slice_get handed place ≡ Some kept → schema ≡ r.tables →
       (told ↔ ((job.rec ≡ rec) × (job.input ≡ kept.input) × (job.holders ≡ kept.holders) × (job.schema ≡ schema))) → told ↔ (job_of r job.gno ≡ Some job)
-  handed_is job place rec kept schema told h out at got there tables tells =
+  handed_is job place rec kept schema told out at got there tables tells =
       let made = job_over r.tables job.gno rec rows in
       let now : job_of r job.gno ≡ Some made = job_at r job.gno rec rows got h.log.rows_are in
       let same : kept ≡ kept_of made =
-      same_Some kept (kept_of made) (sym there ∙ kept_there job.gno place h out at ∙ ap (option_map kept_of) now) in (
+      same_Some kept (kept_of made) (sym there ∙ kept_there job.gno place out at ∙ ap (option_map kept_of) now) in (
         λ is.
             let parts = tells.0 is in
             let input : made.input ≡ job.input = ap (λ (k : HandedOut). k.input) (sym same) ∙ sym parts.1 in
@@ -328,42 +309,42 @@ module _ (r : Replica) (marks : Marks) (line : Line) (handed : List HandedOut) (
       )
 
   -- its record is one of those accepted
-  pub record_within : (gno : ℕ) → ArePartsOf r marks line handed rows keys ops → has_gno r.out gno ≡ true → gno - 1 < length r.accepted
-  record_within gno h out =
-      let under = out_under_way r marks line handed rows keys ops gno h out in
+  pub record_within : (gno : ℕ) → has_gno r.out gno ≡ true → gno - 1 < length r.accepted
+  record_within gno out =
+      let under = out_under_way h gno out in
       let low = under.0 in
       let high = under.1 in
-      let all = h.counted.dispatched in
+      let all = h.within in
       omega arith
 
   -- and it is kept there
-  pub place_within : (gno place : ℕ) → ArePartsOf r marks line handed rows keys ops → has_gno r.out gno ≡ true → place ≡ place_in r.out gno → place < length handed
-  place_within gno place h out at =
-      let got = get_within r.accepted (gno - 1) (record_within gno h out) in
+  pub place_within : (gno place : ℕ) → has_gno r.out gno ≡ true → place ≡ place_in r.out gno → place < length handed
+  place_within gno place out at =
+      let got = get_within r.accepted (gno - 1) (record_within gno out) in
       slice_get_within handed place (kept_of (job_over r.tables gno got.0 rows))
-      (kept_there gno place h out at ∙ ap (option_map kept_of) (job_at r gno got.0 rows got.1 h.log.rows_are))
+      (kept_there gno place out at ∙ ap (option_map kept_of) (job_at r gno got.0 rows got.1 h.log.rows_are))
 
   -- ---- finish
 
-  pub judged_within : (result : Finished) (place : ℕ) → ArePartsOf r marks line handed rows keys ops → IsJudged r result (Ok place) → place < length handed
-  judged_within result place h judged = place_within result.job.gno place h (out_from r result.job.gno judged.0) judged.2
+  pub judged_within : (result : Finished) (place : ℕ) → IsJudged r result (Ok place) → place < length handed
+  judged_within result place judged = place_within result.job.gno place (out_from r result.job.gno judged.0) judged.2
 
-  pub finished_kept : (result : Finished) (left : List Entry) (place : ℕ) (line_then : Line) (handed_then : List HandedOut) → ArePartsOf r marks line handed rows keys ops →
-      IsJudged r result (Ok place) → IsResult result → result.outcome ≡ Output left → line_then ≡ with_result line result → handed_then ≡ remove handed place →
+  pub finished_kept : (result : Finished) (left : List Entry) (place : ℕ) (line_then : Line) (handed_then : List HandedOut) → IsJudged r result (Ok place) → IsResult result →
+      result.outcome ≡ Output left → line_then ≡ with_result line result → handed_then ≡ remove handed place →
       ArePartsOf (with_finished r result.job.gno) marks line_then handed_then rows keys ops
-  finished_kept result left place line_then handed_then h judged made is is_line is_handed =
+  finished_kept result left place line_then handed_then judged made is is_line is_handed =
       rw (is_line, is_handed)
-      (kept_finished r marks line handed rows keys ops result place h (out_from r result.job.gno judged.0) judged.2 (record { job = judged.1; left = left; output = is; came = made }))
+      (kept_finished h result place (out_from r result.job.gno judged.0) judged.2 (record { job = judged.1; left = left; output = is; came = made }))
 
-  pub published_kept : (upto : ℕ) (ops_then : List Op) → ArePartsOf r marks line handed rows keys ops → r.published ≤ upto → upto ≤ length r.commits → ops_then ≡ drop (upto - r.published) ops →
+  pub published_kept : (upto : ℕ) (ops_then : List Op) → r.published ≤ upto → upto ≤ length r.commits → ops_then ≡ drop (upto - r.published) ops →
       ArePartsOf (with_published r upto) marks line handed rows keys ops_then
-  published_kept upto ops_then h later done is_ops = rw is_ops (kept_published r marks line handed rows keys ops upto h later done)
+  published_kept upto ops_then later done is_ops = rw is_ops (kept_published h upto later done)
 
   -- ---- the next commit
 
   -- whose turn it is, as it is told
-  next_is : ArePartsOf r marks line handed rows keys ops → next_commit r ≡ option_map (λ (result : Finished). result.job.gno) (turn line)
-  next_is h = elim (cases_Bool r.preserve) [
+  next_is : next_commit r ≡ option_map (λ (result : Finished). result.job.gno) (turn line)
+  next_is = elim (cases_Bool r.preserve) [
     | inl preserve ↦
         ap (λ (b : Bool). if b then (if has_gno r.finished (length r.commits + 1) then Some (length r.commits + 1) else None) else slice_get r.finished 0) preserve
         ∙ (λ i. if has_gno (sym h.turned.done i) (sym (h.turned.next preserve) i) then Some (sym (h.turned.next preserve) i) else None)
@@ -375,23 +356,23 @@ module _ (r : Replica) (marks : Marks) (line : Line) (handed : List HandedOut) (
   ]
 
   -- each result that was taken has rows
-  turn_told : ArePartsOf r marks line handed rows keys ops → (o : Option Finished) → o ≡ turn line →
+  turn_told : (o : Option Finished) → o ≡ turn line →
       option_map (λ (ready : ℕ × List Entry). ready.0) (option_and_then (λ (result : Finished). option_map {U = ℕ × List Entry} (λ left. (result.job.gno, left)) (output_of result.outcome)) o)
       ≡ option_map (λ (result : Finished). result.job.gno) o
-  turn_told h None is = refl
-  turn_told h (Some result) is =
+  turn_told None is = refl
+  turn_told (Some result) is =
       let taken = turn_has (λ (other : Finished). IsTaken (job_of r other.job.gno) other) line result (sym is) h.results in
       ap (λ (outcome : Outcome). option_map (λ (ready : ℕ × List Entry). ready.0) (option_map {U = ℕ × List Entry} (λ left. (result.job.gno, left)) (output_of outcome))) taken.output
 
-  pub next_seen : ArePartsOf r marks line handed rows keys ops → option_map (λ (ready : ℕ × List Entry). ready.0) (turn_rows line) ≡ next_commit r
-  next_seen h = turn_told h (turn line) refl ∙ sym (next_is h)
+  pub next_seen : option_map (λ (ready : ℕ × List Entry). ready.0) (turn_rows line) ≡ next_commit r
+  next_seen = turn_told (turn line) refl ∙ sym next_is
 
   some_of_first : (o : Option (ℕ × List Entry)) → is_some (option_map (λ (ready : ℕ × List Entry). ready.0) o) ≡ is_some o
   some_of_first None = refl
   some_of_first (Some ready) = refl
 
-  pub next_some : ArePartsOf r marks line handed rows keys ops → is_some (turn_rows line) ≡ is_some (next_commit r)
-  next_some h = sym (some_of_first (turn_rows line)) ∙ ap is_some (next_seen h)
+  pub next_some : is_some (turn_rows line) ≡ is_some (next_commit r)
+  next_some = sym (some_of_first (turn_rows line)) ∙ ap is_some next_seen
 
 -- what a turn came to, as it is told
 pub commits_of : (ts tables : List Table) (o : Option ℕ) (gno : ℕ) (old new : Parts) → ts ≡ tables → o ≡ Some gno → TakesTurn ts (Ok o) old new → CommitsTurn tables gno old new
@@ -403,15 +384,14 @@ leaves_of ts None old new is put = put
 leaves_of ts (Some n) old new is put = absurd (none-some n (sym is))
 
 -- no turn came, and what the replica shows stays
-module _ (r : Replica) (marks : Marks) (handed : List HandedOut) (old new : Parts) (h : ArePartsOf r marks old.line handed old.rows old.keys old.ops) (put : LeavesTurn false old new) where
+module _ {r : Replica} {marks : Marks} {handed : List HandedOut} {old new : Parts} (h : ArePartsOf r marks old.line handed old.rows old.keys old.ops) (put : LeavesTurn false old new) where
   pub none_next : next_commit r ≡ None
-  none_next = not_some (next_commit r) (sym (next_some r marks old.line handed old.rows old.keys old.ops h) ∙ put.there)
+  none_next = not_some (next_commit r) (sym (next_some h) ∙ put.there)
 
   pub still_gapped : commits_seen old.line.preserve marks.low old.order ≡ r.commits → ShowsGapped (with_parts r marks new.order new.line) (length (commits_seen new.line.preserve marks.low new.order))
   still_gapped seen =
       subst (λ (p : Parts). ShowsGapped (with_parts r marks p.order p.line) (length (commits_seen p.line.preserve marks.low p.order))) (sym put.same)
-      (shows_gapped (with_parts r marks old.order old.line) marks old.line handed old.rows old.keys old.ops (length (commits_seen old.line.preserve marks.low old.order))
-      (parts_kept r marks old.order old.line handed old.rows old.keys old.ops h seen) (omega arith))
+      (shows_gapped (parts_kept old.order h seen) (length (commits_seen old.line.preserve marks.low old.order)) (omega arith))
 
 -- the result whose turn has come
 record HasTurn (line : Line) (gno : ℕ) (left : List Entry) : Type 0 where
@@ -435,22 +415,20 @@ has_turn line gno left is =
           output = sym same ∙ ap (λ (p : ℕ × List Entry). Output p.1) both;
           number = ap (λ (p : ℕ × List Entry). p.0) both;
         }
-    of_output result at Undefined same made = absurd (none-some (gno, left) made)
-    of_output result at WrongRefs same made = absurd (none-some (gno, left) made)
-    of_output result at Lacks same made = absurd (none-some (gno, left) made)
+    of_output result at _ same made = absurd (none-some (gno, left) made)
 
 -- the turn of a record: it was dispatched and is not committed, so it is behind the mark, and near it
-module _ (r : Replica) (marks : Marks) (handed : List HandedOut) (gno : ℕ) (old new : Parts) (h : ArePartsOf r marks old.line handed old.rows old.keys old.ops)
+module _ {r : Replica} {marks : Marks} {handed : List HandedOut} {gno : ℕ} {old new : Parts} (h : ArePartsOf r marks old.line handed old.rows old.keys old.ops)
     (put : CommitsTurn r.tables gno old new) where
   turn_under_way : IsUnderWay r gno
   turn_under_way =
       let now = has_turn old.line gno put.left put.output in
       subst (λ (n : ℕ). IsUnderWay r n) now.number
-      (finished_under_way r marks old.line handed old.rows old.keys old.ops now.result.job.gno h
+      (finished_under_way h now.result.job.gno
       (ap (λ (l : List ℕ). has_gno l now.result.job.gno) (sym h.turned.done) ∙ turn_waits old.line now.result now.is))
 
   pub turn_next : Some gno ≡ next_commit r
-  turn_next = ap (option_map (λ (ready : ℕ × List Entry). ready.0)) (sym put.output) ∙ next_seen r marks old.line handed old.rows old.keys old.ops h
+  turn_next = ap (option_map (λ (ready : ℕ × List Entry). ready.0)) (sym put.output) ∙ next_seen h
 
   pub turn_later : marks.low < gno
   turn_later = elim (cases_lt marks.low gno) [
@@ -466,13 +444,13 @@ module _ (r : Replica) (marks : Marks) (handed : List HandedOut) (gno : ℕ) (ol
       let under = turn_under_way in
       let low = under.0 in
       let high = under.1 in
-      let all = h.counted.dispatched in
+      let all = h.within in
       let got = get_within r.accepted (gno - 1) (omega arith) in
       let near = (h.eligible gno got.0 under.0 under.1 got.1).near in
       let mark = h.counted.low in
       omega arith
 
-module _ (r : Replica) (marks : Marks) (handed : List HandedOut) (gno : ℕ) (old new : Parts) (marks_then : Marks) (h : ArePartsOf r marks old.line handed old.rows old.keys old.ops)
+module _ {r : Replica} {marks : Marks} {handed : List HandedOut} {gno : ℕ} {old new : Parts} (marks_then : Marks) (h : ArePartsOf r marks old.line handed old.rows old.keys old.ops)
     (put : CommitsTurn r.tables gno old new)
     (exact : (g : ℕ) → is_committed marks_then g ≡ (is_committed marks g || eqb g gno)) (greatest : is_committed marks_then (marks_then.low + 1) ≡ false) where
   now : HasTurn old.line gno put.left
@@ -483,13 +461,13 @@ module _ (r : Replica) (marks : Marks) (handed : List HandedOut) (gno : ℕ) (ol
       rw (put.line_is, put.rows_are, put.keys_are, put.ops_are)
       (subst (λ (n : ℕ). ArePartsOf (with_commit r n) marks_then (passed old.line) handed (put_batch put.left old.rows)
       (moved r.tables (marks_at r.tables (keys_of put.left) old.rows) put.left old.keys) (old.ops ++ Commit n put.left ∷ [])) now.number
-      (kept_committed r marks old.line handed old.rows old.keys old.ops now.result put.left h now.is now.output marks_then
+      (kept_committed h now.is now.output marks_then
       (λ g. exact g ∙ ap (λ (n : ℕ). is_committed marks g || eqb g n) (sym now.number)) greatest))
 
   -- in the order of the log the mark goes up by one
   goes_up : r.preserve ≡ true → (gno ≡ marks.low + 1) × (marks_then.low ≡ marks.low + 1)
   goes_up preserve =
-      let next : gno ≡ length r.commits + 1 = sym now.number ∙ next_in_turn r marks old.line handed old.rows old.keys old.ops now.result put.left h now.is now.output preserve in
+      let next : gno ≡ length r.commits + 1 = sym now.number ∙ next_in_turn h now.is now.output preserve in
       let low : marks.low ≡ length r.commits = h.counted.low ∙ low_in_order r (h.counted.in_turn preserve) in
       let low_then : marks_then.low ≡ length (r.commits ++ gno ∷ []) =
       committed_step.counted.low ∙ low_in_order (with_commit r gno) (committed_step.counted.in_turn preserve) in
@@ -502,16 +480,15 @@ module _ (r : Replica) (marks : Marks) (handed : List HandedOut) (gno : ℕ) (ol
       ∙ ap (λ (l : List ℕ). l ++ gno ∷ []) seen
 
   pub committed_seen : commits_seen old.line.preserve marks.low old.order ≡ r.commits → with_parts r marks_then new.order new.line ≡ with_commit r gno
-  committed_seen seen = as_parts (with_commit r gno) marks_then new.order new.line handed new.rows new.keys new.ops committed_step (commits_are seen)
+  committed_seen seen = as_parts new.order committed_step (commits_are seen)
 
   pub committed_kept : commits_seen old.line.preserve marks.low old.order ≡ r.commits → ArePartsOf (with_parts r marks_then new.order new.line) marks_then new.line handed new.rows new.keys new.ops
-  committed_kept seen = parts_kept (with_commit r gno) marks_then new.order new.line handed new.rows new.keys new.ops committed_step (commits_are seen)
+  committed_kept seen = parts_kept new.order committed_step (commits_are seen)
 
   pub committed_gapped : commits_seen old.line.preserve marks.low old.order ≡ r.commits →
       ShowsGapped (with_parts r marks_then new.order new.line) (length (commits_seen new.line.preserve marks_then.low new.order))
   committed_gapped seen =
-      shows_gapped (with_parts r marks_then new.order new.line) marks_then new.line handed new.rows new.keys new.ops (length (commits_seen new.line.preserve marks_then.low new.order))
-      (committed_kept seen) (omega arith)
+      shows_gapped (committed_kept seen) (length (commits_seen new.line.preserve marks_then.low new.order)) (omega arith)
 
 -- what is looked up in a list
 pub got_there : {X : Type 0} (xs : List X) (n : ℕ) (x : X) → n < length xs → x ≡ get_or xs n x → slice_get xs n ≡ Some x
@@ -524,9 +501,3 @@ not_eligible r none =
 pub stays_false : (b other : Bool) → b ≡ false → b ≡ (b && other)
 stays_false false other is = refl
 stays_false true other is = cc
-
--- what is told of a result: the tests of a number, as they are made over the line
-pub refusal_seen : (r : Replica) (gno many : ℕ) → r.stopped ≡ None → many ≡ r.dispatched → refusal (nat_le 1 gno && nat_le gno many) (has_gno r.out gno) ≡ told_as (finish_fault r gno)
-refusal_seen r gno many running is =
-    ap (λ (n : ℕ). refusal (nat_le 1 gno && nat_le gno n) (has_gno r.out gno)) is
-    ∙ refusal_is_cause r.stopped (nat_le 1 gno && nat_le gno r.dispatched) (has_gno r.out gno) running

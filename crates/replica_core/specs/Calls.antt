@@ -107,14 +107,7 @@ stopped_at r gno = record r { stopped = Some gno }
 -- a refusal leaves the replica as it was, but for a stop
 abbrev pub left_by_fault : Replica → ReplicaFault → Replica
 left_by_fault r (Stopped gno) = stopped_at r gno
-left_by_fault r Gap = r
-left_by_fault r ForeignSource = r
-left_by_fault r Malformed = r
-left_by_fault r BadParent = r
-left_by_fault r Stranger = r
-left_by_fault r Double = r
-left_by_fault r WrongInput = r
-left_by_fault r Memory = r
+left_by_fault r _ = r
 
 -- commit_next: in the order of the log the next record, once its result was taken; else the record whose result was taken first
 

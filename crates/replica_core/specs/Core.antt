@@ -24,12 +24,12 @@ use Rattle.relay.specs.Relay.{AreAcceptable}
 use Rattle.gtid_set.specs.Ids.{Ids, IsSet}
 use Rattle.gtid_set.specs.Numbers.{has_number}
 use Rattle.row_index.specs.Keys.{Keys, Indexes, marks_at, moved}
-use Rattle.scheduler.specs.Gnos.{has_gno, first_gnos, AreDistinct}
+use Rattle.scheduler.specs.Gnos.{has_gno, low_of, first_gnos, AreDistinct}
 use Rattle.scheduler.specs.Marks.{Marks, is_committed}
 use Rattle.gapped.specs.Gapped.{AreCommits}
 use Rattle.commit_order.specs.Turns.{Line, turn, passed}
 use Rattle.replica_core.specs.declared.dispatching.HandedOut.{HandedOut}
-use Rattle.replica_core.specs.Replica.{Replica, low_water, working_rows, waiting, job_of}
+use Rattle.replica_core.specs.Replica.{Replica, working_rows, waiting, job_of}
 use Rattle.replica_core.specs.Sound.{AreEligible}
 use Rattle.replica_core.specs.Calls.{finish_fault, IsHandedOut}
 
@@ -87,31 +87,31 @@ looked_up keys marks = map (λ mark. (mark, get keys mark)) marks
 
 -- The line has those that are out, and the results of those that are finished; in the order of the log its turn is that of the record
 -- behind the commits.
-pub record IsTurned (r : Replica) (line : Line) : Type 0 where
-  pub preserve : line.preserve ≡ r.preserve
-  pub next : r.preserve ≡ true → line.next ≡ length r.commits + 1
-  pub out : line.out ≡ r.out
-  pub done : map (λ (result : Finished). result.job.gno) line.done ≡ r.finished
+pub record IsTurned (kept : Bool) (commits running finished : List ℕ) (line : Line) : Type 0 where
+  pub preserve : line.preserve ≡ kept
+  pub next : kept ≡ true → line.next ≡ length commits + 1
+  pub out : line.out ≡ running
+  pub done : map (λ (result : Finished). result.job.gno) line.done ≡ finished
 
 -- The records dispatched are each committed, out or finished. The scheduler has the commits marked. In the order of the log they are
 -- those from 1 to their number.
-pub record IsCounted (r : Replica) (marks : Marks) : Type 0 where
-  pub dispatched : r.dispatched ≤ length r.accepted
-  pub counted : r.dispatched ≡ length r.commits + (length r.out + length r.finished)
-  pub busy : length r.out + length r.finished ≤ r.workers
-  pub distinct : AreDistinct (r.commits ++ (r.out ++ r.finished))
-  pub each : (gno : ℕ) → has_gno (r.commits ++ (r.out ++ r.finished)) gno ≡ (nat_le 1 gno && nat_le gno r.dispatched)
-  pub marked : (gno : ℕ) → 1 ≤ gno → is_committed marks gno ≡ has_gno r.commits gno
-  pub low : marks.low ≡ low_water r
-  pub in_turn : r.preserve ≡ true → r.commits ≡ first_gnos (length r.commits)
+pub record IsCounted (kept : Bool) (number workers : ℕ) (commits out finished : List ℕ) (marks : Marks) : Type 0 where
+  pub counted : number ≡ length commits + (length out + length finished)
+  pub busy : length out + length finished ≤ workers
+  pub distinct : AreDistinct (commits ++ (out ++ finished))
+  pub each : (gno : ℕ) → has_gno (commits ++ (out ++ finished)) gno ≡ (nat_le 1 gno && nat_le gno number)
+  pub marked : (gno : ℕ) → 1 ≤ gno → is_committed marks gno ≡ has_gno commits gno
+  pub low : marks.low ≡ low_of commits
+  pub in_turn : kept ≡ true → commits ≡ first_gnos (length commits)
 
 -- The parts of a replica stand together. What is kept is of the jobs that have no result, in log order, and each result that was taken is
 -- of its record's job.
 pub record ArePartsOf (r : Replica) (marks : Marks) (line : Line) (handed : List HandedOut) (rows : Database) (keys : Keys) (ops : List Op) : Type 0 where
   pub set_up : IsSetUp r.workers
   pub log : IsLogKept r rows keys ops
-  pub turned : IsTurned r line
-  pub counted : IsCounted r marks
+  pub turned : IsTurned r.preserve r.commits r.out r.finished line
+  pub within : r.dispatched ≤ length r.accepted
+  pub counted : IsCounted r.preserve r.dispatched r.workers r.commits r.out r.finished marks
   pub eligible : AreEligible r
   pub kept : map Some handed ≡ map (λ gno. option_map kept_of (job_of r gno)) r.out
   pub results : AllByRecursion (λ (result : Finished). IsTaken (job_of r result.job.gno) result) line.done
@@ -133,6 +133,9 @@ pub record Parts : Type 0 where
   pub keys : Keys
   pub ops : List Op
   pub order : List ℕ
+
+abbrev pub parts_of : Line → Database → Keys → List Op → List ℕ → Parts
+parts_of line rows keys ops order = record { line = line; rows = rows; keys = keys; ops = ops; order = order }
 
 -- the rows of the result whose turn had come were put, the keys followed them, and they are kept as the commit of its record
 pub record CommitsTurn (ts : List Table) (gno : ℕ) (old new : Parts) : Type 0 where

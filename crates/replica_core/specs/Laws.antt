@@ -16,19 +16,16 @@ use Rattle.replica_core.specs.Calls.{with_accepted, dispatched_next, with_finish
 
 -- one more record that applies is one more commit, at the end
 abbrev pub OneCommitMore : Type 0
-OneCommitMore = (ts : List Table) (db : Database) (records : List Record) (next : Record) (mid leaves : Database) →
-    after ts db records ≡ Some mid → effect ts next.changes mid ≡ Some leaves →
+OneCommitMore = (ts : List Table) (db : Database) (records : List Record) (next : Record) (mid leaves : Database) → after ts db records ≡ Some mid → effect ts next.changes mid ≡ Some leaves →
     commits_from ts db (records ++ next ∷ []) ≡ commits_from ts db records ++ Commit next.gno (rows_in (writes next.changes) leaves) ∷ []
 
 -- records that apply have a commit each
 abbrev pub OneCommitEach : Type 0
-OneCommitEach = (ts : List Table) (db : Database) (records : List Record) (left : Database) →
-    after ts db records ≡ Some left → length (commits_from ts db records) ≡ length records
+OneCommitEach = (ts : List Table) (db : Database) (records : List Record) (left : Database) → after ts db records ≡ Some left → length (commits_from ts db records) ≡ length records
 
 -- the first of the commits are those of the first records
 abbrev pub FirstCommits : Type 0
-FirstCommits = (ts : List Table) (db : Database) (n : ℕ) (records : List Record) →
-    take n (commits_from ts db records) ≡ commits_from ts db (take n records)
+FirstCommits = (ts : List Table) (db : Database) (n : ℕ) (records : List Record) → take n (commits_from ts db records) ≡ commits_from ts db (take n records)
 
 -- the operations of records that apply, put in order into an empty store, leave what the records leave of the base
 abbrev pub OperationsLeaveRows : Type 0
@@ -54,8 +51,7 @@ EachHasJob = (r : Replica) (gno : ℕ) → IsSound r → 1 ≤ gno → gno ≤ l
 
 -- that of a record under way may be of the working rows
 abbrev pub JobAgreesNow : Type 0
-JobAgreesNow = (r : Replica) (gno : ℕ) (job : Job) (rows : Database) → IsSound r → IsUnderWay r gno →
-    job_of r gno ≡ Some job → working_rows r ≡ Some rows → Agrees job rows
+JobAgreesNow = (r : Replica) (gno : ℕ) (job : Job) (rows : Database) → IsSound r → IsUnderWay r gno → job_of r gno ≡ Some job → working_rows r ≡ Some rows → Agrees job rows
 
 -- In the order of the log it may be of each database that the accepted records lead to from the committed one up to its own place,
 -- where those that lead there state their true marks.
@@ -79,8 +75,7 @@ JobStaysInOrder = (r : Replica) (gno : ℕ) (leaves : Database) → IsSound r �
 
 -- and one more record accepted, of the next number, leaves the job of each accepted before
 abbrev pub JobStaysBehind : Type 0
-JobStaysBehind = (r : Replica) (gno : ℕ) (new : Record) → IsSound r → new.gno ≡ length r.accepted + 1 → 1 ≤ gno → gno ≤ length r.accepted →
-    job_of (with_accepted r new) gno ≡ job_of r gno
+JobStaysBehind = (r : Replica) (gno : ℕ) (new : Record) → IsSound r → new.gno ≡ length r.accepted + 1 → 1 ≤ gno → gno ≤ length r.accepted → job_of (with_accepted r new) gno ≡ job_of r gno
 
 -- what is dispatched, taken and published changes no job
 pub record LeaveJobs (r : Replica) (gno : ℕ) : Type 0 where

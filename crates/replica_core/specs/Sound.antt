@@ -31,8 +31,7 @@ AreEligible r = (gno : ℕ) (rec : Record) → 1 ≤ gno → gno ≤ r.dispatche
 -- The job of a record under way is over the rows of each database that the accepted records leave from the committed ones up to its own
 -- place: it may be executed before those in front of it.
 abbrev pub HoldAlong : Replica → Type 0
-HoldAlong r = (gno n : ℕ) (job : Job) (db : Database) → IsUnderWay r gno → length r.commits ≤ n → n < gno →
-    job_of r gno ≡ Some job → rows_at r n ≡ Some db → job.input ≡ rows_in (rows_of job.rec) db
+HoldAlong r = (gno n : ℕ) (job : Job) (db : Database) → IsUnderWay r gno → length r.commits ≤ n → n < gno → job_of r gno ≡ Some job → rows_at r n ≡ Some db → job.input ≡ rows_in (rows_of job.rec) db
 
 -- the accepted records behind the committed ones, up to the n-th, state their true marks
 abbrev pub StateMarksUpTo : Replica → ℕ → Type 0

@@ -3,7 +3,7 @@
 ghost use Rattle.std.specs.Prelude.{◌≡◌, ◌≤◌, length, drop, is_some, if◌then◌else◌};
 ghost use Rattle.std.specs.Option.{option_map};
 ghost use Rattle.commit_order.specs.Turns.{turn, passed};
-ghost use Rattle.replica_core.specs.Core.{turn_output, turn_rows, TakesTurn};
+ghost use Rattle.replica_core.specs.Core.{turn_output, turn_rows, parts_of, TakesTurn};
 
 use crate::stored::Stored;
 use commit_order::Turns;
@@ -22,20 +22,8 @@ pub fn commit_turn<S: RowStore>(
     turns: &mut Turns,
 ) -> Result<Option<u64>, Memory>
     ensures { TakesTurn schema.now result
-        (record {
-          line = turns.old;
-          rows = S.contents stored.old.store;
-          keys = stored.old.index.keys;
-          ops = waiting.old.items;
-          order = order.old.items;
-        })
-        (record {
-          line = turns.new;
-          rows = S.contents stored.new.store;
-          keys = stored.new.index.keys;
-          ops = waiting.new.items;
-          order = order.new.items;
-        }) }
+        (parts_of turns.old (S.contents stored.old.store) stored.old.index.map waiting.old.items order.old.items)
+        (parts_of turns.new (S.contents stored.new.store) stored.new.index.map waiting.new.items order.new.items) }
 {
     let Some((gno, batch)) = ready_rows(turns) else {
         return Ok(None);

@@ -87,7 +87,7 @@ pub fn job_over<S: RowStore>(
     stored: &Stored<S>,
     schema: &Schema,
 ) -> Result<Job, Memory>
-    requires { Indexes schema.now (S.contents stored.now.store) stored.now.index.keys }
+    requires { Indexes schema.now (S.contents stored.now.store) stored.now.index.map }
     ensures { IfOk result (λ job. job ≡ job_over schema.now gno rec.now (S.contents stored.now.store)) }
 {
     let rec = rec.copy()?;
@@ -103,7 +103,7 @@ fn each_holder(
     marks: &[Mark],
     index: &Index,
 ) -> Result<Vec<(Mark, Option<i64>)>, Memory>
-    ensures { IfOk result (λ holders. holders.items ≡ looked_up index.now.keys marks.now) }
+    ensures { IfOk result (λ holders. holders.items ≡ looked_up index.now.map marks.now) }
 {
     let holders = marks
         .iter()
@@ -117,7 +117,7 @@ fn row_ids(alloc: Global, rec: &Record) -> Result<Vec<RowId>, Memory>
     ensures { IfOk result (λ ids. ids.items ≡ rows_of rec.now) }
 {
     let mut ids = written(alloc, rec.changes.list())?;
-    ids.extend_from_slice(rec.refs.rows())?;
+    ids.extend_from_slice(rec.refs.list())?;
     Ok(ids)
 }
 

@@ -19,7 +19,8 @@ ghost use Rattle.std.specs.Prelude.{◌≡◌, ◌+◌, ◌≤◌, ◌<◌, ◌�
 ghost use Rattle.std.specs.Prelude.{Some, Err, Ok, is_some, true, false, if◌then◌else◌};
 ghost use Rattle.std.specs.Option.{option_map_or};
 ghost use Rattle.store_trait.specs.Batch.{all_rows};
-ghost use Rattle.store_trait.specs.Fits.{Fits};
+ghost use Rattle.rows.specs.Database.{NoValueTwice};
+ghost use Rattle.store_trait.specs.Fits.{AreOfTables};
 ghost use Rattle.store_trait.specs.Operation.{loaded};
 ghost use Rattle.scheduler.specs.Gnos.{has_gno};
 ghost use Rattle.replica_core.specs.Replica.{low_water, working_rows, waiting, job_of};
@@ -83,16 +84,17 @@ impl<S: RowStore> Model for ReplicaCore<S> {
 
     ghost invariant = { λ c.
         ArePartsOf (seen_as c.relay c.base c.scheduler c.order.items c.published c.turns c.workers c.stopped)
-        c.scheduler c.turns c.handed.items (S.contents c.stored.store) c.stored.index.keys c.waiting.items };
+        c.scheduler c.turns c.handed.items (S.contents c.stored.store) c.stored.index.map c.waiting.items };
 }
 
 impl<S: RowStore> ReplicaCore<S> {
-    /// A replica that has accepted nothing, over the rows of the store, which takes the records of this source. Each row has its
-    /// table's columns and its parent, and no two rows of a table may have one value in its unique column: `store_trait::fits`
-    /// tells. Where `preserve` is set commits are in the order of the source's log, as with MySQL's `replica_preserve_commit_order`; else
-    /// a record may be committed once its result was taken, though earlier ones are not. The time is that of a walk over the rows. The
-    /// memory is that of a copy of the rows, of the places of 64 jobs, and of who has each value of a unique column: none for that where
-    /// no table has such a column.
+    /// A replica that has accepted nothing, over the rows of the store, which takes the records of this source. No two rows of a table may
+    /// have one value in its unique column, since the holder of a value is looked up; and each row is of a table of the schema, since the
+    /// base is made by a walk over the tables, which would not find it. `row_index::values_apart` and `store_trait::are_of_tables` tell
+    /// it, and `store_trait::fits` all that and more: a row may lack its parent, or have other columns than its table. Where `preserve` is
+    /// set commits are in the order of the source's log, as with MySQL's `replica_preserve_commit_order`; else a record may be committed
+    /// once its result was taken, though earlier ones are not. The time is that of a walk over the rows. The memory is that of a copy of
+    /// the rows, of the places of 64 jobs, and of who has each value of a unique column: none for that where no table has such a column.
     pub fn new(
         alloc: Global,
         schema: Schema,
@@ -103,7 +105,8 @@ impl<S: RowStore> ReplicaCore<S> {
     ) -> Result<ReplicaCore<S>, Memory>
     where
         S: Drop,
-        requires fits { Fits schema (S.contents store) }
+        requires apart { NoValueTwice schema (S.contents store) }
+        requires tables { AreOfTables schema (S.contents store) }
         requires some { 1 ≤ workers }
         requires few { workers ≤ 64 }
         ensures fresh { IfOk result (λ core. core ≡ new_over schema source (all_rows (S.contents store)) workers preserve) }
@@ -289,6 +292,13 @@ impl<S: RowStore> ReplicaCore<S> {
         Ok(upto)
     }
 
+    /// The tables.
+    pub fn schema(&self) -> &Schema
+        ensures { result.now ≡ self.now.tables }
+    {
+        self.relay.schema()
+    }
+
     /// The rows before the first commit, as the batch that loads them into an empty store.
     pub fn base(&self) -> &Batch
         ensures { result.now ≡ self.now.base }
@@ -393,6 +403,27 @@ impl<S: RowStore> ReplicaCore<S> {
         ensures sound { IsSound self.now }
     {
         &self.stored.store
+    }
+
+    /// The tables, the rows before the first commit, as `base` has them, the records accepted, in order, whether they are committed or not,
+    /// and the store with the working rows: all that another core over the same rows is made of, without a copy. The time is
+    /// that of letting go of what else the replica keeps.
+    pub fn into_parts(self) -> (Schema, Batch, Vec<Record>, S)
+        ensures tables { result.0 ≡ self.tables }
+        ensures base { result.1 ≡ self.base }
+        ensures accepted { result.2.items ≡ self.accepted }
+        ensures rows { working_rows self ≡ Some (S.contents result.3) }
+        ensures apart { NoValueTwice result.0 (S.contents result.3) }
+        ensures sound { IsSound self }
+    {
+        let ReplicaCore {
+            relay,
+            base,
+            stored,
+            ..
+        } = self;
+        let (schema, accepted) = relay.into_parts();
+        (schema, base, accepted, stored.into_store())
     }
 
     /// The identifier of the source whose records it takes.

@@ -24,15 +24,22 @@ impl<S: RowStore> Stored<S> {
     /// memory of the marks that the batch's rows had, and of those that they have then: none where no table has a unique column.
     pub fn put(&mut self, alloc: Global, schema: &Schema, batch: &Batch) -> Result<(), Memory>
         ensures rows { OnOk result (S.contents self.new.store ≡ put_batch batch.now (S.contents self.old.store)) }
-        ensures keys { OnOk result (self.new.index.keys
-            ≡ moved schema.now (marks_at schema.now (keys_of batch.now) (S.contents self.old.store)) batch.now self.old.index.keys) }
+        ensures keys { OnOk result (self.new.index.map
+            ≡ moved schema.now (marks_at schema.now (keys_of batch.now) (S.contents self.old.store)) batch.now self.old.index.map) }
         ensures same_rows { OnErr result (S.contents self.new.store ≡ S.contents self.old.store) }
-        ensures same_keys { OnErr result (self.new.index.keys ≡ self.old.index.keys) }
+        ensures same_keys { OnErr result (self.new.index.map ≡ self.old.index.map) }
     {
         let marks = marks_before(alloc, schema, &self.store, batch)?;
         self.index.reserve(schema, batch)?;
         self.store.put_all(batch)?;
         self.index.put(schema, &marks, batch);
         Ok(())
+    }
+    /// The rows alone.
+    pub fn into_store(self) -> S
+        ensures { result ≡ self.store }
+    {
+        let Stored { store, .. } = self;
+        store
     }
 }

@@ -1,42 +1,9 @@
 -- Which commits are there of those that are waited for.
-use Rattle.std.proofs.Common.{
-  ◌≡◌,
-  ◌∙◌,
-  sym,
-  ap,
-  subst,
-  refl,
-  ℕ,
-  zero,
-  suc,
-  ◌+◌,
-  ◌-◌,
-  ◌<◌,
-  ◌≤◌,
-  inl,
-  inr,
-  Bool,
-  true,
-  false,
-  not,
-  ◌&&◌,
-  ◌||◌,
-  nat_le,
-  max,
-  List,
-  [],
-  ◌∷◌,
-  ◌++◌,
-  take,
-  drop,
-  Option,
-  Some,
-  None,
-  arith,
-}
+use Rattle.std.proofs.Common.{◌≡◌, ◌∙◌, sym, ap, subst, refl, ℕ, zero, suc, ◌+◌, ◌-◌, ◌<◌, ◌≤◌, inl, inr, Bool, true, false, not, ◌&&◌, ◌||◌, nat_le, max, List, [], ◌∷◌, ◌++◌, take, drop, Option}
+use Rattle.std.proofs.Common.{Some, None, arith}
 use Rattle.std.specs.List.{list_any, AllByRecursion}
 use Rattle.std.specs.Prelude.{MatchOption, unwrap_or}
-use Rattle.std.proofs.lemmas.Bool.{cases_eq, cases_Bool, true≢false, and_parts, and_from, or_cases, or_left, or_right, le-leb, leb-true, leb-false, eqb-true}
+use Rattle.std.proofs.lemmas.Bool.{cases_eq, cases_Bool, not-true, false_from_ne_true, true≢false, and_parts, and_from, or_cases, or_left, or_right, le-leb, leb-true, leb-false, eqb-true}
 use Rattle.std.proofs.lemmas.List.{take-append-drop}
 use Rattle.store_trait.specs.declared.Op.{Op}
 use Rattle.store_trait.specs.declared.Op.TheVariants.{Load, Commit}
@@ -55,11 +22,6 @@ pub same_truth : (a b : Bool) → (a ≡ true → b ≡ true) → (b ≡ true �
 same_truth true b to from = sym (to refl)
 same_truth false true to from = from refl
 same_truth false false to from = refl
-
--- what is not true is false
-pub not_true : (b : Bool) → (b ≡ true → ⊥) → b ≡ false
-not_true true never = absurd (never refl)
-not_true false never = refl
 
 -- ---- runs of numbers
 
@@ -108,7 +70,7 @@ each_of gnos i each = run_of gnos i.first (i.last + 1 - i.first) (λ gno low hig
 
 -- one that is not there
 pub each_not : (gnos : List ℕ) (i : Interval) (gno : ℕ) → i.first ≤ gno → gno ≤ i.last → has_gno gnos gno ≡ false → has_each gnos i ≡ false
-each_not gnos i gno low high lacks = not_true (has_each gnos i) (λ all. true≢false (sym (each_has gnos i gno all low high) ∙ lacks))
+each_not gnos i gno low high lacks = false_from_ne_true (has_each gnos i) (λ all. true≢false (sym (each_has gnos i gno all low high) ∙ lacks))
 
 pub record EachLacks (gnos : List ℕ) (i : Interval) : Type 0 where
   pub gno : ℕ
@@ -171,7 +133,7 @@ front_has gnos n i distinct one = same_truth (has_each (take n gnos) i) _ to fro
     apart = distinct_apart (take n gnos) (drop n gnos) (subst AreDistinct (sym both) distinct)
 
     none : has_each (take n gnos) i ≡ true → list_any (is_within i) (drop n gnos) ≡ false
-    none is = not_true (list_any (is_within i) (drop n gnos)) (λ any.
+    none is = false_from_ne_true (list_any (is_within i) (drop n gnos)) (λ any.
         let some = any_within i (drop n gnos) any in
         let between = within_parts i some.0 some.1 in
         true≢false (sym some.2 ∙ apart some.0 (each_has (take n gnos) i some.0 is between.0 between.1)))
@@ -188,14 +150,10 @@ front_has gnos n i distinct one = same_truth (has_each (take n gnos) i) _ to fro
       | inr behind ↦ absurd (true≢false (sym (some_within i (drop n gnos) gno within behind) ∙ none_behind))
     ]
 
-    not_any : (b : Bool) → not b ≡ true → b ≡ false
-    not_any true is = absurd (true≢false (sym is))
-    not_any false is = refl
-
     all_in_front : (has_each gnos i ≡ true) × (not (list_any (is_within i) (drop n gnos)) ≡ true) → has_each (take n gnos) i ≡ true
     all_in_front parts =
         each_of (take n gnos) i
-        (λ gno low high. behind_too gno (and_from (nat_le i.first gno) (nat_le gno i.last) (le-leb i.first gno low) (le-leb gno i.last high)) (not_any _ parts.1)
+        (λ gno low high. behind_too gno (and_from (nat_le i.first gno) (nat_le gno i.last) (le-leb i.first gno low) (le-leb gno i.last high)) (not-true _ parts.1)
         (each_has gnos i gno parts.0 low high))
 
     from : (nat_le i.last (low_of (take n gnos)) || (has_each gnos i && not (list_any (is_within i) (drop n gnos)))) ≡ true → has_each (take n gnos) i ≡ true
@@ -224,8 +182,7 @@ in_front gnos first low from one is at gno above below = below_low gnos gno (ome
 
 -- with those that were looked at, and the last, all are there or one is not
 pub walked : (gnos : List ℕ) (i : Interval) (from : ℕ) (last : Bool) → ((gno : ℕ) → i.first ≤ gno → gno < from → has_gno gnos gno ≡ true)
-    → ((gno : ℕ) → from ≤ gno → gno < i.last → has_gno gnos gno ≡ true) → i.first ≤ i.last
-    → last ≡ has_gno gnos i.last → last ≡ has_each gnos i
+    → ((gno : ℕ) → from ≤ gno → gno < i.last → has_gno gnos gno ≡ true) → i.first ≤ i.last → last ≡ has_gno gnos i.last → last ≡ has_each gnos i
 walked gnos i from false front between rising is = sym (each_not gnos i i.last rising (omega arith) (sym is))
 walked gnos i from true front between rising is = sym (each_from gnos i from front (λ gno low high. elim (cases_eq gno i.last) [
   | inl here ↦ subst (λ n. has_gno gnos n ≡ true) (sym here) (sym is)

@@ -1,43 +1,11 @@
 -- What the core, and what stands with it, are once a wire took a piece.
-use Rattle.std.proofs.Common.{
-  ◌≡◌,
-  ◌∙◌,
-  sym,
-  ap,
-  subst,
-  refl,
-  ℕ,
-  ◌<◌,
-  ◌≤◌,
-  inl,
-  Bool,
-  true,
-  false,
-  ◌||◌,
-  nat_eq,
-  nat_lt,
-  List,
-  [],
-  ◌∷◌,
-  ◌++◌,
-  length,
-  length-append,
-  append-nil,
-  Option,
-  Some,
-  None,
-  Result,
-  Ok,
-  Err,
-  arith,
-}
+use Rattle.std.proofs.Common.{◌≡◌, ◌∙◌, sym, ap, subst, refl, ℕ, ◌<◌, ◌≤◌, inl, Bool, true, false, ◌||◌, nat_eq, nat_lt, List, [], ◌∷◌, ◌++◌, length, length-append, append-nil, Option, Some, None}
+use Rattle.std.proofs.Common.{Result, Ok, Err, arith}
 use Rattle.std.specs.Prelude.{IsOk}
 use Rattle.std.specs.Option.{option_map_or}
 use Rattle.std.proofs.Math.Bool.{or-false}
 use Rattle.std.proofs.lemmas.Bool.{false≢true, false_from_ne_true, eqb-true, ltb-true}
 use mathlib.Core.List.{IsPrefix}
-use Rattle.schema.specs.declared.Table.{Table}
-use Rattle.store_trait.specs.Batch.{Entry}
 use Rattle.record_codec.specs.declared.fault.CodecFault.{CodecFault}
 use Rattle.record_codec.specs.declared.records.Record.{Record}
 use Rattle.published.specs.declared.counts.Counts.{Counts}
@@ -54,6 +22,7 @@ use Rattle.replica_core.specs.Wire.{Wire, HandsAll, Gathers, IsCodecCause, Takes
 use Rattle.replica_core.specs.declared.wire.WireFault.{WireFault}
 use Rattle.replica_core.specs.declared.wire.WireFault.TheVariants as wire
 use Rattle.replica_core.proofs.Handing.{Grows, takes_grow, hands_on_grow, takes_first, takes_nothing, grows_none}
+use Rattle.replica_shared.specs.Names.{ReplicaNames}
 use Rattle.replica_shared.specs.Together.{State, IsWhole, words_of}
 use Rattle.replica_shared.specs.Feeding.{left_by_take, SettlesOrLacks, told_behind, TakesAndSettles, HandsAs, Feeds}
 use Rattle.replica_core.proofs.Showing.{sound_stands, commits_within}
@@ -131,17 +100,18 @@ words_rise r then stored g words =
 
 -- ---- what is true under the lock
 
-module _ (tables : List Table) (source : List ℕ) (base : List Entry) (preserve : Bool) where
+module _ {names : ReplicaNames} {preserve : Bool} {s : State} {appended : ℕ} {stored : List Counts}
+    (h : IsWhole names preserve s appended stored) where
   -- more records are accepted, and the words are stored
-  pub whole_grown : (s : State) (r : Replica) (appended : ℕ) (before after : List Counts) → Grows s.core r → IsSound r → latest after ≡ words_of r
-      → IsWhole tables source base preserve s appended before → IsWhole tables source base preserve (record s { core = r; behind = true }) appended after
-  whole_grown s r appended before after g sound words h =
+  pub whole_grown : {r : Replica} {after : List Counts} → Grows s.core r → IsSound r → latest after ≡ words_of r
+      → IsWhole names preserve (record s { core = r; behind = true }) appended after
+  whole_grown {after = after} g sound words =
       let more : Replica = record s.core { accepted = s.core.accepted ++ g.more } in
       let t = h.stand in
       let p = s.publication in
       let whole : IsSound more = subst IsSound g.is sound in
       let same : ran more ≡ ran s.core = records_at_longer s.core.accepted g.more s.core.commits t.within in
-      subst (λ (x : Replica). IsWhole tables source base preserve (record s { core = x; behind = true }) appended after) (sym g.is) (record {
+      subst (λ (x : Replica). IsWhole names preserve (record s { core = x; behind = true }) appended after) (sym g.is) (record {
         stand = record {
           named = t.named;
           within = commits_within more (sound_stands more whole);
@@ -160,9 +130,8 @@ module _ (tables : List Table) (source : List ℕ) (base : List Entry) (preserve
       })
 
   -- the core is as it was
-  pub whole_same : (s : State) (r : Replica) (appended : ℕ) (stored : List Counts) → r ≡ s.core → IsWhole tables source base preserve s appended stored
-      → IsWhole tables source base preserve (record s { core = r }) appended stored
-  whole_same s r appended stored is h = subst (λ (x : Replica). IsWhole tables source base preserve (record s { core = x }) appended stored) (sym is) h
+  pub whole_same : {r : Replica} → r ≡ s.core → IsWhole names preserve (record s { core = r }) appended stored
+  whole_same is = subst (λ (x : Replica). IsWhole names preserve (record s { core = x }) appended stored) (sym is) h
 
 -- ---- what a call is told
 
@@ -204,10 +173,11 @@ takes_and_settles s mid then old new piece taken answer takes past = record {
 -- ---- without the lock
 
 -- what needs no replica is as over any one
-pub feeds_without : (tables : List Table) (source : List ℕ) (base : List Entry) (preserve : Bool) (old new : Wire) (piece : List ℕ) (answer : Result ℕ WireFault)
-    → ((r : Replica) → Takes old r piece answer new r) → Feeds tables source base preserve old piece answer new
-feeds_without tables source base preserve old new piece answer takes =
-    let any : Replica = new_over tables source base 1 preserve in
+pub feeds_without : {names : ReplicaNames} {preserve : Bool} {old new : Wire} {piece : List ℕ} {answer : Result ℕ WireFault} → ((r : Replica)
+    → Takes old r piece answer new r)
+    → Feeds names preserve old piece answer new
+feeds_without {names = names} {preserve = preserve} {answer = answer} takes =
+    let any : Replica = new_over names.tables names.source names.base 1 preserve in
     record { before = any; named = (refl, refl, refl, refl); core = any; taken = answer; takes = takes any; told = inl refl; bytes = refl }
 
 -- a list that is told to be empty

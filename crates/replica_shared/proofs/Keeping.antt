@@ -1,46 +1,8 @@
 -- The jobs that are kept, at each step.
-use Rattle.std.proofs.Common.{
-  ◌≡◌,
-  ◌∙◌,
-  sym,
-  ap,
-  subst,
-  refl,
-  ℕ,
-  ◌+◌,
-  ◌≤◌,
-  ◌⊎◌,
-  inl,
-  inr,
-  Bool,
-  true,
-  false,
-  true≢false,
-  not,
-  ◌&&◌,
-  ◌==◌,
-  ◌||◌,
-  nat_le,
-  cond,
-  Result,
-  Err,
-  IfSome,
-  if◌then◌else◌,
-  List,
-  [],
-  ◌∷◌,
-  ◌++◌,
-  map,
-  length,
-  length-append,
-  Option,
-  Some,
-  None,
-  arith,
-}
+use Rattle.std.proofs.Common.{◌≡◌, ◌∙◌, sym, ap, subst, refl, ℕ, ◌+◌, ◌≤◌, ◌⊎◌, inl, inr, Bool, true, false, true≢false, not, ◌&&◌, ◌==◌, ◌||◌, nat_le, cond, Result, Err, IfSome, List}
+use Rattle.std.proofs.Common.{[], ◌∷◌, ◌++◌, length, length-append, Option, Some, None, arith}
 use Rattle.std.specs.List.{AllByRecursion}
-use Rattle.std.specs.Option.{option_map_or, option_or}
-use Rattle.std.proofs.lemmas.Bool.{cases_eq, and_parts, and_from, or_cases, or_left, or_right, eqb-true, ne_eqb}
+use Rattle.std.proofs.lemmas.Bool.{cases_eq, not-true, false_from_ne_true, and_parts, and_from, or_cases, or_left, or_right, eqb-true, ne_eqb}
 use Rattle.std.proofs.lemmas.List.{map-append, length-map}
 use Rattle.executor.specs.declared.Job.{Job}
 use Rattle.executor.specs.Job.{Finished}
@@ -51,7 +13,8 @@ use Rattle.scheduler.proofs.Gnos.{has_gno_front, has_gno_last, AreDistinct-push,
 use Rattle.replica_core.specs.Replica.{Replica}
 use Rattle.replica_core.specs.Calls.{finish_fault}
 use Rattle.replica_core.specs.Sound.{IsSound}
-use Rattle.replica_shared.specs.Together.{AreKept, numbers_of, is_out_beside, out_beside, laid, taken_back, NoneLost, TakesOut}
+use Rattle.replica_core.proofs.Steps.{cause, no_cause}
+use Rattle.replica_shared.specs.Together.{AreKept, numbers_of, is_out_beside, out_beside, laid, NoneLost, TakesOut}
 
 -- ---- those that are out still, but for one number
 
@@ -69,16 +32,9 @@ module _ (r : Replica) (gno : ℕ) where
   all_out [] = tt
   all_out (job ∷ kept) = out_with (is_out_beside r gno job) job kept refl (all_out kept)
 
-  another : (n : ℕ) → not (n == gno) ≡ true → (n == gno) ≡ false
-  another n is = by_test (n == gno) is
-    where
-      by_test : (b : Bool) → not b ≡ true → b ≡ false
-      by_test true other = absurd (true≢false (sym other))
-      by_test false _ = refl
-
   lacks_with : (b : Bool) (job : Job) (kept : List Job) → is_out_beside r gno job ≡ b → has_gno (numbers_of (out_beside r gno kept)) gno ≡ false
       → has_gno (numbers_of (cond b (job ∷ out_beside r gno kept) (out_beside r gno kept))) gno ≡ false
-  lacks_with true job kept is rest = (λ i. another job.gno (and_parts (has_gno r.out job.gno) (not (job.gno == gno)) is).1 i || rest i)
+  lacks_with true job kept is rest = (λ i. not-true (job.gno == gno) (and_parts (has_gno r.out job.gno) (not (job.gno == gno)) is).1 i || rest i)
   lacks_with false job kept is rest = rest
 
   -- none has that number
@@ -87,8 +43,7 @@ module _ (r : Replica) (gno : ℕ) where
   lacks_number (job ∷ kept) = lacks_with (is_out_beside r gno job) job kept refl (lacks_number kept)
 
   had_with : (b : Bool) (job : Job) (kept : List Job) (n : ℕ) → (has_gno (numbers_of (out_beside r gno kept)) n ≡ true → has_gno (numbers_of kept) n ≡ true)
-      → has_gno (numbers_of (cond b (job ∷ out_beside r gno kept) (out_beside r gno kept))) n ≡ true
-      → has_gno (numbers_of (job ∷ kept)) n ≡ true
+      → has_gno (numbers_of (cond b (job ∷ out_beside r gno kept) (out_beside r gno kept))) n ≡ true → has_gno (numbers_of (job ∷ kept)) n ≡ true
   had_with true job kept n rest has = elim (or_cases (job.gno == n) (has_gno (numbers_of (out_beside r gno kept)) n) has) [
     | inl here ↦ or_left (job.gno == n) (has_gno (numbers_of kept) n) here
     | inr behind ↦ or_right (job.gno == n) (has_gno (numbers_of kept) n) (rest behind)
@@ -102,11 +57,8 @@ module _ (r : Replica) (gno : ℕ) where
 
   distinct_with : (b : Bool) (job : Job) (kept : List Job) → AreDistinct (numbers_of (job ∷ kept)) → AreDistinct (numbers_of (out_beside r gno kept))
       → AreDistinct (numbers_of (cond b (job ∷ out_beside r gno kept) (out_beside r gno kept)))
-  distinct_with true job kept h rest = (by_test (has_gno (numbers_of (out_beside r gno kept)) job.gno) refl, rest)
-    where
-      by_test : (b : Bool) → has_gno (numbers_of (out_beside r gno kept)) job.gno ≡ b → has_gno (numbers_of (out_beside r gno kept)) job.gno ≡ false
-      by_test true is = absurd (true≢false (sym (were_kept kept job.gno is) ∙ h.0))
-      by_test false is = is
+  distinct_with true job kept h rest =
+      (false_from_ne_true (has_gno (numbers_of (out_beside r gno kept)) job.gno) (λ is. true≢false (sym (were_kept kept job.gno is) ∙ h.0)), rest)
   distinct_with false job kept h rest = rest
 
   pub distinct_still : (kept : List Job) → AreDistinct (numbers_of kept) → AreDistinct (numbers_of (out_beside r gno kept))
@@ -178,18 +130,6 @@ kept_left kept left (Some job) is h =
     let few = whole.few in
     record { distinct = whole.distinct.1; few = omega arith }
 
--- the fault of a refusal leaves what the kept jobs are told from
-pub taken_back_so : (r next : Replica) (fault : ReplicaFault) (job : Job) (kept : List Job) → (fault ≡ faults.Memory → next ≡ r) → taken_back next fault job kept ≡ taken_back r fault job kept
-taken_back_so r next faults.Memory job kept same = ap (λ (x : Replica). laid x job kept) (same refl)
-taken_back_so r next (faults.Stopped gno) job kept same = refl
-taken_back_so r next faults.Gap job kept same = refl
-taken_back_so r next faults.ForeignSource job kept same = refl
-taken_back_so r next faults.Malformed job kept same = refl
-taken_back_so r next faults.BadParent job kept same = refl
-taken_back_so r next faults.Stranger job kept same = refl
-taken_back_so r next faults.Double job kept same = refl
-taken_back_so r next faults.WrongInput job kept same = refl
-
 -- ---- a result that was refused for want of memory
 
 no_fault : (fault : Option ReplicaFault) (told : ReplicaFault) (done back : Finished) (result : Result (Unit {0}) (ReplicaFault × Finished)) → result ≡ Err (told, back) → told ≡ faults.Memory
@@ -200,23 +140,9 @@ no_fault (Some fault) told done back result is lacks refused =
     let pair : (told, back) ≡ (fault, done) = cc in
     inr (ap Some (sym (ap (λ (p : ReplicaFault × Finished). p.0) pair) ∙ lacks))
 
--- the causes for which a result is refused, one after another
-abbrev pub cause : Option ℕ → Bool → Bool → Option ReplicaFault
-cause stopped known out =
-    option_or (option_map_or (λ gno. Some (faults.Stopped gno)) stopped None) (if not known then Some faults.Stranger else if not out then Some faults.Double else None)
-
--- where there is no cause to refuse a result the replica runs, and its record was dispatched and is out
-pub no_cause : (stopped : Option ℕ) (known out : Bool) → cause stopped known out ≡ None → (stopped ≡ None) × (known ≡ true) × (out ≡ true)
-no_cause None true true is = (refl, refl, refl)
-no_cause None true false is = absurd (cc (is))
-no_cause None false out is = absurd (cc (is))
-no_cause (Some gno) known out is = absurd (cc (is))
-
 never_memory : (stopped : Option ℕ) (known out : Bool) → cause stopped known out ≡ Some faults.Memory → ⊥
 never_memory None true true is = cc
-never_memory None true false is = cc
-never_memory None false out is = cc
-never_memory (Some gno) known out is = cc
+never_memory _ _ _ is = cc
 
 -- it is of a record of which no result was taken
 pub still_out : (r : Replica) (told : ReplicaFault) (done back : Finished) (result : Result (Unit {0}) (ReplicaFault × Finished)) → result ≡ Err (told, back) → told ≡ faults.Memory

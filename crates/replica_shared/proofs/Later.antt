@@ -1,9 +1,9 @@
 -- Later states of a coordinator.
-use Rattle.std.proofs.Common.{◌∙◌, sym, ap, subst, Bool}
+use Rattle.std.proofs.Common.{◌∙◌, sym, ap, subst}
 use mathlib.Core.List.{IsPrefix}
 use base.Growing.{prefix_refl, prefix_trans}
 use Rattle.replica_core.specs.Replica.{Replica}
-use Rattle.replica_shared.specs.Together.{State, IsLater, Settles, DispatchesMore}
+use Rattle.replica_shared.specs.Together.{State, IsLater, SettlesBeside, Settles, DispatchesMore}
 
 pub later_then : (s t u : State) → IsLater s t → IsLater t u → IsLater s u
 later_then s t u a b = record {
@@ -20,7 +20,7 @@ later_then s t u a b = record {
 -- ---- what settles
 
 -- what settles twice settles
-pub settles_then : (s t u : State) → Settles s t → Settles t u → Settles s u
+pub settles_then : (s t u : State) → SettlesBeside s t → SettlesBeside t u → SettlesBeside s u
 settles_then s t u a b = record {
   later = later_then s t u a.later b.later;
   stopped = b.stopped ∙ a.stopped;
@@ -28,34 +28,6 @@ settles_then s t u a b = record {
   claimed = b.claimed ∙ a.claimed;
   told = b.told ∙ a.told;
 }
-
--- whether something is left to do does not count
-settles_beside : (s t : State) (before after : Bool) → Settles (record s { behind = before }) t → Settles s (record t { behind = after })
-settles_beside s t before after h = record {
-  later =
-      record {
-        tables = h.later.tables;
-        source = h.later.source;
-        base = h.later.base;
-        order = h.later.order;
-        accepted = h.later.accepted;
-        commits = h.later.commits;
-        published = h.later.published;
-        closed = h.later.closed;
-      };
-  stopped = h.stopped;
-  kept = h.kept;
-  claimed = h.claimed;
-  told = h.told;
-}
-
--- so from a state in which something may be left
-pub settles_from : (s : State) (behind : Bool) (t : State) → Settles (record s { behind = behind }) t → Settles s t
-settles_from s behind t h = settles_beside s t behind t.behind h
-
--- and to one
-pub settles_to : (s t : State) (behind : Bool) → Settles s t → Settles s (record t { behind = behind })
-settles_to s t behind h = settles_beside s t s.behind behind h
 
 -- dispatching settles, since it neither commits nor publishes
 pub dispatching_settles : (s t : State) → DispatchesMore s t → Settles s t

@@ -2,8 +2,6 @@
 use Rattle.std.proofs.Common.{◌≡◌, ◌∙◌, sym, ap, subst, refl, ℕ, ◌+◌, ◌⊎◌, inl, inr, Bool, true, false, not, ◌==◌, nat_le, List, length, Option, Some, None, Result, Ok, Err, IsErrAnd, if◌then◌else◌}
 use Rattle.std.specs.Option.{option_map_or}
 use Rattle.std.specs.Str.{bytes_eq}
-use Rattle.schema.specs.declared.Table.{Table}
-use Rattle.store_trait.specs.Batch.{Entry}
 use Rattle.record_codec.specs.declared.records.Record.{Record}
 use Rattle.relay.specs.declared.ReplicaFault.{ReplicaFault}
 use Rattle.relay.specs.declared.ReplicaFault.TheVariants as faults
@@ -12,6 +10,7 @@ use Rattle.relay.specs.declared.Received.TheVariants.{Accepted, Skipped}
 use Rattle.relay.specs.Relay.{is_malformed, is_covered}
 use Rattle.replica_core.specs.Replica.{Replica}
 use Rattle.replica_core.specs.Calls.{received}
+use Rattle.replica_shared.specs.Names.{ReplicaNames}
 use Rattle.replica_shared.specs.Together.{IsStop}
 use Rattle.replica_shared.specs.Feeding.{Receives}
 
@@ -40,36 +39,32 @@ own_told None true false false false covered is = cc
 own_told None true false false true false is = cc
 own_told None true false false true true is = cc
 
--- a record of another source is refused as such, unless the replica is stopped
-pub refuses_foreign : (tables : List Table) (source : List ℕ) (base : List Entry) (preserve : Bool) (from : List ℕ) (new : Record) (answer : Result Received ReplicaFault)
-    → Receives tables source base preserve from new answer → bytes_eq from source ≡ false
-    → IsErrAnd answer (λ fault. (fault ≡ faults.ForeignSource) ⊎ IsStop fault)
-refuses_foreign tables source base preserve from new answer h other = elim h.told [
-  | inl lacks ↦ absurd (never_accepted r.stopped own (sym is ∙ h.memory lacks))
-  | inr told ↦ subst (λ (a : Result Received ReplicaFault). IsErrAnd a (λ fault. (fault ≡ faults.ForeignSource) ⊎ IsStop fault)) (sym (told ∙ is)) (foreign_told r.stopped own)
-]
-  where
-    r : Replica
-    r = h.before
+module _ {names : ReplicaNames} {preserve : Bool} {from : List ℕ} {new : Record} {answer : Result Received ReplicaFault}
+    (h : Receives names preserve from new answer) where
+  abbrev r : Replica
+  r = h.before
 
-    own : Result Received ReplicaFault
-    own = of_own (is_malformed r.tables new) (nat_le new.gno (length r.accepted)) (new.gno == length r.accepted + 1) (is_covered r.accepted new)
+  abbrev own : Result Received ReplicaFault
+  own = of_own (is_malformed r.tables new) (nat_le new.gno (length r.accepted)) (new.gno == length r.accepted + 1) (is_covered r.accepted new)
 
-    is : received r from new ≡ told_of r.stopped false own
-    is = ap (λ (b : Bool). told_of r.stopped b own) (ap (bytes_eq from) h.named.1 ∙ other)
+  -- a record of another source is refused as such, unless the replica is stopped
+  pub refuses_foreign : bytes_eq from names.source ≡ false → IsErrAnd answer (λ fault. (fault ≡ faults.ForeignSource) ⊎ IsStop fault)
+  refuses_foreign other = elim h.told [
+    | inl lacks ↦ absurd (never_accepted r.stopped own (sym is ∙ h.memory lacks))
+    | inr told ↦ subst (λ (a : Result Received ReplicaFault). IsErrAnd a (λ fault. (fault ≡ faults.ForeignSource) ⊎ IsStop fault)) (sym (told ∙ is)) (foreign_told r.stopped own)
+  ]
+    where
+      is : received r from new ≡ told_of r.stopped false own
+      is = ap (λ (b : Bool). told_of r.stopped b own) (ap (bytes_eq from) h.named.1 ∙ other)
 
--- and one of its own never is
-pub refuses_no_own : (tables : List Table) (source : List ℕ) (base : List Entry) (preserve : Bool) (from : List ℕ) (new : Record) (answer : Result Received ReplicaFault)
-    → Receives tables source base preserve from new answer → answer ≡ Err faults.ForeignSource → bytes_eq from source ≡ false
-refuses_no_own tables source base preserve from new answer h is = elim h.told [
-  | inl lacks ↦ absurd (never answer is lacks)
-  | inr told ↦ ap (bytes_eq from) (sym h.named.1)
-      ∙ own_told r.stopped (bytes_eq from r.source) (is_malformed r.tables new) (nat_le new.gno (length r.accepted)) (new.gno == length r.accepted + 1)
-      (is_covered r.accepted new) (sym told ∙ is)
-]
-  where
-    r : Replica
-    r = h.before
-
-    never : (told : Result Received ReplicaFault) → told ≡ Err faults.ForeignSource → told ≡ Err faults.Memory → ⊥
-    never told foreign lacks = cc
+  -- and one of its own never is
+  pub refuses_no_own : answer ≡ Err faults.ForeignSource → bytes_eq from names.source ≡ false
+  refuses_no_own is = elim h.told [
+    | inl lacks ↦ absurd (never answer is lacks)
+    | inr told ↦ ap (bytes_eq from) (sym h.named.1)
+        ∙ own_told r.stopped (bytes_eq from r.source) (is_malformed r.tables new) (nat_le new.gno (length r.accepted)) (new.gno == length r.accepted + 1)
+        (is_covered r.accepted new) (sym told ∙ is)
+  ]
+    where
+      never : (told : Result Received ReplicaFault) → told ≡ Err faults.ForeignSource → told ≡ Err faults.Memory → ⊥
+      never told foreign lacks = cc

@@ -12,8 +12,7 @@ use Rattle.replica_shared.proofs.Commits.{prefix_of_longer, first_operations}
 
 -- a beginning of what became known that is no longer than what was published: the operations of the first so many commits
 pub seen_is : (r : Replica) (published seen known : List Op) → published ≡ operations r.tables r.base (ran r) (commits_in published) → IsPrefix published known
-    → IsPrefix seen known → IsHistory r.preserve seen → commits_in seen ≤ commits_in published
-    → seen ≡ operations r.tables r.base (ran r) (commits_in seen)
+    → IsPrefix seen known → IsHistory r.preserve seen → commits_in seen ≤ commits_in published → seen ≡ operations r.tables r.base (ran r) (commits_in seen)
 seen_is r published seen known are shown saw history le =
     let size = history_length r.preserve seen history in
     let some : 1 ≤ length published = omega (arith, ap (λ (l : List Op). length l) are) in

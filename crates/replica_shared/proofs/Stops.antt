@@ -1,34 +1,6 @@
 -- Why a replica stopped stays true at each step.
-use Rattle.std.proofs.Common.{
-  ◌≡◌,
-  ◌∙◌,
-  sym,
-  ap,
-  subst,
-  refl,
-  ℕ,
-  ◌-◌,
-  ◌⊎◌,
-  inl,
-  inr,
-  Bool,
-  true,
-  false,
-  ◌&&◌,
-  nat_le,
-  List,
-  ◌++◌,
-  Option,
-  Some,
-  None,
-  Result,
-  Ok,
-  Err,
-  IfSome,
-  IsErrOf,
-  arith,
-  slice_get,
-}
+use Rattle.std.proofs.Common.{◌≡◌, ◌∙◌, sym, ap, subst, refl, ℕ, ◌-◌, ◌⊎◌, inl, inr, Bool, true, false, ◌&&◌, nat_le, List, ◌++◌, Option, Some, None, Result, Ok, Err, IfSome, IsErrOf, arith}
+use Rattle.std.proofs.Common.{slice_get}
 use Rattle.std.specs.Option.{option_map_or}
 use Rattle.std.proofs.lemmas.Bool.{cases_eq, and_parts, leb-true}
 use Rattle.std.proofs.lemmas.Option.{same_Some, slice_get_within}
@@ -54,8 +26,8 @@ use Rattle.replica_core.specs.Sound.{IsSound, IsUnderWay}
 use Rattle.replica_core.proofs.Handing.{Grows}
 use Rattle.replica_core.proofs.Jobs.{job_at, job_agrees_now}
 use Rattle.replica_core.proofs.Showing.{numbered_of}
+use Rattle.replica_core.proofs.Steps.{cause, no_cause}
 use Rattle.replica_shared.specs.Together.{HasNoOutput, MayStopAt, StopsRightly}
-use Rattle.replica_shared.proofs.Keeping.{cause, no_cause}
 
 -- one that runs has not stopped anywhere
 pub runs_rightly : (r : Replica) → r.stopped ≡ None → StopsRightly r
@@ -215,11 +187,4 @@ stops_refused r done back (faults.Stopped at) result is f h =
     let may = may_stop r done back at result is f h in
     let none = may.1 in
     (may.0, record { rec = none.rec; got = none.got; rows = none.rows; rows_are = none.rows_are; none = none.none })
-stops_refused r done back faults.Gap result is f h = h
-stops_refused r done back faults.ForeignSource result is f h = h
-stops_refused r done back faults.Malformed result is f h = h
-stops_refused r done back faults.BadParent result is f h = h
-stops_refused r done back faults.Stranger result is f h = h
-stops_refused r done back faults.Double result is f h = h
-stops_refused r done back faults.WrongInput result is f h = h
-stops_refused r done back faults.Memory result is f h = h
+stops_refused r done back _ result is f h = h

@@ -1,8 +1,6 @@
 -- What is answered to a record; what a piece of a wire's bytes does to what lies under the lock, and to the wire; and what is told of a
 -- stop to one who waits for a set of ids.
 use Rattle.std.specs.Prelude.{◌≡◌, ◌⊎◌, ℕ, ◌<◌, ◌≤◌, ◌||◌, nat_lt, Bool, true, false, List, [], length, Result, Ok, Err, IsOk, IsErrOf, MatchResult}
-use Rattle.schema.specs.declared.Table.{Table}
-use Rattle.store_trait.specs.Batch.{Entry}
 use Rattle.gtid_set.specs.Ids.{Ids}
 use Rattle.gtid_set.specs.Numbers.{has_number}
 use Rattle.scheduler.specs.Gnos.{has_gno}
@@ -17,13 +15,14 @@ use Rattle.replica_core.specs.Calls.{received}
 use Rattle.replica_core.specs.Wire.{Wire, Hands, Gathers, Takes, piece_taken}
 use Rattle.replica_core.specs.declared.wire.WireFault.{WireFault}
 use Rattle.replica_core.specs.declared.wire.WireFault.TheVariants as wire
-use Rattle.replica_shared.specs.Together.{State, Settles, IsCaughtUp, IsNamed, IsStopOf}
+use Rattle.replica_shared.specs.Names.{ReplicaNames, IsReplicaOf}
+use Rattle.replica_shared.specs.Together.{State, Settles, IsCaughtUp, IsStopOf}
 
 -- What is answered to a record: what the core's `receive` answers over a core of this replica, or that memory ran out in the place
 -- of an acceptance.
-pub record Receives (tables : List Table) (source : List ℕ) (base : List Entry) (preserve : Bool) (from : List ℕ) (new : Record) (answer : Result Received ReplicaFault) : Type 0 where
+pub record Receives (names : ReplicaNames) (preserve : Bool) (from : List ℕ) (new : Record) (answer : Result Received ReplicaFault) : Type 0 where
   pub before : Replica
-  pub named : IsNamed tables source base preserve before
+  pub named : IsReplicaOf names preserve before
   pub told : IsErrOf answer faults.Memory ⊎ (answer ≡ received before from new)
   pub memory : IsErrOf answer faults.Memory → received before from new ≡ Ok Accepted
 
@@ -33,7 +32,7 @@ left_by_take s core = record s { core = core; behind = s.behind || nat_lt (lengt
 
 -- all is done that can be, or memory ran out
 abbrev pub SettlesOrLacks : State → Result (Unit {0}) ReplicaFault → State → Type 0
-SettlesOrLacks s result then = Settles s then × MatchResult result (λ done. IsCaughtUp then) (λ fault. (fault ≡ faults.Memory) × (then.behind ≡ true))
+SettlesOrLacks s result then = Settles s then × MatchResult result (λ done. IsCaughtUp then.core then.outlet) (λ fault. (fault ≡ faults.Memory) × (then.behind ≡ true))
 
 -- What is told of a piece: what the wire's `take` answers, and, where that is Ok, the fault of what was to be done behind it. That
 -- is told as one of the piece's records, since the piece is taken.
@@ -66,9 +65,9 @@ HandsAndSettles s full answer new then = (old : Wire) (piece : List ℕ) → old
 
 -- What a piece does to the wire: what the wire's `take` does over a core of this replica. Its own answer is told, or, where that
 -- is Ok, that memory ran out. Either way so much of the piece is taken as the answer says.
-pub record Feeds (tables : List Table) (source : List ℕ) (base : List Entry) (preserve : Bool) (old : Wire) (piece : List ℕ) (answer : Result ℕ WireFault) (new : Wire) : Type 0 where
+pub record Feeds (names : ReplicaNames) (preserve : Bool) (old : Wire) (piece : List ℕ) (answer : Result ℕ WireFault) (new : Wire) : Type 0 where
   pub before : Replica
-  pub named : IsNamed tables source base preserve before
+  pub named : IsReplicaOf names preserve before
   pub core : Replica
   pub taken : Result ℕ WireFault
   pub takes : Takes old before piece taken new core
@@ -78,9 +77,9 @@ pub record Feeds (tables : List Table) (source : List ℕ) (base : List Entry) (
 -- ---- sets of ids
 
 -- a stop is told, and the commit of an id of the set is not published; in the order of the log fewer are than its number
-pub record TellsStopOf (tables : List Table) (source : List ℕ) (base : List Entry) (preserve : Bool) (ids : Ids) (fault : ReplicaFault) : Type 0 where
+pub record TellsStopOf (names : ReplicaNames) (preserve : Bool) (ids : Ids) (fault : ReplicaFault) : Type 0 where
   pub state : State
-  pub stop : IsStopOf tables source base preserve state fault
+  pub stop : IsStopOf names preserve state fault
   pub gno : ℕ
   pub has : has_number ids.numbers gno ≡ true
   pub behind : has_gno (gnos_of state.publication.published) gno ≡ false

@@ -1,41 +1,8 @@
 -- What lies under the lock of a shared replica, and what is true of it each time that the lock is taken.
-use Rattle.std.specs.Prelude.{
-  ◌≡◌,
-  ◌⊎◌,
-  ℕ,
-  ◌+◌,
-  ◌-◌,
-  ◌<◌,
-  ◌≤◌,
-  Bool,
-  true,
-  false,
-  not,
-  ◌&&◌,
-  ◌||◌,
-  ◌==◌,
-  nat_lt,
-  IfErr,
-  IfSome,
-  MatchOption,
-  List,
-  [],
-  ◌∷◌,
-  ◌++◌,
-  map,
-  length,
-  slice_get,
-  Option,
-  Some,
-  None,
-  is_some,
-  Result,
-  Ok,
-  Err,
-}
+use Rattle.std.specs.Prelude.{◌≡◌, ◌⊎◌, ℕ, ◌+◌, ◌-◌, ◌<◌, ◌≤◌, Bool, true, false, not, ◌&&◌, ◌||◌, ◌==◌, nat_lt, IfErr, IfSome, MatchOption, List, [], ◌∷◌, ◌++◌, map, length, slice_get, Option, Some}
+use Rattle.std.specs.Prelude.{None, is_some, Result, Ok, Err}
 use Rattle.std.specs.List.{filter}
 use mathlib.Core.List.{IsPrefix}
-use Rattle.schema.specs.declared.Table.{Table}
 use Rattle.rows.specs.Database.{Database}
 use Rattle.store_trait.specs.Batch.{Entry}
 use Rattle.store_trait.specs.declared.Op.{Op}
@@ -59,6 +26,7 @@ use Rattle.replica_core.specs.Replica.{Replica, working_rows, ran, operations, o
 use Rattle.replica_core.specs.Calls.{next_commit, next_job, is_eligible, dispatched_next, with_finished, left_by_fault, with_published, left_by_receive}
 use Rattle.replica_core.specs.Sound.{IsUnderWay}
 use Rattle.replica_shared.specs.Awaited.{has_all}
+use Rattle.replica_shared.specs.Names.{ReplicaNames, IsReplicaOf}
 use Rattle.replica_shared.specs.Outlet.{Queued, AreInLine, empty_outlet}
 use Rattle.replica_shared.specs.declared.news.News.{News}
 use Rattle.replica_shared.specs.declared.news.Outlook.{Outlook}
@@ -100,14 +68,10 @@ state_of core publication closed kept outlet claimed behind told = record {
 abbrev pub words_of : Replica → Counts
 words_of r = counts_of (length r.accepted) (length r.commits) r.published
 
--- a core of this replica
-abbrev pub IsNamed : List Table → List ℕ → List Entry → Bool → Replica → Type 0
-IsNamed tables source base preserve r = (r.tables ≡ tables) × (r.source ≡ source) × (r.base ≡ base) × (r.preserve ≡ preserve)
-
 -- What the core keeps is true of itself: its rows are those after the committed records. With it, over one base, stand the
 -- publisher and the words of the status. It takes the records of this source.
-pub record StandTogether (tables : List Table) (source : List ℕ) (base : List Entry) (preserve : Bool) (r : Replica) (p : Publishing) (appended : ℕ) (stored : List Counts) : Type 0 where
-  pub named : IsNamed tables source base preserve r
+pub record StandTogether (names : ReplicaNames) (preserve : Bool) (r : Replica) (p : Publishing) (appended : ℕ) (stored : List Counts) : Type 0 where
+  pub named : IsReplicaOf names preserve r
   -- each commit is of an accepted record
   pub within : (gno : ℕ) → has_gno r.commits gno ≡ true → (1 ≤ gno) × (gno ≤ length r.accepted)
   pub history : IsHistory preserve p.published
@@ -122,10 +86,10 @@ pub record StandTogether (tables : List Table) (source : List ℕ) (base : List 
   pub in_order : preserve ≡ true → (n : ℕ) → n ≤ length r.commits → operations r.tables r.base (ran r) n ≡ operations_in_order r.tables r.base r.accepted n
 
 -- whatever the words were, and the number of those appended
-pub record StoodTogether (tables : List Table) (source : List ℕ) (base : List Entry) (preserve : Bool) (r : Replica) (p : Publishing) : Type 0 where
+pub record StoodTogether (names : ReplicaNames) (preserve : Bool) (r : Replica) (p : Publishing) : Type 0 where
   pub appended : ℕ
   pub stored : List Counts
-  pub stand : StandTogether tables source base preserve r p appended stored
+  pub stand : StandTogether names preserve r p appended stored
 
 -- the numbers of the jobs
 abbrev pub numbers_of : List Job → List ℕ
@@ -155,14 +119,7 @@ NoneLost r kept then = (gno : ℕ) → has_gno r.out gno ≡ true → has_gno (n
 -- a job whose result is refused so is kept where memory ran out
 abbrev pub taken_back : Replica → ReplicaFault → Job → List Job → List Job
 taken_back r faults.Memory job kept = laid r job kept
-taken_back r (faults.Stopped gno) job kept = kept
-taken_back r faults.Gap job kept = kept
-taken_back r faults.ForeignSource job kept = kept
-taken_back r faults.Malformed job kept = kept
-taken_back r faults.BadParent job kept = kept
-taken_back r faults.Stranger job kept = kept
-taken_back r faults.Double job kept = kept
-taken_back r faults.WrongInput job kept = kept
+taken_back r _ job kept = kept
 
 -- the job that was kept first is taken out, where any is kept
 abbrev pub TakesOut : List Job → Option Job → List Job → Type 0
@@ -191,8 +148,8 @@ abbrev pub IsStop : ReplicaFault → Type 0
 IsStop fault = (at : ℕ) × (fault ≡ faults.Stopped at)
 
 -- What is told of the stop of this state: its core, which is one of this replica, has stopped at that record, as it may.
-pub record IsStopOf (tables : List Table) (source : List ℕ) (base : List Entry) (preserve : Bool) (s : State) (fault : ReplicaFault) : Type 0 where
-  pub named : IsNamed tables source base preserve s.core
+pub record IsStopOf (names : ReplicaNames) (preserve : Bool) (s : State) (fault : ReplicaFault) : Type 0 where
+  pub named : IsReplicaOf names preserve s.core
   pub at : ℕ
   pub stopped : s.core.stopped ≡ Some at
   pub told : fault ≡ faults.Stopped at
@@ -200,20 +157,20 @@ pub record IsStopOf (tables : List Table) (source : List ℕ) (base : List Entry
   pub history : IsHistory preserve s.publication.published
 
 -- one of these commits is not published
-abbrev pub IsStopBehind : List Table → List ℕ → List Entry → Bool → List Interval → State → ReplicaFault → Type 0
-IsStopBehind tables source base preserve wanted s fault =
-    IsStopOf tables source base preserve s fault × (has_all (gnos_of s.publication.published) wanted ≡ false)
+abbrev pub IsStopBehind : ReplicaNames → Bool → List Interval → State → ReplicaFault → Type 0
+IsStopBehind names preserve wanted s fault =
+    IsStopOf names preserve s fault × (has_all (gnos_of s.publication.published) wanted ≡ false)
 
 -- what one knows who waited for these commits, and is told of a stop
-pub record TellsStopBehind (tables : List Table) (source : List ℕ) (base : List Entry) (preserve : Bool) (wanted : List Interval) (fault : ReplicaFault) : Type 0 where
+pub record TellsStopBehind (names : ReplicaNames) (preserve : Bool) (wanted : List Interval) (fault : ReplicaFault) : Type 0 where
   pub state : State
-  pub stop : IsStopBehind tables source base preserve wanted state fault
+  pub stop : IsStopBehind names preserve wanted state fault
 
 -- What a caller knows who is told of a stop: one of the commits from 1 to this number is not published; in the order of the log the
 -- commit of this number is not.
-pub record TellsStop (tables : List Table) (source : List ℕ) (base : List Entry) (preserve : Bool) (gno : ℕ) (fault : ReplicaFault) : Type 0 where
+pub record TellsStop (names : ReplicaNames) (preserve : Bool) (gno : ℕ) (fault : ReplicaFault) : Type 0 where
   pub state : State
-  pub stop : IsStopOf tables source base preserve state fault
+  pub stop : IsStopOf names preserve state fault
   pub behind : low_of (gnos_of state.publication.published) < gno
   pub in_order : preserve ≡ true → commits_in state.publication.published < gno
 
@@ -233,23 +190,23 @@ pub record IsLater (old new : State) : Type 0 where
   pub closed : new.closed ≡ old.closed
 
 -- all is committed that can be, published and dispatched
-pub record IsCaughtUp (s : State) : Type 0 where
-  pub committed : next_commit s.core ≡ None
-  pub published : s.core.published ≡ length s.core.commits
-  pub dispatched : is_eligible s.core ≡ false
-  pub pushed : s.outlet.aside ≡ None
+pub record IsCaughtUp (r : Replica) (outlet : Queued) : Type 0 where
+  pub committed : next_commit r ≡ None
+  pub published : r.published ≡ length r.commits
+  pub dispatched : is_eligible r ≡ false
+  pub pushed : outlet.aside ≡ None
 
 -- something is left to do only where the state says so, or where the replica is stopped
 abbrev pub IsBehindOrCaughtUp : State → Type 0
-IsBehindOrCaughtUp s = s.core.stopped ≡ None → s.behind ≡ false → IsCaughtUp s
+IsBehindOrCaughtUp s = s.core.stopped ≡ None → s.behind ≡ false → IsCaughtUp s.core s.outlet
 
 -- no more records come, and all that did are committed and published
 abbrev pub is_ended : State → Bool
 is_ended s = s.closed && (length s.core.commits == length s.core.accepted) && (s.core.published == length s.core.commits)
 
 -- all that is true each time that the lock is taken
-pub record IsWhole (tables : List Table) (source : List ℕ) (base : List Entry) (preserve : Bool) (s : State) (appended : ℕ) (stored : List Counts) : Type 0 where
-  pub stand : StandTogether tables source base preserve s.core s.publication appended stored
+pub record IsWhole (names : ReplicaNames) (preserve : Bool) (s : State) (appended : ℕ) (stored : List Counts) : Type 0 where
+  pub stand : StandTogether names preserve s.core s.publication appended stored
   pub kept : AreKept s.kept
   pub line : AreInLine s.core.dispatched s.outlet
   pub claims : s.claimed ≤ s.outlet.pushed
@@ -311,9 +268,9 @@ abbrev pub with_waiting : State → List Op → State
 with_waiting s waiting = with_publication s (record s.publication { waiting = waiting })
 
 -- the operations of all committed records are published or appended
-pub record IsAppended (s : State) : Type 0 where
-  pub all : s.publication.published ++ s.publication.waiting ≡ operations s.core.tables s.core.base (ran s.core) (length s.core.commits)
-  pub number : commits_in s.publication.published + length s.publication.waiting ≡ length s.core.commits
+pub record IsAppended (r : Replica) (p : Publishing) : Type 0 where
+  pub all : p.published ++ p.waiting ≡ operations r.tables r.base (ran r) (length r.commits)
+  pub number : commits_in p.published + length p.waiting ≡ length r.commits
 
 -- all that was appended is published
 abbrev pub published_all : Publishing → Publishing
@@ -325,18 +282,26 @@ shown s = record s {
   publication = published_all s.publication;
 }
 
+-- the load of these rows is published, and nothing else
+abbrev pub loaded_alone : List Entry → Publishing
+loaded_alone base = record { published = Load base ∷ []; waiting = []; history = Load base ∷ [] }
+
 -- over a new core, whose rows are published
 abbrev pub new_state : Replica → State
-new_state core = state_of core (record { published = Load core.base ∷ []; waiting = []; history = Load core.base ∷ [] }) false [] empty_outlet 0 false
+new_state core = state_of core (loaded_alone core.base) false [] empty_outlet 0 false
     (record { offers = 0; behind = false; published = 0; over = false })
 
--- A later state, in which all was done that could be. What is kept, what was claimed and what was told stays.
-pub record Settles (old new : State) : Type 0 where
+-- A later state, in which all was done that could be, whether or not it says that something is left. What is kept, what was claimed and
+-- what was told stays.
+pub record SettlesBeside (old new : State) : Type 0 where
   pub later : IsLater old new
   pub stopped : new.core.stopped ≡ old.core.stopped
   pub kept : new.kept ≡ old.kept
   pub claimed : new.claimed ≡ old.claimed
   pub told : new.told ≡ old.told
+
+abbrev pub Settles : State → State → Type 0
+Settles old new = SettlesBeside (record old { behind = false }) (record new { behind = false })
 
 -- why it may not be
 abbrev pub IsFaultOf : State → ReplicaFault → Type 0
@@ -401,6 +366,6 @@ Finds s found.Ended then = NoneIsLeft s × (is_ended s ≡ true) × (then ≡ s)
 pub record FindsBehind (old : State) (next : Next) (new : State) : Type 0 where
   pub between : State
   pub settles : Settles old between
-  pub caught_up : IsCaughtUp between
+  pub caught_up : IsCaughtUp between.core between.outlet
   pub behind : between.behind ≡ false
   pub finds : Finds between next new

@@ -2,13 +2,12 @@
 //! for which memory ran out. Each call of the shared replica is one call here. The calls stand by what they are about: records in
 //! `accepting`, jobs in `working`, what is done behind both in `settling` and `dispatching`, those who wait for commits in `waiting`, and
 //! who sleeps and is told in `telling`.
-ghost use Rattle.std.specs.Prelude.{◌≡◌, ◌∷◌, [], true};
-ghost use Rattle.store_trait.specs.declared.Op.TheVariants.{Load};
+ghost use Rattle.std.specs.Prelude.{◌≡◌, [], true};
 ghost use Rattle.published.specs.Status.{NoneFalls, latest};
-ghost use Rattle.replica_core.specs.Calls.{new_over};
 ghost use Rattle.replica_core.specs.Sound.{IsSound};
+ghost use Rattle.replica_shared.specs.Names.{IsNewReplica};
 ghost use Rattle.replica_shared.specs.Outlet.{empty_outlet};
-ghost use Rattle.replica_shared.specs.Together.{StoodTogether, words_of, new_state, is_ended};
+ghost use Rattle.replica_shared.specs.Together.{StoodTogether, words_of, loaded_alone, new_state, is_ended};
 
 mod accepting;
 mod dispatching;
@@ -17,12 +16,12 @@ mod telling;
 mod waiting;
 mod working;
 
-use crate::kept::Kept;
+use crate::kept::KeptJobs;
 use crate::naming::ReplicaNaming;
 use crate::news::{Looks, Outlook, Sleepers};
 use crate::outlet::Outlet;
 use left_right::Absorb;
-use published::{Common, Counts, Publisher, Status, Step, Version};
+use published::{Common, CopyStep, Counts, Publisher, Status, Version};
 use replica_core::ReplicaCore;
 use std::marker::Model;
 use std::sync::Wait;
@@ -32,14 +31,14 @@ use uuid::Uuid;
 /// Contracts see it as `State` of `specs/Together.antt`.
 pub struct Coordinator<S: RowStore + Drop, J: ReplicaNaming>
 where
-    Version<S, J>: Absorb<Step<J>, State = Common>,
+    Version<S, J>: Absorb<CopyStep<J>, State = Common>,
 {
     core: ReplicaCore<S>,
     publisher: Publisher<S, J>,
     /// How many commits were appended to the publisher.
     appended: u64,
     status: Status,
-    kept: Kept,
+    kept: KeptJobs,
     closed: bool,
     outlet: Outlet,
     /// How many of the jobs that were pushed were claimed by workers.
@@ -54,7 +53,7 @@ where
 
 impl<S: RowStore + Drop, J: ReplicaNaming> Model for Coordinator<S, J>
 where
-    Version<S, J>: Absorb<Step<J>, State = Common>,
+    Version<S, J>: Absorb<CopyStep<J>, State = Common>,
 {
     ghost use Rattle.replica_shared.specs.Together.{State, state_of, IsWhole};
 
@@ -62,7 +61,7 @@ where
 
     ghost view = { λ c. state_of c.core c.publisher c.closed c.kept c.outlet c.claimed c.behind c.told };
 
-    ghost invariant = { λ c. IsWhole J.tables J.source J.base J.preserve
+    ghost invariant = { λ c. IsWhole J.names J.preserve
         (state_of c.core c.publisher c.closed c.kept c.outlet c.claimed c.behind c.told) c.appended c.status.stored };
 }
 
@@ -72,15 +71,11 @@ impl<S: RowStore + Drop, J: ReplicaNaming> Coordinator<S, J> {
         core: ReplicaCore<S>,
         publisher: Publisher<S, J>,
         status: Status,
-        kept: Kept,
+        kept: KeptJobs,
         outlet: Outlet,
     ) -> Coordinator<S, J>
-        requires core { core ≡ new_over core.tables core.source core.base core.workers core.preserve }
-        requires tables { core.tables ≡ J.tables }
-        requires source { core.source ≡ J.source }
-        requires base { core.base ≡ J.base }
-        requires order { core.preserve ≡ J.preserve }
-        requires publisher { publisher ≡ record { published = Load core.base ∷ []; waiting = []; history = Load core.base ∷ [] } }
+        requires core { IsNewReplica J.names J.preserve core }
+        requires publisher { publisher ≡ loaded_alone J.names.base }
         requires status { status.stored ≡ [] }
         requires kept { kept ≡ [] }
         requires outlet { outlet ≡ empty_outlet }
@@ -115,7 +110,7 @@ impl<S: RowStore + Drop, J: ReplicaNaming> Coordinator<S, J> {
 
     // Whose records the core takes.
     pub(crate) fn source(&self) -> Uuid
-        ensures { result ≡ J.source }
+        ensures { result ≡ J.names.source }
     {
         self.core.source()
     }
@@ -139,7 +134,7 @@ impl<S: RowStore + Drop, J: ReplicaNaming> Coordinator<S, J> {
     // The core and the publisher.
     pub(crate) fn end(self) -> (ReplicaCore<S>, Publisher<S, J>)
         ensures state { (result.0 ≡ self.core) × (result.1 ≡ self.publication) }
-        ensures together { StoodTogether J.tables J.source J.base J.preserve result.0 result.1 }
+        ensures together { StoodTogether J.names J.preserve result.0 result.1 }
     {
         let Coordinator {
             core,

@@ -14,7 +14,7 @@ use crate::naming::ReplicaNaming;
 use crate::news::News;
 use gtid_set::Interval;
 use left_right::Absorb;
-use published::{Common, Step, Version};
+use published::{Common, CopyStep, Version};
 use std::sync::{Condvar, Mutex, Wait};
 use store_trait::RowStore;
 
@@ -24,7 +24,7 @@ const LOOKS: usize = 1000;
 /// A coordinator under its lock, and what those sleep on who wait for something to be done to it.
 pub struct Lock<S: RowStore + Drop, J: ReplicaNaming>
 where
-    Version<S, J>: Absorb<Step<J>, State = Common>,
+    Version<S, J>: Absorb<CopyStep<J>, State = Common>,
 {
     coordinator: Mutex<Coordinator<S, J>>,
     /// Where workers wait.
@@ -36,7 +36,7 @@ where
 /// The lock, held.
 pub struct Held<'a, S: RowStore + Drop, J: ReplicaNaming>
 where
-    Version<S, J>: Absorb<Step<J>, State = Common>,
+    Version<S, J>: Absorb<CopyStep<J>, State = Common>,
 {
     lock: &'a Lock<S, J>,
     locked: Locked<'a, S, J>,

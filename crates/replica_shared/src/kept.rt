@@ -15,11 +15,11 @@ const PLACES: usize = 64;
 /// The jobs for which memory ran out, in the order in which they were kept. There is a place for as many as can be out. Contracts see it
 /// as these jobs.
 #[derive(Drop)]
-pub(crate) struct Kept {
+pub(crate) struct KeptJobs {
     jobs: Vec<Job>,
 }
 
-impl Model for Kept {
+impl Model for KeptJobs {
     ghost use Rattle.std.specs.Prelude.{◌≤◌, List, vec_capacity};
     ghost use Rattle.executor.specs.declared.Job.{Job};
 
@@ -30,12 +30,12 @@ impl Model for Kept {
     ghost invariant = { λ k. 64 ≤ vec_capacity k.jobs };
 }
 
-impl Kept {
+impl KeptJobs {
     // No job is kept. It takes the memory of all places.
-    pub(crate) fn new(alloc: Global) -> Result<Kept, Memory>
+    pub(crate) fn new(alloc: Global) -> Result<KeptJobs, Memory>
         ensures { IfOk result (λ kept. kept ≡ []) }
     {
-        Ok(Kept {
+        Ok(KeptJobs {
             jobs: Vec::with_capacity(alloc, PLACES)?,
         })
     }

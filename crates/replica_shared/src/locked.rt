@@ -12,14 +12,14 @@ use crate::naming::ReplicaNaming;
 use crate::news::News;
 use gtid_set::Interval;
 use left_right::Absorb;
-use published::{Common, Step, Version};
+use published::{Common, CopyStep, Version};
 use std::sync::{Condvar, Mutex, MutexGuard, Wait};
 use store_trait::RowStore;
 
 /// The mutex, taken.
 pub struct Locked<'a, S: RowStore + Drop, J: ReplicaNaming>
 where
-    Version<S, J>: Absorb<Step<J>, State = Common>,
+    Version<S, J>: Absorb<CopyStep<J>, State = Common>,
 {
     guard: MutexGuard<'a, Coordinator<S, J>>,
 }

@@ -22,19 +22,19 @@ impl<S: RowStore + Drop, J: ReplicaNaming> Model for Seats<S, J> {
 
     ghost view = { λ s. s.free.items };
 
-    ghost invariant = { λ s. All (λ seat. seat ≡ Load J.base ∷ []) s.free.items };
+    ghost invariant = { λ s. All (λ seat. seat ≡ Load J.names.base ∷ []) s.free.items };
 }
 
 impl<S: RowStore + Drop, J: ReplicaNaming> Seats<S, J> {
     pub(crate) fn new(free: Vec<ReadSeat<S, J>>) -> Seats<S, J>
-        requires { All (λ seat. seat ≡ Load J.base ∷ []) free.items }
+        requires { All (λ seat. seat ≡ Load J.names.base ∷ []) free.items }
     {
         Seats { free }
     }
 
     /// One of them, where any is left.
     pub(crate) fn take(&mut self) -> Option<ReadSeat<S, J>>
-        ensures seat { IfSome result (λ seat. seat ≡ Load J.base ∷ []) }
+        ensures seat { IfSome result (λ seat. seat ≡ Load J.names.base ∷ []) }
         ensures taken { self.old ≡ self.new ++ option_to_list result }
         ensures none { IfNone result (self.old ≡ []) }
     {

@@ -11,17 +11,17 @@ ghost use Rattle.scheduler.specs.Gnos.{low_of};
 ghost use Rattle.published.specs.History.{IsHistory, gnos_of, commits_in};
 ghost use Rattle.published.specs.Status.{InOrder};
 ghost use Rattle.replica_core.specs.Replica.{ran, operations, operations_in_order};
-ghost use Rattle.replica_core.specs.Calls.{new_over};
+ghost use Rattle.replica_shared.specs.Names.{IsReplicaOf, IsNewReplica};
 ghost use Rattle.replica_shared.specs.Outlet.{empty_outlet};
 ghost use Rattle.replica_shared.specs.Queue.{IsPassOf};
 ghost use Rattle.replica_shared.specs.Awaited.{has_all, AreAmong, AreUpTo};
-ghost use Rattle.replica_shared.specs.Together.{IsStop, TellsStop, TellsStopBehind};
+ghost use Rattle.replica_shared.specs.Together.{IsStop, TellsStop, TellsStopBehind, loaded_alone};
 ghost use Rattle.replica_shared.specs.Feeding.{Receives, Feeds, TellsStopOf};
 
 use crate::coordinator::Coordinator;
 use crate::gate::WorkerGate;
 use crate::held::Lock;
-use crate::kept::Kept;
+use crate::kept::KeptJobs;
 use crate::naming::ReplicaNaming;
 use crate::news::{Looks, Next, Sleepers};
 use crate::outlet::Outlet;
@@ -31,7 +31,7 @@ use crossbeam_utils::Backoff;
 use executor::{Job, JobResult, Room, execute_in};
 use gtid_set::{GtidSet, Interval};
 use left_right::Absorb;
-use published::{Common, Counts, Notice, Publisher, ReadSeat, Status, Step, Version, Watch};
+use published::{Common, CopyStep, Counts, Notice, Publisher, ReadSeat, Status, Version, Watch};
 use record_codec::Record;
 use relay::{Received, ReplicaFault};
 use replica_core::{ReplicaCore, Wire, WireFault};
@@ -54,7 +54,7 @@ use uuid::Uuid;
 /// stop and the end wake all. A record that may not run yet wakes nobody, nor does a result by which nothing is committed.
 pub struct SharedReplica<S: RowStore + Drop, J: ReplicaNaming>
 where
-    Version<S, J>: Absorb<Step<J>, State = Common>,
+    Version<S, J>: Absorb<CopyStep<J>, State = Common>,
 {
     lock: Lock<S, J>,
     jobs: Arc<Jobs>,
@@ -65,7 +65,7 @@ where
 /// The memory of a replica: the places for jobs, the words of the status, and the queue.
 #[derive(Drop)]
 struct Made {
-    kept: Kept,
+    kept: KeptJobs,
     status: Status,
     watch: Watch,
     jobs: Arc<Jobs>,
@@ -78,7 +78,7 @@ impl Made {
         ensures status { IfOk result (λ made. made.status.stored ≡ []) }
         ensures outlet { IfOk result (λ made. made.outlet ≡ empty_outlet) }
     {
-        let kept = Kept::new(alloc)?;
+        let kept = KeptJobs::new(alloc)?;
         let mut status = Status::new(alloc)?;
         let watch = status.watch()?;
         let (jobs, outlet) = Outlet::new(alloc)?;
@@ -104,15 +104,10 @@ impl<S: RowStore + Drop, J: ReplicaNaming> SharedReplica<S, J> {
         publisher: Publisher<S, J>,
         seats: Vec<ReadSeat<S, J>>,
     ) -> Result<SharedReplica<S, J>, Memory>
-        requires core { core ≡ new_over core.tables core.source core.base core.workers core.preserve }
-        requires publisher { publisher ≡ record { published = Load core.base ∷ []; waiting = []; history = Load core.base ∷ [] } }
-        requires seats { All (λ seat. seat ≡ Load core.base ∷ []) seats.items }
-
         // The name is that of this core.
-        requires tables { core.tables ≡ J.tables }
-        requires source { core.source ≡ J.source }
-        requires base { core.base ≡ J.base }
-        requires order { core.preserve ≡ J.preserve }
+        requires core { IsNewReplica J.names J.preserve core }
+        requires publisher { publisher ≡ loaded_alone J.names.base }
+        requires seats { All (λ seat. seat ≡ Load J.names.base ∷ []) seats.items }
     {
         match Made::new(alloc) {
             Ok(made) => Ok(SharedReplica::over(core, publisher, seats, made)),
@@ -130,13 +125,9 @@ impl<S: RowStore + Drop, J: ReplicaNaming> SharedReplica<S, J> {
         seats: Vec<ReadSeat<S, J>>,
         made: Made,
     ) -> SharedReplica<S, J>
-        requires core { core ≡ new_over core.tables core.source core.base core.workers core.preserve }
-        requires publisher { publisher ≡ record { published = Load core.base ∷ []; waiting = []; history = Load core.base ∷ [] } }
-        requires seats { All (λ seat. seat ≡ Load core.base ∷ []) seats.items }
-        requires tables { core.tables ≡ J.tables }
-        requires source { core.source ≡ J.source }
-        requires base { core.base ≡ J.base }
-        requires order { core.preserve ≡ J.preserve }
+        requires core { IsNewReplica J.names J.preserve core }
+        requires publisher { publisher ≡ loaded_alone J.names.base }
+        requires seats { All (λ seat. seat ≡ Load J.names.base ∷ []) seats.items }
         requires kept { made.kept ≡ [] }
         requires status { made.status.stored ≡ [] }
         requires outlet { made.outlet ≡ empty_outlet }
@@ -164,9 +155,10 @@ impl<S: RowStore + Drop, J: ReplicaNaming> SharedReplica<S, J> {
         from: Uuid,
         new: &Record,
     ) -> Result<Received, ReplicaFault>
-        ensures answer { Receives J.tables J.source J.base J.preserve from new.now result }
-        ensures foreign { bytes_eq from J.source ≡ false → IsErrAnd result (λ fault. (fault ≡ ReplicaFault.ForeignSource) ⊎ IsStop fault) }
-        ensures own { result ≡ Err ReplicaFault.ForeignSource → bytes_eq from J.source ≡ false }
+        ensures answer { Receives J.names J.preserve from new.now result }
+        ensures foreign { bytes_eq from J.names.source ≡ false
+            → IsErrAnd result (λ fault. (fault ≡ ReplicaFault.ForeignSource) ⊎ IsStop fault) }
+        ensures own { result ≡ Err ReplicaFault.ForeignSource → bytes_eq from J.names.source ≡ false }
     {
         let mut held = self.lock.take_soon(rt);
         let answer = held.coordinator().receive(rt, from, new);
@@ -183,7 +175,7 @@ impl<S: RowStore + Drop, J: ReplicaNaming> SharedReplica<S, J> {
     /// `Replica` it is taken, and may not. Where all records were taken and memory ran out for what comes behind them, `Replica` tells
     /// `P9`: no record waits then, and what is left is done by the next call that accepts a record, or by a worker.
     pub fn feed(&self, rt: &impl Wait, wire: &mut Wire, piece: &[u8]) -> Result<u64, WireFault>
-        ensures { Feeds J.tables J.source J.base J.preserve wire.old piece.now result wire.new }
+        ensures { Feeds J.names J.preserve wire.old piece.now result wire.new }
     {
         if wire.waiting().is_empty() {
             self.feed_first(rt, wire, piece)
@@ -198,7 +190,7 @@ impl<S: RowStore + Drop, J: ReplicaNaming> SharedReplica<S, J> {
     // The same where no record waits: the piece is gathered without the lock.
     fn feed_first(&self, rt: &impl Wait, wire: &mut Wire, piece: &[u8]) -> Result<u64, WireFault>
         requires { wire.old.waiting ≡ [] }
-        ensures { Feeds J.tables J.source J.base J.preserve wire.old piece.now result wire.new }
+        ensures { Feeds J.names J.preserve wire.old piece.now result wire.new }
     {
         if let Err(fault) = wire.gather(piece) {
             return Err(WireFault::Codec(fault));
@@ -307,8 +299,8 @@ impl<S: RowStore + Drop, J: ReplicaNaming> SharedReplica<S, J> {
         ensures upto { IfOk result (λ notice. gno ≤ low_of (gnos_of notice)) }
         ensures in_order { J.preserve ≡ true → IfOk result (λ notice. gno ≤ commits_in notice) }
         ensures history { IfOk result (λ notice. IsHistory J.preserve notice) }
-        ensures begins { IfOk result (λ notice. IsPrefix (Load J.base ∷ []) notice) }
-        ensures stop { IfErr result (TellsStop J.tables J.source J.base J.preserve gno) }
+        ensures begins { IfOk result (λ notice. IsPrefix (Load J.names.base ∷ []) notice) }
+        ensures stop { IfErr result (TellsStop J.names J.preserve gno) }
     {
         let all = Interval {
             first: 1,
@@ -324,13 +316,13 @@ impl<S: RowStore + Drop, J: ReplicaNaming> SharedReplica<S, J> {
     /// commits alone, and each time that it wakes looks at the commits that are not published, and at 4096 records at most, an interval.
     /// The empty set waits for nothing. It takes no memory.
     pub fn wait_for_set(&self, rt: &impl Wait, set: &GtidSet) -> Result<Notice<J>, ReplicaFault>
-        ensures foreign { takes_source set.now.source J.source ≡ false → result ≡ Err ReplicaFault.ForeignSource }
+        ensures foreign { takes_source set.now.source J.names.source ≡ false → result ≡ Err ReplicaFault.ForeignSource }
         ensures has { IfOk result (λ notice. AreAmong (gnos_of notice) set.now) }
         ensures in_order { J.preserve ≡ true → IfOk result (λ notice. AreUpTo (commits_in notice) set.now) }
         ensures history { IfOk result (λ notice. IsHistory J.preserve notice) }
-        ensures begins { IfOk result (λ notice. IsPrefix (Load J.base ∷ []) notice) }
-        ensures stop { takes_source set.now.source J.source ≡ true
-            → IfErr result (TellsStopOf J.tables J.source J.base J.preserve set.now) }
+        ensures begins { IfOk result (λ notice. IsPrefix (Load J.names.base ∷ []) notice) }
+        ensures stop { takes_source set.now.source J.names.source ≡ true
+            → IfErr result (TellsStopOf J.names J.preserve set.now) }
     {
         let (own, preserve) = self.named(rt);
         match set.source() {
@@ -349,8 +341,8 @@ impl<S: RowStore + Drop, J: ReplicaNaming> SharedReplica<S, J> {
         requires { preserve ≡ J.preserve }
         ensures has { IfOk result (λ notice. AreAmong (gnos_of notice) set.now) }
         ensures history { IfOk result (λ notice. IsHistory J.preserve notice) }
-        ensures begins { IfOk result (λ notice. IsPrefix (Load J.base ∷ []) notice) }
-        ensures stop { IfErr result (TellsStopOf J.tables J.source J.base J.preserve set.now) }
+        ensures begins { IfOk result (λ notice. IsPrefix (Load J.names.base ∷ []) notice) }
+        ensures stop { IfErr result (TellsStopOf J.names J.preserve set.now) }
     {
         let ids = set.intervals();
         if !preserve {
@@ -365,8 +357,8 @@ impl<S: RowStore + Drop, J: ReplicaNaming> SharedReplica<S, J> {
         requires { AllByRecursion (λ i. 1 ≤ i.first) wanted.now }
         ensures all { IfOk result (λ notice. has_all (gnos_of notice) wanted.now ≡ true) }
         ensures history { IfOk result (λ notice. IsHistory J.preserve notice) }
-        ensures begins { IfOk result (λ notice. IsPrefix (Load J.base ∷ []) notice) }
-        ensures stop { IfErr result (TellsStopBehind J.tables J.source J.base J.preserve wanted.now) }
+        ensures begins { IfOk result (λ notice. IsPrefix (Load J.names.base ∷ []) notice) }
+        ensures stop { IfErr result (TellsStopBehind J.names J.preserve wanted.now) }
     {
         let mut held = self.lock.take(rt).wait_for_commits(rt, wanted);
         let notice = held.coordinator().notice(wanted);
@@ -376,7 +368,7 @@ impl<S: RowStore + Drop, J: ReplicaNaming> SharedReplica<S, J> {
 
     // Whose records it takes, and whether it commits in the order of the log.
     fn named(&self, rt: &impl Wait) -> (Uuid, bool)
-        ensures { (result.0 ≡ J.source) × (result.1 ≡ J.preserve) }
+        ensures { (result.0 ≡ J.names.source) × (result.1 ≡ J.preserve) }
     {
         let mut held = self.lock.take(rt);
         let coordinator = held.coordinator();
@@ -387,7 +379,7 @@ impl<S: RowStore + Drop, J: ReplicaNaming> SharedReplica<S, J> {
 
     /// One of the seats: it has seen the rows before the first commit. `None` exactly where all are out. It takes no memory.
     pub fn seat(&self, rt: &impl Wait) -> Option<ReadSeat<S, J>>
-        ensures { IfSome result (λ seat. seat ≡ Load J.base ∷ []) }
+        ensures { IfSome result (λ seat. seat ≡ Load J.names.base ∷ []) }
     {
         self.seats.lock(rt).take()
     }
@@ -429,10 +421,7 @@ impl<S: RowStore + Drop, J: ReplicaNaming> SharedReplica<S, J> {
     /// accepted. What was committed and not published, as behind want of memory, may wait in the publisher. The seats that are not out
     /// are dropped. It takes no memory, and waits for nobody.
     pub fn end(self) -> (ReplicaCore<S>, Publisher<S, J>)
-        ensures tables { result.0.tables ≡ J.tables }
-        ensures source { result.0.source ≡ J.source }
-        ensures base { result.0.base ≡ J.base }
-        ensures order { result.0.preserve ≡ J.preserve }
+        ensures named { IsReplicaOf J.names J.preserve result.0 }
         ensures published { result.1.published ≡ operations result.0.tables result.0.base (ran result.0) (commits_in result.1.published) }
         ensures in_order { J.preserve ≡ true
             → result.1.published ≡ operations_in_order result.0.tables result.0.base result.0.accepted (commits_in result.1.published) }

@@ -12,7 +12,7 @@ use Rattle.schema.specs.declared.RowId.{RowId}
 use Rattle.schema.specs.RowId.{row_cmp, same_row}
 use Rattle.rows.specs.Database.{Database, parent_of, parent_in}
 use Rattle.store_trait.specs.Batch.{Entry, IsRising, put_batch}
-use Rattle.overlay.specs.Step.{parent_at}
+use Rattle.rows.specs.Step.{parent_at}
 use Rattle.overlay.specs.Children.{names_row, left_names, child_count}
 use Rattle.overlay.proofs.ChildCounts.{count_moves, changed_are_counted}
 use Rattle.row_index.specs.Counts.{Counts, CountsChildren, Recounts, count_at, times_in, parents_at, parents_left}

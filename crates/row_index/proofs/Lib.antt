@@ -1,4 +1,3 @@
-pub mod Maps
 pub mod Walked
 pub mod Recounts
 pub mod Keys

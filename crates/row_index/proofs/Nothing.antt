@@ -1,20 +1,19 @@
 -- Where no table has a unique column, or a parent, entries give nothing.
-use Rattle.std.proofs.Common.{◌≡◌, ◌∙◌, ap, refl, ℕ, ℤ, ◌==◌, Bool, true, false, cond, List, [], ◌∷◌, ◌++◌, Option, Some, None, is_some}
+use Rattle.std.proofs.Common.{◌≡◌, ◌∙◌, ap, refl, ℕ, ℤ, ◌==◌, true, false, cond, List, [], ◌∷◌, ◌++◌, Option, Some, None, is_some}
 use Rattle.std.specs.Prelude.{slice_get, option_and_then, option_to_list}
 use Rattle.std.specs.List.{list_any, flat_map}
-use Rattle.std.specs.Map.{keys_of}
 use Rattle.std.specs.Option.{option_map, option_map_or}
 use Rattle.std.specs.FinMap.{get, insert}
 use Rattle.std.proofs.lemmas.Bool.{or_parts}
 use Rattle.schema.specs.declared.Table.{Table}
 use Rattle.schema.specs.declared.RowId.{RowId}
-use Rattle.schema.specs.Schema.{table_at, link_of, unique_of}
+use Rattle.schema.specs.Schema.{table_at}
 use Rattle.schema.specs.Rows.{Mark}
 use Rattle.schema.proofs.Telling.{not_some}
 use Rattle.rows.specs.Database.{Database, parent_of, parent_in, mark_of, mark_in}
 use Rattle.store_trait.specs.Batch.{Entry}
-use Rattle.overlay.specs.Step.{parent_at}
-use Rattle.row_index.specs.Keys.{Keys, marks_at, mark_left, marks_left, with_entry, taken_up}
+use Rattle.rows.specs.Step.{parent_at}
+use Rattle.row_index.specs.Keys.{Keys, marks_at, mark_left, marks_left, taken_up}
 use Rattle.row_index.specs.Counts.{parents_at, parents_left}
 
 -- what no table has, the table of no id has

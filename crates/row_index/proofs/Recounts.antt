@@ -1,13 +1,12 @@
 -- How the counts move as a row gets a child, or loses one.
-use Rattle.std.proofs.Common.{◌≡◌, ◌∙◌, sym, ap, refl, inl, inr, ℕ, ◌+◌, ◌<◌, ◌≤◌, arith, cond, true, false, Bool, List, [], ◌∷◌, length, Option, Some, None}
-use Rattle.std.specs.Prelude.{unwrap_or}
-use Rattle.std.specs.Map.{lookup}
-use Rattle.std.specs.FinMap.{get, insert, remove, get-empty, get-insert, get-remove}
+use Rattle.std.proofs.Common.{◌≡◌, ◌∙◌, sym, ap, refl, inl, inr, ℕ, ◌+◌, ◌<◌, ◌≤◌, arith, cond, true, false, Bool, List, [], ◌∷◌, Option, Some, None}
+use Rattle.std.specs.Prelude.{unwrap_or, IsSome}
+use Rattle.std.specs.FinMap.{get, insert, remove, get-insert, get-remove}
 use Rattle.std.proofs.lemmas.Bool.{cases_Bool}
 use Rattle.std.proofs.lemmas.List.Sums.{sum_by-cons}
 use Rattle.schema.specs.declared.RowId.{RowId}
-use Rattle.schema.specs.RowId.{row_cmp, same_row, row_total}
-use Rattle.schema.proofs.RowMaps.{row_eq, row_is, rows_of, get_row, same_row_itself}
+use Rattle.schema.specs.RowId.{same_row, row_total}
+use Rattle.schema.proofs.RowMaps.{row_is, same_row_itself}
 use Rattle.row_index.specs.Counts.{Counts, count_at, times_in, NoneIsZero, Recounts}
 
 -- ---- one row's count
@@ -74,9 +73,13 @@ removed_is_counted counts row none q k is =
       | inr apart ↦ none q k (rw apart at was)
     ]
 
--- the count that a map has
-pub read_count : (entries : List (RowId × ℕ)) (row : RowId) (o : Option ℕ) → o ≡ lookup (row_eq row) entries → count_at (rows_of entries) row ≡ unwrap_or o 0
-read_count entries row o is = ap (λ p. unwrap_or p 0) (get_row entries row ∙ sym is)
+-- a row without an entry has none
+pub has_entry : (counts : Counts) (row : RowId) → 0 < count_at counts row → IsSome (get counts row)
+has_entry counts row some = by (get counts row) refl
+  where
+    by : (o : Option ℕ) → get counts row ≡ o → IsSome o
+    by None is = absurd (omega (arith, some, ap (λ o. unwrap_or o 0) is))
+    by (Some count) is = refl
 
 -- ---- one after another
 
@@ -109,9 +112,3 @@ is_below new rest row a b most so_far fits = omega (arith, so_far row, fits, onc
 pub left_fits : (old new : List RowId) (a b : Counts) (most : ℕ) → Recounts old [] a b → ((row : RowId) → count_at a row + times_in new row ≤ most + times_in old row) → (row : RowId) →
     count_at b row + times_in new row ≤ most
 left_fits old new a b most gone fits row = omega (arith, gone row, fits row)
-
--- ---- no counts
-
-pub no_counts : (entries : List (RowId × ℕ)) (row : RowId) → length entries ≡ 0 → count_at (rows_of entries) row ≡ 0
-no_counts [] row none = ap (λ o. unwrap_or o 0) (get-empty {X = ℕ} row_cmp row)
-no_counts (e ∷ es) row none = absurd (omega arith)

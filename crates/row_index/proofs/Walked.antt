@@ -78,8 +78,9 @@ pub listed_all : {X : Type 0} (f : RowId → List RowId) (entries batch : List (
 listed_all {X} f entries batch i found past is walked = walked ∙ ap (λ (l : List (RowId × X)). flat_map f (keys_of l)) (take_all i entries past ∙ is)
 
 -- one more is listed, or none
-pub one_listed : {X : Type 0} (f : RowId → List RowId) (entries : List (RowId × X)) (i : ℕ) (entry : RowId × X) (found pushed after : List RowId) (got o : Option RowId) → i < length entries →
+pub one_listed : {X : Type 0} {pushed after : List RowId} {got : Option RowId} (f : RowId → List RowId) (entries : List (RowId × X)) (i : ℕ) (entry : RowId × X) (found : List RowId) (o : Option RowId)
+    → i < length entries →
     entry ≡ get_or entries i entry →
     found ≡ flat_map f (keys_of (take i entries)) → got ≡ o → option_to_list got ≡ f entry.0 → after ≡ pushed → pushed ≡ found ++ option_to_list o → after ≡ flat_map f (keys_of (take (i + 1) entries))
-one_listed f entries i entry found pushed after got o within is walked same its left grown =
+one_listed {got = got} f entries i entry found o within is walked same its left grown =
     left ∙ grown ∙ (λ k. walked k ++ option_to_list (sym same k)) ∙ ap (λ l. flat_map f (keys_of (take i entries)) ++ l) its ∙ sym (listed_more f entries i entry within is)

@@ -1,27 +1,17 @@
 -- How many children each row has, as a map beside a store's rows.
-use Rattle.std.specs.Prelude.{◌≡◌, ℕ, ◌+◌, List, unwrap_or, Some, option_to_list, refl}
+use Rattle.std.specs.Prelude.{◌≡◌, ℕ, ◌+◌, List, unwrap_or, Some, option_to_list}
 use Rattle.std.specs.List.{count_by, flat_map}
-use Rattle.std.specs.Coded.{Coded, code_by, coded×, coded_ℕ}
-use Rattle.std.specs.FinMap.{FinMap, code, get}
+use Rattle.std.specs.FinMap.{FinMap, get}
 use Rattle.schema.specs.declared.Table.{Table}
 use Rattle.schema.specs.declared.RowId.{RowId}
-use Rattle.schema.specs.RowId.{row_cmp, coded_row_id, same_row}
+use Rattle.schema.specs.RowId.{row_cmp, same_row}
 use Rattle.rows.specs.Database.{Database, parent_in}
 use Rattle.store_trait.specs.Batch.{Entry}
-use Rattle.overlay.specs.Step.{parent_at}
+use Rattle.rows.specs.Step.{parent_at}
 use Rattle.overlay.specs.Children.{child_count}
 
 abbrev pub Counts : Type 0
 Counts = FinMap row_cmp ℕ
-
--- the counts, and how many more rows can be counted without memory
-pub record Tallied : Type 0 where
-  pub counts : Counts
-  pub room : ℕ
-
-abbrev pub tallied_code : Coded Tallied
-tallied_code =
-    code_by (Counts × ℕ) (coded× (code coded_row_id coded_ℕ) coded_ℕ) (λ t. (t.counts, t.room)) (λ p. record { counts = p.0; room = p.1 }) (λ _. refl)
 
 -- how many children a row is said to have
 abbrev pub count_at : Counts → RowId → ℕ

@@ -1,12 +1,11 @@
 -- Who has each value of the unique columns, as a map beside a store's rows.
-use Rattle.std.specs.Prelude.{◌≡◌, ℕ, ℤ, List, [], ◌∷◌, Option, option_and_then, option_to_list, refl}
+use Rattle.std.specs.Prelude.{◌≡◌, ℤ, List, [], ◌∷◌, Option, option_and_then, option_to_list}
 use Rattle.std.specs.Option.{option_map_or}
 use Rattle.std.specs.List.{flat_map}
-use Rattle.std.specs.Coded.{Coded, code_by, coded×, coded_ℕ, coded_ℤ}
-use Rattle.std.specs.FinMap.{FinMap, code, get, insert, remove}
+use Rattle.std.specs.FinMap.{FinMap, get, insert, remove}
 use Rattle.schema.specs.declared.Table.{Table}
 use Rattle.schema.specs.declared.RowId.{RowId}
-use Rattle.schema.specs.RowId.{row_cmp, coded_row_id}
+use Rattle.schema.specs.RowId.{row_cmp}
 use Rattle.schema.specs.Rows.{Mark}
 use Rattle.rows.specs.Database.{Database, mark_of, mark_in}
 use Rattle.rows.specs.Holders.{holder_of}
@@ -15,15 +14,6 @@ use Rattle.store_trait.specs.Batch.{Entry}
 -- for each mark the key of the row that has it
 abbrev pub Keys : Type 0
 Keys = FinMap row_cmp ℤ
-
--- the keys, and how many more marks can be entered without memory
-pub record Entered : Type 0 where
-  pub keys : Keys
-  pub room : ℕ
-
-abbrev pub entered_code : Coded Entered
-entered_code =
-    code_by (Keys × ℕ) (coded× (code coded_row_id coded_ℤ) coded_ℕ) (λ e. (e.keys, e.room)) (λ p. record { keys = p.0; room = p.1 }) (λ _. refl)
 
 -- the keys say who has each mark in a database
 abbrev pub Indexes : List Table → Database → Keys → Type 0

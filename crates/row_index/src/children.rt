@@ -8,10 +8,10 @@ ghost use Rattle.schema.specs.declared.RowId.{RowId};
 ghost use Rattle.schema.specs.declared.Table.{Table};
 ghost use Rattle.rows.specs.Database.{Database, parent_of, parent_in};
 ghost use Rattle.store_trait.specs.Batch.{put_batch};
-ghost use Rattle.overlay.specs.Step.{parent_at};
+ghost use Rattle.rows.specs.Step.{parent_at};
 ghost use Rattle.row_index.specs.Counts.{count_at, times_in, parents_at, parents_left, CountsChildren, Recounts};
 
-use indexmap::IndexMap;
+use row_map::RowMap;
 use rows::Row;
 use schema::{Memory, RowId, Schema};
 use std::alloc::Global;
@@ -21,38 +21,38 @@ use store_trait::{Batch, RowStore};
 /// For each row that is a parent how many rows name it so. A row without children has no entry.
 #[derive(Debug, Drop)]
 pub struct Children {
-    counts: IndexMap<RowId, usize>,
+    counts: RowMap<usize>,
 }
 
 impl Model for Children {
-    ghost use Rattle.std.specs.FinMap.{from_entries};
-    ghost use Rattle.indexmap.specs.IndexMap.{spare};
-    ghost use Rattle.schema.specs.RowId.{row_cmp};
-    ghost use Rattle.row_index.specs.Counts.{Tallied, tallied_code, NoneIsZero};
+    ghost use Rattle.std.specs.Prelude.{ℕ};
+    ghost use Rattle.std.specs.Coded.{coded_ℕ};
+    ghost use Rattle.row_map.specs.RoomyMap.{RoomyMap, roomy_map_code};
+    ghost use Rattle.row_index.specs.Counts.{NoneIsZero};
 
-    ghost Value = { Tallied };
+    ghost Value = { RoomyMap ℕ };
 
-    ghost coded = { tallied_code };
+    ghost coded = { roomy_map_code coded_ℕ };
 
-    ghost view = { λ c. record { counts = from_entries {R = row_cmp} c.counts.entries; room = spare c.counts } };
+    ghost view = { λ c. c.counts };
 
-    ghost invariant = { λ c. NoneIsZero (from_entries {R = row_cmp} c.counts.entries) };
+    ghost invariant = { λ c. NoneIsZero c.counts.map };
 }
 
 impl Children {
     /// The counts of no rows. It takes no memory.
     pub fn new(alloc: Global) -> Children
-        ensures { result.counts ≡ empty }
+        ensures { result.map ≡ empty }
     {
         Children {
-            counts: IndexMap::new(alloc),
+            counts: RowMap::new(alloc),
         }
     }
 
     /// The counts of the rows that this batch loads into an empty store. The time is that of a walk over the batch, and the memory that of
     /// its rows that have a parent.
     pub fn of(alloc: Global, schema: &Schema, batch: &Batch) -> Result<Children, Memory>
-        ensures { IfOk result (λ children. CountsChildren schema.now (put_batch batch.now empty) children.counts) }
+        ensures { IfOk result (λ children. CountsChildren schema.now (put_batch batch.now empty) children.map) }
     {
         let mut children = Children::new(alloc);
         children.reserve(schema, batch)?;
@@ -63,25 +63,20 @@ impl Children {
 
     /// How many children the row has. It takes no memory, and expected constant time.
     pub fn count(&self, row: RowId) -> usize
-        ensures { result ≡ count_at self.now.counts row }
+        ensures { result ≡ count_at self.now.map row }
     {
-        if self.counts.is_empty() {
-            // Where no row has a parent, this one is not even hashed.
-            return 0;
-        }
-        self.counts.get(&row).copied().unwrap_or(0)
+        self.counts.get(row).unwrap_or(0)
     }
 
     /// Makes room for the parents that the batch gives its rows; where there is room for as many, as there is for none, it takes no
     /// memory. The time is that of a walk over the batch, and over the schema's tables for each of its rows.
     pub fn reserve(&mut self, schema: &Schema, batch: &Batch) -> Result<(), Memory>
-        ensures counts { self.new.counts ≡ self.old.counts }
+        ensures map { self.new.map ≡ self.old.map }
         ensures room { OnOk result (length (parents_left schema.now batch.now) ≤ self.new.room) }
         ensures succeeds { length (parents_left schema.now batch.now) ≤ self.old.room → IsOk result }
     {
         self.counts
-            .reserve(parents_in(schema, child_entries(schema, batch)))?;
-        Ok(())
+            .reserve(parents_in(schema, child_entries(schema, batch)))
     }
 
     /// Follows a batch whose rows had these parents before it. `rows` is how many rows there are behind it, of which no row has more
@@ -89,18 +84,18 @@ impl Children {
     /// schema's tables for each row.
     pub fn put(&mut self, schema: &Schema, old: &[RowId], batch: &Batch, rows: usize)
         requires room { length (parents_left schema.now batch.now) ≤ self.old.room }
-        requires counted { (row : RowId) → times_in old.now row ≤ count_at self.old.counts row }
-        requires fits { (row : RowId) → count_at self.old.counts row + times_in
+        requires counted { (row : RowId) → times_in old.now row ≤ count_at self.old.map row }
+        requires fits { (row : RowId) → count_at self.old.map row + times_in
             (parents_left schema.now batch.now) row ≤ rows + times_in old.now row }
-        ensures { Recounts old.now (parents_left schema.now batch.now) self.old.counts self.new.counts }
+        ensures { Recounts old.now (parents_left schema.now batch.now) self.old.map self.new.map }
     {
         self.give_up(old);
         self.take_up(schema, child_entries(schema, batch), rows);
     }
 
     fn give_up(&mut self, old: &[RowId])
-        requires { (row : RowId) → times_in old.now row ≤ count_at self.old.counts row }
-        ensures counts { Recounts old.now [] self.old.counts self.new.counts }
+        requires { (row : RowId) → times_in old.now row ≤ count_at self.old.map row }
+        ensures counts { Recounts old.now [] self.old.map self.new.map }
         ensures room { self.old.room ≤ self.new.room }
     {
         for row in old {
@@ -110,8 +105,8 @@ impl Children {
 
     fn take_up(&mut self, schema: &Schema, entries: &[(RowId, Option<Row>)], rows: usize)
         requires room { length (parents_left schema.now entries.now) ≤ self.old.room }
-        requires fits { (row : RowId) → count_at self.old.counts row + times_in (parents_left schema.now entries.now) row ≤ rows }
-        ensures { Recounts [] (parents_left schema.now entries.now) self.old.counts self.new.counts }
+        requires fits { (row : RowId) → count_at self.old.map row + times_in (parents_left schema.now entries.now) row ≤ rows }
+        ensures { Recounts [] (parents_left schema.now entries.now) self.old.map self.new.map }
     {
         for entry in entries {
             if let Some(parent) = parent_left(schema, entry) {
@@ -122,26 +117,27 @@ impl Children {
 
     /// A child fewer. The last one takes the row's entry with it.
     fn give_up_one(&mut self, row: RowId)
-        requires { 0 < count_at self.old.counts row }
-        ensures counts { Recounts (row ∷ []) [] self.old.counts self.new.counts }
+        requires { 0 < count_at self.old.map row }
+        ensures counts { Recounts (row ∷ []) [] self.old.map self.new.map }
         ensures room { self.old.room ≤ self.new.room }
     {
-        if self.count(row) == 1 {
-            self.counts.swap_remove(&row);
-        } else if let Some(count) = self.counts.get_mut(&row) {
-            *count -= 1;
+        let count = self.count(row);
+        if count == 1 {
+            self.counts.remove(row);
+        } else {
+            self.counts.replace(row, count - 1);
         }
     }
 
     /// A child more, of at most so many.
     fn take_up_one(&mut self, row: RowId, most: usize)
         requires room { 0 < self.old.room }
-        requires fits { count_at self.old.counts row < most }
-        ensures counts { Recounts [] (row ∷ []) self.old.counts self.new.counts }
+        requires fits { count_at self.old.map row < most }
+        ensures counts { Recounts [] (row ∷ []) self.old.map self.new.map }
         ensures room { self.old.room ≤ self.new.room + 1 }
     {
         let count = self.count(row) + 1;
-        let _ = self.counts.insert(row, count);
+        self.counts.set(row, count);
     }
 }
 

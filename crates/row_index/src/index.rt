@@ -1,15 +1,15 @@
 //! Who has each value of the unique columns.
 
-ghost use Rattle.std.specs.Prelude.{◌≡◌, ◌+◌, ◌<◌, ◌≤◌, length, is_some, option_to_list, IfOk, OnOk, IsOk};
+ghost use Rattle.std.specs.Prelude.{◌≡◌, ◌≤◌, length, is_some, option_to_list, IfOk, OnOk, IsOk};
 ghost use Rattle.std.specs.List.{list_any};
 ghost use Rattle.std.specs.Map.{keys_of};
-ghost use Rattle.std.specs.FinMap.{empty, get, insert};
+ghost use Rattle.std.specs.FinMap.{empty, get};
 ghost use Rattle.schema.specs.declared.Table.{Table};
 ghost use Rattle.rows.specs.Database.{Database, mark_in, NoValueTwice};
 ghost use Rattle.store_trait.specs.Batch.{put_batch};
 ghost use Rattle.row_index.specs.Keys.{Keys, Indexes, marks_at, mark_left, marks_left, given_up, taken_up, moved};
 
-use indexmap::IndexMap;
+use row_map::RowMap;
 use rows::{Row, mark_of};
 use schema::{Mark, Memory, RowId, Schema};
 use std::alloc::Global;
@@ -19,29 +19,28 @@ use store_trait::{Batch, RowStore};
 /// For each value of a unique column the key of the row that has it.
 #[derive(Debug, Drop)]
 pub struct Index {
-    keys: IndexMap<Mark, i64>,
+    keys: RowMap<i64>,
 }
 
 impl Model for Index {
-    ghost use Rattle.std.specs.FinMap.{from_entries};
-    ghost use Rattle.indexmap.specs.IndexMap.{spare};
-    ghost use Rattle.schema.specs.RowId.{row_cmp};
-    ghost use Rattle.row_index.specs.Keys.{Entered, entered_code};
+    ghost use Rattle.std.specs.Prelude.{ℤ};
+    ghost use Rattle.std.specs.Coded.{coded_ℤ};
+    ghost use Rattle.row_map.specs.RoomyMap.{RoomyMap, roomy_map_code};
 
-    ghost Value = { Entered };
+    ghost Value = { RoomyMap ℤ };
 
-    ghost coded = { entered_code };
+    ghost coded = { roomy_map_code coded_ℤ };
 
-    ghost view = { λ x. record { keys = from_entries {R = row_cmp} x.keys.entries; room = spare x.keys } };
+    ghost view = { λ x. x.keys };
 }
 
 impl Index {
     /// The index of no rows. It takes no memory.
     pub fn new(alloc: Global) -> Index
-        ensures { result.keys ≡ empty }
+        ensures { result.map ≡ empty }
     {
         Index {
-            keys: IndexMap::new(alloc),
+            keys: RowMap::new(alloc),
         }
     }
 
@@ -49,69 +48,60 @@ impl Index {
     /// its rows that have a value in a unique column.
     pub fn of(alloc: Global, schema: &Schema, batch: &Batch) -> Result<Index, Memory>
         ensures { IfOk result (λ index. NoValueTwice schema.now (put_batch batch.now empty)
-            → Indexes schema.now (put_batch batch.now empty) index.keys) }
+            → Indexes schema.now (put_batch batch.now empty) index.map) }
     {
         let mut index = Index::new(alloc);
         index.reserve(schema, batch)?;
-        index.take_up(schema, batch.entries());
+        take_up(&mut index.keys, schema, batch.entries());
         Ok(index)
     }
 
     /// The key of the row that has the mark; `None` where none has it. It takes no memory, and expected constant time.
     pub fn holder(&self, mark: Mark) -> Option<i64>
-        ensures { result ≡ get self.now.keys mark }
+        ensures { result ≡ get self.now.map mark }
     {
-        self.keys.get(&mark).copied()
+        self.keys.get(mark.as_row())
     }
 
     /// Makes room for the marks that the batch gives its rows; where there is room for as many, as there is for none, it takes no
     /// memory. The time is that of a walk over the batch, and over the schema's tables for each of its rows.
     pub fn reserve(&mut self, schema: &Schema, batch: &Batch) -> Result<(), Memory>
-        ensures keys { self.new.keys ≡ self.old.keys }
+        ensures map { self.new.map ≡ self.old.map }
         ensures room { OnOk result (length (marks_left schema.now batch.now) ≤ self.new.room) }
         ensures succeeds { length (marks_left schema.now batch.now) ≤ self.old.room → IsOk result }
     {
         self.keys
-            .reserve(marks_in(schema, marked_entries(schema, batch)))?;
-        Ok(())
+            .reserve(marks_in(schema, marked_entries(schema, batch)))
     }
 
     /// Follows a batch whose rows had these marks before it: these go first, and then those come that the rows have now. It takes no
     /// memory. The time is that of a look-up for each of both, and of a walk over the schema's tables for each row.
     pub fn put(&mut self, schema: &Schema, old: &[Mark], batch: &Batch)
         requires { length (marks_left schema.now batch.now) ≤ self.old.room }
-        ensures { self.new.keys ≡ moved schema.now old.now batch.now self.old.keys }
+        ensures { self.new.map ≡ moved schema.now old.now batch.now self.old.map }
     {
-        self.give_up(old);
-        self.take_up(schema, marked_entries(schema, batch));
+        give_up(&mut self.keys, old);
+        take_up(&mut self.keys, schema, marked_entries(schema, batch));
     }
+}
 
-    fn give_up(&mut self, old: &[Mark])
-        ensures keys { self.new.keys ≡ given_up old.now self.old.keys }
-        ensures room { self.old.room ≤ self.new.room }
-    {
-        for mark in old {
-            self.keys.swap_remove(mark);
+fn give_up(keys: &mut RowMap<i64>, old: &[Mark])
+    ensures map { keys.new.map ≡ given_up old.now keys.old.map }
+    ensures room { keys.old.room ≤ keys.new.room }
+{
+    for mark in old {
+        keys.remove(mark.as_row());
+    }
+}
+
+fn take_up(keys: &mut RowMap<i64>, schema: &Schema, entries: &[(RowId, Option<Row>)])
+    requires { length (marks_left schema.now entries.now) ≤ keys.old.room }
+    ensures { keys.new.map ≡ taken_up schema.now entries.now keys.old.map }
+{
+    for entry in entries {
+        if let Some(mark) = mark_left(schema, entry) {
+            keys.set(mark.as_row(), entry.0.key);
         }
-    }
-
-    fn take_up(&mut self, schema: &Schema, entries: &[(RowId, Option<Row>)])
-        requires { length (marks_left schema.now entries.now) ≤ self.old.room }
-        ensures { self.new.keys ≡ taken_up schema.now entries.now self.old.keys }
-    {
-        for entry in entries {
-            if let Some(mark) = mark_left(schema, entry) {
-                self.set(mark, entry.0.key);
-            }
-        }
-    }
-
-    fn set(&mut self, mark: Mark, key: i64)
-        requires { 0 < self.old.room }
-        ensures keys { self.new.keys ≡ insert self.old.keys mark key }
-        ensures room { self.old.room ≤ self.new.room + 1 }
-    {
-        let _ = self.keys.insert(mark, key);
     }
 }
 

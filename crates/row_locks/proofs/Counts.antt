@@ -1,5 +1,5 @@
 -- How the counts of rows change.
-use Rattle.std.proofs.Common.{◌≡◌, ◌∙◌, sym, ap, refl, ℕ, ◌+◌, ◌<◌, ◌≤◌, arith, nat_eq, Bool, true, false, true≢false, ◌&&◌, cond, Option, Some, None, IsNone, IsOk, OnErr, Result, Ok, Err, inl, inr}
+use Rattle.std.proofs.Common.{◌≡◌, ◌∙◌, sym, ap, refl, ℕ, ◌+◌, ◌≤◌, arith, nat_eq, Bool, true, false, true≢false, ◌&&◌, cond, Option, Some, None, IsNone, inl, inr}
 use Rattle.std.specs.Prelude.{unwrap_or}
 use Rattle.std.specs.Option.{option_map_or}
 use Rattle.std.specs.FinMap.{get, insert, remove, get-insert, get-remove}
@@ -11,8 +11,7 @@ use Rattle.row_locks.specs.declared.Mode.TheVariants.{Share, Exclusive}
 use Rattle.row_locks.specs.declared.tally.Count.{Count}
 use Rattle.row_locks.specs.Mode.{weight}
 use Rattle.row_locks.specs.Tally.{Counts, opposing, count_at, nobody, AllAreHeld}
-use Rattle.schema.proofs.RowMaps.{row_eq, rows_of, get_row, row_is}
-use Rattle.indexmap.specs.IndexMap.{IndexMap, spare, get as entry_of}
+use Rattle.schema.proofs.RowMaps.{row_is}
 
 abbrev of_option : Option Count → Mode → ℕ
 of_option o mode = option_map_or (λ count. opposing count mode) o 0
@@ -79,12 +78,6 @@ pub had_count : (counts : Counts) (row : RowId) (was : Option Mode) → weight w
 had_count counts row None h e = refl
 had_count counts row (Some Share) h e = absurd (omega (arith, ap (λ o. of_option o Exclusive) e))
 had_count counts row (Some Exclusive) h e = absurd (omega (arith, ap (λ o. of_option o Exclusive) e))
-
--- a map with room takes a row that no session held, and any map takes one that a session held
-pub takes_row : {S T E : Type 0} (m : IndexMap RowId Count S) (row : RowId) (was : Option Mode) → weight was Exclusive ≤ count_at (rows_of m.entries) row Exclusive → (IsNone was → 0 < spare m) →
-    (r : Result T E) → (0 < spare m → IsOk r) → OnErr r (entry_of row_eq m row ≡ None) → IsOk r
-takes_row m row was counted room (Ok x) succeeds absent = refl
-takes_row m row was counted room (Err e) succeeds absent = succeeds (room (had_count (rows_of m.entries) row was counted (get_row m.entries row ∙ absent)))
 
 pub is_nobody : (count : Count) (b : Bool) → b ≡ (nat_eq count.holders 0 && nat_eq count.exclusive 0) → b ≡ true → count ≡ nobody
 is_nobody count b is true_ =

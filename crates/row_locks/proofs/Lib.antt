@@ -1,7 +1,6 @@
-pub mod Rows
 pub mod Counts
 pub mod Moves
 pub mod Tied
+pub mod Places
 pub mod OneSession
 pub mod Holders
-pub mod Unplaced

@@ -1,15 +1,13 @@
 -- The counts of rows move as what one session holds does.
-use Rattle.std.proofs.Common.{◌≡◌, ◌∙◌, sym, ap, refl, ℕ, zero, suc, ◌+◌, ◌-◌, ◌<◌, ◌≤◌, length, take, get_or, ◌⊎◌, arith, is_some, cond, Option, Some, None, List, [], ◌∷◌, ◌++◌, inl, inr}
+use Rattle.std.proofs.Common.{◌≡◌, ◌∙◌, sym, ap, refl, ℕ, zero, suc, ◌+◌, ◌-◌, ◌<◌, ◌≤◌, length, take, get_or, ◌⊎◌, arith, is_some, cond, Option, Some, None, List, [], ◌∷◌, ◌++◌, map, inl, inr}
 use Rattle.std.specs.FinMap.{get, insert, remove, len, get-insert, get-remove, get-empty, len-remove, empty_of_len}
 use Rattle.std.proofs.lemmas.Bool.{cases_Bool}
 use Rattle.std.proofs.lemmas.List.{take_more, map-append}
 use Rattle.schema.specs.declared.RowId.{RowId}
 use Rattle.schema.specs.RowId.{row_cmp, same_row, row_total}
-use Rattle.schema.specs.Rows.{Mark}
 use Rattle.row_locks.specs.declared.Mode.{Mode}
-use Rattle.row_locks.specs.declared.Mode.TheVariants.{Exclusive}
 use Rattle.row_locks.specs.Mode.{weight, stronger}
-use Rattle.row_locks.specs.Locks.{Holding, also_held, locks_on}
+use Rattle.row_locks.specs.Locks.{Holding, also_held}
 use Rattle.row_locks.specs.Tally.{Counts, count_at}
 use Rattle.row_locks.specs.Tied.{MovesAlike}
 use Rattle.schema.proofs.RowMaps.{row_is}
@@ -72,18 +70,10 @@ pub also_held-push : (held : Holding) (locks : List (RowId × Mode)) (lock : Row
 also_held-push held [] lock = refl
 also_held-push held (first ∷ locks) lock = also_held-push (insert held first.0 (stronger (get held first.0) first.1)) locks lock
 
-pub also_held-next : (held now now' : Holding) (locks : List (RowId × Mode)) (i : ℕ) (d : RowId × Mode) → i < length locks → now ≡ also_held held (take i locks) →
-    now' ≡ insert now (get_or locks i d).0 (stronger (get now (get_or locks i d).0) (get_or locks i d).1) → now' ≡ also_held held (take (i + 1) locks)
-also_held-next held now now' locks i d within was is =
-    let lock = get_or locks i d in
-    is ∙ ap (λ h. insert h lock.0 (stronger (get h lock.0) lock.1)) was
-    ∙ sym (also_held-push held (take i locks) lock) ∙ ap (also_held held) (sym (take_more locks i d within))
-
--- the next mark of a list is taken behind those before it
-pub also_held-next_mark : (held now now' : Holding) (marks : List Mark) (i : ℕ) (d : Mark) → i < length marks → now ≡ also_held held (locks_on Exclusive (take i marks)) →
-    now' ≡ insert now (get_or marks i d) (stronger (get now (get_or marks i d)) Exclusive) → now' ≡ also_held held (locks_on Exclusive (take (i + 1) marks))
-also_held-next_mark held now now' marks i d within was is =
-    let mark = get_or marks i d in
-    is ∙ ap (λ h. insert h mark (stronger (get h mark) Exclusive)) was
-    ∙ sym (also_held-push held (locks_on Exclusive (take i marks)) (mark, Exclusive))
-    ∙ ap (also_held held) (sym (ap (locks_on Exclusive) (take_more marks i d within) ∙ map-append (λ row. (row, Exclusive)) (take i marks) (mark ∷ [])))
+pub also_held-next : {X : Type 0} (lock : X → RowId × Mode) (held now now' : Holding) (xs : List X) (i : ℕ) (d : X) → i < length xs → now ≡ also_held held (map lock (take i xs)) →
+    now' ≡ insert now (lock (get_or xs i d)).0 (stronger (get now (lock (get_or xs i d)).0) (lock (get_or xs i d)).1) → now' ≡ also_held held (map lock (take (i + 1) xs))
+also_held-next lock held now now' xs i d within was is =
+    let x = lock (get_or xs i d) in
+    is ∙ ap (λ h. insert h x.0 (stronger (get h x.0) x.1)) was
+    ∙ sym (also_held-push held (map lock (take i xs)) x)
+    ∙ ap (also_held held) (sym (ap (map lock) (take_more xs i d within) ∙ map-append lock (take i xs) (get_or xs i d ∷ [])))

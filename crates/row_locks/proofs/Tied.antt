@@ -1,24 +1,22 @@
 -- What ties the counts of rows to what the sessions hold, and that no two sessions clash.
 use Rattle.std.proofs.Common.{◌≡◌, ◌≢◌, ◌∙◌, sym, ap, refl, ℕ, suc, ◌+◌, ◌-◌, ◌*◌, ◌<◌, ◌≤◌, arith, length, get_or, set, replicate, nat_lt, Bool, true, false, true≢false, ◌||◌, cond, Option, Some}
-use Rattle.std.proofs.Common.{None, List, [], ◌∷◌, map, ◌⊎◌, inl, inr}
+use Rattle.std.proofs.Common.{None, List, [], ◌∷◌, ◌⊎◌, inl, inr}
 use Rattle.std.specs.List.{list_any, count_by}
 use Rattle.std.specs.FinMap.{get, insert, empty, get-empty, get-insert}
 use Rattle.std.proofs.lemmas.Bool.{cases_Bool, or_parts}
 use Rattle.std.proofs.lemmas.Bool.Decides.{leb_tells, eqb_tells}
-use Rattle.std.proofs.lemmas.List.{get_or-set_same, get_or-set_other, get_or-replicate, length-replicate, get_or_past, get_or-map, length-map, map-set, set-get_or}
+use Rattle.std.proofs.lemmas.List.{get_or-set_same, get_or-set_other, get_or-replicate, length-replicate, get_or_past}
 use Rattle.std.proofs.Math.ListN.{length-set}
 use Rattle.std.proofs.lemmas.List.Elements.{All-from_get_or}
 use Rattle.std.proofs.lemmas.List.Folds.{list_any_none, list_any_at, sum_by-replicate}
 use Rattle.std.proofs.lemmas.List.Sums.{sum_by-set, sum_by-append, count_by-le-length}
 use Rattle.schema.specs.declared.RowId.{RowId}
 use Rattle.schema.specs.RowId.{row_cmp, same_row, row_total}
-use Rattle.schema.specs.Rows.{Mark}
 use Rattle.row_locks.specs.declared.Mode.{Mode}
 use Rattle.row_locks.specs.declared.Mode.TheVariants.{Share, Exclusive}
 use Rattle.row_locks.specs.Mode.{opposes, weight, stronger}
-use Rattle.row_locks.specs.Locks.{Holding, Locks, AllLocks, no_locks, held_by, released, clashes_with, any_clashes, mark_clashes, any_clashes_all, also_held, locks_on, taken, NoClash}
+use Rattle.row_locks.specs.Locks.{Holding, Locks, no_locks, held_by, released, clashes_with, any_clashes, also_held, taken, NoClash}
 use Rattle.std.specs.Option.{option_map_or}
-use Rattle.row_locks.specs.Held.{Place}
 use Rattle.row_locks.specs.Tally.{Counts, count_at, opposing}
 use Rattle.row_locks.specs.Tied.{IsTied, IsCounted, MovesAlike}
 use Rattle.row_locks.specs.Laws.{NothingHeld}
@@ -196,15 +194,6 @@ tied-taken locks counts counts' session rows least greatest tied clear moves =
     tied-set locks counts session least greatest tied (also_held (held_by locks session) rows) counts' moves
     (all_clear (clashes_with locks session) (held_by locks session) rows (tied.no_clash session) clear)
 
--- marks that no other session holds are free as locks
-any_on_marks : (locks : Locks) (session : ℕ) (marks : List Mark) → any_clashes locks session (locks_on Exclusive marks) ≡ list_any (λ mark. clashes_with locks session mark Exclusive) marks
-any_on_marks locks session [] = refl
-any_on_marks locks session (mark ∷ marks) = ap (λ b. clashes_with locks session mark Exclusive || b) (any_on_marks locks session marks)
-
-pub marks_free : (locks : AllLocks) (session : ℕ) (rows : List (RowId × Mode)) (marks : List Mark) → any_clashes_all locks session rows marks ≡ false →
-    any_clashes locks.marks session (locks_on Exclusive marks) ≡ false
-marks_free locks session rows marks clear = any_on_marks locks.marks session marks ∙ (or_parts (any_clashes locks.rows session rows) (list_any (mark_clashes locks session) marks) clear).1
-
 -- a table in which no session holds a row
 nothing_at : (n i : ℕ) → get_or (replicate n (empty {X = Mode} {R = row_cmp})) i empty ≡ empty
 nothing_at n i = elim (ltb_tells i n) [
@@ -215,7 +204,7 @@ nothing_at n i = elim (ltb_tells i n) [
 times_none : (n : ℕ) → n * 0 ≡ 0
 times_none n = omega arith
 
-none_counted : (row : RowId) (mode : Mode) → count_at empty row mode ≡ 0
+pub none_counted : (row : RowId) (mode : Mode) → count_at empty row mode ≡ 0
 none_counted row mode = ap (λ o. option_map_or (λ count. opposing count mode) o 0) (get-empty row_cmp row)
 
 pub none_at : (i : ℕ) → get_or no_locks i empty ≡ empty
@@ -241,55 +230,3 @@ tied-none = none_of 256 refl
           let zero_each : cond (clashing row mode empty) 1 0 ≡ 0 = ap (λ b. cond b 1 0) (nothing_clashes row mode) in
           none_counted row mode ∙ sym (mine ∙ ap (λ k. n * k) zero_each ∙ times_none n);
     }
-
--- ---- the places
-
-abbrev pub rows_in : List Place → Locks
-rows_in places = map (λ place. place.rows) places
-
--- what the session's place has is what the session holds
-pub place_rows : (places : List Place) (counts : Counts) (session : ℕ) (place : Place) → 1 ≤ session → session ≤ 256 → IsTied (rows_in places) counts → place ≡ get_or places (session - 1) place →
-    place.rows ≡ held_by (rows_in places) session
-place_rows places counts session place least greatest tied is =
-    let within : session - 1 < length places = omega (arith, tied.places, length-map places (λ (p : Place). p.rows)) in
-    ap (λ (p : Place). p.rows) is ∙ sym (get_or-map (λ (p : Place). p.rows) places (session - 1) place empty within)
-
--- the session's own rows are counted
-pub counted_place : (places : List Place) (counts : Counts) (session : ℕ) (place : Place) → 1 ≤ session → session ≤ 256 → IsTied (rows_in places) counts → place ≡ get_or places (session - 1) place →
-    IsCounted place.rows counts
-counted_place places counts session place least greatest tied is =
-    rw (place_rows places counts session place least greatest tied is) (counted_own (rows_in places) counts session least greatest tied)
-
--- room made in the session's place moves no rows
-pub with_room : (places : List Place) (counts : Counts) (session : ℕ) (place roomy : Place) → 1 ≤ session → session ≤ 256 → IsTied (rows_in places) counts →
-    place ≡ get_or places (session - 1) place → roomy.rows ≡ place.rows →
-    rows_in (set places (session - 1) roomy) ≡ rows_in places
-with_room places counts session place roomy least greatest tied is same =
-    map-set (λ (p : Place). p.rows) places (session - 1) roomy
-    ∙ ap (λ h. set (rows_in places) (session - 1) h) (same ∙ place_rows places counts session place least greatest tied is)
-    ∙ set-get_or (rows_in places) (session - 1) empty
-
-module _ (places : List Place) (counts counts' : Counts) (session : ℕ) (place place' : Place) (least : 1 ≤ session) (greatest : session ≤ 256) (tied : IsTied (rows_in places) counts)
-    (is : place ≡ get_or places (session - 1) place)
-    (moves : MovesAlike place.rows counts place'.rows counts') where
-  own : place.rows ≡ held_by (rows_in places) session
-  own = place_rows places counts session place least greatest tied is
-
-  -- the session's place took a list of locks
-  pub place_taken : (rows : List (RowId × Mode)) → place'.rows ≡ also_held place.rows rows → rows_in (set places (session - 1) place') ≡ taken (rows_in places) session rows
-  place_taken rows took = map-set (λ (p : Place). p.rows) places (session - 1) place' ∙ ap (λ h. set (rows_in places) (session - 1) h) (took ∙ ap (λ h. also_held h rows) own)
-
-  pub place_taken_tied : (rows : List (RowId × Mode)) → place'.rows ≡ also_held place.rows rows → any_clashes (rows_in places) session rows ≡ false →
-      IsTied (rows_in (set places (session - 1) place')) counts'
-  place_taken_tied rows took clear =
-      let moved : MovesAlike (held_by (rows_in places) session) counts (also_held (held_by (rows_in places) session) rows) counts' = rw (took, own) at moves in
-      rw (place_taken rows took) (tied-taken (rows_in places) counts counts' session rows least greatest tied clear moved)
-
-  -- the session's place let all go
-  pub place_freed : place'.rows ≡ empty → rows_in (set places (session - 1) place') ≡ released (rows_in places) session
-  place_freed none = map-set (λ (p : Place). p.rows) places (session - 1) place' ∙ ap (λ h. set (rows_in places) (session - 1) h) none
-
-  pub place_freed_tied : place'.rows ≡ empty → IsTied (rows_in (set places (session - 1) place')) counts'
-  place_freed_tied none =
-      let moved : MovesAlike (held_by (rows_in places) session) counts empty counts' = rw (none, own) at moves in
-      rw (place_freed none) (tied-released (rows_in places) counts session least greatest tied counts' moved)

@@ -2,9 +2,9 @@
 use Rattle.std.specs.Prelude.{◌≡◌, ℕ, Some, refl}
 use Rattle.std.specs.Option.{option_map_or}
 use Rattle.std.specs.Coded.{Coded, code_by, coded×, coded_ℕ}
-use Rattle.std.specs.FinMap.{FinMap, code, get}
+use Rattle.std.specs.FinMap.{FinMap, get}
 use Rattle.schema.specs.declared.RowId.{RowId}
-use Rattle.schema.specs.RowId.{row_cmp, coded_row_id}
+use Rattle.schema.specs.RowId.{row_cmp}
 use Rattle.row_locks.specs.declared.Mode.{Mode}
 use Rattle.row_locks.specs.declared.Mode.TheVariants.{Share, Exclusive}
 use Rattle.row_locks.specs.declared.tally.Count.{Count}
@@ -12,20 +12,8 @@ use Rattle.row_locks.specs.declared.tally.Count.{Count}
 abbrev pub Counts : Type 0
 Counts = FinMap row_cmp Count
 
--- the counts, and how many more rows can be counted without memory
-pub record Sheet : Type 0 where
-  pub rows : Counts
-  pub room : ℕ
-
 abbrev pub count_code : Coded Count
 count_code = code_by (ℕ × ℕ) (coded× coded_ℕ coded_ℕ) (λ c. (c.holders, c.exclusive)) (λ p. record { holders = p.0; exclusive = p.1 }) (λ _. refl)
-
-abbrev pub counts_code : Coded Counts
-counts_code = code coded_row_id count_code
-
-abbrev pub sheet_code : Coded Sheet
-sheet_code =
-    code_by (Counts × ℕ) (coded× counts_code coded_ℕ) (λ p. (p.rows, p.room)) (λ p. record { rows = p.0; room = p.1 }) (λ _. refl)
 
 -- of the sessions that are counted, how many clash with a lock of this mode
 abbrev pub opposing : Count → Mode → ℕ

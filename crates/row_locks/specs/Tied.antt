@@ -6,7 +6,6 @@ use Rattle.schema.specs.declared.RowId.{RowId}
 use Rattle.row_locks.specs.declared.Mode.{Mode}
 use Rattle.row_locks.specs.Mode.{opposes, weight}
 use Rattle.row_locks.specs.Locks.{Holding, Locks, NoClash}
-use Rattle.row_locks.specs.Held.{Side, locks_in}
 use Rattle.row_locks.specs.Tally.{Counts, count_at}
 
 -- each of 256 sessions is counted at each row that it holds, and no two of them clash
@@ -24,8 +23,3 @@ pub record IsCounted (held : Holding) (counts : Counts) : Type 0 where
 abbrev pub MovesAlike : Holding → Counts → Holding → Counts → Type 0
 MovesAlike held counts held' counts' =
     (row : RowId) (mode : Mode) → count_at counts' row mode + weight (get held row) mode ≡ count_at counts row mode + weight (get held' row) mode
-
--- there are 256 sessions, of which no two clash
-pub record AreSound (side : Side) : Type 0 where
-  pub places : length (locks_in side) ≡ 256
-  pub no_clash : NoClash (locks_in side)

@@ -7,26 +7,22 @@
 //! lists or nothing, and `release_all` frees what a session holds.
 //!
 //! What is held of rows and what of marks stand apart, each kept in one way (`sessions`): each session has a map of
-//! its own (`held`), and beside them stands one map to how many sessions hold a row or a mark, and how many of these
-//! exclusively (`tally`). So `clashes` compares two numbers. A mark stands there under the row id of its table and
-//! value, and nothing is made for marks before one is taken (`marks`). The crate stands on `schema`, which names rows
-//! and marks and orders them, and on `indexmap`.
+//! its own, and beside them stands one map to how many sessions hold a row or a mark, and how many of these
+//! exclusively (`tally`). So `clashes` compares two numbers. A mark stands there under the row id that it is written
+//! as, and nothing is made for marks before one is taken. The crate stands on `schema`, which names rows
+//! and marks and orders them, and on `row_map`.
 #![tactic(auto)]
 
-ghost use Rattle.std.specs.Prelude.{◌≡◌, ◌≤◌, ◌↔◌, false, IsTrue, IfOk, OnOk, OnErr, Err, length};
-ghost use Rattle.std.specs.List.{list_any};
+ghost use Rattle.std.specs.Prelude.{◌≡◌, ◌≤◌, ◌↔◌, false, IsTrue, IfOk, OnOk, OnErr, Err};
 ghost use Rattle.row_locks.specs.declared.LockFault.TheVariants.{Clash};
 ghost use Rattle.row_locks.specs.Mode.{stronger, weight};
 ghost use Rattle.row_locks.specs.Locks.{all_free, clashes_with, mark_clashes, any_clashes, any_clashes_all, taken, taken_all, released_all};
-ghost use Rattle.row_locks.specs.Locks.{NoClash};
+ghost use Rattle.row_locks.specs.Locks.{IsClear};
 
-mod held;
 pub mod laws;
-mod marks;
 mod sessions;
 mod tally;
 
-use marks::MarkLocks;
 use schema::{Mark, Memory, RowId};
 use sessions::Sessions;
 use std::alloc::Global;
@@ -71,7 +67,7 @@ pub const MAX_SESSIONS: u16 = 256;
 #[derive(Debug, Drop)]
 pub struct LockTable {
     rows: Sessions,
-    marks: MarkLocks,
+    marks: Sessions,
 }
 
 impl Model for LockTable {
@@ -92,14 +88,13 @@ impl LockTable {
     /// for marks once a mark is taken.
     pub fn new(alloc: Global) -> Result<LockTable, Memory>
         ensures none { IfOk result (λ table. table ≡ all_free) }
-        ensures no_clash { IfOk result (λ table. NoClash table.rows) }
-        ensures no_mark_clash { IfOk result (λ table. NoClash table.marks) }
-        ensures places { IfOk result (λ table. length table.rows ≡ 256) }
-        ensures mark_places { IfOk result (λ table. length table.marks ≡ 256) }
+        ensures clear { IfOk result (λ table. IsClear table) }
     {
+        let mut rows = Sessions::new(alloc);
+        rows.place()?;
         Ok(LockTable {
-            rows: Sessions::new(alloc)?,
-            marks: MarkLocks::new(alloc),
+            rows,
+            marks: Sessions::new(alloc),
         })
     }
 
@@ -109,12 +104,9 @@ impl LockTable {
         requires least { 1 ≤ session }
         requires greatest { session ≤ 256 }
         ensures value { result ≡ clashes_with self.now.rows session row mode }
-        ensures no_clash { NoClash self.now.rows }
-        ensures no_mark_clash { NoClash self.now.marks }
-        ensures places { length self.now.rows ≡ 256 }
-        ensures mark_places { length self.now.marks ≡ 256 }
+        ensures clear { IsClear self.now }
     {
-        self.rows.clashes(session, row, mode)
+        self.rows.clashes(session, &(row, mode))
     }
 
     /// Whether another session holds the mark. It takes no memory, and expected constant time.
@@ -122,12 +114,9 @@ impl LockTable {
         requires least { 1 ≤ session }
         requires greatest { session ≤ 256 }
         ensures value { result ≡ mark_clashes self.now session mark }
-        ensures no_clash { NoClash self.now.rows }
-        ensures no_mark_clash { NoClash self.now.marks }
-        ensures places { length self.now.rows ≡ 256 }
-        ensures mark_places { length self.now.marks ≡ 256 }
+        ensures clear { IsClear self.now }
     {
-        self.marks.clashes(session, mark)
+        self.marks.clashes(session, &mark)
     }
 
     /// Takes each lock of the list for the session, as `take_all` with no marks.
@@ -138,10 +127,7 @@ impl LockTable {
         ensures rows { OnOk result (self.new.rows ≡ taken self.old.rows session rows.now) }
         ensures marks { self.new.marks ≡ self.old.marks }
         ensures err { OnErr result (self.new ≡ self.old) }
-        ensures no_clash { NoClash self.new.rows }
-        ensures no_mark_clash { NoClash self.new.marks }
-        ensures places { length self.new.rows ≡ 256 }
-        ensures mark_places { length self.new.marks ≡ 256 }
+        ensures clear { IsClear self.new }
     {
         self.take_all(session, rows, &[])
     }
@@ -162,12 +148,8 @@ impl LockTable {
         ensures clash { (result ≡ Err Clash) ↔ IsTrue (any_clashes_all self.old session rows.now marks.now) }
         ensures ok { OnOk result (self.new ≡ taken_all self.old session rows.now marks.now) }
         ensures err { OnErr result (self.new ≡ self.old) }
-        ensures no_clash { NoClash self.new.rows }
-        ensures no_mark_clash { NoClash self.new.marks }
-        ensures places { length self.new.rows ≡ 256 }
-        ensures mark_places { length self.new.marks ≡ 256 }
+        ensures clear { IsClear self.new }
     {
-        let _ = &self.rows;
         if self.clashes_any(session, rows, marks) {
             return Err(LockFault::Clash);
         }
@@ -188,41 +170,22 @@ impl LockTable {
         requires free { any_clashes_all self.old session rows.now marks.now ≡ false }
         ensures ok { OnOk result (self.new ≡ taken_all self.old session rows.now marks.now) }
         ensures err { OnErr result (self.new ≡ self.old) }
-        ensures no_clash { NoClash self.new.rows }
-        ensures no_mark_clash { NoClash self.new.marks }
-        ensures places { length self.new.rows ≡ 256 }
-        ensures mark_places { length self.new.marks ≡ 256 }
+        ensures clear { IsClear self.new }
     {
         self.rows.reserve(session, rows.len())?;
         self.marks.reserve(session, marks.len())?;
-        self.rows.lock_rows(session, rows);
-        self.marks.lock_marks(session, marks);
+        self.rows.lock(session, rows);
+        self.marks.lock(session, marks);
         Ok(())
     }
 
     fn clashes_any(&self, session: u16, rows: &[(RowId, Mode)], marks: &[Mark]) -> bool
         requires least { 1 ≤ session }
         requires greatest { session ≤ 256 }
-        ensures { result ≡ any_clashes_all self.now session rows.now marks.now }
+        ensures value { result ≡ any_clashes_all self.now session rows.now marks.now }
+        ensures clear { IsClear self.now }
     {
-        self.clashes_any_row(session, rows) || self.clashes_any_mark(session, marks)
-    }
-
-    fn clashes_any_row(&self, session: u16, rows: &[(RowId, Mode)]) -> bool
-        requires least { 1 ≤ session }
-        requires greatest { session ≤ 256 }
-        ensures { result ≡ any_clashes self.now.rows session rows.now }
-    {
-        rows.iter()
-            .any(|lock| self.clashes(session, lock.0, lock.1))
-    }
-
-    fn clashes_any_mark(&self, session: u16, marks: &[Mark]) -> bool
-        requires least { 1 ≤ session }
-        requires greatest { session ≤ 256 }
-        ensures { result ≡ list_any (mark_clashes self.now session) marks.now }
-    {
-        marks.iter().any(|mark| self.clashes_mark(session, *mark))
+        self.rows.any_clashes(session, rows) || self.marks.any_clashes(session, marks)
     }
 
     /// Frees each lock of the session, on rows and on marks. It takes no memory; the time is that of a look-up for
@@ -231,23 +194,10 @@ impl LockTable {
         requires least { 1 ≤ session }
         requires greatest { session ≤ 256 }
         ensures released { self.new ≡ released_all self.old session }
-        ensures no_clash { NoClash self.new.rows }
-        ensures no_mark_clash { NoClash self.new.marks }
-        ensures places { length self.new.rows ≡ 256 }
-        ensures mark_places { length self.new.marks ≡ 256 }
+        ensures clear { IsClear self.new }
     {
         self.rows.release_all(session);
         self.marks.release_all(session);
-    }
-}
-
-/// The row id under which a mark is kept.
-fn row_for(mark: Mark) -> RowId
-    ensures { result ≡ mark }
-{
-    RowId {
-        table: mark.table(),
-        key: mark.value(),
     }
 }
 

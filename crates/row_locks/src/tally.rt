@@ -8,7 +8,7 @@ ghost use Rattle.row_locks.specs.Mode.{weight};
 ghost use Rattle.row_locks.specs.Tally.{opposing, count_at};
 
 use crate::{Mode, weight};
-use indexmap::IndexMap;
+use row_map::RowMap;
 use schema::{Memory, RowId};
 use std::alloc::Global;
 use std::marker::Model;
@@ -30,74 +30,68 @@ const NOBODY: Count = Count {
 /// The number of sessions that hold each row that one holds.
 #[derive(Debug, Drop)]
 pub(crate) struct Tally {
-    rows: IndexMap<RowId, Count>,
+    rows: RowMap<Count>,
 }
 
 impl Model for Tally {
-    ghost use Rattle.std.specs.FinMap.{from_entries};
-    ghost use Rattle.indexmap.specs.IndexMap.{spare};
-    ghost use Rattle.schema.specs.RowId.{row_cmp};
-    ghost use Rattle.row_locks.specs.Tally.{Sheet, sheet_code, AllAreHeld};
+    ghost use Rattle.row_map.specs.RoomyMap.{RoomyMap, roomy_map_code};
+    ghost use Rattle.row_locks.specs.declared.tally.Count.{Count};
+    ghost use Rattle.row_locks.specs.Tally.{count_code, AllAreHeld};
 
-    ghost Value = { Sheet };
+    ghost Value = { RoomyMap Count };
 
-    ghost coded = { sheet_code };
+    ghost coded = { roomy_map_code count_code };
 
-    ghost view = { λ t. record { rows = from_entries {R = row_cmp} t.rows.entries; room = spare t.rows } };
+    ghost view = { λ t. t.rows };
 
-    ghost invariant = { λ t. AllAreHeld (from_entries {R = row_cmp} t.rows.entries) };
+    ghost invariant = { λ t. AllAreHeld t.rows.map };
 }
 
 impl Tally {
     /// No rows. It takes no memory.
     pub(crate) fn new(alloc: Global) -> Tally
-        ensures { result.rows ≡ empty }
+        ensures { result.map ≡ empty }
     {
         Tally {
-            rows: IndexMap::new(alloc),
+            rows: RowMap::new(alloc),
         }
     }
 
     /// How many sessions hold the row in a way that clashes with another session's lock of this mode.
     pub(crate) fn opposing(&self, row: RowId, mode: Mode) -> u16
-        ensures { result ≡ count_at self.now.rows row mode }
+        ensures { result ≡ count_at self.now.map row mode }
     {
         opposing_of(self.count(row), mode)
     }
 
     fn count(&self, row: RowId) -> Count
-        ensures { (mode : Mode) → opposing result mode ≡ count_at self.now.rows row mode }
+        ensures { (mode : Mode) → opposing result mode ≡ count_at self.now.map row mode }
     {
-        if self.rows.is_empty() {
-            // Where no session holds anything, the row is not even hashed.
-            return NOBODY;
-        }
-        self.rows.get(&row).copied().unwrap_or(NOBODY)
+        self.rows.get(row).unwrap_or(NOBODY)
     }
 
     /// Makes room for this many more rows.
     pub(crate) fn reserve(&mut self, more: usize) -> Result<(), Memory>
-        ensures rows { self.new.rows ≡ self.old.rows }
+        ensures map { self.new.map ≡ self.old.map }
         ensures room { OnOk result (more ≤ self.new.room) }
     {
-        self.rows.reserve(more)?;
-        Ok(())
+        self.rows.reserve(more)
     }
 
     /// A session that held the row so, or not at all, now holds it otherwise. It takes no memory.
     pub(crate) fn recount(&mut self, row: RowId, was: Option<Mode>, now: Option<Mode>)
-        requires counted { (mode : Mode) → weight was mode ≤ count_at self.old.rows row mode }
-        requires fits { (mode : Mode) → count_at self.old.rows row mode ≤ weight was mode + 256 }
+        requires counted { (mode : Mode) → weight was mode ≤ count_at self.old.map row mode }
+        requires fits { (mode : Mode) → count_at self.old.map row mode ≤ weight was mode + 256 }
         requires room { IsNone was → 0 < self.old.room }
-        ensures counts { (q : RowId) (mode : Mode) → count_at self.new.rows q mode + (if same_row q row then weight was mode else 0)
-            ≡ count_at self.old.rows q mode + (if same_row q row then weight now mode else 0) }
+        ensures counts { (q : RowId) (mode : Mode) → count_at self.new.map q mode + (if same_row q row then weight was mode else 0)
+            ≡ count_at self.old.map q mode + (if same_row q row then weight now mode else 0) }
         ensures room { self.old.room ≤ self.new.room + 1 }
     {
         let count = changed(self.count(row), was, now);
         if count == NOBODY {
-            self.rows.swap_remove(&row);
+            self.rows.remove(row);
         } else {
-            let _ = self.rows.insert(row, count);
+            self.rows.set(row, count);
         }
     }
 }

@@ -2,10 +2,10 @@
 use Rattle.std.proofs.Common.{◌≡◌, ◌≢◌, sym, ap, ◌∙◌, refl, arith, ℕ, zero, suc, ◌+◌, ◌<◌, ◌≤◌, Bool, true, false, cond, ◌/◌, ◌%◌, ◌==◌, count_ones, List, [], ◌∷◌, ◌++◌, append_assoc, length, is_some}
 use Rattle.std.proofs.Common.{nat_lt, ◌*◌, ◌^◌, inl, inr, take, drop, set, get_or, ℤ, pos, Option, Some, None, add-zero, add-one}
 use lib.Count.{ones_step, ones-ones}
-use Rattle.std.proofs.lemmas.List.{length-drop, drop-drop, drop-set-lt, drop_more, get_or-drop, take_more, take_more_set}
+use Rattle.std.proofs.lemmas.List.{drop-drop, drop-set-lt, drop_more, get_or-drop, take_more, take_more_set}
 use Rattle.std.specs.Prelude.{slice_get, slice_index_or}
 use Rattle.std.specs.Option.{option_map}
-use Rattle.std.proofs.lemmas.Option.{cond_some}
+use Rattle.std.proofs.lemmas.Option.{cond_some, slice_get-get_or}
 use Rattle.std.proofs.lemmas.Nat.Bits.{bit_at_lowest, bit_at-suc, bit_at-zero}
 use Rattle.std.proofs.lemmas.Nat.{mod-pow-add}
 use Rattle.std.proofs.Math.Nat.{mod-one, pow-suc}
@@ -128,55 +128,11 @@ ones_below mask c =
     let half : (mask % 2 ^ suc c) / 2 ≡ mask / 2 % 2 ^ c = omega arith in
     ones_step (mask % 2 ^ suc c) ∙ (λ i. odd i + count_ones (half i))
 
-first_value : (values : List ℤ) → 1 ≤ length values → Some (slice_index_or values 0 (pos 0)) ≡ slice_get values 0
-first_value [] some = absurd (omega arith)
-first_value (v ∷ values) some = refl
-
-next_value : (values : List ℤ) (k : ℕ) → slice_get (drop 1 values) k ≡ slice_get values (suc k)
-next_value [] k = refl
-next_value (v ∷ values) k = refl
-
 odd_from : (n : ℕ) → (n == 1) ≡ true → n ≡ 1
 odd_from n is = grind (arith, nat_tests)
 
 even_from : (n : ℕ) → (n % 2 == 1) ≡ false → n % 2 ≡ 0
 even_from n other = let apart : n % 2 ≢ 1 = λ e. cc in omega arith
-
--- a named column takes its value
-pub assigned_takes : (c mask : ℕ) (values columns new : List ℤ) → count_ones mask ≤ length values → assigned_from mask values columns ≡ Some new → names_column mask c ≡ true →
-    slice_get new c ≡ slice_get values (count_ones (mask % 2 ^ c))
-assigned_takes c mask values [] new room h names =
-    let none : mask ≡ 0 = grind (arith, nat_tests, (cond_some (mask == 0) [] new h).0) in
-    let bit : (bit_at mask c == 1) ≡ false = ap (λ n. bit_at n c == 1) none ∙ ap (λ n. n == 1) (bit_at-zero c) in
-    cc
-assigned_takes zero mask values (column ∷ columns) new room h names =
-    let a = assigned_cons mask values column columns new h in
-    let odd : (mask % 2 == 1) ≡ true = ap (λ n. n == 1) (sym (bit_at_lowest mask)) ∙ names in
-    let is_odd = odd_from (mask % 2) odd in
-    let step = ones_step mask in
-    let none : count_ones (mask % 1) ≡ 0 = ap count_ones (mod-one mask) ∙ ones-ones 0 in
-    ap (λ (l : List ℤ). slice_get l 0) (sym a.is) ∙ ap Some (a.takes odd).0 ∙ first_value values (omega arith) ∙ ap (slice_get values) (sym none)
-assigned_takes (suc c) mask values (column ∷ columns) new room h names =
-    let a = assigned_cons mask values column columns new h in
-    let step = ones_step mask in
-    let below = ones_below mask c in
-    let behind : names_column (mask / 2) c ≡ true = ap (λ n. n == 1) (sym (bit_at-suc mask c)) ∙ names in
-    ap (λ (l : List ℤ). slice_get l (suc c)) (sym a.is) ∙ (elim (cases_Bool (mask % 2 == 1)) [
-      | inl odd ↦
-          let is_odd = odd_from (mask % 2) odd in
-          let left = (a.takes odd).1 in
-          let more : suc (count_ones (mask / 2 % 2 ^ c)) ≡ count_ones (mask % 2 ^ suc c) = omega arith in
-          let fewer : count_ones (mask / 2) ≤ length a.left = omega (arith, ap length left, length-drop 1 values) in
-          assigned_takes c (mask / 2) a.left columns a.rest fewer a.behind behind
-          ∙ ap (λ (l : List ℤ). slice_get l (count_ones (mask / 2 % 2 ^ c))) left ∙ next_value values (count_ones (mask / 2 % 2 ^ c)) ∙ ap (slice_get values) more
-      | inr even ↦
-          let is_even = even_from mask even in
-          let left = (a.stays even).1 in
-          let same : count_ones (mask / 2 % 2 ^ c) ≡ count_ones (mask % 2 ^ suc c) = omega arith in
-          let fewer : count_ones (mask / 2) ≤ length a.left = omega (arith, ap length left) in
-          assigned_takes c (mask / 2) a.left columns a.rest fewer a.behind behind
-          ∙ ap (λ (l : List ℤ). slice_get l (count_ones (mask / 2 % 2 ^ c))) left ∙ ap (slice_get values) same
-    ])
 
 -- a named column takes its value, or 0 where there are not so many
 pub assigned_gives : (c mask : ℕ) (values columns new : List ℤ) → assigned_from mask values columns ≡ Some new → names_column mask c ≡ true →
@@ -205,6 +161,20 @@ assigned_gives (suc c) mask values (column ∷ columns) new h names =
           let same : count_ones (mask / 2 % 2 ^ c) ≡ count_ones (mask % 2 ^ suc c) = omega arith in
           ap (λ (l : List ℤ). get_or l k (pos 0)) (a.stays even).1 ∙ ap (λ n. get_or values n (pos 0)) same
     ])
+
+-- the named columns below one that is named are not all
+ones_named : (c mask : ℕ) → names_column mask c ≡ true → count_ones (mask % 2 ^ c) < count_ones mask
+ones_named zero mask names =
+    let is_odd = odd_from (mask % 2) (ap (λ n. n == 1) (sym (bit_at_lowest mask)) ∙ names) in
+    omega (arith, ones_step mask, ap count_ones (mod-one mask) ∙ ones-ones 0)
+ones_named (suc c) mask names =
+    omega (arith, ones_step mask, ones_below mask c, ones_named c (mask / 2) (ap (λ n. n == 1) (sym (bit_at-suc mask c)) ∙ names))
+
+-- so it takes its value, where there are as many as named columns
+pub assigned_takes : (c mask : ℕ) (values columns new : List ℤ) → count_ones mask ≤ length values → assigned_from mask values columns ≡ Some new → names_column mask c ≡ true →
+    slice_get new c ≡ slice_get values (count_ones (mask % 2 ^ c))
+assigned_takes c mask values columns new room h names =
+    assigned_gives c mask values columns new h names ∙ sym (slice_get-get_or values (count_ones (mask % 2 ^ c)) (pos 0) (omega (arith, ones_named c mask names)))
 
 half_below : (mask n : ℕ) → nat_lt (mask / 2) (2 ^ n) ≡ nat_lt mask (2 ^ suc n)
 half_below mask n =

@@ -1,21 +1,25 @@
 -- The effect of a list of changes, from what one change does. Each law is by induction over the list.
-use Rattle.std.proofs.Common.{◌≡◌, sym, ap, subst, ◌∙◌, refl, inl, inr, true, false, cond, List, [], ◌∷◌, ◌++◌, append_assoc, ℤ, Option, Some, None, Ok}
-use Rattle.std.specs.Prelude.{option_and_then}
+use Rattle.std.proofs.Common.{◌≡◌, sym, ap, subst, ◌∙◌, refl, inl, inr, true, false, cond, List, [], ◌∷◌, ◌++◌, ℤ, Option, Some, None, Ok}
+use Rattle.std.specs.Prelude.{option_and_then, flat_map}
 use Rattle.std.specs.Option.{option_map_or}
 use Rattle.std.specs.Result.{result_ok}
 use Rattle.std.specs.FinMap.{get, same_map}
 use Rattle.std.proofs.lemmas.Bool.{cases_Bool, or_parts}
 use Rattle.std.proofs.lemmas.List.Folds.{list_any-append}
+use Rattle.std.proofs.lemmas.List.Concat.{flat_map-append}
 use Rattle.std.proofs.lemmas.Option.{option_and_then_some, same_Some}
 use Rattle.schema.specs.declared.Table.{Table}
 use Rattle.schema.specs.declared.RowId.{RowId}
 use Rattle.schema.specs.RowId.{same_row, exact_row, row_total}
-use Rattle.schema.specs.Rows.{Mark, has_row}
+use Rattle.schema.specs.Rows.{has_row}
 use Rattle.rows.specs.declared.Change.{Change}
 use Rattle.rows.specs.Change.{changed}
-use Rattle.rows.specs.Database.{Database, target, writes, parent_in, mark_in, apply, effect, kin, marks, marks_between, NoValueTwice, ChildrenHaveParents}
+use Rattle.rows.specs.declared.step.Step.{Step}
+use Rattle.rows.specs.Step.{kin_of, marks_of}
+use Rattle.rows.specs.Database.{Database, target, writes, parent_in, mark_in, apply, effect, step_between, steps, kin, marks, NoValueTwice, ChildrenHaveParents}
 use Rattle.rows.specs.Frame.{ChangesOnlyWrites, ChangesOnlyMarks}
-use Rattle.rows.specs.Effect.{row_after, WritesOfJoined, EffectOfJoined, KinOfJoined, MarksOfJoined, RowAfterJoined, EachRowIsLeft, EffectIsItsRows, ValuesStayApart, ChildrenKeepParents}
+use Rattle.rows.specs.Effect.{row_after, WritesOfJoined, EffectOfJoined, StepsOfJoined, KinOfJoined, MarksOfJoined, RowAfterJoined, EachRowIsLeft}
+use Rattle.rows.specs.Effect.{EffectIsItsRows, ValuesStayApart, ChildrenKeepParents}
 use Rattle.rows.proofs.Apply.{apply_stays, apply_changes, apply_keeps_parents, row_is, has_row-left, has_row-right}
 use Rattle.rows.proofs.Values.{apply_keeps_marks, apply_keeps_apart}
 
@@ -27,24 +31,29 @@ effect_first ts change changes before after h = option_and_then_some (effect ts 
 pub effect_then : (ts : List Table) (change : Change) (changes : List Change) (before mid : Database) → apply ts change before ≡ Some mid → effect ts (change ∷ changes) before ≡ effect ts changes mid
 effect_then ts change changes before mid one = ap (option_and_then (effect ts changes)) one
 
+pub steps_then : (ts : List Table) (change : Change) (changes : List Change) (before mid : Database) → apply ts change before ≡ Some mid →
+    steps ts (change ∷ changes) before ≡ step_between ts change before mid ∷ steps ts changes mid
+steps_then ts change changes before mid one = ap (λ o. option_map_or (λ after. step_between ts change before after ∷ steps ts changes after) o []) one
+
+-- so is what is read off their steps, as their kin and their marks
+pub read_then : {X : Type 0} (f : Step → List X) (ts : List Table) (change : Change) (changes : List Change) (before mid : Database) → apply ts change before ≡ Some mid →
+    flat_map f (steps ts (change ∷ changes) before) ≡ f (step_between ts change before mid) ++ flat_map f (steps ts changes mid)
+read_then f ts change changes before mid one = ap (flat_map f) (steps_then ts change changes before mid one)
+
 pub kin_then : (ts : List Table) (change : Change) (changes : List Change) (before mid : Database) → apply ts change before ≡ Some mid →
     kin ts (change ∷ changes) before ≡ parent_in ts before (target change) ++ parent_in ts mid (target change) ++ kin ts changes mid
-kin_then ts change changes before mid one = ap (λ o. option_map_or (λ after. parent_in ts before (target change) ++ parent_in ts after (target change) ++ kin ts changes after) o []) one
+kin_then = read_then kin_of
 
-pub marks_then : (ts : List Table) (change : Change) (changes : List Change) (before mid : Database) → apply ts change before ≡ Some mid →
-    marks ts (change ∷ changes) before ≡ marks_between ts change before mid ++ marks ts changes mid
-marks_then ts change changes before mid one = ap (λ o. option_map_or (λ after. marks_between ts change before after ++ marks ts changes after) o []) one
+-- the rows of the first step are among those of all, and so are those of the others
+pub read_first : (f : Step → List RowId) (ts : List Table) (change : Change) (changes : List Change) (before mid : Database) (q : RowId) → apply ts change before ≡ Some mid →
+    has_row (f (step_between ts change before mid)) q ≡ true → has_row (flat_map f (steps ts (change ∷ changes) before)) q ≡ true
+read_first f ts change changes before mid q one is =
+    ap (λ l. has_row l q) (read_then f ts change changes before mid one) ∙ has_row-left (f (step_between ts change before mid)) (flat_map f (steps ts changes mid)) q is
 
--- the marks of the first change are among those of all, and so are those of the others
-pub marks_first : (ts : List Table) (change : Change) (changes : List Change) (before mid : Database) (mark : Mark) → apply ts change before ≡ Some mid →
-    has_row (marks_between ts change before mid) mark ≡ true → has_row (marks ts (change ∷ changes) before) mark ≡ true
-marks_first ts change changes before mid mark one is =
-    ap (λ l. has_row l mark) (marks_then ts change changes before mid one) ∙ has_row-left (marks_between ts change before mid) (marks ts changes mid) mark is
-
-pub marks_behind : (ts : List Table) (change : Change) (changes : List Change) (before mid : Database) (mark : Mark) → apply ts change before ≡ Some mid → has_row (marks ts changes mid) mark ≡ true →
-    has_row (marks ts (change ∷ changes) before) mark ≡ true
-marks_behind ts change changes before mid mark one is =
-    ap (λ l. has_row l mark) (marks_then ts change changes before mid one) ∙ has_row-right (marks_between ts change before mid) (marks ts changes mid) mark is
+pub read_behind : (f : Step → List RowId) (ts : List Table) (change : Change) (changes : List Change) (before mid : Database) (q : RowId) → apply ts change before ≡ Some mid →
+    has_row (flat_map f (steps ts changes mid)) q ≡ true → has_row (flat_map f (steps ts (change ∷ changes) before)) q ≡ true
+read_behind f ts change changes before mid q one is =
+    ap (λ l. has_row l q) (read_then f ts change changes before mid one) ∙ has_row-right (f (step_between ts change before mid)) (flat_map f (steps ts changes mid)) q is
 
 pub changes_only_writes : ChangesOnlyWrites
 changes_only_writes ts [] before after q h other = ap (λ (m : Database). get m q) (sym (same_Some before after h))
@@ -57,10 +66,10 @@ pub changes_only_marks : ChangesOnlyMarks
 changes_only_marks ts [] before after mark q h other = ap (λ (m : Database). has_row (mark_in ts m q) mark) (sym (same_Some before after h))
 changes_only_marks ts (change ∷ changes) before after mark q h other =
     let first = effect_first ts change changes before after h in
-    let one = marks_between ts change before first.0 in
+    let one = marks_of (step_between ts change before first.0) in
     let rest = marks ts changes first.0 in
-    let apart = or_parts (has_row one mark) (has_row rest mark) (sym (list_any-append (same_row mark) one rest) ∙ ap (λ l. has_row l mark) (sym (marks_then ts change changes before first.0 first.1))
-    ∙ other) in
+    let apart = or_parts (has_row one mark) (has_row rest mark) (sym (list_any-append (same_row mark) one rest)
+    ∙ ap (λ l. has_row l mark) (sym (read_then marks_of ts change changes before first.0 first.1)) ∙ other) in
     changes_only_marks ts changes first.0 after mark q first.2 apart.1 ∙ apply_keeps_marks ts change before first.0 mark q first.1 apart.0
 
 pub writes_joined : WritesOfJoined
@@ -75,25 +84,19 @@ effect_joined ts (change ∷ xs) ys db =
       | Some mid ↦ effect_joined ts xs ys mid
     ]
 
-pub kin_joined : KinOfJoined
-kin_joined ts [] ys db mid h = ap (kin ts ys) (same_Some db mid h)
-kin_joined ts (change ∷ xs) ys db mid h =
+pub steps_joined : StepsOfJoined
+steps_joined ts [] ys db mid h = ap (steps ts ys) (same_Some db mid h)
+steps_joined ts (change ∷ xs) ys db mid h =
     let first = effect_first ts change xs db mid h in
-    let parents = parent_in ts db (target change) ++ parent_in ts first.0 (target change) in
-    kin_then ts change (xs ++ ys) db first.0 first.1
-    ∙ ap (λ l. parents ++ l) (kin_joined ts xs ys first.0 mid first.2)
-    ∙ sym (append_assoc parents (kin ts xs first.0) (kin ts ys mid))
-    ∙ ap (λ l. l ++ kin ts ys mid) (sym (kin_then ts change xs db first.0 first.1))
+    steps_then ts change (xs ++ ys) db first.0 first.1
+    ∙ ap (λ l. step_between ts change db first.0 ∷ l) (steps_joined ts xs ys first.0 mid first.2)
+    ∙ ap (λ l. l ++ steps ts ys mid) (sym (steps_then ts change xs db first.0 first.1))
+
+pub kin_joined : KinOfJoined
+kin_joined ts xs ys db mid h = ap (flat_map kin_of) (steps_joined ts xs ys db mid h) ∙ flat_map-append kin_of (steps ts xs db) (steps ts ys mid)
 
 pub marks_joined : MarksOfJoined
-marks_joined ts [] ys db mid h = ap (marks ts ys) (same_Some db mid h)
-marks_joined ts (change ∷ xs) ys db mid h =
-    let first = effect_first ts change xs db mid h in
-    let moved = marks_between ts change db first.0 in
-    marks_then ts change (xs ++ ys) db first.0 first.1
-    ∙ ap (λ l. moved ++ l) (marks_joined ts xs ys first.0 mid first.2)
-    ∙ sym (append_assoc moved (marks ts xs first.0) (marks ts ys mid))
-    ∙ ap (λ l. l ++ marks ts ys mid) (sym (marks_then ts change xs db first.0 first.1))
+marks_joined ts xs ys db mid h = ap (flat_map marks_of) (steps_joined ts xs ys db mid h) ∙ flat_map-append marks_of (steps ts xs db) (steps ts ys mid)
 
 pub row_after_joined : RowAfterJoined
 row_after_joined [] ys q row = refl

@@ -1,5 +1,5 @@
 -- The holder of a mark.
-use Rattle.std.proofs.Common.{◌≡◌, ◌∙◌, sym, ap, refl, inl, inr, Bool, true, false, true≢false, cond, ℤ, List, Option, Some, None}
+use Rattle.std.proofs.Common.{◌≡◌, ◌∙◌, sym, ap, refl, inl, inr, true, false, true≢false, ℤ, List, Option, Some, None}
 use Rattle.std.specs.Prelude.{find}
 use Rattle.std.specs.Option.{option_map, option_map_or}
 use Rattle.std.specs.FinMap.{entries}
@@ -11,12 +11,10 @@ use Rattle.schema.specs.Rows.{Mark, has_row}
 use Rattle.schema.proofs.Lists.{made_of, option_map_or_true}
 use Rattle.schema.proofs.RowMaps.{row_is, same_row_itself}
 use Rattle.schema.proofs.Telling.{both_or_none}
-use Rattle.rows.specs.declared.Change.{Change}
-use Rattle.rows.specs.Database.{Database, target, mark_of, mark_in, apply, NoValueTwice}
+use Rattle.rows.specs.Database.{Database, mark_of, mark_in, NoValueTwice}
 use Rattle.rows.specs.Holders.{holder_of, has_mark, HolderHasIt, HoldersAreSame, FreeByHolder}
 use Rattle.rows.proofs.Entries.{found_entry, none_entry}
 use Rattle.rows.proofs.Marks.{mark_there, there_marked, mark_table, table_of_marked, free_by_rows}
-use Rattle.rows.proofs.Values.{mark_stays, apply_keeps_apart}
 
 -- the row of this key in the mark's table
 abbrev pub row_with : Mark → ℤ → RowId
@@ -103,42 +101,3 @@ free_by_holder ts db id columns mark apart is = (
       let table : q.table ≡ id.table = table_of_marked ts db q mark has ∙ mark_table ts id.table columns mark is in
       λ i. record { table = table i; key = key i }),
 )
-
--- ---- who has a mark behind a change
-
--- its row, if that has it then; nobody, if its row had it before; and else who had it
-pub holder_behind : (ts : List Table) (change : Change) (db after : Database) (mark : Mark) → NoValueTwice ts db → apply ts change db ≡ Some after →
-    holder_of ts after mark ≡ cond (has_row (mark_in ts after (target change)) mark) (Some (target change).key) (cond (has_row (mark_in ts db (target change)) mark) None (holder_of ts db mark))
-holder_behind ts change db after mark apart one = by (has_row (mark_in ts after (target change)) mark) (has_row (mark_in ts db (target change)) mark) refl refl
-  where
-    apart_then : NoValueTwice ts after
-    apart_then = apply_keeps_apart ts change db after apart one
-
-    -- a row that has it behind the change, where that of the change does not, had it before
-    had : (q : RowId) → has_row (mark_in ts after (target change)) mark ≡ false → has_row (mark_in ts after q) mark ≡ true →
-        (same_row q (target change) ≡ false) × (has_row (mark_in ts db q) mark ≡ true)
-    had q gone has = elim (cases_Bool (same_row q (target change))) [
-      | inl here ↦ absurd (true≢false (sym has ∙ ap (λ (r : RowId). has_row (mark_in ts after r) mark) (row_is q (target change) here) ∙ gone))
-      | inr other ↦ (other, ap (λ l. has_row l mark) (sym (mark_stays ts change db after q one other)) ∙ has)
-    ]
-
-    nobody : (o : Option ℤ) → has_row (mark_in ts after (target change)) mark ≡ false → has_row (mark_in ts db (target change)) mark ≡ true → holder_of ts after mark ≡ o →
-        holder_of ts after mark ≡ None
-    nobody None gone was is = is
-    nobody (Some key) gone was is =
-        let before = had (row_with mark key) gone (holder_there ts after mark key is) in
-        let same : row_with mark key ≡ target change = apart (row_with mark key) (target change) mark before.1 was in
-        absurd (true≢false (sym (ap (λ (r : RowId). same_row r (target change)) same ∙ same_row_itself (target change)) ∙ before.0))
-
-    other_rows : has_row (mark_in ts after (target change)) mark ≡ false → has_row (mark_in ts db (target change)) mark ≡ false → (q : RowId) →
-        has_row (mark_in ts db q) mark ≡ has_row (mark_in ts after q) mark
-    other_rows gone never q = elim (cases_Bool (same_row q (target change))) [
-      | inl here ↦ rw (row_is q (target change) here) (never ∙ sym gone)
-      | inr other ↦ ap (λ l. has_row l mark) (sym (mark_stays ts change db after q one other))
-    ]
-
-    by : (now was : Bool) → has_row (mark_in ts after (target change)) mark ≡ now → has_row (mark_in ts db (target change)) mark ≡ was →
-        holder_of ts after mark ≡ cond now (Some (target change).key) (cond was None (holder_of ts db mark))
-    by true was has w = holder_of_marked ts after mark (target change) apart_then has
-    by false true gone was = nobody (holder_of ts after mark) gone was refl
-    by false false gone never = holder_alike ts db after mark apart_then (other_rows gone never) (holder_of ts db mark) refl

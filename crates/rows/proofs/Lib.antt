@@ -7,7 +7,7 @@ pub mod Marks
 pub mod Apply
 pub mod Values
 pub mod Effect
+pub mod Given
 pub mod Frame
 pub mod Parents
 pub mod Holders
-pub mod Given

@@ -1,10 +1,10 @@
 -- Marks: which rows have one, when columns are free for a row, and how many marks changes have.
 use Rattle.std.proofs.Common.{◌≡◌, ◌∙◌, sym, ap, refl, inl, inr, arith, Bool, true, false, true≢false, cond, ◌≤◌, ◌*◌, ℕ, ℤ, List, [], ◌∷◌, ◌++◌, length, length-append, Option, Some, None, is_some}
-use Rattle.std.specs.Prelude.{not, ◌||◌, slice_get, option_and_then, option_to_list}
-use Rattle.std.specs.Option.{option_map, option_map_or}
+use Rattle.std.specs.Prelude.{not, ◌||◌, slice_get, option_and_then, option_to_list, flat_map}
+use Rattle.std.specs.Option.{option_map_or}
 use Rattle.std.specs.List.{list_any, list_all}
 use Rattle.std.specs.FinMap.{get, entries}
-use Rattle.std.proofs.lemmas.Bool.{cases_Bool, and_from, and_parts, or_left, or_parts}
+use Rattle.std.proofs.lemmas.Bool.{cases_Bool, and_from, and_parts, or_left}
 use Rattle.std.proofs.lemmas.List.Folds.{list_all-append}
 use Rattle.std.proofs.lemmas.Option.{option_and_then_some}
 use Rattle.schema.specs.declared.Table.{Table}
@@ -14,9 +14,11 @@ use Rattle.schema.specs.Rows.{Mark, has_row}
 use Rattle.schema.specs.Schema.{unique_of}
 use Rattle.schema.proofs.Lists.{made_of}
 use Rattle.schema.proofs.RowMaps.{row_is, same_row_itself}
-use Rattle.schema.proofs.Telling.{not_some}
+use Rattle.schema.proofs.Telling.{both_or_none}
 use Rattle.rows.specs.declared.Change.{Change}
-use Rattle.rows.specs.Database.{Database, target, writes, mark_of, mark_in, is_taken_by, is_free, apply, moves_value, marks_between, marks}
+use Rattle.rows.specs.declared.step.Step.{Step}
+use Rattle.rows.specs.Step.{marks_of}
+use Rattle.rows.specs.Database.{Database, target, mark_of, mark_in, is_taken_by, is_free, apply, moves_value, step_between, steps, marks}
 use Rattle.rows.specs.Holders.{FreeByRows, MarksAreFew, MarksAreOfUnique}
 use Rattle.rows.proofs.Entries.{any_entry, entry_any}
 
@@ -93,104 +95,78 @@ free_by_rows ts db id columns mark is = (
   ],
 )
 
--- columns that are free in one database are so in another, where the same rows have their mark
+-- columns are free in two databases alike, where the same rows have their mark
 pub free_alike : (ts : List Table) (a b : Database) (id : RowId) (columns : List ℤ) →
     ((mark : Mark) → mark_of ts id.table columns ≡ Some mark → (q : RowId) → has_row (mark_in ts a q) mark ≡ has_row (mark_in ts b q) mark) →
-    is_free ts a id columns ≡ true → is_free ts b id columns ≡ true
-free_alike ts a b id columns same free = by (mark_of ts id.table columns) refl
+    is_free ts a id columns ≡ is_free ts b id columns
+free_alike ts a b id columns same = by (mark_of ts id.table columns) refl
   where
-    by : (o : Option Mark) → mark_of ts id.table columns ≡ o → is_free ts b id columns ≡ true
-    by None none = ap (λ o. option_map_or (λ (m : Mark). not (list_any (is_taken_by ts id m) (entries b))) o true) none
-    by (Some mark) is = (free_by_rows ts b id columns mark is).1 (λ q has. (free_by_rows ts a id columns mark is).0 free q (same mark is q ∙ has))
+    free_in : Database → Option Mark → Bool
+    free_in db o = option_map_or (λ (m : Mark). not (list_any (is_taken_by ts id m) (entries db))) o true
+
+    along : (x y : Database) (mark : Mark) → mark_of ts id.table columns ≡ Some mark → ((q : RowId) → has_row (mark_in ts x q) mark ≡ has_row (mark_in ts y q) mark) →
+        is_free ts x id columns ≡ true → is_free ts y id columns ≡ true
+    along x y mark is alike free = (free_by_rows ts y id columns mark is).1 (λ q has. (free_by_rows ts x id columns mark is).0 free q (alike q ∙ has))
+
+    by : (o : Option Mark) → mark_of ts id.table columns ≡ o → is_free ts a id columns ≡ is_free ts b id columns
+    by None none = ap (free_in a) none ∙ sym (ap (free_in b) none)
+    by (Some mark) is = both_or_none _ _ (along a b mark is (same mark is)) (along b a mark is (λ q. sym (same mark is q)))
 
 -- ---- how many marks changes have, and of which tables
 
-pub at_most_one : (o : Option RowId) → length (option_to_list o) ≤ 1
-at_most_one None = omega arith
-at_most_one (Some p) = omega arith
+-- of what each step has two at most, changes have twice their number at most
+pub few_of_steps : (f : Step → List RowId) → ((step : Step) → length (f step) ≤ 2) → (ts : List Table) (changes : List Change) (db : Database) →
+    length (flat_map f (steps ts changes db)) ≤ 2 * length changes
+few_of_steps f two ts [] db = omega arith
+few_of_steps f two ts (change ∷ changes) db = by (few_of_steps f two ts changes) (apply ts change db)
+  where
+    by : ((next : Database) → length (flat_map f (steps ts changes next)) ≤ 2 * length changes) → (o : Option Database) →
+        length (flat_map f (option_map_or (λ after. step_between ts change db after ∷ steps ts changes after) o [])) ≤ 2 * length (change ∷ changes)
+    by behind None = omega arith
+    by behind (Some after) =
+        let step = step_between ts change db after in
+        omega (arith, length-append (f step) (flat_map f (steps ts changes after)), two step, behind after)
 
--- the marks of a row before a change and after it
-abbrev both_marks : List Table → Change → Database → Database → List Mark
-both_marks ts change before after = mark_in ts before (target change) ++ mark_in ts after (target change)
-
-between_few : (ts : List Table) (change : Change) (before after : Database) → length (marks_between ts change before after) ≤ 2
-between_few ts change before after =
-    elim (moves_value ts change) as (λ b. length (cond b (both_marks ts change before after) []) ≤ 2) [
-      | true ↦
-          let row = target change in
-          let marks_at : Database → Option Mark = λ db. option_and_then (mark_of ts row.table) (get db row) in
-          omega (arith, length-append (mark_in ts before row) (mark_in ts after row), at_most_one (marks_at before), at_most_one (marks_at after))
-      | false ↦ omega arith
-    ]
+pub two_listed : (o p : Option RowId) → length (option_to_list o ++ option_to_list p) ≤ 2
+two_listed None None = omega arith
+two_listed None (Some p) = omega arith
+two_listed (Some o) None = omega arith
+two_listed (Some o) (Some p) = omega arith
 
 pub marks_are_few : MarksAreFew
-marks_are_few ts [] db = omega arith
-marks_are_few ts (change ∷ changes) db = by (marks_are_few ts changes) (apply ts change db)
-  where
-    by : ((next : Database) → length (marks ts changes next) ≤ 2 * length changes) → (o : Option Database) →
-        length (option_map_or (λ after. marks_between ts change db after ++ marks ts changes after) o []) ≤ 2 * length (change ∷ changes)
-    by behind None = omega arith
-    by behind (Some after) = omega (arith, length-append (marks_between ts change db after) (marks ts changes after), between_few ts change db after, behind after)
-
-abbrev of_unique : List Table → Mark → Bool
-of_unique ts mark = is_some (unique_of ts mark.table)
-
-one_of : (p : RowId → Bool) (o : Option RowId) → ((q : RowId) → o ≡ Some q → p q ≡ true) → list_all p (option_to_list o) ≡ true
-one_of p None each = refl
-one_of p (Some q) each = and_from (p q) true (each q refl) refl
-
-both_of : (p : RowId → Bool) (xs ys : List RowId) → list_all p xs ≡ true → list_all p ys ≡ true → list_all p (xs ++ ys) ≡ true
-both_of p xs ys x y = list_all-append p xs ys ∙ and_from (list_all p xs) (list_all p ys) x y
+marks_are_few = few_of_steps marks_of (λ step. two_listed step.gives_up step.takes)
 
 -- columns that have a mark are of a table with a unique column
-pub marked_of_unique : (ts : List Table) (id : ℕ) (columns : List ℤ) (mark : Mark) → mark_of ts id columns ≡ Some mark → is_some (unique_of ts mark.table) ≡ true
+marked_of_unique : (ts : List Table) (id : ℕ) (columns : List ℤ) (mark : Mark) → mark_of ts id columns ≡ Some mark → is_some (unique_of ts mark.table) ≡ true
 marked_of_unique ts id columns mark is =
     let made = made_of (value_in id) (option_and_then (slice_get columns) (unique_of ts id)) mark is in
     ap (λ (n : ℕ). is_some (unique_of ts n)) (mark_table ts id columns mark is)
     ∙ option_and_then_some (slice_get columns) (unique_of ts id) made.0 made.1 (λ column has _. ap is_some has)
 
-row_of_unique : (ts : List Table) (db : Database) (id : RowId) → list_all (of_unique ts) (mark_in ts db id) ≡ true
-row_of_unique ts db id =
-    one_of (of_unique ts) (option_and_then (mark_of ts id.table) (get db id)) (λ mark is.
-    option_and_then_some (mark_of ts id.table) (get db id) mark is (λ columns there has. marked_of_unique ts id.table columns mark has))
-
-between_of_unique : (ts : List Table) (change : Change) (before after : Database) → list_all (of_unique ts) (marks_between ts change before after) ≡ true
-between_of_unique ts change before after =
-    elim (moves_value ts change) as (λ b. list_all (of_unique ts) (cond b (both_marks ts change before after) []) ≡ true) [
-      | true ↦ both_of (of_unique ts) (mark_in ts before (target change)) (mark_in ts after (target change)) (row_of_unique ts before (target change)) (row_of_unique ts after (target change))
-      | false ↦ refl
-    ]
-
 pub marks_of_unique : MarksAreOfUnique
 marks_of_unique ts [] db = refl
 marks_of_unique ts (change ∷ changes) db = by (marks_of_unique ts changes) (apply ts change db)
   where
-    by : ((next : Database) → list_all (of_unique ts) (marks ts changes next) ≡ true) → (o : Option Database) →
-        list_all (of_unique ts) (option_map_or (λ after. marks_between ts change db after ++ marks ts changes after) o []) ≡ true
+    unique : Mark → Bool
+    unique mark = is_some (unique_of ts mark.table)
+
+    row_has : (row : Option (List ℤ)) (o : Option Mark) → option_and_then (mark_of ts (target change).table) row ≡ o → list_all unique (option_to_list o) ≡ true
+    row_has row None is = refl
+    row_has row (Some mark) is =
+        and_from (unique mark) true (option_and_then_some (mark_of ts (target change).table) row mark is (λ columns there has. marked_of_unique ts (target change).table columns mark has)) refl
+
+    moved : (row : Option (List ℤ)) (b : Bool) → list_all unique (option_to_list (cond b (option_and_then (mark_of ts (target change).table) row) None)) ≡ true
+    moved row true = row_has row (option_and_then (mark_of ts (target change).table) row) refl
+    moved row false = refl
+
+    both : (xs ys : List Mark) → list_all unique xs ≡ true → list_all unique ys ≡ true → list_all unique (xs ++ ys) ≡ true
+    both xs ys x y = list_all-append unique xs ys ∙ and_from (list_all unique xs) (list_all unique ys) x y
+
+    by : ((next : Database) → list_all unique (marks ts changes next) ≡ true) → (o : Option Database) →
+        list_all unique (flat_map marks_of (option_map_or (λ after. step_between ts change db after ∷ steps ts changes after) o [])) ≡ true
     by behind None = refl
-    by behind (Some after) = both_of (of_unique ts) (marks_between ts change db after) (marks ts changes after) (between_of_unique ts change db after) (behind after)
-
--- a row of a table without a unique column has no mark
-pub no_mark_in : (ts : List Table) (db : Database) (id : RowId) → is_some (unique_of ts id.table) ≡ false → mark_in ts db id ≡ []
-no_mark_in ts db id none =
-    elim (get db id) as (λ o. option_to_list (option_and_then (mark_of ts id.table) o) ≡ []) [
-      | None ↦ refl
-      | Some columns ↦ ap (λ o. option_to_list (option_map (value_in id.table) (option_and_then (slice_get columns) o))) (not_some (unique_of ts id.table) none)
-    ]
-
-no_mark_between : (ts : List Table) (change : Change) (before after : Database) → is_some (unique_of ts (target change).table) ≡ false → marks_between ts change before after ≡ []
-no_mark_between ts change before after none =
-    elim (moves_value ts change) as (λ b. cond b (both_marks ts change before after) [] ≡ []) [
-      | true ↦ rw (no_mark_in ts before (target change) none, no_mark_in ts after (target change) none)
-      | false ↦ refl
-    ]
-
--- changes of no table with a unique column have no marks
-pub no_marks_of_others : (ts : List Table) (changes : List Change) (db : Database) → list_any (λ row. is_some (unique_of ts row.table)) (writes changes) ≡ false → marks ts changes db ≡ []
-no_marks_of_others ts [] db none = refl
-no_marks_of_others ts (change ∷ changes) db none =
-    let parts = or_parts (is_some (unique_of ts (target change).table)) (list_any (λ (row : RowId). is_some (unique_of ts row.table)) (writes changes)) none in
-    elim (apply ts change db) as (λ o. option_map_or (λ after. marks_between ts change db after ++ marks ts changes after) o [] ≡ []) [
-      | None ↦ refl
-      | Some after ↦ rw (no_mark_between ts change db after parts.0, no_marks_of_others ts changes after parts.1)
-    ]
+    by behind (Some after) =
+        let step = step_between ts change db after in
+        both (marks_of step) (marks ts changes after)
+        (both (option_to_list step.gives_up) (option_to_list step.takes) (moved (get db (target change)) (moves_value ts change)) (moved (get after (target change)) (moves_value ts change)))
+        (behind after)

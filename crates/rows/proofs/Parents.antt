@@ -1,6 +1,6 @@
 -- No child is left without its parent by one list of changes behind another, and which changes have kin.
-use Rattle.std.proofs.Common.{◌≡◌, sym, ap, subst, ◌∙◌, refl, inl, inr, true, false, true≢false, Bool, List, [], ◌∷◌, ◌++◌, ◌*◌, ◌≤◌, length, length-append, Option, Some, None, is_some, ℤ, arith}
-use Rattle.std.specs.Prelude.{◌||◌, option_and_then, option_to_list}
+use Rattle.std.proofs.Common.{◌≡◌, sym, ap, subst, ◌∙◌, refl, inl, inr, true, false, true≢false, Bool, List, [], ◌∷◌, Option, Some, None, is_some, ℕ, ℤ}
+use Rattle.std.specs.Prelude.{◌||◌, option_and_then, flat_map}
 use Rattle.std.specs.Option.{option_map_or}
 use Rattle.std.specs.List.{list_any}
 use Rattle.std.specs.FinMap.{get}
@@ -15,12 +15,13 @@ use Rattle.schema.specs.Flags.{is_parent}
 use Rattle.schema.proofs.Telling.{not_some}
 use Rattle.rows.specs.declared.Change.{Change}
 use Rattle.rows.specs.declared.Change.TheVariants.{Insert, Update, Delete}
-use Rattle.rows.specs.Database.{Database, target, writes, parent_of, parent_in, apply, effect, kin, marks, DeletesNoParent, LeavesNoOrphan}
+use Rattle.rows.specs.Step.{parent_at, kin_of}
+use Rattle.rows.specs.Database.{Database, target, writes, parent_of, parent_in, apply, effect, step_between, steps, kin, marks, DeletesNoParent, LeavesNoOrphan}
 use Rattle.rows.specs.Frame.{AgreeOn}
 use Rattle.rows.specs.Parents.{NoOrphanOfJoined, NoOrphanBehind, KinAreFew, NoKinOfOthers, NoKinUnrelated}
-use Rattle.rows.proofs.Apply.{apply_agrees, apply_stays, row_is, same_row_itself, has_row-left, has_row-right, named_by}
-use Rattle.rows.proofs.Marks.{at_most_one}
-use Rattle.rows.proofs.Effect.{effect_first, kin_then, changes_only_writes}
+use Rattle.rows.proofs.Apply.{apply_agrees, apply_stays, row_is, same_row_itself, has_row-right, named_by}
+use Rattle.rows.proofs.Marks.{few_of_steps, two_listed, listed}
+use Rattle.rows.proofs.Effect.{effect_first, read_first, read_behind, changes_only_writes}
 use Rattle.rows.proofs.Frame.{not_in_first}
 
 -- ---- one list behind another
@@ -80,18 +81,15 @@ left_parent_is_kin ts [] before after id columns p h is there names = absurd (tr
 left_parent_is_kin ts (change ∷ changes) before after id columns p h is there names =
     let first = effect_first ts change changes before after h in
     let row = target change in
-    let was = parent_in ts before row in
-    let now = parent_in ts first.0 row in
-    let others = kin ts changes first.0 in
-    ap (λ l. has_row l p) (kin_then ts change changes before first.0 first.1)
-    ∙ elim (cases_Bool (has_row (writes changes) id)) [
-      | inl again ↦ has_row-right (was ++ now) others p (left_parent_is_kin ts changes first.0 after id columns p first.2 again there names)
+    elim (cases_Bool (has_row (writes changes) id)) [
+      | inl again ↦ read_behind kin_of ts change changes before first.0 p first.1 (left_parent_is_kin ts changes first.0 after id columns p first.2 again there names)
       | inr once ↦
           let same : id ≡ row = row_is id row (second_holds (same_row id row) (has_row (writes changes) id) is once) in
-          let mid : get first.0 row ≡ Some columns = ap (get first.0) (sym same) ∙ sym (changes_only_writes ts changes first.0 after id first.2 once) ∙ there in
-          let named : parent_of ts row.table columns ≡ Some p = ap (λ (r : RowId). parent_of ts r.table columns) (sym same) ∙ names in
-          has_row-left (was ++ now) others p (has_row-right was now p
-          (ap (λ o. has_row (option_to_list (option_and_then (parent_of ts row.table) o)) p) mid ∙ ap (λ o. has_row (option_to_list o) p) named ∙ or_left _ _ (same_row_itself p)))
+          let mid : get first.0 id ≡ Some columns = sym (changes_only_writes ts changes first.0 after id first.2 once) ∙ there in
+          let named : parent_at ts row.table (get first.0 row) ≡ Some p =
+          ap (λ (r : RowId). parent_at ts r.table (get first.0 r)) (sym same) ∙ ap (option_and_then (parent_of ts id.table)) mid ∙ names in
+          read_first kin_of ts change changes before first.0 p first.1
+          (has_row-right (parent_in ts before row) (parent_in ts first.0 row) p (listed (parent_at ts row.table (get first.0 row)) p named))
     ]
 
 pub no_orphan_behind : NoOrphanBehind
@@ -113,39 +111,21 @@ no_orphan_behind ts first second db mid leaves one two apart none =
 -- ---- kin
 
 pub kin_are_few : KinAreFew
-kin_are_few ts [] db = omega arith
-kin_are_few ts (change ∷ changes) db = by (kin_are_few ts changes) (apply ts change db)
-  where
-    by : ((next : Database) → length (kin ts changes next) ≤ 2 * length changes) → (o : Option Database) →
-        length (option_map_or (λ after. parent_in ts db (target change) ++ parent_in ts after (target change) ++ kin ts changes after) o []) ≤ 2 * length (change ∷ changes)
-    by behind None = omega arith
-    by behind (Some after) =
-        let was = parent_in ts db (target change) in
-        let now = parent_in ts after (target change) in
-        omega (
-          arith,
-          length-append (was ++ now) (kin ts changes after),
-          length-append was now,
-          at_most_one (option_and_then (parent_of ts (target change).table) (get db (target change))),
-          at_most_one (option_and_then (parent_of ts (target change).table) (get after (target change))),
-          behind after,
-        )
+kin_are_few = few_of_steps kin_of (λ step. two_listed step.old step.new)
 
 -- a row of a table that has no parent has none
-no_parent_in : (ts : List Table) (db : Database) (id : RowId) → is_some (link_of ts id.table) ≡ false → parent_in ts db id ≡ []
-no_parent_in ts db id none =
-    elim (get db id) as (λ o. option_to_list (option_and_then (parent_of ts id.table) o) ≡ []) [
-      | None ↦ refl
-      | Some columns ↦ ap (λ o. option_to_list (option_and_then (named_by columns) o)) (not_some (link_of ts id.table) none)
-    ]
+no_parent : (ts : List Table) (id : ℕ) (row : Option (List ℤ)) → is_some (link_of ts id) ≡ false → parent_at ts id row ≡ None
+no_parent ts id None none = refl
+no_parent ts id (Some columns) none = ap (option_and_then (named_by columns)) (not_some (link_of ts id) none)
 
 pub no_kin_of_others : NoKinOfOthers
 no_kin_of_others ts [] db none = refl
 no_kin_of_others ts (change ∷ changes) db none =
     let parts = or_parts (is_some (link_of ts (target change).table)) (list_any (λ (row : RowId). is_some (link_of ts row.table)) (writes changes)) none in
-    elim (apply ts change db) as (λ o. option_map_or (λ after. parent_in ts db (target change) ++ parent_in ts after (target change) ++ kin ts changes after) o [] ≡ []) [
+    let at = λ (row : Option (List ℤ)). no_parent ts (target change).table row parts.0 in
+    elim (apply ts change db) as (λ o. flat_map kin_of (option_map_or (λ after. step_between ts change db after ∷ steps ts changes after) o []) ≡ []) [
       | None ↦ refl
-      | Some after ↦ rw (no_parent_in ts db (target change) parts.0, no_parent_in ts after (target change) parts.0, no_kin_of_others ts changes after parts.1)
+      | Some after ↦ rw (at (get db (target change)), at (get after (target change))) (no_kin_of_others ts changes after parts.1)
     ]
 
 none_of_first : (p q : RowId → Bool) (rows : List RowId) → list_any (λ row. p row || q row) rows ≡ false → list_any p rows ≡ false

@@ -1,7 +1,7 @@
 -- What one change does to the values of unique columns.
-use Rattle.std.proofs.Common.{◌≡◌, ◌∙◌, sym, ap, refl, inl, inr, Bool, true, false, true≢false, cond, ℕ, ℤ, List, [], ◌++◌, Option, Some, None, Result, Ok}
+use Rattle.std.proofs.Common.{◌≡◌, ◌∙◌, sym, ap, refl, inl, inr, Bool, true, false, true≢false, cond, ℕ, ℤ, List, ◌++◌, Option, Some, None}
 use Rattle.std.specs.Prelude.{not, ◌||◌, slice_get, option_and_then, option_to_list}
-use Rattle.std.specs.Option.{option_map, option_map_or, ok_or}
+use Rattle.std.specs.Option.{option_map, option_map_or}
 use Rattle.std.specs.FinMap.{get}
 use Rattle.std.proofs.lemmas.Bool.{cases_Bool, or_parts}
 use Rattle.std.proofs.lemmas.List.Folds.{list_any-append}
@@ -12,14 +12,11 @@ use Rattle.schema.specs.Rows.{Mark, has_row}
 use Rattle.schema.specs.Schema.{unique_of}
 use Rattle.rows.specs.declared.Change.{Change}
 use Rattle.rows.specs.declared.Change.TheVariants.{Insert, Update, Delete}
-use Rattle.rows.specs.declared.ChangeFault.{ChangeFault}
-use Rattle.rows.specs.declared.ChangeFault.TheVariants.{Columns}
-use Rattle.rows.specs.Naming.{NamedColumns, names_column, assigned}
-use Rattle.rows.specs.Change.{changed}
-use Rattle.rows.specs.Database.{Database, target, mark_of, mark_in, is_free, names_unique, apply, moves_value, marks_between, NoValueTwice}
-use Rattle.rows.specs.Effect.{row_is_free, sets_value}
+use Rattle.rows.specs.Naming.{names_column}
+use Rattle.rows.specs.Step.{marks_of}
+use Rattle.rows.specs.Database.{Database, target, mark_of, mark_in, is_free, row_is_free, names_unique, sets_value, apply, moves_value, step_between, NoValueTwice}
 use Rattle.rows.proofs.Assigned.{assigned_keeps}
-use Rattle.rows.proofs.Apply.{apply_changes, apply_stays, value_stands_where, row_is, same_ok}
+use Rattle.rows.proofs.Apply.{Fits, update_left, delete_left, applied_from, apply_changes, apply_stays, row_is}
 use Rattle.rows.proofs.Marks.{mark_there, free_by_rows}
 
 -- ---- changes that leave the value alone
@@ -27,7 +24,7 @@ use Rattle.rows.proofs.Marks.{mark_there, free_by_rows}
 -- the mark is the same one, where the unique column stays
 same_mark : (ts : List Table) (id mask : ℕ) (there new : List ℤ) → ((c : ℕ) → names_column mask c ≡ false → slice_get new c ≡ slice_get there c) → names_unique ts id mask ≡ false →
     mark_of ts id new ≡ mark_of ts id there
-same_mark ts id mask there new same apart = by (unique_of ts id) apart
+same_mark ts id mask there new same = by (unique_of ts id)
   where
     marked : Option ℤ → Option Mark
     marked = option_map (λ value. record { table = id; key = value })
@@ -36,44 +33,29 @@ same_mark ts id mask there new same apart = by (unique_of ts id) apart
     by None h = refl
     by (Some column) h = ap marked (same column h)
 
--- an update that does not name the unique column leaves its row the mark that it had
-update_unmoved : (ts : List Table) (row : RowId) (named : NamedColumns) (before left : Option (List ℤ)) →
-    ◌≡◌ {A = Result (Option (List ℤ)) ChangeFault} (changed (Update row named) before) (Ok left) → names_unique ts row.table named.mask ≡ false →
-    option_and_then (mark_of ts row.table) left ≡ option_and_then (mark_of ts row.table) before
-update_unmoved ts row named None left fit apart = cc
-update_unmoved ts row named (Some there) left fit apart = by (assigned named there) refl fit
-  where
-    by : (o : Option (List ℤ)) → assigned named there ≡ o → ◌≡◌ {A = Result (Option (List ℤ)) ChangeFault} (ok_or (option_map (λ columns. Some columns) o) Columns) (Ok left) →
-        option_and_then (mark_of ts row.table) left ≡ mark_of ts row.table there
-    by None e f = cc
-    by (Some new) e f =
-        ap (option_and_then (mark_of ts row.table)) (sym (same_ok f))
-        ∙ same_mark ts row.table named.mask there new (λ c other. assigned_keeps c named.mask named.values there new e other) apart
-
 -- a change that moves no value leaves its row the mark that it had
-unmoved : (ts : List Table) (change : Change) (before after : Database) → apply ts change before ≡ Some after → moves_value ts change ≡ false →
-    mark_in ts after (target change) ≡ mark_in ts before (target change)
-unmoved ts (Insert row columns) before after h stays = cc
-unmoved ts (Update row named) before after h stays = ap option_to_list (update_unmoved ts row named (get before row) (get after row) (apply_changes ts (Update row named) before after h) stays)
-unmoved ts (Delete row) before after h stays = cc
+unmoved : (ts : List Table) (change : Change) (before left : Option (List ℤ)) → Fits change before left → moves_value ts change ≡ false →
+    option_and_then (mark_of ts (target change).table) left ≡ option_and_then (mark_of ts (target change).table) before
+unmoved ts (Insert row columns) before left fits stays = cc
+unmoved ts (Update row named) before left fits stays =
+    let new = update_left row named before left fits in
+    ap (option_and_then (mark_of ts row.table)) new.3
+    ∙ same_mark ts row.table named.mask new.0 new.1 (λ c other. assigned_keeps c named.mask named.values new.0 new.1 new.4 other) stays
+    ∙ sym (ap (option_and_then (mark_of ts row.table)) new.2)
+unmoved ts (Delete row) before left fits stays = cc
 
 -- a mark that a change leaves its row without saying so is one that the row had
-delete_leaves : (ts : List Table) (row : RowId) (before left : Option (List ℤ)) (mark : Mark) → ◌≡◌ {A = Result (Option (List ℤ)) ChangeFault} (changed (Delete row) before) (Ok left) →
-    has_row (option_to_list (option_and_then (mark_of ts row.table) left)) mark ≡ false
-delete_leaves ts row None left mark fit = cc
-delete_leaves ts row (Some there) left mark fit = ap (λ l. has_row (option_to_list (option_and_then (mark_of ts row.table) l)) mark) (sym (same_ok fit))
-
-unset_mark : (ts : List Table) (change : Change) (before after : Database) (mark : Mark) → apply ts change before ≡ Some after → sets_value ts change ≡ false →
-    has_row (mark_in ts after (target change)) mark ≡ true → has_row (mark_in ts before (target change)) mark ≡ true
-unset_mark ts (Insert row columns) before after mark h unset has = cc
-unset_mark ts (Update row named) before after mark h unset has = ap (λ l. has_row l mark) (sym (unmoved ts (Update row named) before after h unset)) ∙ has
-unset_mark ts (Delete row) before after mark h unset has =
-    absurd (true≢false (sym has ∙ delete_leaves ts row (get before row) (get after row) mark (apply_changes ts (Delete row) before after h)))
+unset_mark : (ts : List Table) (change : Change) (before left : Option (List ℤ)) (mark : Mark) → Fits change before left → sets_value ts change ≡ false →
+    has_row (option_to_list (option_and_then (mark_of ts (target change).table) left)) mark ≡ true → has_row (option_to_list (option_and_then (mark_of ts (target change).table) before)) mark ≡ true
+unset_mark ts (Insert row columns) before left mark fits unset has = cc
+unset_mark ts (Update row named) before left mark fits unset has = ap (λ o. has_row (option_to_list o) mark) (sym (unmoved ts (Update row named) before left fits unset)) ∙ has
+unset_mark ts (Delete row) before left mark fits unset has =
+    absurd (true≢false (sym has ∙ ap (λ l. has_row (option_to_list (option_and_then (mark_of ts row.table) l)) mark) (delete_left row before left fits)))
 
 -- ---- the rows that the change is not of
 
 -- they keep their marks
-pub mark_stays : (ts : List Table) (change : Change) (before after : Database) (q : RowId) → apply ts change before ≡ Some after → same_row q (target change) ≡ false →
+mark_stays : (ts : List Table) (change : Change) (before after : Database) (q : RowId) → apply ts change before ≡ Some after → same_row q (target change) ≡ false →
     mark_in ts after q ≡ mark_in ts before q
 mark_stays ts change before after q h other = ap (λ o. option_to_list (option_and_then (mark_of ts q.table) o)) (apply_stays ts change before after q h other)
 
@@ -83,9 +65,7 @@ pub apply_same_holders : (ts : List Table) (change : Change) (a b after left : D
     ((q : RowId) → has_row (mark_in ts a q) mark ≡ has_row (mark_in ts b q) mark) → (q : RowId) → has_row (mark_in ts after q) mark ≡ has_row (mark_in ts left q) mark
 apply_same_holders ts change a b after left mark one two now same q =
     elim (cases_Bool (same_row q (target change))) [
-      | inl here ↦
-          let row = row_is q (target change) here in
-          rw row (ap (λ o. has_row (option_to_list (option_and_then (mark_of ts (target change).table) o)) mark) now)
+      | inl here ↦ rw (row_is q (target change) here) (ap (λ o. has_row (option_to_list (option_and_then (mark_of ts (target change).table) o)) mark) now)
       | inr apart ↦
           ap (λ l. has_row l mark) (mark_stays ts change a after q one apart)
           ∙ same q
@@ -96,37 +76,40 @@ apply_same_holders ts change a b after left mark one two now same q =
 
 -- a mark that is none of a change's stays with the rows that have it
 pub apply_keeps_marks : (ts : List Table) (change : Change) (before after : Database) (mark : Mark) (q : RowId) → apply ts change before ≡ Some after →
-    has_row (marks_between ts change before after) mark ≡ false → has_row (mark_in ts after q) mark ≡ has_row (mark_in ts before q) mark
+    has_row (marks_of (step_between ts change before after)) mark ≡ false → has_row (mark_in ts after q) mark ≡ has_row (mark_in ts before q) mark
 apply_keeps_marks ts change before after mark q h other =
     elim (cases_Bool (same_row q (target change))) [
       | inl here ↦ rw (row_is q (target change) here) (at_target (moves_value ts change) refl other)
       | inr apart ↦ ap (λ l. has_row l mark) (mark_stays ts change before after q h apart)
     ]
   where
-    was : List Mark
-    was = mark_in ts before (target change)
+    mark_at : Database → Option Mark
+    mark_at db = option_and_then (mark_of ts (target change).table) (get db (target change))
 
-    now : List Mark
-    now = mark_in ts after (target change)
-
-    at_target : (b : Bool) → moves_value ts change ≡ b → has_row (cond b (was ++ now) []) mark ≡ false → has_row now mark ≡ has_row was mark
+    at_target : (b : Bool) → moves_value ts change ≡ b → has_row (option_to_list (cond b (mark_at before) None) ++ option_to_list (cond b (mark_at after) None)) mark ≡ false →
+        has_row (option_to_list (mark_at after)) mark ≡ has_row (option_to_list (mark_at before)) mark
     at_target true moves none =
+        let was = option_to_list (mark_at before) in
+        let now = option_to_list (mark_at after) in
         let parts = or_parts (has_row was mark) (has_row now mark) (sym (list_any-append (same_row mark) was now) ∙ none) in
         parts.1 ∙ sym parts.0
-    at_target false stays none = ap (λ l. has_row l mark) (unmoved ts change before after h stays)
+    at_target false stays none =
+        ap (λ o. has_row (option_to_list o) mark) (unmoved ts change (get before (target change)) (get after (target change)) (apply_changes ts change before after h) stays)
 
 -- the mark that a change leaves its row no other row has before it
-pub own_alone : (ts : List Table) (change : Change) (before after : Database) (mark : Mark) (q : RowId) → NoValueTwice ts before → apply ts change before ≡ Some after →
+own_alone : (ts : List Table) (change : Change) (before after : Database) (mark : Mark) (q : RowId) → NoValueTwice ts before → apply ts change before ≡ Some after →
     has_row (mark_in ts after (target change)) mark ≡ true → has_row (mark_in ts before q) mark ≡ true → q ≡ target change
 own_alone ts change before after mark q apart h has other =
     elim (cases_Bool (sets_value ts change)) [
       | inl sets ↦
           let there = mark_there ts after (target change) mark has in
           let stands : row_is_free ts before (target change) (get after (target change)) ≡ true =
-          sym (ap (λ s. not s || row_is_free ts before (target change) (get after (target change))) sets) ∙ value_stands_where ts change before after h in
+          sym (ap (λ s. not s || row_is_free ts before (target change) (get after (target change))) sets) ∙ (applied_from ts change before after h).value in
           let free : is_free ts before (target change) there.0 ≡ true = sym (ap (row_is_free ts before (target change)) there.1) ∙ stands in
           (free_by_rows ts before (target change) there.0 mark there.2).0 free q other
-      | inr unset ↦ apart q (target change) mark other (unset_mark ts change before after mark h unset has)
+      | inr unset ↦
+          let was = unset_mark ts change (get before (target change)) (get after (target change)) mark (apply_changes ts change before after h) unset has in
+          apart q (target change) mark other was
     ]
 
 -- where no two rows have one value, none have after a change

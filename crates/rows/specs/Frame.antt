@@ -6,7 +6,7 @@ use Rattle.schema.specs.declared.Table.{Table}
 use Rattle.schema.specs.declared.RowId.{RowId}
 use Rattle.schema.specs.Rows.{Mark, has_row, meets}
 use Rattle.rows.specs.declared.Change.{Change}
-use Rattle.rows.specs.Database.{Database, effect, writes, kin, mark_in, marks}
+use Rattle.rows.specs.Database.{Database, effect, writes, mark_in, steps, kin, marks}
 
 -- two databases have the same at each of these rows
 abbrev pub AgreeOn : List RowId → Database → Database → Type 0
@@ -31,8 +31,7 @@ pub record SameEffect (ts : List Table) (changes : List Change) (before after ot
   pub leaves : Database
   pub defined : effect ts changes other ≡ Some leaves
   pub same_writes : AgreeOn (writes changes) after leaves
-  pub same_kin : kin ts changes other ≡ kin ts changes before
-  pub same_marks : marks ts changes other ≡ marks ts changes before
+  pub same_steps : steps ts changes other ≡ steps ts changes before
 
 abbrev pub LooksOnlyAtItsRows : Type 0
 LooksOnlyAtItsRows = (ts : List Table) (changes : List Change) (before after other : Database) →

@@ -1,5 +1,5 @@
 -- What changes give their rows, whatever the rows are; and that the effect looks at no more than that.
-use Rattle.std.specs.Prelude.{◌≡◌, ◌⊎◌, true, ℕ, ℤ, pos, ◌%◌, ◌^◌, if◌then◌else◌, List, [], ◌∷◌, ◌++◌, slice_get, slice_index_or, count_ones, Option, Some, None, option_and_then, option_to_list}
+use Rattle.std.specs.Prelude.{◌≡◌, ◌⊎◌, true, ℕ, ℤ, pos, ◌%◌, ◌^◌, if◌then◌else◌, List, slice_get, slice_index_or, count_ones, Option, Some, None, option_and_then, option_to_list, flat_map}
 use Rattle.std.specs.Option.{option_map}
 use Rattle.schema.specs.declared.Table.{Table}
 use Rattle.schema.specs.declared.RowId.{RowId}
@@ -30,17 +30,16 @@ given_mark ts change =
 
 -- the parents and the marks that a list of changes gives
 abbrev pub given_parents : List Table → List Change → List RowId
-given_parents ts [] = []
-given_parents ts (change ∷ changes) = option_to_list (given_parent ts change) ++ given_parents ts changes
+given_parents ts changes = flat_map (λ change. option_to_list (given_parent ts change)) changes
 
 abbrev pub given_marks : List Table → List Change → List Mark
-given_marks ts [] = []
-given_marks ts (change ∷ changes) = option_to_list (given_mark ts change) ++ given_marks ts changes
+given_marks ts changes = flat_map (λ change. option_to_list (given_mark ts change)) changes
 
 -- two databases have the same at the rows that the changes write and at the parents that they give, and the same rows have each
 -- mark that they give
 pub record AgreeFor (ts : List Table) (changes : List Change) (a b : Database) : Type 0 where
-  pub rows : AgreeOn (writes changes ++ given_parents ts changes) a b
+  pub rows : AgreeOn (writes changes) a b
+  pub parents : AgreeOn (given_parents ts changes) a b
   pub holders : SameHolders ts (given_marks ts changes) a b
 
 -- changes that apply to the one database do the same to the other

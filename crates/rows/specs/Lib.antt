@@ -2,6 +2,7 @@ pub mod Row
 pub mod Naming
 pub mod Named
 pub mod Change
+pub mod Step
 pub mod Database
 pub mod Shape
 pub mod Frame

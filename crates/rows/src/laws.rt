@@ -1,8 +1,9 @@
 //! What follows from the definitions alone. Each function states laws by its contract, and does nothing.
 
-ghost use Rattle.rows.specs.Effect.{AppliesByRow, FitsWhereItApplies, ParentStandsWhereItApplies, ValueStandsWhereItApplies};
-ghost use Rattle.rows.specs.Effect.{HasParentWhereItApplies, AppliesWhereItFits, WritesOfJoined, EffectOfJoined, KinOfJoined};
-ghost use Rattle.rows.specs.Effect.{MarksOfJoined, RowAfterJoined, EachRowIsLeft, EffectIsItsRows, ValuesStayApart, ChildrenKeepParents};
+ghost use Rattle.rows.specs.Effect.{AppliesByKind, LeavesWhereItApplies};
+ghost use Rattle.rows.specs.Effect.{HasParentWhereItApplies, AppliesWhereItFits, WritesOfJoined, EffectOfJoined, StepsOfJoined};
+ghost use Rattle.rows.specs.Effect.{KinOfJoined, MarksOfJoined, RowAfterJoined, EachRowIsLeft, EffectIsItsRows, ValuesStayApart};
+ghost use Rattle.rows.specs.Effect.{ChildrenKeepParents};
 ghost use Rattle.rows.specs.Naming.{AssignsWhatIsThere, KeepsWidth, OthersStay, NamedTakeTheirs};
 ghost use Rattle.rows.specs.Frame.{ChangesOnlyWrites, ChangesOnlyMarks, LooksOnlyAtItsRows, AppliesBehind};
 ghost use Rattle.rows.specs.Given.{LooksOnlyAtGiven, OneOutcome, GivenParentsAreKin, GivenMarksAreMarks};
@@ -43,10 +44,8 @@ pub fn columns()
 /// When a change applies to a database: where it fits its row, the parent that it gives the row is there, and no other row has the
 /// value that it gives it.
 pub fn one_change()
-    ensures by_row { AppliesByRow }
-    ensures fits { FitsWhereItApplies }
-    ensures stands { ParentStandsWhereItApplies }
-    ensures value { ValueStandsWhereItApplies }
+    ensures by_kind { AppliesByKind }
+    ensures leaves { LeavesWhereItApplies }
     ensures has_parent { HasParentWhereItApplies }
     ensures applies { AppliesWhereItFits }
 {}
@@ -55,6 +54,7 @@ pub fn one_change()
 pub fn joined()
     ensures writes { WritesOfJoined }
     ensures effect { EffectOfJoined }
+    ensures steps { StepsOfJoined }
     ensures kin { KinOfJoined }
     ensures marks { MarksOfJoined }
     ensures row { RowAfterJoined }

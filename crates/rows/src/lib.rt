@@ -2,24 +2,28 @@
 //!
 //! A `Row` has 1 to 16 columns in a fixed array, so that copying one takes no memory. A `Change` is what a
 //! session writes: an insert of a row, an update of its `Named` columns, or a delete. `apply_one` is what it does to the one row
-//! that it is of, and `mark_of` the value of a row in the unique column of its table. What a list of changes does to a whole
-//! database, which rows it writes, which parent rows it refers to and which values of unique columns it gives up or takes is
-//! defined in `specs/Database.antt`, and the layers above speak of it; what it gives its rows, whatever they are, in
-//! `specs/Given.antt`, and which row has a value in `specs/Holders.antt`. `laws` states what follows from the definitions.
+//! that it is of, `parent_of` the parent that a row names, and `mark_of` the value of a row in the unique column of its table. A `Step`
+//! is what a change does to its row: what it leaves of it, the parents that the row names before and after it, and the values that it
+//! takes from it and gives it. What a list of changes does to a whole database, which rows it writes, which parent rows it refers to and
+//! which values of unique columns it gives up or takes is defined in `specs/Database.antt`, by the steps of the changes, and the layers
+//! above speak of it; what it gives its rows, whatever they are, in `specs/Given.antt`, and which row has a value in
+//! `specs/Holders.antt`. `laws` states what follows from the definitions.
 #![tactic(auto)]
 
 ghost use Rattle.std.specs.Prelude.{◌≡◌, ◌≤◌, length, SomeIff, option_copied};
 ghost use Rattle.rows.specs.Change.{changed};
-ghost use Rattle.rows.specs.Database.{target, mark_of};
+ghost use Rattle.rows.specs.Step.{target, mark_of};
 
 pub mod laws;
 mod naming;
 mod shape;
+mod step;
 
 pub use naming::Named;
 use schema::{Mark, RowId, Schema};
 pub use shape::{has_columns, is_shaped};
 use std::marker::Model;
+pub use step::{Step, parent_of, step_from};
 use thiserror::Error;
 
 /// The columns of one row: 1 to 16 numbers, the first of them column 0.

@@ -129,6 +129,13 @@ impl Mark {
     {
         self.row.key
     }
+
+    /// The row id that the mark is kept and written as: that of its table whose key is the value.
+    pub fn as_row(self) -> RowId
+        ensures { result ≡ self }
+    {
+        self.row
+    }
 }
 
 impl Ord for Mark {

@@ -12,14 +12,18 @@ use Rattle.row_index.specs.Counts.{Counts, CountsChildren, Recounts, count_at, t
 use Rattle.row_index.proofs.Keys.{keys_follow}
 use Rattle.row_index.proofs.Counts.{old_are_counted, children_move, children_are_rows, counts_follow}
 
+-- what a batch that is put finds, and the rows that it leaves
+pub record Putting (ts : List Table) (db next : Database) (batch : List Entry) : Type 0 where
+  pub rising : IsRising batch
+  pub put : next ≡ put_batch batch db
+  pub apart : NoValueTwice ts db
+  pub stays_apart : NoValueTwice ts (put_batch batch db)
+
 -- the keys, for which room was made
-pub keys_behind : (ts : List Table) (db next : Database) (batch : List Entry) (keys after : Keys) (old : List Mark) → IsRising batch → NoValueTwice ts db → NoValueTwice ts (put_batch batch db) →
-    Indexes ts db keys →
-    next ≡ put_batch batch db → old ≡ marks_at ts (keys_of batch) db → (roomy : Keys) → roomy ≡ keys → after ≡ moved ts old batch roomy → Indexes ts next after
-keys_behind ts db next batch keys after old rising apart stays_apart indexed put are roomy same moves =
-    let then_ : after ≡ moved ts (marks_at ts (keys_of batch) db) batch keys = moves ∙ (λ i. moved ts (are i) batch (same i)) in
-    subst (λ (k : Keys). Indexes ts next k) (sym then_) (subst (λ (d : Database). Indexes ts d (moved ts (marks_at ts (keys_of batch) db) batch keys)) (sym put)
-    (keys_follow ts db batch keys rising apart stays_apart indexed))
+pub keys_behind : {ts : List Table} {db next : Database} {batch : List Entry} (keys after roomy : Keys) (old : List Mark) → Putting ts db next batch → Indexes ts db keys → roomy ≡ keys →
+    old ≡ marks_at ts (keys_of batch) db → after ≡ moved ts old batch roomy → Indexes ts next after
+keys_behind {ts = ts} {db = db} {batch = batch} keys after roomy old p indexed same are moves =
+    rw (p.put, moves, are, same) (keys_follow ts db batch keys p.rising p.apart p.stays_apart indexed)
 
 module _ (ts : List Table) (db : Database) (batch : List Entry) (counts : Counts) (old : List RowId) (rising : IsRising batch) (counted : CountsChildren ts db counts)
     (are : old ≡ parents_at ts (keys_of batch) db) where

@@ -13,5 +13,6 @@ pub mod Queueing
 pub mod Write
 pub mod Waiting
 pub mod Syncing
-pub mod New
 pub mod Flush
+pub mod Observed
+pub mod New

@@ -11,6 +11,7 @@ use Rattle.std.proofs.lemmas.Bool.Decides.{eqb_tells, nat_tests}
 use Rattle.std.proofs.lemmas.List.{get_or-set_same}
 use Rattle.std.proofs.lemmas.List.Folds.{list_any-append}
 use Rattle.std.proofs.lemmas.Map.Keys.{IsDistinct-push}
+use Rattle.schema.proofs.Lists.{AllByRecursion-push}
 use Rattle.commit_stages.specs.Queues.{Queues, queued as queued_last}
 use Rattle.tracker_trait.specs.Kind.{Kind}
 use Rattle.source_core.specs.declared.transaction.Phase.{Phase}
@@ -18,9 +19,9 @@ use Rattle.source_core.specs.declared.transaction.Phase.TheVariants.{Active, Pre
 use Rattle.source_core.specs.declared.transaction.Transaction.{Transaction}
 use Rattle.source_core.specs.Source.{Source, Open}
 use Rattle.source_core.specs.Calls.{queued, queued_phase, with_open}
-use Rattle.source_core.specs.Core.{Parts, IsCore, Applies, RefersTo, StandsAs, IsReady, IsQueued, AreQueued, source_of, open_view, sessions_view, placed, prepared_order, with_phase}
+use Rattle.source_core.specs.Core.{Parts, IsCore, StandsAs, IsReady, IsQueued, AreQueued, course_of, source_of, open_view, pending_in, sessions_view, placed, prepared_order, with_phase}
 use Rattle.source_core.proofs.Stand.{open_at}
-use Rattle.source_core.proofs.Place.{placing, place_set, queued_stay, ready_stays, locks_stay, not_queued, view_set, read_there, found_again, IsFree, IsFreePhase, Grows, PlaceCall}
+use Rattle.source_core.proofs.Place.{placing, place_set, queued_stay, locks_stay, not_queued, view_set, read_there, found_again, IsFree, IsFreePhase, Grows, PlaceCall}
 
 -- ---- a queue in which no session comes twice
 
@@ -70,10 +71,6 @@ in_queue queue session = list_any-append (eqb session) queue (session ∷ []) �
     itself : (n : ℕ) → eqb n n ≡ true
     itself n = grind (arith, nat_tests)
 
-queued_behind : (places : List (Option Transaction)) (session : ℕ) (queue : List ℕ) → AreQueued places queue → IsQueued places session → AreQueued places (queue ++ session ∷ [])
-queued_behind places session [] are one = (one, tt)
-queued_behind places session (first ∷ queue) are one = (are.0, queued_behind places session queue are.1 one)
-
 module _ (c : PlaceCall) (order : ℕ) (told : option_and_then prepared_order c.read ≡ Some order) where
   open c use {p, core, i, session, is, within}
 
@@ -96,8 +93,8 @@ module _ (c : PlaceCall) (order : ℕ) (told : option_and_then prepared_order c.
   pub free_before : IsFree (placed p.places (session - 1))
   free_before = subst (λ k. IsFree (placed p.places k)) (sym back) free
 
-  ready : IsReady p (i + 1) w.t.overlay.changes order
-  ready = subst (λ (x : Phase). StandsAs p (i + 1) w.t.overlay.changes x) w.phase (core.stands i w.t w.is)
+  ready : IsReady p.log p.committed p.entries (i + 1) w.t.pending order
+  ready = subst (λ (x : Phase). StandsAs (course_of p) (i + 1) w.t.pending x) w.phase (core.stands i w.t w.is)
 
   one : IsQueued (set p.places i now) session
   one = record {
@@ -108,17 +105,6 @@ module _ (c : PlaceCall) (order : ℕ) (told : option_and_then prepared_order c.
     phase = refl;
   }
 
-  stands : (t : Transaction) → its ≡ t → Applies p.tables p.rows t.overlay × StandsAs (placing p i now (behind p session) p.locks) (i + 1) t.overlay.changes t.phase × RefersTo p.tables p.rows t
-  stands t same =
-      subst (λ (x : Transaction). Applies p.tables p.rows x.overlay × StandsAs (placing p i now (behind p session) p.locks) (i + 1) x.overlay.changes x.phase × RefersTo p.tables p.rows x) same (
-        core.applies i w.t w.is,
-        (
-          ready_stays p i now (behind p session) p.locks (i + 1) w.t.overlay.changes order ready,
-          subst (λ k. IsTrue (list_any (eqb k) (behind p session).flush)) (sym is) (in_queue p.stages.flush session),
-        ),
-        core.refers i w.t w.is,
-      )
-
   queued_core : length p.log + length p.stages.flush < p.limit → IsCore (placing p i now (behind p session) p.locks)
   queued_core few =
       let count : length (behind p session).flush ≡ length p.stages.flush + 1 = length-append p.stages.flush (session ∷ []) in
@@ -126,16 +112,13 @@ module _ (c : PlaceCall) (order : ℕ) (told : option_and_then prepared_order c.
       (record {
         sizes = refl;
         few = omega (arith, few, count);
-        queued = queued_behind (set p.places i now) session p.stages.flush (queued_stay p.places i now free p.stages.flush core.queued) one;
+        queued = AllByRecursion-push (IsQueued (set p.places i now)) p.stages.flush session (queued_stay p.places i now free p.stages.flush core.queued) one;
         distinct = queue_distinct p.places session p.stages.flush core.queued (omega (arith, is)) free_before core.distinct;
         grows = grows p.stages.flush session;
       })
-      p.locks (locks_stay p core i now (rw w.is refl) (rw w.is refl))
+      p.locks (locks_stay p core i now (sym (ap pending_in w.is)))
       (core.no_clash, core.no_mark_clash)
-      (λ t e. stands t (same_of its t e))
-    where
-      same_of : (a b : Transaction) → Some a ≡ Some b → a ≡ b
-      same_of a b e = cc e
+      (core.applies i w.t w.is, (ready, subst (λ k. IsTrue (list_any (eqb k) (behind p session).flush)) (sym is) (in_queue p.stages.flush session)))
 
   queued_view : (kind : Kind) (halted : Bool) → source_of (placing p i now (behind p session) p.locks) kind halted ≡ queued (source_of p kind halted) session
   queued_view kind halted =
@@ -143,10 +126,10 @@ module _ (c : PlaceCall) (order : ℕ) (told : option_and_then prepared_order c.
       ∙ ap (λ (o : Option Open). record (with_open (source_of p kind halted) session o) { queue = (behind p session).flush }) (sym opened)
     where
       opened : option_map {U = Open} (λ (t : Open). record { changes = t.changes; phase = queued_phase t.phase }) (slice_index_or (sessions_view p.places) (session - 1) None)
-          ≡ Some (record { changes = w.t.overlay.changes; phase = Queued order })
+          ≡ Some (record { changes = w.t.pending.changes; phase = Queued order })
       opened =
           ap (option_map {U = Open} (λ (t : Open). record { changes = t.changes; phase = queued_phase t.phase })) (open_at p kind halted i session is ∙ ap (option_map open_view) w.is)
-          ∙ ap (λ (x : Phase). Some (record { changes = w.t.overlay.changes; phase = queued_phase x })) w.phase
+          ∙ ap (λ (x : Phase). Some (record { changes = w.t.pending.changes; phase = queued_phase x })) w.phase
 
   -- ---- the same, of what is found in the place
 

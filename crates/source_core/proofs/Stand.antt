@@ -1,57 +1,77 @@
 -- What is known of the transactions of a source whose parts stand together.
 use Rattle.std.proofs.Common.{◌≡◌, ◌≢◌, ◌∙◌, sym, ap, subst, refl, ℕ, zero, suc, ◌+◌, ◌-◌, ◌<◌, ◌≤◌, List, [], ◌∷◌, length, map, take, drop, get_or, Bool, false, Option, Some, None, arith}
 use Rattle.std.specs.Prelude.{slice_get}
+use Rattle.std.specs.List.{AllByRecursion}
 use Rattle.std.specs.Option.{option_map, option_map_or, option_and_then, IsSome}
-use Rattle.std.proofs.lemmas.List.{length-drop, length-map}
+use Rattle.std.proofs.lemmas.List.{length-drop, length-map, get_or_past}
 use Rattle.std.specs.FinMap.{empty}
 use Rattle.std.proofs.Math.ListN.{get_or-map}
 use Rattle.schema.specs.Rows.{conflicts}
 use Rattle.schema.proofs.Lists.{get_behind}
-use Rattle.rows.specs.Database.{writes, kin, marks, effect, touched_by}
+use Rattle.rows.specs.Database.{writes, effect}
 use Rattle.store_trait.specs.Batch.{put_batch}
+use Rattle.overlay.specs.Pending.{Pending, none_pending}
 use Rattle.record_codec.specs.Log.{after}
 use Rattle.record_codec.specs.declared.records.Record.{Record}
-use Rattle.row_locks.specs.Locks.{Holding, Locks, AllLocks, held_by, holding}
+use Rattle.row_locks.specs.Locks.{Holding, held_by, holding}
 use Rattle.row_locks.proofs.Holders.{holders_do_not_conflict}
 use Rattle.source_core.specs.declared.transaction.Transaction.{Transaction}
 use Rattle.tracker_trait.specs.Kind.{Kind}
-use Rattle.source_core.specs.Source.{Source, Open, EachApplies, IsSound, open_of, held_for, marks_held_for}
-use Rattle.source_core.specs.Core.{Parts, IsCore, IsFlushedAs, AreFlushed, open_view, sessions_view, source_of, placed}
+use Rattle.source_core.specs.Source.{Source, Open, EachApplies, IsSound, open_of, held_for, marks_held_for, locks_over}
+use Rattle.source_core.specs.Core.{Parts, IsCore, IsFlushedAs, AreFlushed, open_view, sessions_view, source_of, placed, pending_in, touched_in, rows_held, marks_held}
 
 -- what the session of a place holds, of rows or of marks
-pub held_at : (held : Option Open → Holding) (places : List (Option Transaction)) (i : ℕ) → get_or (map held (sessions_view places)) i (held None) ≡ held (option_map open_view (placed places i))
-held_at held places i =
-    get_or-map held (sessions_view places) i None
-    ∙ ap held (get_or-map (option_map open_view) places i None)
+pub held_at : (held : Pending → Holding) (places : List (Option Transaction)) (i : ℕ) →
+    get_or (map held (map pending_in places)) i (held none_pending) ≡ held (pending_in (placed places i))
+held_at held places i = get_or-map held (map pending_in places) i none_pending ∙ ap held (get_or-map pending_in places i None)
 
-by_place : (held : Option Open → Holding) → held None ≡ empty → (locks : Locks) (places : List (Option Transaction)) → locks ≡ map held (sessions_view places) → (i : ℕ) (t : Transaction) →
-    placed places i ≡ Some t →
-    held_by locks (i + 1) ≡ held (Some (open_view t))
-by_place held none locks places are i t at =
-    ap (λ (l : Locks). held_by l (i + 1)) are
-    ∙ ap (λ n. get_or (map held (sessions_view places)) n empty) (back i)
-    ∙ ap (get_or (map held (sessions_view places)) i) (sym none)
-    ∙ held_at held places i
-    ∙ ap (λ o. held (option_map open_view o)) at
-  where
-    back : (i : ℕ) → i + 1 - 1 ≡ i
-    back i = omega arith
+back : (i : ℕ) → i + 1 - 1 ≡ i
+back i = omega arith
 
-pub held_by_place : (p : Parts) → IsCore p → (i : ℕ) (t : Transaction) → placed p.places i ≡ Some t →
-    held_by p.locks.rows (i + 1) ≡ holding (writes t.overlay.changes) (kin p.tables t.overlay.changes p.rows)
-held_by_place p core i t at = by_place (held_for p.tables p.rows) refl p.locks.rows p.places (ap (λ (l : AllLocks). l.rows) core.locks) i t at
+pub held_by_place : (p : Parts) → IsCore p → (i : ℕ) → held_by p.locks.rows (i + 1) ≡ rows_held (pending_in (placed p.places i))
+held_by_place p core i = (λ k. get_or (core.locks k).rows (back i k) empty) ∙ held_at rows_held p.places i
 
-pub marks_held_by_place : (p : Parts) → IsCore p → (i : ℕ) (t : Transaction) → placed p.places i ≡ Some t → held_by p.locks.marks (i + 1) ≡ holding (marks p.tables t.overlay.changes p.rows) []
-marks_held_by_place p core i t at = by_place (marks_held_for p.tables p.rows) refl p.locks.marks p.places (ap (λ (l : AllLocks). l.marks) core.locks) i t at
+pub marks_held_by_place : (p : Parts) → IsCore p → (i : ℕ) → held_by p.locks.marks (i + 1) ≡ marks_held (pending_in (placed p.places i))
+marks_held_by_place p core i = (λ k. get_or (core.locks k).marks (back i k) empty) ∙ held_at marks_held p.places i
 
 -- the transactions of two sessions do not conflict
-pub apart : (p : Parts) → IsCore p → (i j : ℕ) (t u : Transaction) → i ≢ j → placed p.places i ≡ Some t → placed p.places j ≡ Some u →
-    conflicts (touched_by p.tables t.overlay.changes p.rows) (touched_by p.tables u.overlay.changes p.rows) ≡ false
-apart p core i j t u ne at there =
-    holders_do_not_conflict p.locks core.no_clash core.no_mark_clash (i + 1) (j + 1)
-    (writes t.overlay.changes) (kin p.tables t.overlay.changes p.rows) (marks p.tables t.overlay.changes p.rows)
-    (writes u.overlay.changes) (kin p.tables u.overlay.changes p.rows) (marks p.tables u.overlay.changes p.rows) (omega arith) (omega arith) (λ e. ne (omega (arith, e)))
-    (held_by_place p core i t at) (marks_held_by_place p core i t at) (held_by_place p core j u there) (marks_held_by_place p core j u there)
+pub apart : (p : Parts) → IsCore p → (i j : ℕ) → i ≢ j → conflicts (touched_in (pending_in (placed p.places i))) (touched_in (pending_in (placed p.places j))) ≡ false
+apart p core i j ne =
+    let one = pending_in (placed p.places i) in
+    let other = pending_in (placed p.places j) in
+    holders_do_not_conflict p.locks core.no_clash core.no_mark_clash (i + 1) (j + 1) (writes one.changes) one.kin one.marks (writes other.changes) other.kin other.marks (omega arith) (omega arith)
+    (λ e. ne (omega (arith, e))) (held_by_place p core i) (marks_held_by_place p core i) (held_by_place p core j) (marks_held_by_place p core j)
+
+-- what is held is what callers are told, where it is so of each transaction
+pub told_held : (held : Pending → Holding) (told : Option Open → Holding) → held none_pending ≡ told None → (places : List (Option Transaction)) →
+    ((i : ℕ) (t : Transaction) → placed places i ≡ Some t → held t.pending ≡ told (Some (open_view t))) → map held (map pending_in places) ≡ map told (sessions_view places)
+told_held held told none [] same = refl
+told_held held told none (None ∷ places) same = λ k. none k ∷ told_held held told none places (λ i t at. same (suc i) t at) k
+told_held held told none (Some t ∷ places) same = λ k. same zero t refl k ∷ told_held held told none places (λ i t at. same (suc i) t at) k
+
+pub locks_told : (p : Parts) → IsCore p → p.locks ≡ locks_over p.tables p.rows (sessions_view p.places)
+locks_told p core = core.locks ∙ (λ k. record {
+  rows = told_held rows_held (held_for p.tables p.rows) refl p.places (λ i t at. ap (holding (writes t.pending.changes)) (core.applies i t at).follows.kin) k;
+  marks = told_held marks_held (marks_held_for p.tables p.rows) refl p.places (λ i t at. ap (λ held. holding held []) (core.applies i t at).follows.marks) k;
+})
+
+-- a place with a transaction is one of the places
+pub within_places : (places : List (Option Transaction)) (i : ℕ) (t : Transaction) → placed places i ≡ Some t → i < length places
+within_places places i t is =
+    let past : length places ≤ i → ⊥ = λ le. (let e = get_or_past places i None le in absurd (cc (e, is))) in
+    omega (arith, past)
+
+-- what is true of each of these records, and of the session that it came from
+pub each_flushed : (places : List (Option Transaction)) (P : ℕ → Type 0) (Q : Record → Type 0) (first : ℕ) (log : List Record) (owners : List ℕ) →
+    ((n : ℕ) (made : Record) (owner : ℕ) → first ≤ n → n < first + length log → IsFlushedAs places n made owner → P owner × Q made) →
+    AreFlushed places first log owners → AllByRecursion P owners × AllByRecursion Q log
+each_flushed places P Q first [] [] each are = (tt, tt)
+each_flushed places P Q first [] (owner ∷ owners) each are = absurd are
+each_flushed places P Q first (made ∷ log) [] each are = absurd are
+each_flushed places P Q first (made ∷ log) (owner ∷ owners) each are =
+    let one = each first made owner (omega arith) (omega arith) are.0 in
+    let rest = each_flushed places P Q (first + 1) log owners (λ n r o le lt. each n r o (omega (arith, le)) (omega (arith, lt))) are.1 in
+    ((one.0, rest.0), (one.1, rest.1))
 
 -- a record of these, and the session that it came from
 record At (p : Parts) (first : ℕ) (log : List Record) (owners : List ℕ) (i : ℕ) : Type 0 where
@@ -59,9 +79,9 @@ record At (p : Parts) (first : ℕ) (log : List Record) (owners : List ℕ) (i :
   pub owner : ℕ
   pub is : slice_get log i ≡ Some made
   pub own : slice_get owners i ≡ Some owner
-  pub stands : IsFlushedAs p.tables p.rows p.places (first + i) made owner
+  pub stands : IsFlushedAs p.places (first + i) made owner
 
-at_place : (p : Parts) (first : ℕ) (log : List Record) (owners : List ℕ) (i : ℕ) → AreFlushed p.tables p.rows p.places first log owners → i < length log → At p first log owners i
+at_place : (p : Parts) (first : ℕ) (log : List Record) (owners : List ℕ) (i : ℕ) → AreFlushed p.places first log owners → i < length log → At p first log owners i
 at_place p first [] [] i are within = absurd (omega (arith, within))
 at_place p first [] (owner ∷ owners) i are within = absurd are
 at_place p first (made ∷ log) [] i are within = absurd are
@@ -71,7 +91,7 @@ at_place p first (made ∷ log) (owner ∷ owners) zero are within = record {
   is = refl;
   own = refl;
   stands =
-      subst (λ n. IsFlushedAs p.tables p.rows p.places n made owner) (omega arith) are.0;
+      subst (λ n. IsFlushedAs p.places n made owner) (omega arith) are.0;
 }
 at_place p first (made ∷ log) (owner ∷ owners) (suc i) are within =
     let behind = at_place p (first + 1) log owners i are.1 (omega (arith, within)) in
@@ -81,7 +101,7 @@ at_place p first (made ∷ log) (owner ∷ owners) (suc i) are within =
       is = behind.is;
       own = behind.own;
       stands =
-          subst (λ n. IsFlushedAs p.tables p.rows p.places n behind.made behind.owner) (omega arith) behind.stands;
+          subst (λ n. IsFlushedAs p.places n behind.made behind.owner) (omega arith) behind.stands;
     }
 
 -- each record that is not committed is that of the transaction in its session's place
@@ -90,7 +110,7 @@ pub record IsOf (p : Parts) (n : ℕ) : Type 0 where
   pub owner : ℕ
   pub is : slice_get p.log (n - 1) ≡ Some made
   pub own : slice_get p.owners (n - 1) ≡ Some owner
-  pub stands : IsFlushedAs p.tables p.rows p.places n made owner
+  pub stands : IsFlushedAs p.places n made owner
 
 pub flushed_at : (p : Parts) → IsCore p → (n : ℕ) → p.committed < n → n ≤ length p.log → IsOf p n
 flushed_at p core n later there =
@@ -102,7 +122,7 @@ flushed_at p core n later there =
       owner = at.owner;
       is = sym (ap (λ k. slice_get p.log k) place) ∙ sym (get_behind p.committed p.log i) ∙ at.is;
       own = sym (ap (λ k. slice_get p.owners k) place) ∙ sym (get_behind p.committed p.owners i) ∙ at.own;
-      stands = subst (λ k. IsFlushedAs p.tables p.rows p.places k at.made at.owner) (omega (arith, later)) at.stands;
+      stands = subst (λ k. IsFlushedAs p.places k at.made at.owner) (omega (arith, later)) at.stands;
     }
 
 -- what a session sees is defined: its changes apply to the committed rows

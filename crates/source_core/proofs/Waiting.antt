@@ -15,7 +15,7 @@ use Rattle.source_core.proofs.Queueing.{none_is}
 -- ---- who does not wait
 
 -- a session whose transaction is neither queued nor flushed owns none of these records
-owns_none : (p : Parts) (session n : ℕ) (log : List Record) (owners : List ℕ) → AreFlushed p.tables p.rows p.places n log owners → IsFree (placed p.places (session - 1)) →
+owns_none : (p : Parts) (session n : ℕ) (log : List Record) (owners : List ℕ) → AreFlushed p.places n log owners → IsFree (placed p.places (session - 1)) →
     list_any (eqb session) owners ≡ false
 owns_none p session n [] [] are free = refl
 owns_none p session n [] (owner ∷ owners) are free = absurd are

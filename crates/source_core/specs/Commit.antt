@@ -1,14 +1,14 @@
 -- What a commit makes of the places of the sessions, and of their locks.
 use Rattle.std.specs.Prelude.{ℕ, ◌-◌, Bool, if◌then◌else◌, List, [], ◌∷◌, map, slice_set, Option, None}
-use Rattle.std.specs.Option.{option_map, option_map_or}
+use Rattle.std.specs.Option.{option_map}
 use Rattle.schema.specs.declared.Table.{Table}
 use Rattle.rows.specs.Database.{Database}
-use Rattle.overlay.specs.Pending.{Pending, none_pending}
+use Rattle.overlay.specs.Pending.{Pending}
 use Rattle.overlay.specs.Joining.{EachFollows, AllApart}
 use Rattle.row_locks.specs.Locks.{AllLocks, released_all}
 use Rattle.source_core.specs.declared.transaction.Transaction.{Transaction}
 use Rattle.source_core.specs.Calls.{is_flushed_by}
-use Rattle.source_core.specs.Core.{open_view, placed}
+use Rattle.source_core.specs.Core.{open_view, placed, pending_in}
 
 -- whether the transaction in a place is a record up to this number
 abbrev pub has_ended : ℕ → Option Transaction → Bool
@@ -27,10 +27,6 @@ cleared (session ∷ sessions) places = cleared sessions (slice_set places (sess
 abbrev pub all_released : List ℕ → AllLocks → AllLocks
 all_released [] locks = locks
 all_released (session ∷ sessions) locks = all_released sessions (released_all locks session)
-
--- what the transaction of a place has pending
-abbrev pub pending_in : Option Transaction → Pending
-pending_in t = option_map_or (λ u. u.overlay) t none_pending
 
 -- what the transactions of these sessions have pending, in order
 abbrev pub pendings_of : List (Option Transaction) → List ℕ → List Pending

@@ -1,27 +1,26 @@
 -- How a source's parts stand together.
-use Rattle.std.specs.Prelude.{◌≡◌, ℕ, ◌+◌, ◌-◌, ◌<◌, ◌≤◌, ◌^◌, IsTrue, true, if◌then◌else◌, Bool, List, [], ◌∷◌, ◌++◌, length, map, take, drop, slice_get, slice_index_or, Option, Some, None}
+use Rattle.std.specs.Prelude.{◌≡◌, ℕ, ◌+◌, ◌-◌, ◌<◌, ◌≤◌, ◌^◌, IsTrue, true, if◌then◌else◌, Bool, List, [], ◌∷◌, length, map, take, drop, replicate, slice_get, slice_index_or, Option, Some, None}
 use Rattle.std.specs.FinMap.{empty}
-use Rattle.std.specs.List.{list_any, IsDistinct}
-use Rattle.std.specs.Option.{option_map}
+use Rattle.std.specs.List.{list_any, AllByRecursion, IsDistinct}
+use Rattle.std.specs.Option.{option_map, option_map_or}
 use Rattle.std.proofs.Common.{reverse, eqb}
 use Rattle.schema.specs.declared.Table.{Table}
-use Rattle.schema.specs.Rows.{SameRows}
+use Rattle.schema.specs.Rows.{SameRows, Touched}
 use Rattle.schema.specs.Covering.{Covers}
 use Rattle.rows.specs.declared.Change.{Change}
-use Rattle.rows.specs.Database.{Database, kin, marks, LeavesNoOrphan, touched_by}
-use Rattle.store_trait.specs.Batch.{Entry, put_batch}
+use Rattle.rows.specs.declared.step.Step.{Step}
+use Rattle.rows.specs.Database.{Database, writes, LeavesNoOrphan}
+use Rattle.store_trait.specs.Batch.{Entry, put_batch, all_rows}
 use Rattle.store_trait.specs.Fits.{Fits}
 use Rattle.overlay.specs.Pending.{Pending, none_pending, pushed}
 use Rattle.overlay.specs.Follows.{Follows}
-use Rattle.overlay.specs.declared.step.Step.{Step}
-use Rattle.overlay.specs.Step.{kin_of, marks_of}
 use Rattle.record_codec.specs.declared.records.Record.{Record}
-use Rattle.record_codec.specs.Log.{after, place_of, IsLegalLog, AreShaped}
+use Rattle.record_codec.specs.Log.{after, place_of, touched, IsLegalLog, AreShaped}
 use Rattle.log_index.specs.declared.Entry.{Entry as Seen}
-use Rattle.commit_stages.specs.Queues.{Queues, AreSizes}
+use Rattle.commit_stages.specs.Queues.{Queues, AreSizes, no_queues}
 use Rattle.row_index.specs.Keys.{Keys, Indexes}
 use Rattle.row_index.specs.Counts.{Counts, CountsChildren}
-use Rattle.row_locks.specs.Locks.{AllLocks, NoClash}
+use Rattle.row_locks.specs.Locks.{Holding, AllLocks, NoClash, holding, all_free}
 use Rattle.tracker_trait.specs.History.{last_of}
 use Rattle.tracker_trait.specs.Kind.{Kind}
 use Rattle.source_core.specs.declared.transaction.Phase.{Phase}
@@ -30,10 +29,10 @@ use Rattle.source_core.specs.declared.transaction.Transaction.{Transaction}
 use Rattle.source_core.specs.declared.transaction.Prepared.{Prepared as Answer}
 use Rattle.source_core.specs.declared.transaction.Prepared.TheVariants as answers
 use Rattle.source_core.specs.Calls.{is_empty_list}
-use Rattle.source_core.specs.Source.{Source, Open, locks_over, entries_of, are_shaped}
+use Rattle.source_core.specs.Source.{Source, Open, entries_of, are_shaped}
 
 abbrev pub open_view : Transaction → Open
-open_view t = record { changes = t.overlay.changes; phase = t.phase }
+open_view t = record { changes = t.pending.changes; phase = t.phase }
 
 -- each session's transaction as callers see it
 abbrev pub sessions_view : List (Option Transaction) → List (Option Open)
@@ -59,6 +58,24 @@ pub record Parts : Type 0 where
   pub stages : Queues
   pub locks : AllLocks
 
+abbrev pub parts_of : List Table → Database → Keys → Counts → List Entry → ℕ → List Record → ℕ → ℕ → List Seen → List (Option Transaction) → Queues → AllLocks → Parts
+parts_of ts rows index children base limit log synced_ committed_ entries places stages locks = record {
+  tables = ts;
+  rows = rows;
+  index = index;
+  children = children;
+  base = base;
+  limit = limit;
+  log = log;
+  synced = synced_;
+  committed = committed_;
+  owners = map (λ e. e.session) entries;
+  entries = entries;
+  places = places;
+  stages = stages;
+  locks = locks;
+}
+
 abbrev pub source_of : Parts → Kind → Bool → Source
 source_of p kind halted = record {
   tables = p.tables;
@@ -79,8 +96,33 @@ source_of p kind halted = record {
 abbrev pub placed : List (Option Transaction) → ℕ → Option Transaction
 placed places i = slice_index_or places i None
 
--- a transaction's changes are such as the schema allows, and apply to the committed rows, where they delete no row that
--- has a child then, and its overlay is what they leave: rows that the schema allows
+-- what the transaction of a place has pending
+abbrev pub pending_in : Option Transaction → Pending
+pending_in place = option_map_or (λ t. t.pending) place none_pending
+
+-- what changes that are pending touch: the rows that they write, their kin and their marks
+abbrev pub touched_in : Pending → Touched
+touched_in pending = record { writes = writes pending.changes; refs = pending.kin; marks = pending.marks }
+
+-- what a session holds for them, of rows and of marks
+abbrev pub rows_held : Pending → Holding
+rows_held pending = holding (writes pending.changes) pending.kin
+
+abbrev pub marks_held : Pending → Holding
+marks_held pending = holding pending.marks []
+
+-- what each session holds
+abbrev pub locks_in : List Pending → AllLocks
+locks_in pendings = record { rows = map rows_held pendings; marks = map marks_held pendings }
+
+-- two transactions touch the same rows and marks
+pub record SameTouched (a b : Touched) : Type 0 where
+  pub writes : SameRows a.writes b.writes
+  pub refs : SameRows a.refs b.refs
+  pub values : SameRows a.marks b.marks
+
+-- Changes that are pending are such as the schema allows, and apply to the committed rows, where they delete no row that
+-- has a child then, and leave rows that the schema allows.
 pub record Applies (ts : List Table) (rows : Database) (pending : Pending) : Type 0 where
   pub leaves : Database
   pub follows : Follows ts rows pending leaves
@@ -89,48 +131,53 @@ pub record Applies (ts : List Table) (rows : Database) (pending : Pending) : Typ
   pub few : length pending.changes ≤ 1024
   pub no_orphan : LeavesNoOrphan ts pending.changes rows
 
--- the transaction's kin and marks are those of its changes, as they are applied to the committed rows
-abbrev pub RefersTo : List Table → Database → Transaction → Type 0
-RefersTo ts rows t = (t.kin ≡ kin ts t.overlay.changes rows) × (t.marks ≡ marks ts t.overlay.changes rows)
+-- how far a log has come, by which each transaction stands, and the sessions that are queued
+pub record Course : Type 0 where
+  pub log : List Record
+  pub committed : ℕ
+  pub owners : List ℕ
+  pub entries : List Seen
+  pub queue : List ℕ
+
+abbrev pub course_of : Parts → Course
+course_of p = record { log = p.log; committed = p.committed; owners = p.owners; entries = p.entries; queue = p.stages.flush }
 
 -- A transaction of this session is prepared: its order parent was committed then and covers it in the whole log, and
 -- is not before the session's last record.
-pub record IsReady (p : Parts) (session : ℕ) (changes : List Change) (order : ℕ) : Type 0 where
-  pub some : 1 ≤ length changes
-  pub within : order ≤ p.committed
-  pub covers : Covers (map place_of p.log) (touched_by p.tables changes p.rows) order
-  pub own : last_of (reverse p.entries) session ≤ order
+pub record IsReady (log : List Record) (committed_ : ℕ) (entries : List Seen) (session : ℕ) (pending : Pending) (order : ℕ) : Type 0 where
+  pub some : 1 ≤ length pending.changes
+  pub within : order ≤ committed_
+  pub covers : Covers (map place_of log) (touched_in pending) order
+  pub own : last_of (reverse entries) session ≤ order
 
 -- A transaction of this session is the record of this number, which is not committed.
-pub record IsLogged (p : Parts) (session gno : ℕ) : Type 0 where
-  pub later : p.committed < gno
-  pub there : gno ≤ length p.log
-  pub owner : slice_get p.owners (gno - 1) ≡ Some session
+pub record IsLogged (log : List Record) (committed_ : ℕ) (owners : List ℕ) (session gno : ℕ) : Type 0 where
+  pub later : committed_ < gno
+  pub there : gno ≤ length log
+  pub owner : slice_get owners (gno - 1) ≡ Some session
 
--- where a transaction of these changes stands
-abbrev pub StandsAs : Parts → ℕ → List Change → Phase → Type 0
-StandsAs p session changes Active = Unit {0}
-StandsAs p session changes (Prepared order) = IsReady p session changes order
-StandsAs p session changes (Queued order) = IsReady p session changes order × IsTrue (list_any (eqb session) p.stages.flush)
-StandsAs p session changes (Flushed gno) = IsLogged p session gno
+-- where a transaction stands that has this pending
+abbrev pub StandsAs : Course → ℕ → Pending → Phase → Type 0
+StandsAs c session pending Active = Unit {0}
+StandsAs c session pending (Prepared order) = IsReady c.log c.committed c.entries session pending order
+StandsAs c session pending (Queued order) = IsReady c.log c.committed c.entries session pending order × IsTrue (list_any (eqb session) c.queue)
+StandsAs c session pending (Flushed gno) = IsLogged c.log c.committed c.owners session gno
 
 -- The record of this number is that of the transaction in its session's place.
-pub record IsFlushedAs (ts : List Table) (rows : Database) (places : List (Option Transaction)) (number : ℕ) (made : Record) (owner : ℕ) : Type 0 where
+pub record IsFlushedAs (places : List (Option Transaction)) (number : ℕ) (made : Record) (owner : ℕ) : Type 0 where
   pub least : 1 ≤ owner
   pub t : Transaction
   pub place : placed places (owner - 1) ≡ Some t
   pub phase : t.phase ≡ Flushed number
-  pub changes : made.changes ≡ t.overlay.changes
-  pub refs : SameRows made.refs (kin ts t.overlay.changes rows)
-  pub marks_are : SameRows made.marks (marks ts t.overlay.changes rows)
+  pub changes : made.changes ≡ t.pending.changes
+  pub touches : SameTouched (touched made) (touched_in t.pending)
 
 -- these records, the first of this number, are those of the transactions in their sessions' places
-abbrev pub AreFlushed : List Table → Database → List (Option Transaction) → ℕ → List Record → List ℕ → Type 0
-AreFlushed ts rows places number [] [] = Unit {0}
-AreFlushed ts rows places number (made ∷ log) (owner ∷ owners) =
-    IsFlushedAs ts rows places number made owner × AreFlushed ts rows places (number + 1) log owners
-AreFlushed ts rows places number [] (owner ∷ owners) = ⊥
-AreFlushed ts rows places number (made ∷ log) [] = ⊥
+abbrev pub AreFlushed : List (Option Transaction) → ℕ → List Record → List ℕ → Type 0
+AreFlushed places number [] [] = Unit {0}
+AreFlushed places number (made ∷ log) (owner ∷ owners) = IsFlushedAs places number made owner × AreFlushed places (number + 1) log owners
+AreFlushed places number [] (owner ∷ owners) = ⊥
+AreFlushed places number (made ∷ log) [] = ⊥
 
 -- the session's transaction is queued
 pub record IsQueued (places : List (Option Transaction)) (session : ℕ) : Type 0 where
@@ -141,8 +188,7 @@ pub record IsQueued (places : List (Option Transaction)) (session : ℕ) : Type 
   pub phase : t.phase ≡ Queued order
 
 abbrev pub AreQueued : List (Option Transaction) → List ℕ → Type 0
-AreQueued places [] = Unit {0}
-AreQueued places (session ∷ queue) = IsQueued places session × AreQueued places queue
+AreQueued places queue = AllByRecursion (IsQueued places) queue
 
 -- The log is legal, and its changes are such as the schema allows; each record has the session that it came from, and trackers
 -- see it so.
@@ -159,9 +205,22 @@ pub record IsStored (ts : List Table) (base : List Entry) (log : List Record) (c
   pub indexed : Indexes ts rows index
   pub counted : CountsChildren ts rows children
 
--- Each open transaction applies to the committed rows, refers to the kin and the marks of its changes there, and holds its rows,
--- their kin and its marks; no two sessions clash, neither by rows nor by marks. The records that are not committed are those of the flushed transactions, and the queue those that
--- are queued, each once. The unsynced ones are those of the groups.
+-- The base has all rows of a store without records, which stands so.
+pub record IsStart (ts : List Table) (base : List Entry) (index : Keys) (children : Counts) : Type 0 where
+  pub whole : base ≡ all_rows (put_batch base empty)
+  pub stored : IsStored ts base [] 0 (put_batch base empty) index children
+
+-- No session has a transaction or a lock, and nothing waits.
+pub record IsIdle (places : List (Option Transaction)) (stages : Queues) (locks : AllLocks) : Type 0 where
+  pub no_places : places ≡ replicate 256 None
+  pub no_stages : stages ≡ no_queues
+  pub none : locks ≡ all_free
+  pub no_clash : NoClash locks.rows
+  pub no_mark_clash : NoClash locks.marks
+
+-- Each open transaction applies to the committed rows, and holds its rows, their kin and its marks; no two sessions clash, neither by
+-- rows nor by marks. The records that are not committed are those of the flushed transactions, and the queue those that are queued,
+-- each once. The unsynced ones are those of the groups.
 pub record IsCore (p : Parts) : Type 0 where
   pub logged : IsTrackedLog p.tables p.base p.log p.owners p.entries
   pub stored : IsStored p.tables p.base p.log p.committed p.rows p.index p.children
@@ -171,13 +230,12 @@ pub record IsCore (p : Parts) : Type 0 where
   pub committed_within : p.committed ≤ p.synced
   pub grouped : AreSizes p.stages.sizes (length p.log - p.synced)
   pub sessions : length p.places ≡ 256
-  pub locks : p.locks ≡ locks_over p.tables p.rows (sessions_view p.places)
+  pub locks : p.locks ≡ locks_in (map pending_in p.places)
   pub no_clash : NoClash p.locks.rows
   pub no_mark_clash : NoClash p.locks.marks
-  pub applies : (i : ℕ) (t : Transaction) → placed p.places i ≡ Some t → Applies p.tables p.rows t.overlay
-  pub refers : (i : ℕ) (t : Transaction) → placed p.places i ≡ Some t → RefersTo p.tables p.rows t
-  pub stands : (i : ℕ) (t : Transaction) → placed p.places i ≡ Some t → StandsAs p (i + 1) t.overlay.changes t.phase
-  pub flushed : AreFlushed p.tables p.rows p.places (p.committed + 1) (drop p.committed p.log) (drop p.committed p.owners)
+  pub applies : (i : ℕ) (t : Transaction) → placed p.places i ≡ Some t → Applies p.tables p.rows t.pending
+  pub stands : (i : ℕ) (t : Transaction) → placed p.places i ≡ Some t → StandsAs (course_of p) (i + 1) t.pending t.phase
+  pub flushed : AreFlushed p.places (p.committed + 1) (drop p.committed p.log) (drop p.committed p.owners)
   pub queued : AreQueued p.places p.stages.flush
   pub distinct : IsDistinct eqb p.stages.flush
 
@@ -193,10 +251,6 @@ pub record Holds (p : Parts) (IsSo : Type 0) : Type 0 where
   pub waits : Wait p.stages p.owners p.synced p.committed
   pub tracked : IsSo
 
--- a transaction without changes
-abbrev pub new_transaction : Transaction
-new_transaction = record { overlay = none_pending; kin = []; marks = []; phase = Active }
-
 -- the transaction in another phase
 abbrev pub with_phase : Phase → Transaction → Transaction
 with_phase phase t = record t { phase = phase }
@@ -204,7 +258,7 @@ with_phase phase t = record t { phase = phase }
 -- the transaction with one more change, which does so to its row
 abbrev pub with_change : Option Transaction → Change → Step → Option Transaction
 with_change None change step = None
-with_change (Some t) change step = Some (record t { overlay = pushed t.overlay change step.left; kin = t.kin ++ kin_of step; marks = t.marks ++ marks_of step })
+with_change (Some t) change step = Some (record t { pending = pushed t.pending change step })
 
 -- the order parent of a prepared transaction
 abbrev pub prepared_order : Transaction → Option ℕ
@@ -214,5 +268,5 @@ prepared_order t = elim t.phase [ Active ↦ None | Prepared order ↦ Some orde
 abbrev pub ready : Option Transaction → ℕ → Option Transaction × Answer
 ready None parent = (None, answers.Empty)
 ready (Some t) parent =
-    if is_empty_list t.overlay.changes then (None, answers.Empty)
+    if is_empty_list t.pending.changes then (None, answers.Empty)
     else (Some (with_phase (Prepared parent) t), answers.Parent parent)

@@ -4,6 +4,7 @@ pub mod Steps
 pub mod Source
 pub mod Calls
 pub mod Core
+pub mod AtLog
 pub mod Laws
 pub mod Flush
 pub mod Commit

@@ -48,6 +48,11 @@ pub record Source : Type 0 where
   pub group_sizes : List ℕ
   pub halted : Bool
 
+-- what a source begins with: the tables, and the rows as the batch that loads them
+pub record Start : Type 0 where
+  pub tables : List Table
+  pub base : List Entry
+
 abbrev pub is_session : Source → ℕ → Bool
 is_session s session = nat_le 1 session && nat_le session (length s.sessions)
 

@@ -10,10 +10,9 @@ use Rattle.rows.specs.declared.Change.{Change}
 use Rattle.rows.specs.declared.Change.TheVariants.{Insert, Update, Delete}
 use Rattle.rows.specs.declared.ChangeFault.{ChangeFault}
 use Rattle.rows.specs.Change.{changed}
-use Rattle.rows.specs.Database.{Database, target}
-use Rattle.rows.specs.Effect.{parent_stands, value_stands}
-use Rattle.overlay.specs.declared.step.Step.{Step}
-use Rattle.overlay.specs.Step.{step_from, step_of, kin_of}
+use Rattle.rows.specs.declared.step.Step.{Step}
+use Rattle.rows.specs.Step.{step_from, step_of, kin_of}
+use Rattle.rows.specs.Database.{Database, target, parent_stands, value_stands}
 use Rattle.overlay.specs.Children.{has_child}
 use Rattle.row_locks.specs.declared.Mode.{Mode}
 use Rattle.row_locks.specs.declared.Mode.TheVariants.{Share, Exclusive}

@@ -10,9 +10,9 @@ ghost use Rattle.overlay.specs.Pending.{left_at};
 ghost use Rattle.overlay.specs.Joining.{joined, joined_all};
 ghost use Rattle.row_locks.specs.Locks.{NoClash};
 ghost use Rattle.source_core.specs.Calls.{receipt_as, receipts_for};
-ghost use Rattle.source_core.specs.Core.{placed};
+ghost use Rattle.source_core.specs.Core.{placed, pending_in};
 ghost use Rattle.commit_stages.specs.Queues.{IsSession};
-ghost use Rattle.source_core.specs.Commit.{cleared, all_released, pending_in, pendings_of, AreApart};
+ghost use Rattle.source_core.specs.Commit.{cleared, all_released, pendings_of, AreApart};
 
 use crate::rooms::Rooms;
 use crate::transaction::{Receipt, Transaction};
@@ -78,7 +78,7 @@ fn join_one(rows: &mut Joined, place: &Option<Transaction>) -> Result<(), Memory
     ensures { OnOk result (rows.new ≡ joined rows.old (pending_in place.now)) }
 {
     match place {
-        Some(t) => rows.add(&t.overlay),
+        Some(t) => rows.add(&t.pending),
         None => Ok(()),
     }
 }

@@ -13,17 +13,17 @@
 //! first cause of refusal in order, and what it leaves is defined in `specs/Calls.antt`. It stands on `overlay` for pending
 //! changes and the steps of each, on `row_locks` for who holds what, on `commit_stages` for who waits, on `store_trait` for
 //! the rows, on `row_index` for what is known of them, on `record_codec` for records and groups, and on a tracker of `tracker_trait`
-//! for the parents of records.
+//! for the parents of records. `SourceCore::recovered` goes on from a log that is there (`specs/AtLog.antt`). `Opening` is all of a new
+//! source that may be refused for memory: whoever has the rows makes it first, and keeps them if it is refused.
 #![tactic(auto)]
 
 mod committing;
 mod fault;
 mod flushing;
-mod kin;
 pub mod laws;
 mod machine;
 mod making;
-mod moved;
+mod recovering;
 mod rooms;
 mod session;
 mod stepping;
@@ -32,4 +32,5 @@ mod transaction;
 
 pub use fault::SourceFault;
 pub use machine::SourceCore;
+pub use making::Opening;
 pub use transaction::{Phase, Prepared, Receipt};

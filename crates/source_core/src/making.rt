@@ -1,56 +1,22 @@
-//! What a new source takes memory for, in functions of their own: a way out drops no more than was made until there.
+//! What a source begins with beside its rows: all of it that may be refused is made here, by a look at the store.
 
-ghost use Rattle.std.specs.Prelude.{◌≡◌, length, IfOk, None, replicate};
-ghost use Rattle.std.specs.FinMap.{empty};
-ghost use Rattle.rows.specs.Database.{NoValueTwice};
-ghost use Rattle.store_trait.specs.Batch.{all_rows, put_batch};
+ghost use Rattle.std.specs.Prelude.{◌≡◌, IfOk};
+ghost use Rattle.store_trait.specs.Batch.{all_rows};
 ghost use Rattle.store_trait.specs.Fits.{Fits};
-ghost use Rattle.row_index.specs.Keys.{Indexes};
-ghost use Rattle.row_index.specs.Counts.{CountsChildren};
-ghost use Rattle.row_locks.specs.Locks.{NoClash, all_free};
-ghost use Rattle.commit_stages.specs.Queues.{no_queues};
+ghost use Rattle.store_trait.specs.Operation.{loaded};
 
 use crate::rooms::Rooms;
 use crate::session::empty_places;
 use crate::transaction::Transaction;
 use commit_stages::Stages;
+use log_index::Log;
+use record_codec::Record;
 use row_index::{Children, Index};
 use row_locks::LockTable;
 use schema::{Memory, Schema};
 use std::alloc::Global;
+use std::marker::Model;
 use store_trait::{Batch, RowStore, snapshot};
-
-/// The rows at the start, and what is kept beside them.
-#[derive(Drop)]
-pub(crate) struct Start {
-    pub base: Batch,
-    pub index: Index,
-    pub children: Children,
-}
-
-impl Start {
-    pub(crate) fn of<S: RowStore>(
-        alloc: Global,
-        store: &S,
-        schema: &Schema,
-    ) -> Result<Start, Memory>
-        requires { Fits schema.now (S.contents store.now) }
-        ensures base { IfOk result (λ start. start.base ≡ all_rows (S.contents store.now)) }
-        ensures loads { IfOk result (λ start. put_batch start.base empty ≡ S.contents store.now) }
-        ensures index { IfOk result (λ start. NoValueTwice schema.now (put_batch start.base empty)
-            → Indexes schema.now (put_batch start.base empty) start.index.keys) }
-        ensures children { IfOk result (λ start. CountsChildren schema.now (put_batch start.base empty) start.children.counts) }
-    {
-        let base = snapshot(alloc, store, schema)?;
-        let index = Index::of(alloc, schema, &base)?;
-        let children = Children::of(alloc, schema, &base)?;
-        Ok(Start {
-            base,
-            index,
-            children,
-        })
-    }
-}
 
 /// What the sessions stand in: no transactions, queues and locks.
 #[derive(Drop)]
@@ -61,14 +27,18 @@ pub(crate) struct Idle {
     pub rooms: Rooms,
 }
 
+impl Model for Idle {
+    ghost use Rattle.source_core.specs.Core.{IsIdle};
+
+    ghost Value = { Unit {0} };
+
+    ghost view = { λ idle. tt };
+
+    ghost invariant = { λ idle. IsIdle idle.places.items idle.stages idle.locks };
+}
+
 impl Idle {
-    pub(crate) fn new(alloc: Global) -> Result<Idle, Memory>
-        ensures places { IfOk result (λ idle. idle.places.items ≡ replicate 256 None) }
-        ensures stages { IfOk result (λ idle. idle.stages ≡ no_queues) }
-        ensures locks { IfOk result (λ idle. idle.locks ≡ all_free) }
-        ensures no_clash { IfOk result (λ idle. NoClash idle.locks.rows) }
-        ensures no_mark_clash { IfOk result (λ idle. NoClash idle.locks.marks) }
-    {
+    pub(crate) fn new(alloc: Global) -> Result<Idle, Memory> {
         let places = empty_places(alloc)?;
         let stages = Stages::new(alloc)?;
         let locks = LockTable::new(alloc)?;
@@ -79,5 +49,67 @@ impl Idle {
             locks,
             rooms,
         })
+    }
+}
+
+/// What stands beside the rows of a source that begins.
+#[derive(Drop)]
+pub(crate) struct Beside {
+    pub schema: Schema,
+    pub index: Index,
+    pub children: Children,
+    pub idle: Idle,
+}
+
+/// A log over the rows that it began with, and what trackers see of it.
+#[derive(Drop)]
+pub(crate) struct Past {
+    pub base: Batch,
+    pub log: Vec<Record>,
+    pub index: Log,
+}
+
+/// What a source begins with beside its rows: the schema, the rows as the batch that loads them, who has each value of a unique column,
+/// how many children each row has, and the places of the sessions. It is made by a look at the store, so who owns that has it still where
+/// memory is refused; `SourceCore::opened` takes both, and refuses nothing.
+#[derive(Drop)]
+pub struct Opening {
+    pub(crate) base: Batch,
+    pub(crate) beside: Beside,
+}
+
+impl Model for Opening {
+    ghost use Rattle.source_core.specs.Source.{Start};
+
+    ghost Value = { Start };
+
+    ghost use Rattle.source_core.specs.Core.{IsStart};
+
+    ghost view = { λ o. record { tables = o.beside.schema; base = o.base } };
+
+    ghost invariant = { λ o. IsStart o.beside.schema o.base o.beside.index.map o.beside.children.map };
+}
+
+impl Opening {
+    /// What a source of these rows begins with. With n rows it takes the memory of a copy of them and n log n time: the rows at the
+    /// start are kept, so that the log can be judged by them. Beside them it takes the memory of the places of the sessions, and that of
+    /// the values in unique columns and of the rows that are parents: none where no table has a unique column, or a parent.
+    pub fn of<S: RowStore>(alloc: Global, schema: Schema, store: &S) -> Result<Opening, Memory>
+        requires { Fits schema (S.contents store.now) }
+        ensures tables { IfOk result (λ opening. opening.tables ≡ schema) }
+        ensures base { IfOk result (λ opening. opening.base ≡ all_rows (S.contents store.now)) }
+        ensures rows { IfOk result (λ opening. loaded opening.base ≡ S.contents store.now) }
+    {
+        let base = snapshot(alloc, store, &schema)?;
+        let index = Index::of(alloc, &schema, &base)?;
+        let children = Children::of(alloc, &schema, &base)?;
+        let idle = Idle::new(alloc)?;
+        let beside = Beside {
+            schema,
+            index,
+            children,
+            idle,
+        };
+        Ok(Opening { base, beside })
     }
 }

@@ -6,21 +6,20 @@ ghost use Rattle.std.specs.Option.{option_map_or};
 ghost use Rattle.std.specs.FinMap.{get};
 ghost use Rattle.row_locks.specs.declared.Mode.TheVariants.{Share};
 ghost use Rattle.row_locks.specs.Locks.{clashes_with, mark_clashes};
-ghost use Rattle.rows.specs.Database.{target, NoValueTwice};
-ghost use Rattle.rows.specs.Effect.{value_stands};
+ghost use Rattle.rows.specs.Database.{target, NoValueTwice, value_stands};
 ghost use Rattle.row_index.specs.Keys.{Indexes};
 ghost use Rattle.row_index.specs.Counts.{CountsChildren};
 ghost use Rattle.overlay.specs.Pending.{seen};
-ghost use Rattle.overlay.specs.Step.{step_of};
+ghost use Rattle.rows.specs.Step.{step_of, marks_of as marks_for};
 ghost use Rattle.source_core.specs.Calls.{shape_fault};
 ghost use Rattle.source_core.specs.Steps.{refusal as why, one_of, deletes_parent as deletes, kin_fault, stepped, locks_of as locks_for};
 
 use crate::fault::SourceFault;
 use crate::stored::Stored;
-use overlay::{Overlay, Step, has_child, parent_holds, step_seen, value_holds};
+use overlay::{Pending, has_child, parent_holds, step_seen, value_holds};
 use row_index::Index;
 use row_locks::{LockTable, Mode};
-use rows::{Change, has_columns};
+use rows::{Change, Step, has_columns};
 use schema::{Mark, RowId, Schema};
 use store_trait::RowStore;
 
@@ -42,7 +41,7 @@ pub(crate) fn check_shape(schema: &Schema, change: &Change) -> Result<(), Source
 /// store; of a delete also that of `has_child`; of a change that gives its row a value in a unique column also that of finding who
 /// has the value, in the index and of the transaction's own rows.
 pub(crate) fn allowed_step<S: RowStore>(
-    overlay: &Overlay,
+    pending: &Pending,
     schema: &Schema,
     stored: &Stored<S>,
     locks: &LockTable,
@@ -52,13 +51,13 @@ pub(crate) fn allowed_step<S: RowStore>(
     requires least { 1 ≤ session }
     requires greatest { session ≤ 256 }
     requires apart { NoValueTwice schema.now (S.contents stored.now.store) }
-    requires indexed { Indexes schema.now (S.contents stored.now.store) stored.now.index.keys }
-    requires counted { CountsChildren schema.now (S.contents stored.now.store) stored.now.children.counts }
-    ensures { result ≡ stepped schema.now (seen overlay.now (S.contents stored.now.store))
+    requires indexed { Indexes schema.now (S.contents stored.now.store) stored.now.index.map }
+    requires counted { CountsChildren schema.now (S.contents stored.now.store) stored.now.children.map }
+    ensures { result ≡ stepped schema.now (seen pending.now (S.contents stored.now.store))
         (λ row. clashes_with locks.now.rows session row Share) (mark_clashes locks.now session) change.now }
 {
-    match step_seen(overlay, schema, &stored.store, change) {
-        Ok(step) => match cause(overlay, schema, stored, locks, session, change, &step) {
+    match step_seen(pending, schema, &stored.store, change) {
+        Ok(step) => match cause(pending, schema, stored, locks, session, change, &step) {
             Some(fault) => Err(fault),
             None => Ok(step),
         },
@@ -68,7 +67,7 @@ pub(crate) fn allowed_step<S: RowStore>(
 
 /// The first cause that refuses a change whose row allows it, which does this to it.
 fn cause<S: RowStore>(
-    overlay: &Overlay,
+    pending: &Pending,
     schema: &Schema,
     stored: &Stored<S>,
     locks: &LockTable,
@@ -79,21 +78,21 @@ fn cause<S: RowStore>(
     requires least { 1 ≤ session }
     requires greatest { session ≤ 256 }
     requires apart { NoValueTwice schema.now (S.contents stored.now.store) }
-    requires indexed { Indexes schema.now (S.contents stored.now.store) stored.now.index.keys }
-    requires counted { CountsChildren schema.now (S.contents stored.now.store) stored.now.children.counts }
-    requires step { Ok step.now ≡ step_of schema.now change.now (get (seen overlay.now (S.contents stored.now.store)) (target change.now)) }
-    ensures { result ≡ kin_fault schema.now (seen overlay.now (S.contents stored.now.store))
+    requires indexed { Indexes schema.now (S.contents stored.now.store) stored.now.index.map }
+    requires counted { CountsChildren schema.now (S.contents stored.now.store) stored.now.children.map }
+    requires step { Ok step.now ≡ step_of schema.now change.now (get (seen pending.now (S.contents stored.now.store)) (target change.now)) }
+    ensures { result ≡ kin_fault schema.now (seen pending.now (S.contents stored.now.store))
         (λ row. clashes_with locks.now.rows session row Share) (mark_clashes locks.now session) change.now step.now }
 {
     if is_held(locks, session, step) {
         Some(SourceFault::RowLocked)
-    } else if !parent_holds(overlay, schema, &stored.store, change, step.left.as_ref()) {
+    } else if !parent_holds(pending, schema, &stored.store, change, step.left.as_ref()) {
         Some(SourceFault::NoParent)
-    } else if deletes_parent(overlay, schema, stored, change) {
+    } else if deletes_parent(pending, schema, stored, change) {
         Some(SourceFault::HasChild)
     } else if is_taken(locks, session, step) {
         Some(SourceFault::RowLocked)
-    } else if !value_is_free(overlay, schema, stored, change, step) {
+    } else if !value_is_free(pending, schema, stored, change, step) {
         Some(SourceFault::Duplicate)
     } else {
         None
@@ -142,43 +141,43 @@ fn is_mark_held(locks: &LockTable, session: u16, mark: Option<Mark>) -> bool
 
 /// Whether the change deletes a row that has a child, as the transaction sees the rows.
 fn deletes_parent<S: RowStore>(
-    overlay: &Overlay,
+    pending: &Pending,
     schema: &Schema,
     stored: &Stored<S>,
     change: &Change,
 ) -> bool
-    requires { CountsChildren schema.now (S.contents stored.now.store) stored.now.children.counts }
-    ensures { result ≡ deletes schema.now change.now (seen overlay.now (S.contents stored.now.store)) }
+    requires { CountsChildren schema.now (S.contents stored.now.store) stored.now.children.map }
+    ensures { result ≡ deletes schema.now change.now (seen pending.now (S.contents stored.now.store)) }
 {
     match change {
         Change::Insert { .. } | Change::Update { .. } => false,
         Change::Delete { row } => {
             let count = stored.children.count(*row);
-            has_child(overlay, schema, &stored.store, count, *row)
+            has_child(pending, schema, &stored.store, count, *row)
         }
     }
 }
 
 /// Whether no other row that the transaction sees has the value that the change gives its own.
 fn value_is_free<S: RowStore>(
-    overlay: &Overlay,
+    pending: &Pending,
     schema: &Schema,
     stored: &Stored<S>,
     change: &Change,
     step: &Step,
 ) -> bool
     requires apart { NoValueTwice schema.now (S.contents stored.now.store) }
-    requires indexed { Indexes schema.now (S.contents stored.now.store) stored.now.index.keys }
-    requires step { Ok step.now ≡ step_of schema.now change.now (get (seen overlay.now (S.contents stored.now.store)) (target change.now)) }
-    ensures { result ≡ value_stands schema.now change.now (seen overlay.now (S.contents stored.now.store)) step.now.left }
+    requires indexed { Indexes schema.now (S.contents stored.now.store) stored.now.index.map }
+    requires step { Ok step.now ≡ step_of schema.now change.now (get (seen pending.now (S.contents stored.now.store)) (target change.now)) }
+    ensures { result ≡ value_stands schema.now change.now (seen pending.now (S.contents stored.now.store)) step.now.left }
 {
     let holder = holder_below(&stored.index, step.takes);
-    value_holds(overlay, schema, change, step.takes, holder)
+    value_holds(pending, schema, change, step.takes, holder)
 }
 
 /// The key of the committed row that has the mark that a change takes, where it takes one and there is such a row.
 fn holder_below(index: &Index, takes: Option<Mark>) -> Option<i64>
-    ensures { result ≡ option_and_then (get index.now.keys) takes }
+    ensures { result ≡ option_and_then (get index.now.map) takes }
 {
     index.holder(takes?)
 }
@@ -193,7 +192,8 @@ fn refusal(change: &Change) -> SourceFault
     }
 }
 
-/// The locks of the change on rows, the first so many of these: its own exclusively, and the step's kin for sharing.
+/// The locks of the change on rows, at the front of the array, and how many there are: its own exclusively, and the step's kin for
+/// sharing.
 pub(crate) fn locks_of(change: &Change, step: &Step) -> ([(RowId, Mode); 3], usize)
     ensures locks { take result.1 result.0 ≡ locks_for change.now step.now }
     ensures few { result.1 ≤ 3 }
@@ -203,5 +203,17 @@ pub(crate) fn locks_of(change: &Change, step: &Step) -> ([(RowId, Mode); 3], usi
         (None, None) => ([own; 3], 1),
         (Some(kin), None) | (None, Some(kin)) => ([own, (kin, Mode::Share), own], 2),
         (Some(old), Some(new)) => ([own, (old, Mode::Share), (new, Mode::Share)], 3),
+    }
+}
+
+/// The marks of the step, at the front of the array, and how many there are.
+pub(crate) fn marks_of(step: &Step) -> ([Mark; 2], usize)
+    ensures marks { take result.1 result.0 ≡ marks_for step.now }
+    ensures few { result.1 ≤ 2 }
+{
+    match (step.gives_up, step.takes) {
+        (None, None) => ([Mark::new(0, 0); 2], 0),
+        (Some(mark), None) | (None, Some(mark)) => ([mark; 2], 1),
+        (Some(old), Some(new)) => ([old, new], 2),
     }
 }

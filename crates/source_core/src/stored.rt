@@ -26,16 +26,16 @@ impl<S: RowStore> Stored<S> {
     /// the marks and the parents that the batch's rows had and then have: none where no table has a unique column, or a parent.
     pub fn put(&mut self, alloc: Global, schema: &Schema, batch: &Batch) -> Result<(), Memory>
         requires rising { IsRising batch.now }
-        requires indexed { Indexes schema.now (S.contents self.old.store) self.old.index.keys }
-        requires counted { CountsChildren schema.now (S.contents self.old.store) self.old.children.counts }
+        requires indexed { Indexes schema.now (S.contents self.old.store) self.old.index.map }
+        requires counted { CountsChildren schema.now (S.contents self.old.store) self.old.children.map }
         requires apart { NoValueTwice schema.now (S.contents self.old.store) }
         requires stays_apart { NoValueTwice schema.now (put_batch batch.now (S.contents self.old.store)) }
         ensures rows { OnOk result (S.contents self.new.store ≡ put_batch batch.now (S.contents self.old.store)) }
-        ensures indexed { OnOk result (Indexes schema.now (S.contents self.new.store) self.new.index.keys) }
-        ensures counted { OnOk result (CountsChildren schema.now (S.contents self.new.store) self.new.children.counts) }
+        ensures indexed { OnOk result (Indexes schema.now (S.contents self.new.store) self.new.index.map) }
+        ensures counted { OnOk result (CountsChildren schema.now (S.contents self.new.store) self.new.children.map) }
         ensures same_rows { OnErr result (S.contents self.new.store ≡ S.contents self.old.store) }
-        ensures same_index { OnErr result (self.new.index.keys ≡ self.old.index.keys) }
-        ensures same_counts { OnErr result (self.new.children.counts ≡ self.old.children.counts) }
+        ensures same_index { OnErr result (self.new.index.map ≡ self.old.index.map) }
+        ensures same_counts { OnErr result (self.new.children.map ≡ self.old.children.map) }
     {
         let marks = marks_before(alloc, schema, &self.store, batch)?;
         let parents = parents_before(alloc, schema, &self.store, batch)?;

@@ -1,8 +1,6 @@
 //! An open transaction, and the receipt that its session gets.
 
-use crate::kin::Kin;
-use crate::moved::Moved;
-use overlay::Overlay;
+use overlay::Pending;
 use record_codec::Changes;
 
 /// How far an open transaction has come.
@@ -27,12 +25,10 @@ pub enum Prepared {
     Empty,
 }
 
-/// A transaction, with what its changes leave, their kin and their marks.
+/// A transaction: its changes, with what they leave, their kin and their marks, and how far it has come.
 #[derive(Debug, Drop)]
 pub struct Transaction {
-    pub overlay: Overlay,
-    pub kin: Kin,
-    pub marks: Moved,
+    pub pending: Pending,
     pub phase: Phase,
 }
 

@@ -283,12 +283,12 @@ then_awake old first s at lead called left long within awake h = record {
 }
 
 -- a place whose session sleeps calls it, if it has its end or is to lead
-pub then_asleep : (old : State) (first : Bool) (s : State) (at : ℕ) (lead : Bool) (called : List Bool) (left : ℕ) → length old.watch.sleeping ≡ 256 → at < 256
+pub then_asleep : {old : State} {first : Bool} {s : State} {at : ℕ} {lead : Bool} {called : List Bool} {left : ℕ} → length old.watch.sleeping ≡ 256 → at < 256
     → slice_index_or s.watch.sleeping at false ≡ true → AreCalled old first s at lead called left
     → (next : Bool) (after : List Bool) (new : State) → next ≡ (lead && has_end s at) → after ≡ (if has_end s at || lead then slice_set called at true else called)
     → new ≡ (if has_end s at || lead then set_asleep s at false else s)
     → AreCalled old first new (at + 1) next after (left - 1)
-then_asleep old first s at lead called left long within sleeps h next after new next_is after_is new_is =
+then_asleep {old} {first} {s} {at} {lead} {called} {left} long within sleeps h next after new next_is after_is new_is =
     let end : has_end s at ≡ (old.core.halted || is_some (slice_index_or old.places at None)) = ap (λ (x : State). has_end x at) h.is in
     let both = of (has_end s at || lead) new_is in
     record {

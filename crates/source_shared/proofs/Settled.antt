@@ -7,6 +7,7 @@ use Rattle.std.proofs.Common.{
   suc,
   ◌+◌,
   ◌-◌,
+  ◌≤◌,
   Bool,
   true,
   false,
@@ -22,6 +23,7 @@ use Rattle.std.proofs.Common.{
   ◌∷◌,
   ◌++◌,
   length,
+  map,
   take,
   drop,
   replicate,
@@ -44,20 +46,21 @@ use Rattle.std.proofs.lemmas.Bool.Decides.{eqb_tells, Decides-eqb}
 use Rattle.std.proofs.lemmas.Slice.Eq.{bytes_eq-Decides}
 use Rattle.std.specs.Option.{option_map}
 use Rattle.std.proofs.lemmas.Option.{IfSome_then}
-use Rattle.std.proofs.lemmas.List.{take-append-le, length-set, length-replicate}
+use Rattle.std.proofs.lemmas.List.{take-append-le, length-set, length-replicate, length-map, take_all, drop_all}
 use Rattle.schema.specs.declared.Table.{Table}
 use Rattle.store_trait.specs.Batch.{Entry}
 use Rattle.record_codec.specs.declared.records.Record.{Record}
-use Rattle.record_codec.specs.Group.{GroupValue, AreRecordsOf}
+use Rattle.record_codec.specs.Group.{GroupValue, AreNumbered, AreRecordsOf, size_of}
 use Rattle.record_codec.specs.Version.{current}
-use Rattle.log_file.specs.Head.{Head, next_of}
+use Rattle.log_file.specs.Head.{Head, next_of, records_of}
 use Rattle.log_file.specs.declared.form.Form.TheVariants.{Three}
-use Rattle.log_file.specs.Log.{Log, IsNew, Kept, Tail, waiting_of, log_of}
+use Rattle.log_file.specs.Log.{Log, Kept, AreKept, Tail, waiting_of, log_of}
 use Rattle.log_set.specs.Set.{AreSetHalves}
-use Rattle.log_file.specs.Flushed.{IsFlushedOf, StandsIn}
-use Rattle.log_file.proofs.Unsynced.{Oldest, oldest_of, oldest_next, oldest_stands, first_of, flushed_more, flushed_landed, new_flushed}
+use Rattle.log_file.specs.Flushed.{IsFlushedOf, StandsIn, kept_of}
+use Rattle.log_file.proofs.Unsynced.{Oldest, oldest_of, oldest_next, oldest_stands, first_of, flushed_more, flushed_landed}
 use Rattle.source_core.specs.declared.transaction.Receipt.{Receipt}
-use Rattle.source_core.specs.Source.{Source, Open, IsSound, new_source}
+use Rattle.source_core.specs.Source.{Source, Open, IsSound}
+use Rattle.source_core.specs.AtLog.{source_at, owners_of, nobody}
 use Rattle.log_file.specs.Calls.{confirmed}
 use Rattle.source_core.proofs.Flush.Ends.{group_ends, group_is_counted}
 use Rattle.source_core.specs.Calls.{flushed, Flushes, IsOldest, with_synced, all_committed, receipts, receipts_for}
@@ -75,6 +78,7 @@ use Rattle.source_shared.specs.Engine.{
   AreLaidOut,
   IsSettled,
   ArePlaced,
+  HoldsAll,
   IsNewState,
   committed_receipts,
   emptied as emptied_at,
@@ -84,6 +88,7 @@ use Rattle.source_shared.specs.Engine.{
   given,
   laid,
 }
+use Rattle.source_shared.specs.Book.{old_receipts}
 use Rattle.source_shared.proofs.Places.{placed_none, none_placed}
 
 -- ---- the groups that wait
@@ -113,7 +118,7 @@ waits_in_log base tables s h = of s.unsynced refl where
 pub sessions_settled : (base : List Entry) (tables : List Table) (s : State) (sessions : List (Option Open)) (queue : List ℕ) → IsSettled base tables s
     → IsSettled base tables (record s { core = record s.core { sessions = sessions; queue = queue } })
 sessions_settled base tables s sessions queue h =
-    record { base_is = h.base_is; tables_is = h.tables_is; flushed = h.flushed; files = h.files; ready = h.ready; out = h.out; receipts = h.receipts; watch = h.watch; calm = h.calm }
+    record { base_is = h.base_is; tables_is = h.tables_is; flushed = h.flushed; ready = h.ready; out = h.out; receipts = h.receipts; watch = h.watch; calm = h.calm }
 
 -- the source is halted
 pub failed_settled : (base : List Entry) (tables : List Table) (s : State) → IsSettled base tables s → IsSettled base tables (failed s)
@@ -122,7 +127,6 @@ failed_settled base tables s h =
       base_is = h.base_is;
       tables_is = h.tables_is;
       flushed = h.flushed;
-      files = h.files;
       ready = IfSome_then s.home h.ready (λ t ready e. absurd cc);
       out = h.out;
       receipts = h.receipts;
@@ -150,7 +154,6 @@ emptied base tables s k h =
       base_is = h.base_is;
       tables_is = h.tables_is;
       flushed = h.flushed;
-      files = h.files;
       ready = h.ready;
       out = h.out;
       receipts = record { history_is = laid_.history_is; placed = placed_none s.history 1 s.places k laid_.placed; places = length-set s.places k None ∙ laid_.places; seats = laid_.seats };
@@ -163,7 +166,7 @@ emptied base tables s k h =
 -- the writer is here, and ready unless the source is halted
 home_settled : (base : List Entry) (tables : List Table) (s : State) (t : Tail) → (s.core.halted ≡ false → IsReady s.core.synced t) → IsSettled base tables s → IsSettled base tables (with_home t s)
 home_settled base tables s t ready h =
-    record { base_is = h.base_is; tables_is = h.tables_is; flushed = h.flushed; files = h.files; ready = ready; out = tt; receipts = h.receipts; watch = h.watch; calm = h.calm }
+    record { base_is = h.base_is; tables_is = h.tables_is; flushed = h.flushed; ready = ready; out = tt; receipts = h.receipts; watch = h.watch; calm = h.calm }
 
 -- the writer that is here is ready, unless the source is halted
 pub ready_here : (base : List Entry) (tables : List Table) (s : State) (t : Tail) → s.home ≡ Some t → s.core.halted ≡ false → IsSettled base tables s → IsReady s.core.synced t
@@ -185,7 +188,6 @@ flushed_settled base tables s c group sound f h =
       tables_is = h.tables_is;
       flushed = subst (λ (l : List ℕ). IsFlushedOf (core.log ++ f.records) core.synced l s.kept (s.unsynced ++ group ∷ [])) (sym (group_is_counted core c group sound f) ∙ sizes)
           (flushed_more core.log core.synced core.group_sizes s.kept s.unsynced h.flushed f.records group (group_ends core c group sound f).0 f.version f.group_of);
-      files = h.files;
       ready = h.ready;
       out = h.out;
       receipts = subst (λ (l : List Receipt). AreLaidOut l s.history s.places s.out) (sym (λ i. receipts_for (owners i) (log i))) h.receipts;
@@ -275,7 +277,6 @@ module _ (base : List Entry) (tables : List Table) (s : State) (t : Tail) (group
             (λ (rs : List Record). IsFlushedOf s.core.log group.last (drop 1 s.core.group_sizes)
             (record s.kept { records = rs; groups = s.kept.groups ++ group ∷ []; prepared = None }) (drop 1 s.unsynced)) all
             (flushed_landed s.core.log s.core.synced s.core.group_sizes s.kept s.unsynced group (drop 1 s.unsynced) h.flushed at);
-        files = h.files;
         ready = λ running. record { waiting = waiting; next = next; form = form; goes = goes };
         out = tt;
         receipts = h.receipts;
@@ -294,7 +295,6 @@ given_settled base tables s c places history is placed long history_is h =
       base_is = h.base_is;
       tables_is = h.tables_is;
       flushed = h.flushed;
-      files = h.files;
       ready = h.ready;
       out = h.out;
       receipts = record { history_is = history_is; placed = placed; places = long ∙ h.receipts.places; seats = h.receipts.seats };
@@ -339,33 +339,74 @@ set_settled s k sleeps may none place e =
     there (x ∷ l) (suc j) zero apart e = e
     there (x ∷ l) (suc j) (suc i) apart e = there l j i (λ same. apart (ap suc same)) e
 
--- a source that was just made, over a new log file
-pub new_settled : (log : Log) (files : ℕ) (s : State) (t : Tail) → s.core ≡ new_source s.core.tables s.core.base s.core.limit s.core.kind → IsNew log → s.home ≡ Some t → AreSetHalves s.kept t
-    → IsNewState s.core log files s
+-- ---- a source that was just made
+
+-- a log of the records of a core, which are numbered from 1, begins with 1
+first_is : (log : Log) (k : Kept) (c : Source) → IsSound c → AreKept k → HoldsAll log c.log → k.head ≡ log.head → k.records ≡ c.log → k.head.first ≡ 1
+first_is log k c sound kept holds head records = of c.log refl
+  where
+    of : (l : List Record) → c.log ≡ l → k.head.first ≡ 1
+    of [] is = ap (λ (h : Head). h.first) head ∙ holds.first is
+    of (made ∷ l) is =
+        let numbered : AreNumbered k.head.first (made ∷ l) = subst (AreNumbered k.head.first) (records ∙ is) kept.numbered in
+        sym numbered.0 ∙ (sound.legal [] made l is).gno
+
+-- all that is flushed is committed
+record IsAllCommitted (c : Source) : Type 0 where
+  pub synced : c.synced ≡ length c.log
+  pub committed : c.committed ≡ length c.log
+  pub grouped : c.group_sizes ≡ []
+
+-- what lies between flush and sync is nothing
+flushed_at : (log : Log) (s : State) → IsAllCommitted s.core → IsSound s.core → AreKept s.kept → HoldsAll log s.core.log → kept_of log ≡ s.kept → s.unsynced ≡ []
+    → IsFlushedOf s.core.log s.core.synced s.core.group_sizes s.kept s.unsynced
+flushed_at log s all sound kept holds same unsynced =
+    let records : s.kept.records ≡ s.core.log = ap (λ (k : Kept). k.records) (sym same) ∙ holds.records in
+    let many : length s.core.log ≤ s.core.synced = omega (arith, all.synced) in
+    let rest : drop s.core.synced s.core.log ≡ [] = drop_all s.core.synced s.core.log many in
+    record {
+      version = ap (λ (k : Kept). records_of k.head.form) (sym same) ∙ ap records_of holds.form;
+      versions = rw unsynced tt;
+      first = first_is log s.kept s.core sound kept holds (ap (λ (k : Kept). k.head) (sym same)) records;
+      records = records ∙ sym (take_all s.core.synced s.core.log many);
+      many = ap length records ∙ sym all.synced;
+      held = rw (rest, unsynced) refl;
+      sizes = all.grouped ∙ ap (map size_of) (sym unsynced);
+      prepared = λ group is. absurd (cc (holds.waiting, ap (λ (k : Kept). k.prepared) same, is));
+      numbered = rw rest tt;
+    }
+
+-- its history begins with the receipts of the committed records
+receipts_at : (c : Source) → IsAllCommitted c → c.owners ≡ owners_of c.log → old_receipts c.log ≡ committed_receipts c
+receipts_at c all owners =
+    let many : length (owners_of c.log) ≡ length c.log = length-map c.log (λ (r : Record). nobody) in
+    let own : take c.committed c.owners ≡ owners_of c.log = ap (take c.committed) owners ∙ take_all c.committed (owners_of c.log) (omega (arith, all.committed, many)) in
+    let log : take c.committed c.log ≡ c.log = take_all c.committed c.log (omega (arith, all.committed)) in
+    sym (λ i. receipts_for (own i) (log i))
+
+-- over a core at a log, and the files that hold this
+pub new_settled : (log : Log) (past : ℕ) (s : State) (t : Tail) → s.core ≡ source_at s.core.tables s.core.base s.core.limit s.core.kind s.core.log → IsSound s.core
+    → HoldsAll log s.core.log → s.home ≡ Some t → AreKept s.kept → AreSetHalves s.kept t → IsNewState s.core log past s
     → IsSettled s.core.base s.core.tables s
-new_settled log files s t core is_new home halves new =
+new_settled log past s t core sound holds home kept halves new =
     let both : log_of s.kept t ≡ log = subst (λ (o : Option Tail). IfSome o (λ x. log_of s.kept x ≡ log)) home new.home in
-    let file : IsNew (log_of s.kept t) = subst IsNew (sym both) is_new in
-    let synced : s.core.synced ≡ 0 = ap (λ (c : Source). c.synced) core in
-    let flushed =
-    new_flushed (log_of s.kept t) s.core.log s.core.synced s.core.group_sizes s.unsynced file (ap (λ (c : Source). c.log) core) synced
-    (ap (λ (c : Source). c.group_sizes) core) new.unsynced in
+    let all : IsAllCommitted s.core = record { synced = ap (λ (c : Source). c.synced) core; committed = ap (λ (c : Source). c.committed) core; grouped = ap (λ (c : Source). c.group_sizes) core } in
+    let flushed = flushed_at log s all sound kept holds (sym (ap kept_of both)) new.unsynced in
     record {
       base_is = refl;
       tables_is = refl;
       flushed = flushed;
-      files = new.some;
       ready =
           rw home
           (λ running. record {
-            waiting = halves.waits ∙ ap (option_map waiting_of) file.waiting;
+            waiting = halves.waits ∙ ap (option_map waiting_of) (ap (λ (l : Log). l.waiting) both ∙ holds.waiting);
             next = omega (arith, halves.next, flushed.first, flushed.many);
-            form = halves.form ∙ ap (λ (h : Head). h.form) file.head;
-            goes = file.unfinished;
+            form = halves.form ∙ ap (λ (l : Log). l.head.form) both ∙ holds.form;
+            goes = halves.goes;
           });
       out = rw home tt;
       receipts = record {
-        history_is = new.history ∙ sym (ap committed_receipts core);
+        history_is = new.history ∙ receipts_at s.core all (ap (λ (c : Source). c.owners) core);
         placed = rw new.places (none_placed s.history 1 256);
         places = ap length new.places ∙ length-replicate {A = Option Receipt} 256 None;
         seats = ap length new.out ∙ length-replicate 256 false;

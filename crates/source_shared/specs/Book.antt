@@ -1,10 +1,13 @@
 -- The rule of the history of receipts, and what each step on it tells. An entry of the history is what one commit gave: the
--- receipts, and the key of the cell that the next entry brings home. Only who has that cell's pen can add it.
+-- receipts, and the key of the cell that the next entry brings home; the first is that of the records that were there before. Only who has that cell's pen can add it.
 use Rattle.std.specs.Prelude.{ℕ, ◌≡◌, ◌≢◌, ◌-◌, ◌<◌, ◌≤◌, ◌==◌, true, List, [], ◌∷◌, ◌++◌, length, slice_get, Some}
 use Rattle.std.specs.Bool.{OnTrue}
 use Rattle.std.specs.List.{flat_map}
 use Rattle.logbook.specs.Pages.{Cell, cell, Step, View, Book, Named, Nib, may_write, may_make}
+use Rattle.record_codec.specs.declared.records.Record.{Record}
 use Rattle.source_core.specs.declared.transaction.Receipt.{Receipt}
+use Rattle.source_core.specs.AtLog.{owners_of}
+use Rattle.source_core.specs.Calls.{receipts_for}
 
 abbrev pub Part : Type 0
 Part = ℕ × List Receipt
@@ -12,6 +15,10 @@ Part = ℕ × List Receipt
 -- the receipts of all entries
 abbrev pub receipts_in : List Part → List Receipt
 receipts_in parts = flat_map (λ part. part.1) parts
+
+-- the receipts of records that were there before the history: of no session
+abbrev pub old_receipts : List Record → List Receipt
+old_receipts log = receipts_for (owners_of log) log
 
 -- the receipt is one of these, at its number
 abbrev pub IsEntered : List Part → Receipt → Type 0

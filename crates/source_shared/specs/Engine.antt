@@ -69,6 +69,7 @@ use Rattle.source_core.specs.Source.{Source}
 use Rattle.source_core.specs.Calls.{session_fault, write_fault, written, queue_fault, queued, cause, receipts_for, receipts, receipt_as, begun, with_synced, all_committed, halted, is_busy, Flushes}
 use Rattle.source_shared.specs.declared.engine.Due.{Due}
 use Rattle.source_shared.specs.declared.engine.Due.TheVariants.{Ended, Lead, Wait}
+use Rattle.source_shared.specs.Book.{old_receipts}
 use Rattle.source_shared.specs.Seat.{Seat}
 
 -- those who wait
@@ -89,7 +90,7 @@ pub record State : Type 0 where
   pub core : Source
   -- what is synced, and the group that is prepared
   pub kept : Kept
-  -- in how many files the log is
+  -- in how many files the log is: those whose devices it keeps, and the last one
   pub files : ℕ
   -- what writes the last of them, unless a thread has it
   pub home : Option Tail
@@ -176,8 +177,6 @@ pub record IsSettled (base : List Entry) (tables : List Table) (s : State) : Typ
   pub base_is : s.core.base ≡ base
   pub tables_is : s.core.tables ≡ tables
   pub flushed : IsFlushedOf s.core.log s.core.synced s.core.group_sizes s.kept s.unsynced
-  -- the log has a file
-  pub files : 1 ≤ s.files
   -- what writes the last one, where it is here, is behind the synced records
   pub ready : IfSome s.home (λ t. s.core.halted ≡ false → IsReady s.core.synced t)
   -- where it is out a group is prepared, which it writes
@@ -206,23 +205,29 @@ pub record IsCommitted (s : Source) (r : Receipt) : Type 0 where
 
 -- ---- what each step leaves
 
--- nobody waits, and nobody was told anything
-abbrev pub nobody : Watch
-nobody = record { sleeping = replicate 256 false; asleep = 0; closed = false; told = (0, false); stirred = false; rotating = false }
+-- the log has just these records, in the form that sources write, and may be written
+pub record HoldsAll (log : Log) (records_ : List Record) : Type 0 where
+  pub records : log.records ≡ records_
+  pub first : records_ ≡ [] → log.head.first ≡ 1
+  pub form : log.head.form ≡ Three
+  pub waiting : log.waiting ≡ None
+  pub running : log.failed ≡ false
 
--- a source without receipts, over this core and this log, which is in so many files
-pub record IsNewState (core : Source) (log : Log) (files_ : ℕ) (s : State) : Type 0 where
+-- nobody waits, and they know of so many records who will wait for more
+abbrev pub nobody : ℕ → Watch
+nobody synced_ = record { sleeping = replicate 256 false; asleep = 0; closed = false; told = (synced_, false); stirred = false; rotating = false }
+
+-- a source over this core and this log, which has so many finished files: its history begins with the receipts of the records that it has
+pub record IsNewState (core : Source) (log : Log) (past_ : ℕ) (s : State) : Type 0 where
   pub core_is : s.core ≡ core
-  pub kept : s.kept.records ≡ []
-  pub files : 1 ≤ files_ → s.files ≡ files_
-  pub some : 1 ≤ s.files
+  pub files : s.files ≡ past_ + 1
   pub home : IfSome s.home (λ t. log_of s.kept t ≡ log)
   pub here : IsSome s.home
   pub unsynced : s.unsynced ≡ []
   pub places : s.places ≡ replicate 256 None
   pub out : s.out ≡ replicate 256 false
-  pub history : s.history ≡ []
-  pub watch : s.watch ≡ nobody
+  pub history : s.history ≡ old_receipts core.log
+  pub watch : s.watch ≡ nobody (length core.log)
 
 -- the session's seat was given out
 abbrev pub seated : State → ℕ → State
@@ -508,11 +513,12 @@ Fails old t result new = (result ≡ Err Halted) × (new ≡ failed (with_home t
 
 -- ---- a next file
 
--- The writer goes on in a next file, which is one more. Nothing else changed. (Past 2 to the power 64 they are not counted.)
+-- The writer goes on in a next file, which is one more: the finished one's device is kept. Nothing else changed. (Past 2 to the power 64
+-- they are not counted.)
 pub record IsRotated (old : State) (n : ℕ) (new : State) : Type 0 where
   pub tail : Tail
   pub ready : IsReady old.core.synced tail
-  pub leaves : new ≡ record old { home = Some tail; files = n }
+  pub leaves : new ≡ record old { home = Some tail; files = old.files + 1 }
   pub number : old.files + 1 < 2 ^ 64 → n ≡ old.files + 1
   pub least : 2 ≤ n
 

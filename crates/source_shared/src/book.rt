@@ -3,9 +3,10 @@
 //! one pen of each cell, nobody else adds, and the one who has it knows the history whole. At run time it is one word.
 ghost use Rattle.std.specs.Prelude.{◌≡◌, ◌++◌, ◌-◌, ◌≤◌, [], Some, IfSome, slice_get};
 ghost use Rattle.logbook.specs.Pages.{may_write};
-ghost use Rattle.source_shared.specs.Book.{head_of};
+ghost use Rattle.source_shared.specs.Book.{head_of, old_receipts};
 
 use logbook::{Gain, Offer, Pen, Plain, Play, Rule, Seen, Start, Word};
+use record_codec::Record;
 use source_core::Receipt as Given;
 use std::collections::LinkedList;
 use std::marker::{Brand, Model, PhantomData};
@@ -55,7 +56,7 @@ impl Play<Part, u64> for Reserve {
     ghost then = { Reserves };
 }
 
-/// A step that begins the history, with no receipt, for the one who has this pen.
+/// A step that begins the history, with the receipts of a log that was there before, for the one who has this pen.
 pub struct Begin;
 
 impl Play<Part, u64> for Begin {
@@ -70,6 +71,21 @@ impl Plain<Pen, Part, u64> for Begin {
     ghost ask = { λ pen. (pen.nib.key, []) };
 
     ghost state = { λ pen. None };
+}
+
+/// The log that was there before, and the pen for what comes behind it.
+pub struct Before<'a> {
+    log: &'a [Record],
+    next: Pen,
+}
+
+impl<'a> Plain<Before<'a>, Part, u64> for Begin {
+    ghost use Rattle.std.specs.Prelude.{None};
+    ghost use Rattle.source_shared.specs.Book.{old_receipts};
+
+    ghost ask = { λ before. (before.next.nib.key, old_receipts before.log.now) };
+
+    ghost state = { λ before. None };
 }
 
 /// A step that adds what a commit gave.
@@ -161,14 +177,18 @@ impl Beginning {
         Beginning { word, seen }
     }
 
-    // The history, begun. `None` where another began it, which nobody but its owner can.
-    pub(crate) fn begun<J: SourceNaming>(self) -> Option<History<J>>
+    // The history, begun with the receipts of this log. `None` where another began it, which nobody but its owner can.
+    pub(crate) fn begun<J: SourceNaming>(self, log: &[Record]) -> Option<History<J>>
         requires named { self ≡ J.book }
-        ensures { IfSome result (λ history. history ≡ []) }
+        ensures { IfSome result (λ history. history ≡ old_receipts log.now) }
     {
         let Beginning { word, mut seen } = self;
         let next = new_pen(&word, &seen);
-        let mut offer: Offer<Part, u64, Law, Nothing> = seen.plain::<Nothing, Pen, Begin>(&next);
+        let before = Before { log, next };
+        let mut offer: Offer<Part, u64, Law, Nothing> = seen.plain::<Nothing, Before<'_>, Begin>(
+            &before,
+        );
+        let Before { log: _, next } = before;
         let mut none = seen.no_pen();
         let found = word.compare_exchange::<Begin, Nothing>(0, 1, &mut seen, &mut offer, &mut none);
         if found != 0 {

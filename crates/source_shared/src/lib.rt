@@ -20,7 +20,8 @@
 //! What is known of a receipt once the lock is let go rides on a history, which exists in proofs alone (`logbook`): the
 //! receipts that all commits gave, in log order. A `Receipt` is a beginning of it with its own place there, and who adds to
 //! it knows it whole, so that a receipt can be neither made up nor left behind (`specs/Book.antt`). It stands on
-//! `source_core`, `log_file` and `log_set`.
+//! `source_core`, `log_file` and `log_set`. Over a log that was there before the history begins with the receipts of its records, which
+//! are of no session: so what is said of records and receipts is said of old and new ones alike.
 #![tactic(auto)]
 
 mod book;
@@ -34,5 +35,6 @@ mod shared;
 
 pub use book::{Beginning, Receipt, SourceNaming};
 pub use calls::Waits;
+pub use engine::EndedLog;
 pub use seat::SessionSeat;
 pub use shared::SharedSource;

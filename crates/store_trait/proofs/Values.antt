@@ -24,8 +24,10 @@ use Rattle.rows.specs.Holders.{has_mark, holder_of}
 use Rattle.rows.proofs.Holders.{holder_there, no_holder, holder_of_marked}
 use Rattle.rows.proofs.Marks.{mark_table, mark_there, there_marked, table_of_marked}
 use Rattle.store_trait.specs.Contents.{row_at, IsAbove, HasValue, IsLeastWithValue, IsHolder}
+use Rattle.store_trait.specs.Fits.{Fits, AreOfTables}
 use Rattle.store_trait.specs.Laws.{FitsApart, StandingFits, FitsStands, HolderIsFirst}
 use Rattle.store_trait.proofs.Batches.{holds, find_below}
+use Rattle.store_trait.proofs.Visits.{stand_of_tables}
 use Rattle.store_trait.proofs.Walks.{lesser_key}
 
 -- ---- a walk over the rows of a table, in the order of keys
@@ -120,6 +122,10 @@ pub fits_stand : FitsStands
 fits_stand ts db fits id columns there =
     let here = fits id columns there in
     record { table = here.table; in_schema = here.in_schema; all_columns = here.all_columns; parent_there = here.parent_there }
+
+-- rows that fit are of tables of the list
+pub fits_of_tables : (ts : List Table) (db : Database) → Fits ts db → AreOfTables ts db
+fits_of_tables ts db fits = stand_of_tables ts db (fits_stand ts db fits)
 
 pub holder_is_first : HolderIsFirst
 holder_is_first ts db mark column found unique is = by found is (holder_of ts db mark) refl

@@ -12,7 +12,7 @@ use Rattle.schema.specs.RowId.{row_cmp, row_total, exact_row, same_row}
 use Rattle.schema.specs.Schema.{table_at}
 use Rattle.schema.proofs.Telling.{is_less}
 use Rattle.rows.specs.Database.{Database}
-use Rattle.store_trait.specs.Fits.{RowStands, RowsStand}
+use Rattle.store_trait.specs.Fits.{RowStands, RowsStand, AreOfTables}
 use Rattle.store_trait.specs.Walk.{IsListed, IsFirst, IsFirstOf, IsBehind, IsAhead, IsOfTables}
 use Rattle.rows.proofs.Apply.{row_is}
 
@@ -59,16 +59,16 @@ visited_before ts None q id visited behind = absurd (false≢true visited)
 visited_before ts (Some last) q id visited behind =
     turned last q id (row_cmp last q) refl (not-true _ (and_parts (is_some (table_at ts q.table)) _ visited).1) behind
 
-module _ (ts : List Table) (last : Option RowId) (q id : RowId) where
-  -- what is visited stays so
-  pub stays_visited : is_visited ts last q ≡ true → IsBehind last id → is_visited ts (Some id) q ≡ true
-  stays_visited visited behind =
-      let less : row_cmp q id ≡ Less = visited_before ts last q id visited behind in
-      and_from _ _ (listed_of last visited) (ap (λ r. not (is_lt r)) (row_total.antisymm id q ∙ ap ordering_reverse less))
-    where
-      listed_of : (o : Option RowId) → is_visited ts o q ≡ true → is_some (table_at ts q.table) ≡ true
-      listed_of None h = absurd (false≢true h)
-      listed_of (Some l) h = (and_parts (is_some (table_at ts q.table)) _ h).0
+-- and is of a table of the list
+visited_listed : (ts : List Table) (last : Option RowId) (q : RowId) → is_visited ts last q ≡ true → IsListed ts q.table
+visited_listed ts None q visited = absurd (false≢true visited)
+visited_listed ts (Some last) q visited = (and_parts (is_some (table_at ts q.table)) _ visited).0
+
+-- what is visited stays so
+pub stays_visited : (ts : List Table) (last : Option RowId) (q id : RowId) → is_visited ts last q ≡ true → IsBehind last id → is_visited ts (Some id) q ≡ true
+stays_visited ts last q id visited behind =
+    let less : row_cmp q id ≡ Less = visited_before ts last q id visited behind in
+    and_from _ _ (visited_listed ts last q visited) (ap (λ r. not (is_lt r)) (row_total.antisymm id q ∙ ap ordering_reverse less))
 
 -- the last row is visited
 pub last_visited : (ts : List Table) (id : RowId) → IsListed ts id.table → is_visited ts (Some id) id ≡ true
@@ -156,9 +156,13 @@ module _ (ts : List Table) (db : Database) (last : Option RowId) (count : ℕ) (
             absurd (omega arith)
       ] refl
 
-  -- where fewer are visited than there are, and none is ahead, a row does not stand
-  pub none_ahead : count < len db → IsFirstOf db (IsAhead ts last) None → RowsStand ts db → ⊥
-  none_ahead fewer none stand =
+  -- so each is of a table of the list
+  pub all_of_tables : count ≡ len db → AreOfTables ts db
+  all_of_tables all id columns there = visited_listed ts last id (all_visited all id columns there)
+
+  -- where fewer are visited than there are, and none is ahead, a row is of no table of the list
+  pub none_ahead : count < len db → IsFirstOf db (IsAhead ts last) None → AreOfTables ts db → ⊥
+  none_ahead fewer none of_tables =
       let nothing : visits.rest ≡ empty = same_map row_total exact_row visits.rest empty (λ q. visits.rows q ∙ gone q (get db q) refl ∙ sym (get-empty row_cmp q)) in
       let zero_left : len visits.rest ≡ 0 = ap len nothing ∙ len-empty row_cmp (List ℤ) in
       let size : len visits.rest + count ≡ len db = visits.size in
@@ -167,13 +171,16 @@ module _ (ts : List Table) (db : Database) (last : Option RowId) (count : ℕ) (
       gone : (q : RowId) (o : Option (List ℤ)) → get db q ≡ o → cond (is_visited ts last q) None o ≡ None
       gone q None is = elim (is_visited ts last q) as (λ b. cond {A = Option (List ℤ)} b None None ≡ None) [ true ↦ refl | false ↦ refl ]
       gone q (Some columns) is =
-          let listed : IsListed ts q.table = ap is_some (stand q columns is).in_schema in
           elim (is_visited ts last q) as (λ b. is_visited ts last q ≡ b → cond b None (Some columns) ≡ None) [
             | true ↦ λ _. refl
-            | false ↦ λ un. sym is ∙ none q (unvisited_ahead ts last q listed un)
+            | false ↦ λ un. sym is ∙ none q (unvisited_ahead ts last q (of_tables q columns is) un)
           ] refl
 
 -- ---- the rows so far stand
+
+-- rows that stand are of tables of the list
+pub stand_of_tables : (ts : List Table) (db : Database) → RowsStand ts db → AreOfTables ts db
+stand_of_tables ts db stand id columns there = ap is_some (stand id columns there).in_schema
 
 pub record Standing (ts : List Table) (db : Database) (last : Option RowId) (count : ℕ) : Type 0 where
   pub visits : Visits ts db last count

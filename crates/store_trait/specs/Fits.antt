@@ -8,6 +8,7 @@ use Rattle.schema.specs.Schema.{table_at, unique_of}
 use Rattle.rows.specs.Database.{Database, has_parent, mark_of}
 use Rattle.rows.specs.Holders.{holder_of}
 use Rattle.store_trait.specs.Contents.{HasValue, IsLeastWithValue}
+use Rattle.store_trait.specs.Walk.{IsListed}
 
 -- the row is of a table of the schema, has that table's columns, its parent, if the table has one, is there, and it is the row that
 -- has its value in the unique column, if the table has one
@@ -33,6 +34,10 @@ pub record RowStands (ts : List Table) (db : Database) (id : RowId) (columns : L
 -- each row stands
 abbrev pub RowsStand : List Table → Database → Type 0
 RowsStand ts db = (id : RowId) (columns : List ℤ) → get db id ≡ Some columns → RowStands ts db id columns
+
+-- each row is of a table of the list
+abbrev pub AreOfTables : List Table → Database → Type 0
+AreOfTables ts db = (id : RowId) (columns : List ℤ) → get db id ≡ Some columns → IsListed ts id.table
 
 -- each row of the table that has a value in the column is the first that has it
 abbrev pub OwnInColumn : Database → ℕ → ℕ → Type 0

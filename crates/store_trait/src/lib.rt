@@ -19,7 +19,7 @@ ghost use Rattle.rows.specs.Holders.{holder_of};
 ghost use Rattle.store_trait.specs.Batch.{Entry, IsRising, put_batch, put_batches, all_rows};
 ghost use Rattle.store_trait.specs.Contents.{IsNextInTable, IsHolder, IsLeastWithValue};
 ghost use Rattle.store_trait.specs.Operation.{batch_of};
-ghost use Rattle.store_trait.specs.Fits.{Fits, RowStands, RowsStand, OwnInColumn, OwnInTable};
+ghost use Rattle.store_trait.specs.Fits.{Fits, RowStands, RowsStand, AreOfTables, OwnInColumn, OwnInTable};
 
 pub mod laws;
 mod walk;
@@ -222,7 +222,9 @@ pub fn holder_of<S: RowStore>(schema: &Schema, store: &S, mark: Mark) -> Option<
 /// unique column. It takes no memory. The time is that of `rows_stand`, and in a table with a unique column each row costs a walk over
 /// the rows up to it too, so that it is quadratic in the rows of such a table.
 pub fn fits<S: RowStore>(schema: &Schema, store: &S) -> bool
-    ensures { IsTrue result ↔ Fits schema.now (S.contents store.now) }
+    ensures fit { IsTrue result ↔ Fits schema.now (S.contents store.now) }
+    ensures apart { IsTrue result → NoValueTwice schema.now (S.contents store.now) }
+    ensures tables { IsTrue result → AreOfTables schema.now (S.contents store.now) }
 {
     rows_stand(schema, store) && values_are_own(schema, store)
 }
@@ -242,6 +244,21 @@ pub fn rows_stand<S: RowStore>(schema: &Schema, store: &S) -> bool
         if !row_stands(schema, store, id, &row) {
             return false;
         }
+        last = Some(id);
+    }
+    true
+}
+
+/// Whether each row is of a table of the schema, whatever its columns are. It takes no memory. The time is that of one look-up a row,
+/// and of a walk over the tables for each table.
+pub fn are_of_tables<S: RowStore>(schema: &Schema, store: &S) -> bool
+    ensures { IsTrue result ↔ AreOfTables schema.now (S.contents store.now) }
+{
+    let mut last = None;
+    for _ in 0..store.len() {
+        let Some((id, _row)) = next_row(store, schema.tables(), last) else {
+            return false;
+        };
         last = Some(id);
     }
     true
@@ -323,10 +340,10 @@ fn is_own<S: RowStore>(store: &S, table: u16, column: u8, found: &(i64, Row)) ->
     }
 }
 
-/// The batch that loads an empty store with all rows of this one, which fits the schema. The time is that of a
+/// The batch that loads an empty store with all rows of this one, each of which is of a table of the schema. The time is that of a
 /// look-up a row, and of a walk over the tables for each table.
 pub fn snapshot<S: RowStore>(alloc: Global, store: &S, schema: &Schema) -> Result<Batch, Memory>
-    requires { Fits schema.now (S.contents store.now) }
+    requires { AreOfTables schema.now (S.contents store.now) }
     ensures rows { IfOk result (λ batch. batch ≡ all_rows (S.contents store.now)) }
     ensures loads { IfOk result (λ batch. put_batch batch empty ≡ S.contents store.now) }
 {

@@ -6,8 +6,8 @@ use crate::makers::commit;
 use btree_store::BTreeStore;
 use left_right::Absorb;
 use published::{
-    Beginning, Common, LeftRight, Naming, Notice, OpenError, Publisher, ReadSeat, Step, Version,
-    open,
+    Beginning, Common, CopyStep, LeftRight, Naming, Notice, OpenError, Publisher, ReadSeat,
+    Version, open,
 };
 use schema::Memory;
 use std::alloc::Global;
@@ -22,7 +22,7 @@ pub const LAST: u64 = 4096;
 /// it is, and else fall to 1.
 pub struct Desk<'r, J: Naming, R: Wait>
 where
-    Version<BTreeStore, J>: Absorb<Step<J>, State = Common>,
+    Version<BTreeStore, J>: Absorb<CopyStep<J>, State = Common>,
 {
     rt: &'r R,
     publisher: Publisher<BTreeStore, J>,
@@ -32,7 +32,7 @@ where
 
 impl<'r, J: Naming, R: Wait> Model for Desk<'r, J, R>
 where
-    Version<BTreeStore, J>: Absorb<Step<J>, State = Common>,
+    Version<BTreeStore, J>: Absorb<CopyStep<J>, State = Common>,
 {
     ghost use Rattle.std.specs.Prelude.{◌≡◌, ◌++◌};
     ghost use Rattle.published.specs.Publication.{Publishing};
@@ -114,7 +114,7 @@ impl<'r, J: Naming, R: Wait> Desk<'r, J, R> {
 
 impl<'r, J: Naming, R: Wait> Drop for Desk<'r, J, R>
 where
-    Version<BTreeStore, J>: Absorb<Step<J>, State = Common>,
+    Version<BTreeStore, J>: Absorb<CopyStep<J>, State = Common>,
 {
     fn drop(self) {
         let Desk {

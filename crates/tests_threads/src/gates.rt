@@ -7,7 +7,7 @@ use std::sync::atomic::{AtomicBool, AtomicU64, Ordering};
 
 /// It holds the first job until that of another number was left, in some turns at most, or until it is opened.
 #[derive(Drop)]
-pub struct Held {
+pub struct HoldingGate {
     other: u64,
     is_open: AtomicBool,
     /// The first goes on.
@@ -16,9 +16,9 @@ pub struct Held {
     has_met: AtomicBool,
 }
 
-impl Held {
-    pub fn new(other: u64) -> Held {
-        Held {
+impl HoldingGate {
+    pub fn new(other: u64) -> HoldingGate {
+        HoldingGate {
             other,
             is_open: AtomicBool::new(false),
             is_over: AtomicBool::new(false),
@@ -46,7 +46,7 @@ impl Held {
     }
 }
 
-impl WorkerGate for Held {
+impl WorkerGate for HoldingGate {
     fn entered(&self, gno: u64) {
         if gno == 1 {
             comes_in_turns(&self.is_open);

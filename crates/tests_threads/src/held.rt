@@ -1,28 +1,54 @@
-//! A source whose device holds a sync: what others do meanwhile, and what they are told where it fails then.
+//! A shared source whose device is held or slow: what others do meanwhile and what they are told, who waits beside a group that another
+//! writes, and how many of those who sleep are woken.
 
+use crate::device::PATIENCE;
 use crate::makers::insert;
-use crate::sources::{Course, SourceRig, runs};
+use crate::sources::SourceRig;
 use schema::Memory;
 use source_core::SourceFault;
-use source_shared::SourceNaming;
+use source_shared::{SessionSeat, SourceNaming, Waits};
 use std::process::Abort;
 use std::sync::Wait;
-use std::sync::atomic::Ordering;
+use std::sync::atomic::{AtomicBool, AtomicU64, Ordering};
 use std::test::Fail;
-use std::thread::{Threads, join};
-use std::time::Clock;
+use std::thread::{Threads, join, map_indices, sleep};
+use std::time::{Clock, Duration};
 
-/// Catches a group that is flushed only once the one before it is synced, a reader of the log who waits for the device, a
-/// record that is shown before it is synced, and sessions that sleep on though one has to lead.
-#[test]
-fn flushes_beside_a_sync(rt: HostRuntime) -> Result<(), Fail> {
-    runs(&rt, rt.alloc(), Course::Held)
+/// So many sessions sleep behind the first one's group, and so many groups there are: its own, that of the next, and one of all others.
+const BEHIND: u64 = 8;
+
+const GROUPS: u64 = 3;
+
+/// So many milliseconds a sync takes once they sleep: longer than who is woken for nothing needs to look.
+const LONG: u64 = 5;
+
+/// So many calls of each kind: of `commit`, of `bytes_past` and of `rotate`.
+pub fn waits(sessions: u64, followers: u64, rotators: u64) -> Waits {
+    Waits {
+        sessions,
+        followers,
+        rotators,
+    }
 }
 
-/// Catches one who sleeps on where the source is halted.
-#[test]
-fn who_sleeps_is_told_of_a_failure(rt: HostRuntime) -> Result<(), Fail> {
-    runs(&rt, rt.alloc(), Course::Told)
+/// So often each of two sessions commits.
+const TURNS: u64 = 20;
+
+/// So often all is done again at most, where the machine has no time for these threads.
+const ROUNDS: u64 = 8;
+
+/// So many microseconds one waits at least who waits beside a group of two milliseconds: more than the device, and less than after which
+/// its own group is flushed.
+const BESIDE: u64 = 1500;
+
+/// A nap in microseconds, and less than half of the most naps behind one another.
+const NAP: u64 = 50;
+
+const FEW_NAPS: u64 = 400;
+
+/// Whether it is about one nap that took so many microseconds.
+fn is_one_nap(micros: u64) -> bool {
+    NAP <= micros && micros < FEW_NAPS
 }
 
 impl<J, R> SourceRig<'_, '_, J, R>
@@ -94,21 +120,6 @@ where
         done
     }
 
-    /// Commits an insert of the session, and answers its number.
-    pub fn commit_one(&self, session: u16) -> Result<u64, SourceFault> {
-        let mut seat = self.source.session(self.rt, session)?;
-        let change = insert(session as i64, [5, 6])?;
-        Ok(self.transact(&mut seat, &change)?.1)
-    }
-
-    /// The same, once so many records are flushed. It lacks memory where they are not in time: there was none for another one's thread.
-    pub fn commit_one_behind(&self, count: u64, session: u16) -> Result<u64, SourceFault> {
-        if !self.are_flushed(count) {
-            return Err(SourceFault::Memory);
-        }
-        self.commit_one(session)
-    }
-
     /// Frees the device soon after the second record is flushed, and answers whether the first was hidden then. `None` where it is not
     /// flushed in time.
     fn look(&self) -> Option<bool> {
@@ -116,5 +127,208 @@ where
         let hidden = is_flushed.then(|| matches!(self.source.record(self.rt, 1), Ok(None)));
         self.orders.free_soon();
         hidden
+    }
+
+    /// Two sessions commit one behind the other, each beside the group of the other. This comes back before the next is flushed, and so it
+    /// got the lock meanwhile.
+    pub fn wait_beside(&self) -> Result<usize, Fail> {
+        let mut one = self.source.session(self.rt, 1)?;
+        let mut two = self.source.session(self.rt, 2)?;
+        let mut free = 0;
+        for _round in 0..ROUNDS {
+            free = self.take_turns(&mut one, &mut two)?;
+            if free >= TURNS {
+                break;
+            }
+        }
+        assert!(self.rt;
+            free >= TURNS,
+            "{free} of {TURNS} groups twice come back before the next is flushed"
+        );
+        Ok(self.source.flushed(self.rt)? as usize)
+    }
+
+    /// Both commit in turn. How many groups came back before the next one was flushed.
+    fn take_turns(
+        &self,
+        one: &mut SessionSeat<J>,
+        two: &mut SessionSeat<J>,
+    ) -> Result<u64, SourceFault> {
+        let first = self.source.flushed(self.rt)?;
+        let called = AtomicU64::new(0);
+        let (one, two) = join(
+            self.rt,
+            || self.take_turns_behind(one, first, &called),
+            || self.take_turns_behind(two, first.saturating_add(1), &called),
+        );
+        Ok(one?.saturating_add(two?))
+    }
+
+    /// Commits inserts, each once the record of the other session in front of it is flushed. How often the other one waited beside its
+    /// group for long, and was not flushed when this came back.
+    fn take_turns_behind(
+        &self,
+        seat: &mut SessionSeat<J>,
+        first: u64,
+        called: &AtomicU64,
+    ) -> Result<u64, SourceFault> {
+        let mut free = 0u64;
+        for turn in 0..TURNS {
+            let before = first.saturating_add(2 * turn);
+            self.prepare_next(seat)?;
+            if !self.are_flushed(before) {
+                return Err(SourceFault::Memory);
+            }
+            let start = self.micros();
+            called.store(start, Ordering::SeqCst);
+            self.commit(seat)?;
+            let other = called.load(Ordering::SeqCst);
+            let is_beside = start < other && other.saturating_add(BESIDE) <= self.micros();
+            if is_beside && self.source.flushed(self.rt) == Ok(before.saturating_add(1)) {
+                free = free.saturating_add(1);
+            }
+        }
+        Ok(free)
+    }
+
+    /// The receipt of one who gave up lies there. Two sessions make the groups long, and then the device is fast and one commits alone: as
+    /// long as it has to nap it does so once.
+    pub fn nap_alone(&self) -> Result<usize, Fail> {
+        let mut refused = self.prepared(5)?;
+        self.orders.refusals.store(1, Ordering::SeqCst);
+        let told = self.commit_once(&mut refused);
+        assert_eq!(self.rt; told, Err(SourceFault::Memory));
+        let mut one = self.source.session(self.rt, 1)?;
+        let mut two = self.source.session(self.rt, 2)?;
+        let mut naps = 0;
+        for _round in 0..ROUNDS {
+            self.orders.millis.store(1, Ordering::SeqCst);
+            self.take_turns(&mut one, &mut two)?;
+            self.orders.millis.store(0, Ordering::SeqCst);
+            naps = self.nap_of(&mut one)?;
+            if is_one_nap(naps) {
+                break;
+            }
+        }
+        assert!(self.rt; is_one_nap(naps), "{naps} microseconds of naps");
+        self.commit_once(&mut refused)?;
+        Ok(self.source.flushed(self.rt)? as usize)
+    }
+
+    /// How much longer a commit takes behind long groups than some commits later.
+    fn nap_of(&self, seat: &mut SessionSeat<J>) -> Result<u64, SourceFault> {
+        let napping = self.fastest(seat)?;
+        self.fastest(seat)?;
+        let awake = self.fastest(seat)?;
+        Ok(napping.saturating_sub(awake))
+    }
+
+    /// In how many microseconds the fastest of six commits ends.
+    fn fastest(&self, seat: &mut SessionSeat<J>) -> Result<u64, SourceFault> {
+        let mut least = u64::MAX;
+        for _ in 0..6 {
+            self.prepare_next(seat)?;
+            let start = self.micros();
+            self.commit(seat)?;
+            least = least.min(self.micros().saturating_sub(start));
+        }
+        Ok(least)
+    }
+
+    /// Prepares an insert of a row of the session's own.
+    fn prepare_next(&self, seat: &mut SessionSeat<J>) -> Result<(), SourceFault> {
+        let key = self
+            .source
+            .flushed(self.rt)?
+            .saturating_mul(1000)
+            .saturating_add(seat.session() as u64);
+        self.prepare(seat, &insert(key.cast_signed(), [5, 6])?)?;
+        Ok(())
+    }
+
+    /// Microseconds since some start.
+    fn micros(&self) -> u64 {
+        let passed = self.rt.monotonic().map_or(0, |time| time.as_micros());
+        u64::try_from(passed).unwrap_or(u64::MAX)
+    }
+
+    /// The first session's group is held while the others sleep behind it; then groups take long, and two take the lock as often as they
+    /// can. Who sleeps looks once more, and who leads once more for its group.
+    pub fn are_woken(&self) -> Result<usize, Fail> {
+        let is_over = AtomicBool::new(false);
+        let ((_, before), committed) = join(
+            self.rt,
+            || join(
+                self.rt,
+                || join(
+                    self.rt,
+                    || self.pass_by(&is_over),
+                    || self.pass_by(&is_over),
+                ),
+                || self.look_behind(),
+            ),
+            || {
+                let committed = self.commit_all_behind();
+                is_over.store(true, Ordering::SeqCst);
+                committed
+            },
+        );
+        let committed = committed?;
+        let woken = self
+            .source
+            .looks(self.rt)
+            .sessions
+            .saturating_sub(before.ok_or(Memory)?);
+        if woken != BEHIND + GROUPS || self.orders.groups() != GROUPS {
+            // Others are woken where memory lacked too.
+            Err(Memory)?;
+        }
+        Ok(committed)
+    }
+
+    /// Takes the lock as often as it can until all is over.
+    fn pass_by(&self, is_over: &AtomicBool) {
+        for _ in self.rt.forever() {
+            if is_over.load(Ordering::SeqCst) {
+                return;
+            }
+            let _flushed = self.source.flushed(self.rt);
+        }
+    }
+
+    /// How often sessions had looked when all slept. `None` where they don't in time. Then the device is freed, and slow.
+    fn look_behind(&self) -> Option<u64> {
+        let in_time = self.sleep_all(waits(BEHIND, 0, 0));
+        let looks = self.source.looks(self.rt).sessions;
+        self.orders.millis.store(LONG, Ordering::SeqCst);
+        self.orders.freed.store(true, Ordering::SeqCst);
+        in_time.then_some(looks)
+    }
+
+    /// The first session commits, the next once that is flushed, and the others once both are. How many do.
+    fn commit_all_behind(&self) -> Result<usize, Fail> {
+        let each = map_indices(self.rt, self.alloc, 9, &|place| self.commit_place(place))?;
+        let count = each.len();
+        for committed in each {
+            committed?;
+        }
+        Ok(count)
+    }
+
+    /// Commits an insert of the session of this place.
+    fn commit_place(&self, place: usize) -> Result<u64, SourceFault> {
+        let place = u16::try_from(place).unwrap_or(u16::MAX);
+        self.commit_one_behind(place.min(2) as u64, place.saturating_add(1))
+    }
+
+    /// Whether so many sleep before the patience ends.
+    pub fn sleep_all(&self, wanted: Waits) -> bool {
+        for _ in 0..PATIENCE {
+            if self.source.sleepers(self.rt) == wanted {
+                return true;
+            }
+            sleep(self.rt, Duration::from_millis(1));
+        }
+        false
     }
 }

@@ -1,7 +1,7 @@
 //! What the tests begin with: a schema, changes of its table, new cores over no rows, and commits that set one row.
 ghost use Rattle.std.specs.Prelude.{◌≡◌, IfOk};
 ghost use Rattle.published.specs.History.{IsCommit};
-ghost use Rattle.replica_core.specs.Calls.{new_over};
+ghost use Rattle.replica_shared.specs.Names.{replica_names, IsNewReplica};
 ghost use Rattle.source_core.specs.Source.{new_source};
 
 use crate::stores::Store;
@@ -44,7 +44,7 @@ pub fn source(alloc: Global) -> Result<SourceCore<BTreeStore, CommitOrder>, Memo
 
 /// A replica of no rows, with three workers, which keeps the order of the log or does not.
 pub fn replica(alloc: Global, store: Store, preserve: bool) -> Result<ReplicaCore<Store>, Memory>
-    ensures { IfOk result (λ core. core ≡ new_over core.tables core.source core.base core.workers core.preserve) }
+    ensures { IfOk result (λ core. IsNewReplica (replica_names core) core.preserve core) }
 {
     let schema = schema(alloc)?;
     if !fits(&schema, &store) {

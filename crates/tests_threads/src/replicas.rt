@@ -1,7 +1,7 @@
 //! A shared replica under test: the courses, how it is made for each, and how it ends.
 ghost use Rattle.std.specs.Prelude.{◌≡◌, IfOk};
 ghost use Rattle.std.specs.FinMap.{empty};
-ghost use Rattle.replica_core.specs.Calls.{new_over};
+ghost use Rattle.replica_shared.specs.Names.{replica_names, IsNewReplica, OpensReplica};
 
 use crate::makers::{insert, replica, set};
 use crate::stores::{Notes, Store, copies, working};
@@ -125,6 +125,127 @@ impl Course {
     }
 }
 
+/// Catches a shared call that gives up where memory is there, also once it was refused, and a job that was kept then and is
+/// not the next to be executed.
+#[test]
+fn one_worker_does_all_again(rt: HostRuntime) -> Result<(), Fail> {
+    runs(&rt, rt.alloc(), &[Course::Alone])
+}
+
+/// Catches a replica that goes on behind a stop, and one that then tells of no commit, also of one that was published.
+#[test]
+fn what_does_not_apply_stops_again(rt: HostRuntime) -> Result<(), Fail> {
+    runs(&rt, rt.alloc(), &[Course::Stopping])
+}
+
+/// Catches a closed replica without records whose worker does not end, or a wait for the rows of the start.
+#[test]
+fn no_record_is_waited_for_again(rt: HostRuntime) -> Result<(), Fail> {
+    runs(&rt, rt.alloc(), &[Course::Empty])
+}
+
+/// Catches a status that shows as published what is committed alone, and a worker that ends once it made up for a publication.
+#[test]
+fn a_refused_publication_is_made_up_for(rt: HostRuntime) -> Result<(), Fail> {
+    runs(&rt, rt.alloc(), &[Course::Refused])
+}
+
+/// Catches a stop that is told with the number of the result that is handed in.
+#[test]
+fn a_late_result_is_told_of_the_stop(rt: HostRuntime) -> Result<(), Fail> {
+    runs(&rt, rt.alloc(), &[Course::Late])
+}
+
+/// Catches a gate that is entered behind the execution, left before the result is in or not where it is refused, or called with
+/// another number.
+#[test]
+fn a_gate_sees_each_job(rt: HostRuntime) -> Result<(), Fail> {
+    runs(&rt, rt.alloc(), &[Course::Watched, Course::WatchedStop])
+}
+
+/// Catches, of three workers and two who wait:
+/// - workers that execute one at a time, or hand in only in their turn, and a sleeper whom no record, no commit or no end wakes;
+/// - a stop that leaves a worker asleep, or one of those who wait for a commit, and one that tells another number than that of the record
+///   that did not apply;
+/// - an end that leaves a worker asleep: the last result comes behind `close`.
+#[test]
+fn three_workers_and_two_who_wait_are_woken(rt: HostRuntime) -> Result<(), Fail> {
+    let courses = [Course::Beside, Course::AsleepAtStop, Course::AsleepAtEnd];
+    runs(&rt, rt.alloc(), &courses)
+}
+
+/// Catches a call of `worker` that fails where there is no job for it, or sleeps on when `close` is called; and a record that wakes all who
+/// sleep, or two, in the place of one.
+#[test]
+fn seven_calls_of_worker_sleep_and_end(rt: HostRuntime) -> Result<(), Fail> {
+    runs(&rt, rt.alloc(), &[Course::Crowded, Course::Woken])
+}
+
+/// Catches bytes that are lost or taken twice at a cut, also where memory was refused, and records that no worker gets. Pieces have seven
+/// bytes, and then one.
+#[test]
+fn bytes_in_pieces_again(rt: HostRuntime) -> Result<(), Fail> {
+    runs(&rt, rt.alloc(), &[Course::Sevens, Course::Singles])
+}
+
+/// Catches a damaged piece of which a whole record is taken.
+#[test]
+fn nothing_of_a_damaged_piece_is_taken(rt: HostRuntime) -> Result<(), Fail> {
+    runs(&rt, rt.alloc(), &[Course::Damaged])
+}
+
+/// Catches a refused record that is dropped, and one that is passed over.
+#[test]
+fn a_refused_record_waits(rt: HostRuntime) -> Result<(), Fail> {
+    runs(&rt, rt.alloc(), &[Course::Waiting])
+}
+
+/// Catches bytes whose records wake no worker that sleeps, a worker that is woken and wakes no other where more is left, and one that
+/// waits with its result for that of the record in front.
+#[test]
+fn bytes_wake_two_workers(rt: HostRuntime) -> Result<(), Fail> {
+    runs(&rt, rt.alloc(), &[Course::Asleep])
+}
+
+/// Catches a wait for an id of another source, and one for no id that does not end.
+#[test]
+fn sets_of_ids_are_waited_for(rt: HostRuntime) -> Result<(), Fail> {
+    runs(&rt, rt.alloc(), &[Course::Sets])
+}
+
+/// Catches a job that is executed under the lock, and a gate that is entered once the job was executed.
+#[test]
+fn others_get_the_lock_while_a_job_is_executed(rt: HostRuntime) -> Result<(), Fail> {
+    runs(&rt, rt.alloc(), &[Course::Unlocked])
+}
+
+/// Catches a status that waits for the lock, and a result that publishes each of its commits by itself.
+#[test]
+fn one_result_publishes_three_commits_at_once(rt: HostRuntime) -> Result<(), Fail> {
+    runs(&rt, rt.alloc(), &[Course::Stored])
+}
+
+/// Catches a commit that waits for the one in front of it, one that is shown as if that were there, one who waits for the commit in front
+/// and is not asleep still, or not woken by it, and one who waits for a set and sleeps on until those in front of it are published.
+#[test]
+fn a_commit_is_read_before_the_one_in_front(rt: HostRuntime) -> Result<(), Fail> {
+    runs(&rt, rt.alloc(), &[Course::Gapped])
+}
+
+/// Catches a stop that takes back what was committed behind the record that does not apply, and a wait for it that is not told what is
+/// published.
+#[test]
+fn commits_behind_a_stop_are_read(rt: HostRuntime) -> Result<(), Fail> {
+    runs(&rt, rt.alloc(), &[Course::GappedStop])
+}
+
+/// Catches a replica that hands out no job as far behind one that is held; and, where the requests for memory of both jobs are refused, one
+/// kept job that takes the place of the other.
+#[test]
+fn jobs_1_and_65_come_back(rt: HostRuntime) -> Result<(), Fail> {
+    runs(&rt, rt.alloc(), &[Course::Far])
+}
+
 /// Makes a replica and its records for each course, and does with them what it says.
 pub fn runs<R: Threads + Wait + Abort + Clock + Sync>(
     rt: &R,
@@ -175,7 +296,7 @@ fn has_run<R: Threads + Wait + Abort + Clock + Sync>(
 
 /// The core and a publication of its rows.
 fn parts(alloc: Global, notes: &Arc<Notes>, preserve: bool) -> Result<(Core, Beginning), Memory>
-    ensures core { IfOk result (λ made. made.0 ≡ new_over made.0.tables made.0.source made.0.base made.0.workers made.0.preserve) }
+    ensures core { IfOk result (λ made. IsNewReplica (replica_names made.0) made.0.preserve made.0) }
     ensures rows { IfOk result (λ made. made.1.base ≡ made.0.base) }
 {
     let core = replica(alloc, working(alloc, notes)?, preserve)?;
@@ -196,13 +317,7 @@ fn run_over<J: ReplicaNaming + Send + Sync, R: Threads + Wait + Abort + Clock + 
     copies: (Store, Store),
     plan: &Plan,
 ) -> Result<bool, Fail>
-    requires core { core ≡ new_over core.tables core.source core.base core.workers core.preserve }
-    requires rows { beginning.base ≡ core.base }
-    requires tables { core.tables ≡ J.tables }
-    requires source { core.source ≡ J.source }
-    requires base { core.base ≡ J.base }
-    requires order { core.preserve ≡ J.preserve }
-    requires book { beginning.book ≡ J.book }
+    requires core { OpensReplica J.names J.preserve J.book core beginning }
     requires copies { (copies.0.inner ≡ empty) × (copies.1.inner ≡ empty) }
 {
     let shared: Shared<J> = match shared(rt, alloc, core, beginning, copies) {
@@ -234,13 +349,7 @@ fn shared<J: ReplicaNaming, R: Wait>(
     beginning: Beginning,
     copies: (Store, Store),
 ) -> Result<Shared<J>, OpenError>
-    requires core { core ≡ new_over core.tables core.source core.base core.workers core.preserve }
-    requires rows { beginning.base ≡ core.base }
-    requires tables { core.tables ≡ J.tables }
-    requires source { core.source ≡ J.source }
-    requires base { core.base ≡ J.base }
-    requires order { core.preserve ≡ J.preserve }
-    requires book { beginning.book ≡ J.book }
+    requires core { OpensReplica J.names J.preserve J.book core beginning }
     requires copies { (copies.0.inner ≡ empty) × (copies.1.inner ≡ empty) }
 {
     let (first, second) = copies;

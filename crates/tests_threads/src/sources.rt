@@ -90,6 +90,112 @@ impl Course {
     }
 }
 
+/// Catches a shared call that gives up where memory is there, also once it was refused, a seat that is given out twice, and
+/// records that are not counted as flushed.
+#[test]
+fn two_sessions_commit_again(rt: HostRuntime) -> Result<(), Fail> {
+    runs(&rt, rt.alloc(), Course::InTurn)
+}
+
+/// Catches a source that goes on behind a sync that failed.
+#[test]
+fn a_failed_sync_halts_again(rt: HostRuntime) -> Result<(), Fail> {
+    runs(&rt, rt.alloc(), Course::Failing)
+}
+
+/// Catches a number that is given twice or never, and a receipt that `end` does not take.
+#[test]
+fn four_threads_get_each_number_once(rt: HostRuntime) -> Result<(), Fail> {
+    runs(&rt, rt.alloc(), Course::Beside)
+}
+
+/// Catches a group that is lost, or committed out of turn, behind one for which the device found no memory, and sessions that are
+/// queued meanwhile, all that there are, and do not become one group.
+#[test]
+fn the_greatest_group_waits_behind_a_refused_one(rt: HostRuntime) -> Result<(), Fail> {
+    runs(&rt, rt.alloc(), Course::Refused)
+}
+
+/// Catches one who finds no memory, gives up, and leaves those asleep who would have led in its place.
+#[test]
+fn who_gives_up_wakes_the_next(rt: HostRuntime) -> Result<(), Fail> {
+    runs(&rt, rt.alloc(), Course::GiveUp)
+}
+
+/// Catches sessions that sync one by one where a sync is slow, leaders who do not wait for those who come back from the group before, or
+/// keep the lock meanwhile, and groups that are flushed beside one that is not slow.
+#[test]
+fn sixteen_sessions_share_syncs(rt: HostRuntime) -> Result<(), Fail> {
+    runs(&rt, rt.alloc(), Course::Slow)
+}
+
+/// Catches a group that is flushed only once the one before it is synced, a reader of the log who waits for the device, a
+/// record that is shown before it is synced, and sessions that sleep on though one has to lead.
+#[test]
+fn flushes_beside_a_sync(rt: HostRuntime) -> Result<(), Fail> {
+    runs(&rt, rt.alloc(), Course::Held)
+}
+
+/// Catches one who sleeps on where the source is halted.
+#[test]
+fn who_sleeps_is_told_of_a_failure(rt: HostRuntime) -> Result<(), Fail> {
+    runs(&rt, rt.alloc(), Course::Told)
+}
+
+/// Catches one who waits beside a group of another and keeps the lock meanwhile.
+#[test]
+fn who_waits_beside_a_group_leaves_it_the_lock(rt: HostRuntime) -> Result<(), Fail> {
+    runs(&rt, rt.alloc(), Course::Aside)
+}
+
+/// Catches a leader who naps on though nobody comes, since a receipt lies there that nobody takes.
+#[test]
+fn a_leader_to_whom_nobody_comes_naps_once(rt: HostRuntime) -> Result<(), Fail> {
+    runs(&rt, rt.alloc(), Course::NappingAlone)
+}
+
+/// Catches one of two who wait to rotate that sleeps on though all is committed, where nobody commits later, and one that is woken before.
+#[test]
+fn two_who_wait_to_rotate_are_woken(rt: HostRuntime) -> Result<(), Fail> {
+    runs(&rt, rt.alloc(), Course::RotatedTwice)
+}
+
+/// So often it is looked whether one is woken for nothing: who only looks at the source may come too late to call another one.
+const ROUNDS: u32 = 4;
+
+/// Catches a call that wakes all who sleep in the place of one, and another one that is called to lead by who only looked.
+#[test]
+fn no_session_is_woken_for_nothing(rt: HostRuntime) -> Result<(), Fail> {
+    for _ in 0..ROUNDS {
+        runs(&rt, rt.alloc(), Course::Woken)?;
+    }
+    Ok(())
+}
+
+/// Catches one who follows the log and sleeps on where a record came, or where no more come, and one who is woken for nothing.
+#[test]
+fn follows_a_log_of_three_records(rt: HostRuntime) -> Result<(), Fail> {
+    runs(&rt, rt.alloc(), Course::Followed)
+}
+
+/// Catches a rotation that starts gnos or stamps anew, or is answered with another file's number.
+#[test]
+fn a_log_goes_on_between_commits_again(rt: HostRuntime) -> Result<(), Fail> {
+    runs(&rt, rt.alloc(), Course::Rotated)
+}
+
+/// Catches one who waits to rotate and sleeps on though all is committed, and a number that is given twice or never around a rotation.
+#[test]
+fn a_log_goes_on_beside_four_threads(rt: HostRuntime) -> Result<(), Fail> {
+    runs(&rt, rt.alloc(), Course::RotatedBeside)
+}
+
+/// Catches a source that is halted, or counts a file, where the next one finds no memory, and one that goes on where the device failed.
+#[test]
+fn a_next_file_is_not_made_again(rt: HostRuntime) -> Result<(), Fail> {
+    runs(&rt, rt.alloc(), Course::RotatedInVain)
+}
+
 /// Makes a source, and does with it what the course says.
 pub fn runs<R: Threads + Wait + Abort + Clock + Sync>(
     rt: &R,

@@ -1,7 +1,7 @@
 //! What a shared replica under test is told: records one by one, made again where memory was refused, and what is waited for between them.
 
 use crate::device::PATIENCE;
-use crate::gates::Held;
+use crate::gates::HoldingGate;
 use crate::makers::{ONE, SOURCE, answer};
 use crate::replicas::ReplicaRig;
 use record_codec::Record;
@@ -102,7 +102,7 @@ where
     }
 
     /// Two workers with this gate.
-    pub fn two_work(&self, gate: &Held) -> [Result<(), ReplicaFault>; 2] {
+    pub fn two_work(&self, gate: &HoldingGate) -> [Result<(), ReplicaFault>; 2] {
         let (one, two) = join(
             self.rt,
             || self.shared.worker(self.rt, self.alloc, gate),

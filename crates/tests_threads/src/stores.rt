@@ -1,24 +1,14 @@
-//! A store that tells of its batches, may be slow, and finds no memory once; and a result that commits three records over it.
+//! A store that tells of its batches, may be slow, and finds no memory once.
 ghost use Rattle.std.specs.Prelude.{◌≡◌, IfOk};
 ghost use Rattle.std.specs.FinMap.{empty};
 
-use crate::device::{comes, comes_in_turns};
-use crate::gates::Held;
-use crate::makers::counts;
-use crate::replicas::{Course, ReplicaRig, runs};
-use crate::steps::Step;
+use crate::device::comes_in_turns;
 use btree_store::BTreeStore;
-use published::Counts;
-use replica_shared::ReplicaNaming;
 use rows::Row;
 use schema::{Memory, RowId};
 use std::alloc::Global;
-use std::process::Abort;
+use std::sync::Arc;
 use std::sync::atomic::{AtomicBool, AtomicU64, Ordering};
-use std::sync::{Arc, Wait};
-use std::test::Fail;
-use std::thread::{Threads, join};
-use std::time::Clock;
 use store_trait::{Batch, RowStore};
 
 /// The digit of the store of the working rows.
@@ -27,22 +17,16 @@ const WORKING: u64 = 1;
 /// That of each copy for readers.
 const COPY: u64 = 2;
 
-/// Catches a status that waits for the lock, and a result that publishes each of its commits by itself.
-#[test]
-fn one_result_publishes_three_commits_at_once(rt: HostRuntime) -> Result<(), Fail> {
-    runs(&rt, rt.alloc(), &[Course::Stored])
-}
-
 /// What the stores of a replica tell, and what they are told.
 #[derive(Drop)]
 pub struct Notes {
     /// The digit of the store that took a batch, for each batch.
-    word: AtomicU64,
+    pub word: AtomicU64,
     /// The next batch of the working rows is held until it is freed, in some turns at most.
-    is_slow: AtomicBool,
+    pub is_slow: AtomicBool,
     /// It is held.
-    entered: AtomicBool,
-    freed: AtomicBool,
+    pub entered: AtomicBool,
+    pub freed: AtomicBool,
 }
 
 impl Notes {
@@ -135,37 +119,5 @@ impl<S: RowStore> RowStore for Noting<S> {
 
     fn next_in_table(&self, table: u16, above: Option<i64>) -> Option<(i64, Row)> {
         self.inner.next_in_table(table, above)
-    }
-}
-
-impl<J, R> ReplicaRig<'_, J, R>
-where
-    J: ReplicaNaming + Send + Sync,
-    R: Threads + Wait + Abort + Clock + Sync,
-{
-    /// The first job is held until the third is left, so that its result commits all three. While the first commit is held the status is
-    /// told. The working rows take all three, and then a copy does.
-    pub fn are_stored(&self) -> Result<u64, Fail> {
-        self.feed(&[Step::Take(1, 3)])?;
-        self.notes.word.store(0, Ordering::SeqCst);
-        self.notes.is_slow.store(true, Ordering::SeqCst);
-        let gate = Held::new(3);
-        let (ends, told) = join(self.rt, || self.two_work(&gate), || self.look(&gate));
-        for ended in ends {
-            ended?;
-        }
-        gate.met()?;
-        assert_eq!(self.rt; told, Some(counts(3, 0, 0)));
-        assert_eq!(self.rt; self.notes.word.load(Ordering::SeqCst), 111_222);
-        self.shows(3, [5, 6])
-    }
-
-    /// The status while the batch is held. `None` where it is not in time. Then all go on.
-    fn look(&self, gate: &Held) -> Option<Counts> {
-        let in_time = comes(self.rt, &self.notes.entered);
-        let told = in_time.then(|| self.shared.status(self.rt));
-        self.notes.freed.store(true, Ordering::SeqCst);
-        gate.open();
-        told
     }
 }

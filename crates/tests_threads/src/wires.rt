@@ -1,9 +1,9 @@
 //! Bytes of a log that come to a shared replica in pieces, and sets of ids that are waited for.
 ghost use Rattle.std.specs.Prelude.{◌<◌};
 
-use crate::gates::Held;
+use crate::gates::HoldingGate;
 use crate::makers::SOURCE;
-use crate::replicas::{Course, ReplicaRig, runs};
+use crate::replicas::ReplicaRig;
 use crate::steps::Step;
 use gtid_set::GtidSet;
 use record_codec::CodecFault;
@@ -24,38 +24,6 @@ const OTHER: u128 = 7;
 
 /// The place of the second record's flags, behind the 63 bytes of the first record and 28 of its own.
 const FLAGS: usize = 91;
-
-/// Catches bytes that are lost or taken twice at a cut, also where memory was refused, and records that no worker gets. Pieces have seven
-/// bytes, and then one.
-#[test]
-fn bytes_in_pieces_again(rt: HostRuntime) -> Result<(), Fail> {
-    runs(&rt, rt.alloc(), &[Course::Sevens, Course::Singles])
-}
-
-/// Catches a damaged piece of which a whole record is taken.
-#[test]
-fn nothing_of_a_damaged_piece_is_taken(rt: HostRuntime) -> Result<(), Fail> {
-    runs(&rt, rt.alloc(), &[Course::Damaged])
-}
-
-/// Catches a refused record that is dropped, and one that is passed over.
-#[test]
-fn a_refused_record_waits(rt: HostRuntime) -> Result<(), Fail> {
-    runs(&rt, rt.alloc(), &[Course::Waiting])
-}
-
-/// Catches bytes whose records wake no worker that sleeps, a worker that is woken and wakes no other where more is left, and one that
-/// waits with its result for that of the record in front.
-#[test]
-fn bytes_wake_two_workers(rt: HostRuntime) -> Result<(), Fail> {
-    runs(&rt, rt.alloc(), &[Course::Asleep])
-}
-
-/// Catches a wait for an id of another source, and one for no id that does not end.
-#[test]
-fn sets_of_ids_are_waited_for(rt: HostRuntime) -> Result<(), Fail> {
-    runs(&rt, rt.alloc(), &[Course::Sets])
-}
 
 impl<J, R> ReplicaRig<'_, J, R>
 where
@@ -144,7 +112,7 @@ where
     pub fn wake_workers(&self) -> Result<u64, Fail> {
         let (_, two) = self.records.split_last().ok_or("a record")?;
         let bytes = spelled(self.alloc, two)?;
-        let gate = Held::new(2);
+        let gate = HoldingGate::new(2);
         let ((one, two), shown) = join(
             self.rt,
             || join(self.rt, || self.work(&gate), || self.work(&gate)),
@@ -161,7 +129,7 @@ where
 
     /// Feeds the bytes once two workers sleep, waits until both records are published, and closes and opens the gate, however that ends.
     /// Whether they are.
-    fn show_asleep(&self, bytes: &[u8], gate: &Held) -> Result<bool, Memory> {
+    fn show_asleep(&self, bytes: &[u8], gate: &HoldingGate) -> Result<bool, Memory> {
         let in_time = self.sleep_all(2, 0);
         let told = self.told(&mut self.wire(), bytes);
         let shown = in_time && told == Ok(Ok(2)) && self.shown(2).is_ok();

@@ -1,55 +1,24 @@
-//! Workers one after another: a replica that does all, stops or has nothing to do, what a gate sees, and what is refused or comes late.
+//! Workers of a shared replica: one after another, what a gate sees of them and what is refused or comes late; and in threads of their own,
+//! beside those who wait for a commit: who sleeps until when, and whom a record, a stop and the end wake.
 
-use crate::gates::Order;
+use crate::device::PATIENCE;
+use crate::gates::{HoldingGate, Order};
 use crate::makers::{ONE, answer, counts};
-use crate::replicas::{Course, ReplicaRig, runs};
+use crate::replicas::ReplicaRig;
 use crate::steps::Step;
 use relay::{Received, ReplicaFault};
 use replica_shared::{NoGate, ReplicaNaming, WorkerGate};
+use schema::Memory;
 use std::process::Abort;
 use std::sync::Wait;
 use std::sync::atomic::{AtomicU64, Ordering};
 use std::test::Fail;
-use std::thread::{Threads, join};
-use std::time::Clock;
+use std::thread::{Threads, join, map_indices, sleep};
+use std::time::{Clock, Duration};
 
-/// Catches a shared call that gives up where memory is there, also once it was refused, and a job that was kept then and is
-/// not the next to be executed.
-#[test]
-fn one_worker_does_all_again(rt: HostRuntime) -> Result<(), Fail> {
-    runs(&rt, rt.alloc(), &[Course::Alone])
-}
-
-/// Catches a replica that goes on behind a stop, and one that then tells of no commit, also of one that was published.
-#[test]
-fn what_does_not_apply_stops_again(rt: HostRuntime) -> Result<(), Fail> {
-    runs(&rt, rt.alloc(), &[Course::Stopping])
-}
-
-/// Catches a closed replica without records whose worker does not end, or a wait for the rows of the start.
-#[test]
-fn no_record_is_waited_for_again(rt: HostRuntime) -> Result<(), Fail> {
-    runs(&rt, rt.alloc(), &[Course::Empty])
-}
-
-/// Catches a gate that is entered behind the execution, left before the result is in or not where it is refused, or called with
-/// another number.
-#[test]
-fn a_gate_sees_each_job(rt: HostRuntime) -> Result<(), Fail> {
-    runs(&rt, rt.alloc(), &[Course::Watched, Course::WatchedStop])
-}
-
-/// Catches a status that shows as published what is committed alone, and a worker that ends once it made up for a publication.
-#[test]
-fn a_refused_publication_is_made_up_for(rt: HostRuntime) -> Result<(), Fail> {
-    runs(&rt, rt.alloc(), &[Course::Refused])
-}
-
-/// Catches a stop that is told with the number of the result that is handed in.
-#[test]
-fn a_late_result_is_told_of_the_stop(rt: HostRuntime) -> Result<(), Fail> {
-    runs(&rt, rt.alloc(), &[Course::Late])
-}
+/// So often seven who sleep look while three records come one by one: one is woken for each, and looks once more before it sleeps again. It
+/// is 24 times where all are woken, and 9 where two are. (One who was about to sleep when a record came may look once more.)
+const LOOKS: u64 = 6;
 
 impl<J, R> ReplicaRig<'_, J, R>
 where
@@ -149,6 +118,163 @@ where
         assert_eq!(self.rt; self.shown(1), Err(stopped));
         assert_eq!(self.rt; self.shared.status(self.rt), counts(3, 0, 0));
         Ok(0)
+    }
+
+    /// The second job is executed while the first is held. All sleep before the first record, before the last and at the end.
+    pub fn are_beside(&self) -> Result<u64, Fail> {
+        let gate = HoldingGate::new(2);
+        let steps = [
+            Step::Sleep(3, 2),
+            Step::Take(1, 2),
+            Step::Show(2),
+            Step::Sleep(3, 2),
+            Step::Take(3, 3),
+            Step::Show(3),
+            Step::Sleep(3, 0),
+        ];
+        self.all_end(&gate, 3, &steps, Ok(3))?;
+        gate.met()?;
+        self.shows(3, [7, 6])
+    }
+
+    /// Three workers and two who wait for the third commit sleep when the second record comes, which does not apply.
+    pub fn are_asleep_at_stop(&self) -> Result<u64, Fail> {
+        let gate = HoldingGate::new(0);
+        gate.open();
+        let steps = [
+            Step::Sleep(3, 2),
+            Step::Take(1, 1),
+            Step::Show(1),
+            Step::Sleep(3, 2),
+            Step::Take(2, 2),
+        ];
+        self.all_end(&gate, 3, &steps, Err(ReplicaFault::Stopped(2)))?;
+        self.shows(1, [5, 6])
+    }
+
+    /// Two workers and two who wait for a commit sleep, and a third executes the only record, when no more come.
+    pub fn are_asleep_at_end(&self) -> Result<u64, Fail> {
+        let steps = [Step::Take(1, 1), Step::Sleep(2, 2)];
+        self.all_end(&HoldingGate::new(0), 1, &steps, Ok(1))?;
+        self.shows(1, [5, 6])
+    }
+
+    /// Three workers with this gate, and two who wait for this commit, end so beside the one who goes through the steps, and opens the
+    /// gate then.
+    fn all_end(
+        &self,
+        gate: &HoldingGate,
+        gno: u64,
+        steps: &[Step],
+        wanted: Result<u64, ReplicaFault>,
+    ) -> Result<(), Fail> {
+        // (A worker stands on each side: where no thread can be made for one side, the other ends without it.)
+        let (two, (three, (read, fed))) = join(
+            self.rt,
+            || self.two_work(gate),
+            || join(
+                self.rt,
+                || self.shared.worker(self.rt, self.alloc, gate),
+                || join(
+                    self.rt,
+                    || self.two_shown(gno),
+                    || {
+                        let fed = self.feed(steps);
+                        gate.open();
+                        fed
+                    },
+                ),
+            ),
+        );
+        fed?;
+        let worked = wanted.map(|_| ());
+        assert_eq!(self.rt; (two, three), ([worked; 2], worked));
+        assert_eq!(self.rt; read, [wanted; 2]);
+        Ok(())
+    }
+
+    /// Two wait for this commit.
+    fn two_shown(&self, gno: u64) -> [Result<u64, ReplicaFault>; 2] {
+        let (one, two) = join(self.rt, || self.shown(gno), || self.shown(gno));
+        [one, two]
+    }
+
+    /// Seven calls of `worker` beside the one who hands over the records: all sleep before the first and behind the last, and end.
+    pub fn are_crowded(&self) -> Result<u64, Fail> {
+        let steps = [
+            Step::Sleep(7, 0),
+            Step::Take(1, 3),
+            Step::Show(3),
+            Step::Sleep(7, 0),
+        ];
+        let (worked, fed) = join(self.rt, || self.seven_work(), || self.feed(&steps));
+        fed?;
+        worked?;
+        self.shows(3, [7, 6])
+    }
+
+    /// Seven calls of `worker` sleep before each record, and behind the last.
+    pub fn are_woken_one_by_one(&self) -> Result<u64, Fail> {
+        let (worked, looks) = join(
+            self.rt,
+            || self.seven_work(),
+            || {
+                let looks = self.look_on();
+                self.shared.close(self.rt);
+                looks
+            },
+        );
+        let looks = looks?;
+        worked?;
+        if looks < LOOKS || looks > LOOKS + 1 {
+            // Others are woken where memory lacked too.
+            Err(Memory)?;
+        }
+        self.shows(3, [7, 6])
+    }
+
+    /// Seven calls of `worker`, to their end.
+    fn seven_work(&self) -> Result<(), ReplicaFault> {
+        let worked = map_indices(
+            self.rt,
+            self.alloc,
+            7,
+            &|_place| self.shared.worker(self.rt, self.alloc, &NoGate),
+        );
+        for ended in worked.map_err(|_| ReplicaFault::Memory)? {
+            ended?;
+        }
+        Ok(())
+    }
+
+    /// How often seven workers look that sleep when each record comes, until all sleep again. It lacks memory where they don't in time.
+    fn look_on(&self) -> Result<u64, ReplicaFault> {
+        let mut looks = 0u64;
+        for record in self.records {
+            let before = self.looks_of_seven()?;
+            self.receive(record)?;
+            self.shared.wait_for(self.rt, record.gno)?;
+            let after = self.looks_of_seven()?;
+            looks = looks.saturating_add(after.saturating_sub(before));
+        }
+        Ok(looks)
+    }
+
+    /// How often workers looked, once seven sleep and nobody looked for some time.
+    fn looks_of_seven(&self) -> Result<u64, ReplicaFault> {
+        let mut seen = 0;
+        for _ in 0..PATIENCE {
+            if !self.sleep_all(7, 0) {
+                return Err(ReplicaFault::Memory);
+            }
+            let looks = self.shared.looks(self.rt).workers;
+            if looks == seen {
+                return Ok(seen);
+            }
+            seen = looks;
+            sleep(self.rt, Duration::from_millis(20));
+        }
+        Err(ReplicaFault::Memory)
     }
 }
 

@@ -6,11 +6,12 @@
 //!
 //! `specs/Parent.antt` says which parent each mode gives, read off the log alone, and `specs/Law.antt` what every
 //! tracker promises: the parent covers each conflicting transaction of the whole log, and is at most the order parent.
+//! A `Resumable` tracker also sees a log that was written before it was made, so that it goes on from there.
 //! The crate stands on `log_index`, which has what trackers see of a log, and on `write_set`, which has the digests of
 //! written rows and of marks.
 #![tactic(auto)]
 
-ghost use Rattle.std.specs.Prelude.{◌≡◌, ◌≤◌, List, map};
+ghost use Rattle.std.specs.Prelude.{◌≡◌, ◌≤◌, ℕ, List, map};
 ghost use Rattle.schema.specs.declared.Table.{Table};
 ghost use Rattle.schema.specs.Covering.{Covers};
 ghost use Rattle.log_index.specs.declared.Entry.{Entry};
@@ -67,4 +68,15 @@ pub trait Tracker {
             agrees self.new ts (stamped log.now.entries t.now session result) }
         ensures within { result ≤ order_parent }
         ensures same { kind self.new ≡ kind self.old };
+}
+
+/// A tracker that can begin behind a log that is there already, whichever tracker gave the parents in it.
+pub trait Resumable: Tracker {
+    /// Sees a transaction that is in the log already, under whatever parent, and comes from none of the sessions. The tracker
+    /// has seen all of the log before it. It takes no memory.
+    fn observe(&mut self, log: &Log, t: &Footprint, w: &WriteSet)
+        requires { (ts : List Table) × Self.agrees self.old ts log.now.entries }
+        ensures goes_on { (ts : List Table) (parent : ℕ) → Self.agrees self.old ts log.now.entries → IsOfTables ts t.now w.now →
+            Self.agrees self.new ts (stamped log.now.entries t.now 0 parent) }
+        ensures same { Self.kind self.new ≡ Self.kind self.old };
 }

@@ -7,7 +7,7 @@ use Rattle.std.proofs.lemmas.List.{take-append-drop, drop-append-le, drop_at, dr
 use Rattle.schema.specs.declared.RowId.{RowId}
 use Rattle.schema.specs.RowId.{row_cmp, row_total, exact_row, same_row}
 use Rattle.rows.specs.Database.{Database}
-use Rattle.vector_store.specs.Contents.{Stored, contents_of, AreBehind, AreInOrder}
+use Rattle.vector_store.specs.Contents.{KeyedRow, contents_of, AreBehind, AreInOrder}
 use Rattle.vector_store.specs.Places.{IsPlaceOf}
 use Rattle.vector_store.specs.Gap.{IsParted}
 use Rattle.vector_store.proofs.Order.{behind_join, order_without, find_between, find_here, get_rows, contents-absent, contents-removed}
@@ -15,8 +15,8 @@ use Rattle.vector_store.proofs.Finding.{around_place}
 
 -- ---- the rows between two places are moved up to the end of the gap
 
-module _ (rows : List Stored) (start end behind : ℕ) (rises : start ≤ end) (within : end ≤ length rows) (below : behind ≤ start) where
-  pub back_moved : (moved : List Stored) → moved ≡ copy_within rows behind start (end - (start - behind)) → drop (end - (start - behind)) moved ≡ drop behind (take start rows) ++ drop end rows
+module _ (rows : List KeyedRow) (start end behind : ℕ) (rises : start ≤ end) (within : end ≤ length rows) (below : behind ≤ start) where
+  pub back_moved : (moved : List KeyedRow) → moved ≡ copy_within rows behind start (end - (start - behind)) → drop (end - (start - behind)) moved ≡ drop behind (take start rows) ++ drop end rows
   back_moved moved is =
       let n = start - behind in
       let to = end - n in
@@ -37,7 +37,7 @@ module _ (rows : List Stored) (start end behind : ℕ) (rises : start ≤ end) (
 
 -- ---- the gap is where a row is, or would be
 
-module _ (xs ys : List Stored) (id : RowId) (at : ℕ) (order : AreInOrder (xs ++ ys)) (behind : AreBehind id ys) where
+module _ (xs ys : List KeyedRow) (id : RowId) (at : ℕ) (order : AreInOrder (xs ++ ys)) (behind : AreBehind id ys) where
   module _ (place : IsPlaceOf xs id (Ok at)) where
     columns : List ℤ
     columns = (get_or xs at (id, [])).1
@@ -45,17 +45,17 @@ module _ (xs ys : List Stored) (id : RowId) (at : ℕ) (order : AreInOrder (xs +
     split : xs ++ ys ≡ take at xs ++ (id, columns) ∷ (drop (at + 1) xs ++ ys)
     unfolding columns
     split =
-        let d : Stored = (id, []) in
-        let row : ◌≡◌ {A = Stored} (get_or xs at d) (id, (get_or xs at d).1) = λ i. (place.1 d i, (get_or xs at d).1) in
+        let d : KeyedRow = (id, []) in
+        let row : ◌≡◌ {A = KeyedRow} (get_or xs at d) (id, (get_or xs at d).1) = λ i. (place.1 d i, (get_or xs at d).1) in
         ap (λ l. l ++ ys) (around_place xs at d (omega (arith, place.0.within))) ∙ append_assoc (take at xs) (get_or xs at d ∷ drop (at + 1) xs) ys
-        ∙ ap (λ (r : Stored). take at xs ++ r ∷ (drop (at + 1) xs ++ ys)) row
+        ∙ ap (λ (r : KeyedRow). take at xs ++ r ∷ (drop (at + 1) xs ++ ys)) row
 
     all_behind : AreBehind id (drop (at + 1) xs ++ ys)
     all_behind = behind_join id (drop (at + 1) xs) ys place.0.behind behind
 
     pub parted_found : IsParted (xs ++ ys) id (take at xs) (drop (at + 1) xs ++ ys)
     parted_found = record {
-      order = order_without (take at xs) ((id, columns) ∷ []) (drop (at + 1) xs ++ ys) (subst (λ (l : List Stored). AreInOrder l) split order);
+      order = order_without (take at xs) ((id, columns) ∷ []) (drop (at + 1) xs ++ ys) (subst (λ (l : List KeyedRow). AreInOrder l) split order);
       before = place.0.before;
       behind = all_behind;
       removed = contents-removed id (take at xs) (drop (at + 1) xs ++ ys) place.0.before all_behind columns ∙ ap (λ l. remove (contents_of l) id) (sym split);
@@ -73,7 +73,7 @@ module _ (xs ys : List Stored) (id : RowId) (at : ℕ) (order : AreInOrder (xs +
 
     pub parted_absent : IsParted (xs ++ ys) id (take at xs) (drop at xs ++ ys)
     parted_absent = record {
-      order = subst (λ (l : List Stored). AreInOrder l) split_absent order;
+      order = subst (λ (l : List KeyedRow). AreInOrder l) split_absent order;
       before = place.before;
       behind = rest_behind;
       removed = contents-absent id (take at xs) (drop at xs ++ ys) place.before rest_behind ∙ ap (λ l. remove (contents_of l) id) (sym split_absent);

@@ -14,7 +14,7 @@ use Rattle.rows.proofs.Apply.{get-put_row}
 use Rattle.store_trait.specs.Batch.{Entry, IsRising, put_batch}
 use Rattle.store_trait.proofs.Batches.{get-put_batch}
 use Rattle.vector_store.specs.declared.put.Gap.{Gap}
-use Rattle.vector_store.specs.Contents.{Stored, contents_of, AreBehind, AreInOrder}
+use Rattle.vector_store.specs.Contents.{KeyedRow, contents_of, AreBehind, AreInOrder}
 use Rattle.vector_store.specs.Gap.{IsGap, around, room_of, is_new, count_of}
 use Rattle.vector_store.proofs.Order.{order_sorted, sorted_order, order_parts, order_behind, behind_join, find_first, find_behind, get_rows}
 
@@ -68,14 +68,14 @@ count_push : (p : Entry → Bool) (es : List Entry) (e : Entry) → count_by p (
 count_push p es e = sum_by_push (λ x. cond (p x) 1 0) es e
 
 -- the rows up to a place have not been looked at
-pub record Counting (entries left : List Entry) (rows : List Stored) (end count : ℕ) : Type 0 where
+pub record Counting (entries left : List Entry) (rows : List KeyedRow) (end count : ℕ) : Type 0 where
   pub halves : Halves entries left
   pub within : end ≤ length rows
   pub behind : (q : RowId) → AreBehind q halves.done → AreBehind q (drop end rows)
   pub counted : count + count_by (is_new (contents_of rows)) left ≡ count_by (is_new (contents_of rows)) entries
 
 -- rows before a place, of rows before another
-module _ (rows : List Stored) (end : ℕ) (within : end ≤ length rows) (id : RowId) (behind : AreBehind id (drop end rows)) where
+module _ (rows : List KeyedRow) (end : ℕ) (within : end ≤ length rows) (id : RowId) (behind : AreBehind id (drop end rows)) where
   get_front : get (contents_of rows) id ≡ get (contents_of (take end rows)) id
   get_front =
       get_rows rows id ∙ ap (find row_cmp id) (sym (take-append-drop end rows)) ∙ find_first id (take end rows) (drop end rows) behind ∙ sym (get_rows (take end rows) id)
@@ -83,13 +83,13 @@ module _ (rows : List Stored) (end : ℕ) (within : end ≤ length rows) (id : R
   drop_front : (at : ℕ) → at ≤ end → drop at rows ≡ drop at (take end rows) ++ drop end rows
   drop_front at le = ap (drop at) (sym (take-append-drop end rows)) ∙ drop-append-le at (take end rows) (drop end rows) (omega (arith, length-take end rows))
 
-module _ (entries left before : List Entry) (e : Entry) (rows : List Stored) (end count : ℕ) (h : Counting entries left rows end count) (last : left ≡ before ++ e ∷ []) (rising : IsRising entries)
+module _ (entries left before : List Entry) (e : Entry) (rows : List KeyedRow) (end count : ℕ) (h : Counting entries left rows end count) (last : left ≡ before ++ e ∷ []) (rising : IsRising entries)
     (order : AreInOrder rows) where
   behind_end : AreBehind e.0 (drop end rows)
   behind_end = h.behind e.0 (done_behind entries left before e h.halves last rising)
 
   pub front_order : AreInOrder (take end rows)
-  front_order = (order_parts (take end rows) (drop end rows) (subst (λ (l : List Stored). AreInOrder l) (sym (take-append-drop end rows)) order)).0
+  front_order = (order_parts (take end rows) (drop end rows) (subst (λ (l : List KeyedRow). AreInOrder l) (sym (take-append-drop end rows)) order)).0
 
   pub counting_on : (place : ℕ) (adds : Bool) → place ≤ length (take end rows) → ((q : RowId) → row_cmp q e.0 ≡ Less → AreBehind q (drop place (take end rows))) →
       adds ≡ (is_some e.1 && is_none (get (contents_of (take end rows)) e.0)) → Counting entries before rows place (count + count_of adds)
@@ -113,7 +113,7 @@ module _ (entries left before : List Entry) (e : Entry) (rows : List Stored) (en
 -- ---- the rows are merged
 
 -- what is done is put, and the gap has a place for each new row that is still to come
-pub record Merging (entries left : List Entry) (first : Database) (gap : Gap) (rows : List Stored) : Type 0 where
+pub record Merging (entries left : List Entry) (first : Database) (gap : Gap) (rows : List KeyedRow) : Type 0 where
   pub halves : Halves entries left
   pub is_gap : IsGap gap rows
   pub order : AreInOrder (around gap rows)
@@ -121,7 +121,7 @@ pub record Merging (entries left : List Entry) (first : Database) (gap : Gap) (r
   pub behind : (q : RowId) → AreBehind q halves.done → AreBehind q (drop gap.end rows)
   pub room : count_by (is_new first) left ≤ room_of gap
 
-pub none_merged : (entries : List Entry) (gap : Gap) (rows : List Stored) → IsGap gap rows → AreInOrder (around gap rows) → drop gap.end rows ≡ [] →
+pub none_merged : (entries : List Entry) (gap : Gap) (rows : List KeyedRow) → IsGap gap rows → AreInOrder (around gap rows) → drop gap.end rows ≡ [] →
     room_of gap ≡ count_by (is_new (contents_of (around gap rows))) entries → Merging entries entries (contents_of (around gap rows)) gap rows
 unfolding all_left
 none_merged entries gap rows is_gap order last room = record {
@@ -137,7 +137,7 @@ none_is : {X : Type 0} (o : Option X) → is_some o ≡ false → is_none o ≡ 
 none_is None h = refl
 none_is (Some x) h = absurd (true≢false h)
 
-module _ (entries left before : List Entry) (e : Entry) (first : Database) (gap : Gap) (rows : List Stored) (h : Merging entries left first gap rows) (last : left ≡ before ++ e ∷ [])
+module _ (entries left before : List Entry) (e : Entry) (first : Database) (gap : Gap) (rows : List KeyedRow) (h : Merging entries left first gap rows) (last : left ≡ before ++ e ∷ [])
     (rising : IsRising entries) where
   pub next_behind : AreBehind e.0 (drop gap.end rows)
   next_behind = h.behind e.0 (done_behind entries left before e h.halves last rising)
@@ -155,7 +155,7 @@ module _ (entries left before : List Entry) (e : Entry) (first : Database) (gap 
       let new : is_new first e ≡ true = and_from (is_some e.1) (is_none (get first e.0)) some (none_is (get first e.0) (ap is_some (sym same_there) ∙ none)) in
       omega (arith, counts, ap count_of new)
 
-  pub merging_on : (next : Gap) (left_rows : List Stored) → IsGap next left_rows → AreInOrder (around next left_rows) →
+  pub merging_on : (next : Gap) (left_rows : List KeyedRow) → IsGap next left_rows → AreInOrder (around next left_rows) →
       contents_of (around next left_rows) ≡ put_row (contents_of (around gap rows)) e.0 e.1 → ((q : RowId) → row_cmp q e.0 ≡ Less → AreBehind q (drop next.end left_rows)) →
       room_of next + count_of (is_some e.1) ≡ room_of gap + count_of (is_some (get (contents_of (around gap rows)) e.0)) → Merging entries before first next left_rows
   unfolding one_less

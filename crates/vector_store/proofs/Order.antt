@@ -10,7 +10,7 @@ use Rattle.schema.proofs.Telling.{is_less}
 use Rattle.schema.proofs.Lists.{AllByRecursion-append, AllByRecursion-front, AllByRecursion-behind}
 use Rattle.rows.proofs.Apply.{row_is}
 use Rattle.store_trait.proofs.Batches.{less_apart}
-use Rattle.vector_store.specs.Contents.{Stored, contents_of, AreBefore, AreBehind, AreInOrder}
+use Rattle.vector_store.specs.Contents.{KeyedRow, contents_of, AreBefore, AreBehind, AreInOrder}
 
 -- ids that differ
 pub apart : (a b : RowId) → row_cmp a b ≡ Less → same_row a b ≡ false
@@ -125,10 +125,10 @@ module _ {X : Type 0} where
 
 -- ---- databases
 
-pub get_rows : (rows : List Stored) (q : RowId) → get (contents_of rows) q ≡ find row_cmp q rows
+pub get_rows : (rows : List KeyedRow) (q : RowId) → get (contents_of rows) q ≡ find row_cmp q rows
 get_rows rows q = get-from_entries row_total rows q
 
-module _ (id : RowId) (xs ys : List Stored) (before : AreBefore xs id) where
+module _ (id : RowId) (xs ys : List KeyedRow) (before : AreBefore xs id) where
   -- a row that is put between others
   pub contents-between : (columns : List ℤ) → contents_of (xs ++ (id, columns) ∷ ys) ≡ insert (contents_of (xs ++ ys)) id columns
   contents-between columns = same_map row_total exact_row _ _ (λ q.

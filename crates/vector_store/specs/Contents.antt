@@ -8,11 +8,11 @@ use Rattle.schema.specs.RowId.{row_cmp}
 use Rattle.rows.specs.Database.{Database}
 
 -- a row with its id
-abbrev pub Stored : Type 0
-Stored = RowId × List ℤ
+abbrev pub KeyedRow : Type 0
+KeyedRow = RowId × List ℤ
 
 -- the list as a finite map
-abbrev pub contents_of : List Stored → Database
+abbrev pub contents_of : List KeyedRow → Database
 contents_of rows = from_entries {R = row_cmp} rows
 
 -- each of these is before the id, or behind it

@@ -6,14 +6,14 @@ use Rattle.schema.specs.declared.RowId.{RowId}
 use Rattle.rows.specs.Database.{Database}
 use Rattle.store_trait.specs.Batch.{Entry}
 use Rattle.vector_store.specs.declared.put.Gap.{Gap}
-use Rattle.vector_store.specs.Contents.{Stored, contents_of, AreBefore, AreBehind, AreInOrder}
+use Rattle.vector_store.specs.Contents.{KeyedRow, contents_of, AreBefore, AreBehind, AreInOrder}
 
-pub record IsGap (gap : Gap) (rows : List Stored) : Type 0 where
+pub record IsGap (gap : Gap) (rows : List KeyedRow) : Type 0 where
   pub rises : gap.start ≤ gap.end
   pub within : gap.end ≤ length rows
 
 -- the rows before the gap, and those behind it
-abbrev pub around : Gap → List Stored → List Stored
+abbrev pub around : Gap → List KeyedRow → List KeyedRow
 around gap rows = remove_range rows gap.start gap.end
 
 -- how many places are free
@@ -21,7 +21,7 @@ abbrev pub room_of : Gap → ℕ
 room_of gap = gap.end - gap.start
 
 -- the rows without the one of this id, those before it and those behind it
-pub record IsParted (rows : List Stored) (id : RowId) (front back : List Stored) : Type 0 where
+pub record IsParted (rows : List KeyedRow) (id : RowId) (front back : List KeyedRow) : Type 0 where
   pub order : AreInOrder (front ++ back)
   pub before : AreBefore front id
   pub behind : AreBehind id back

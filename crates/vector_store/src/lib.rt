@@ -20,7 +20,7 @@ use std::marker::Model;
 use store_trait::{Batch, RowStore};
 
 /// A row with its id.
-type Stored = (RowId, Row);
+type KeyedRow = (RowId, Row);
 
 /// Rows in one vector, in the order of their ids. With n rows and a batch of b, a put looks b places up, each in a time that is
 /// logarithmic in how far it is from the one before it, which is at most b log n and at most n + b; and it moves only rows that
@@ -28,7 +28,7 @@ type Stored = (RowId, Row);
 /// that are overwritten, move none. Its memory is that of the rows that are new, and stays for later ones.
 #[derive(Debug, Drop)]
 pub struct VectorStore {
-    rows: Vec<Stored>,
+    rows: Vec<KeyedRow>,
 }
 
 impl Model for VectorStore {

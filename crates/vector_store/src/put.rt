@@ -16,7 +16,7 @@ ghost use Rattle.store_trait.specs.Batch.{IsRising, put_row, put_batch};
 ghost use Rattle.vector_store.specs.Contents.{contents_of, AreBehind, AreInOrder};
 ghost use Rattle.vector_store.specs.Gap.{IsGap, around, room_of, IsParted, is_new, count_of};
 
-use crate::Stored;
+use crate::KeyedRow;
 use crate::search::place_near_end;
 use rows::Row;
 use schema::{Memory, RowId};
@@ -32,7 +32,7 @@ struct Gap {
 }
 
 /// Puts all of these entries, or, where memory runs out, none.
-pub(crate) fn put_whole(rows: &mut Vec<Stored>, entries: &[Entry]) -> Result<(), Memory>
+pub(crate) fn put_whole(rows: &mut Vec<KeyedRow>, entries: &[Entry]) -> Result<(), Memory>
     requires rising { IsRising entries.now }
     requires order { AreInOrder rows.old.items }
     ensures ok { OnOk result (contents_of rows.new.items ≡ put_batch entries.now (contents_of rows.old.items)) }
@@ -47,7 +47,7 @@ pub(crate) fn put_whole(rows: &mut Vec<Stored>, entries: &[Entry]) -> Result<(),
 }
 
 /// How many rows that are not there the entries set.
-fn count_new(rows: &[Stored], entries: &[Entry]) -> usize
+fn count_new(rows: &[KeyedRow], entries: &[Entry]) -> usize
     requires rising { IsRising entries.now }
     requires order { AreInOrder rows.now }
     ensures { result ≡ count_by (is_new (contents_of rows.now)) entries.now }
@@ -66,7 +66,7 @@ fn count_new(rows: &[Stored], entries: &[Entry]) -> usize
 }
 
 /// The place from which on all rows are behind those that are before the row, and whether it is set without being there.
-fn look_up(rows: &[Stored], id: RowId, is_set: bool) -> (usize, bool)
+fn look_up(rows: &[KeyedRow], id: RowId, is_set: bool) -> (usize, bool)
     requires { AreInOrder rows.now }
     ensures within { result.0 ≤ length rows.now }
     ensures behind { (q : RowId) → row_cmp q id ≡ Less → AreBehind q (drop result.0 rows.now) }
@@ -79,7 +79,7 @@ fn look_up(rows: &[Stored], id: RowId, is_set: bool) -> (usize, bool)
 }
 
 /// Makes so many free places behind the rows, or, where memory runs out, none.
-fn open(rows: &mut Vec<Stored>, count: usize) -> Result<Gap, Memory>
+fn open(rows: &mut Vec<KeyedRow>, count: usize) -> Result<Gap, Memory>
     ensures gap { IfOk result (λ gap. IsGap gap rows.new.items) }
     ensures ok { IfOk result (λ gap. around gap rows.new.items ≡ rows.old.items) }
     ensures last { IfOk result (λ gap. drop gap.end rows.new.items ≡ []) }
@@ -94,13 +94,13 @@ fn open(rows: &mut Vec<Stored>, count: usize) -> Result<Gap, Memory>
 }
 
 /// What stands in a free place.
-fn filler() -> Stored {
+fn filler() -> KeyedRow {
     (RowId { table: 0, key: 0 }, Row::new(&[0]).unwrap())
 }
 
 /// Puts the entries, the last of them first, into the rows around the gap, which is behind all rows and has a place for each row
 /// that is new. Answers the gap that is left.
-fn merge(rows: &mut [Stored], entries: &[Entry], mut gap: Gap) -> Gap
+fn merge(rows: &mut [KeyedRow], entries: &[Entry], mut gap: Gap) -> Gap
     requires rising { IsRising entries.now }
     requires gap { IsGap gap rows.old }
     requires order { AreInOrder (around gap rows.old) }
@@ -120,7 +120,7 @@ fn merge(rows: &mut [Stored], entries: &[Entry], mut gap: Gap) -> Gap
 }
 
 /// Puts one row, or removes it, where all rows behind the gap are behind it. Answers the gap that is left.
-fn put_one(rows: &mut [Stored], gap: Gap, id: RowId, row: Option<Row>) -> Gap
+fn put_one(rows: &mut [KeyedRow], gap: Gap, id: RowId, row: Option<Row>) -> Gap
     requires gap { IsGap gap rows.old }
     requires order { AreInOrder (around gap rows.old) }
     requires behind { AreBehind id (drop gap.end rows.old) }
@@ -140,7 +140,7 @@ fn put_one(rows: &mut [Stored], gap: Gap, id: RowId, row: Option<Row>) -> Gap
 }
 
 /// Moves the gap to where the row is or would stand. A row that is there falls into it.
-fn part(rows: &mut [Stored], gap: Gap, id: RowId) -> Gap
+fn part(rows: &mut [KeyedRow], gap: Gap, id: RowId) -> Gap
     requires gap { IsGap gap rows.old }
     requires order { AreInOrder (around gap rows.old) }
     requires behind { AreBehind id (drop gap.end rows.old) }
@@ -155,7 +155,7 @@ fn part(rows: &mut [Stored], gap: Gap, id: RowId) -> Gap
 }
 
 /// Moves the rows from `behind` up to the gap to its other end, and lets the gap begin at `start`.
-fn move_gap(rows: &mut [Stored], gap: Gap, start: usize, behind: usize) -> Gap
+fn move_gap(rows: &mut [KeyedRow], gap: Gap, start: usize, behind: usize) -> Gap
     requires gap { IsGap gap rows.old }
     requires rises { start ≤ behind }
     requires within { behind ≤ gap.start }
@@ -172,7 +172,7 @@ fn move_gap(rows: &mut [Stored], gap: Gap, start: usize, behind: usize) -> Gap
 }
 
 /// Writes the row at the end of the gap.
-fn fill(rows: &mut [Stored], gap: Gap, id: RowId, row: Row) -> Gap
+fn fill(rows: &mut [KeyedRow], gap: Gap, id: RowId, row: Row) -> Gap
     requires gap { IsGap gap rows.old }
     requires room { 0 < room_of gap }
     ensures gap { IsGap result rows.new }
@@ -189,7 +189,7 @@ fn fill(rows: &mut [Stored], gap: Gap, id: RowId, row: Row) -> Gap
 }
 
 /// Closes the gap.
-fn close(rows: &mut Vec<Stored>, gap: Gap)
+fn close(rows: &mut Vec<KeyedRow>, gap: Gap)
     requires { IsGap gap rows.old.items }
     ensures { rows.new.items ≡ around gap rows.old.items }
 {

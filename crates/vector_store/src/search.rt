@@ -6,12 +6,12 @@ ghost use Rattle.store_trait.specs.Contents.{IsNextInTable};
 ghost use Rattle.vector_store.specs.Contents.{contents_of, AreInOrder};
 ghost use Rattle.vector_store.specs.Places.{IsPlaceOf, IsWindowOf, is_passed, IsPassedUpTo};
 
-use crate::Stored;
+use crate::KeyedRow;
 use rows::Row;
 use schema::RowId;
 
 /// The row, where it is there.
-pub(crate) fn row_at(rows: &[Stored], id: RowId) -> Option<Row>
+pub(crate) fn row_at(rows: &[KeyedRow], id: RowId) -> Option<Row>
     requires { AreInOrder rows.now }
     ensures { result ≡ row_of (contents_of rows.now) id }
 {
@@ -22,7 +22,7 @@ pub(crate) fn row_at(rows: &[Stored], id: RowId) -> Option<Row>
 }
 
 /// The place of the row, or the one where it would stand. The time is logarithmic in the number of rows.
-fn place_of(rows: &[Stored], id: RowId) -> Result<usize, usize>
+fn place_of(rows: &[KeyedRow], id: RowId) -> Result<usize, usize>
     requires { AreInOrder rows.now }
     ensures { IsPlaceOf rows.now id result }
 {
@@ -30,7 +30,7 @@ fn place_of(rows: &[Stored], id: RowId) -> Result<usize, usize>
 }
 
 /// The place of the row, or the one where it would stand. The time is logarithmic in how far it is from the end.
-pub(crate) fn place_near_end(rows: &[Stored], id: RowId) -> Result<usize, usize>
+pub(crate) fn place_near_end(rows: &[KeyedRow], id: RowId) -> Result<usize, usize>
     requires { AreInOrder rows.now }
     ensures { IsPlaceOf rows.now id result }
 {
@@ -43,7 +43,7 @@ pub(crate) fn place_near_end(rows: &[Stored], id: RowId) -> Result<usize, usize>
 
 /// Two places such that all rows before the first are before the id, and all from the second on behind it. The distance from
 /// the end is doubled until the first is found.
-fn window_near_end(rows: &[Stored], id: RowId) -> (usize, usize)
+fn window_near_end(rows: &[KeyedRow], id: RowId) -> (usize, usize)
     requires { AreInOrder rows.now }
     ensures { IsWindowOf rows.now id result.0 result.1 }
 {
@@ -57,7 +57,7 @@ fn window_near_end(rows: &[Stored], id: RowId) -> (usize, usize)
 }
 
 /// Of a table's rows above the key, or of all of them, the one with the least key.
-pub(crate) fn next_row(rows: &[Stored], table: u16, above: Option<i64>) -> Option<(i64, Row)>
+pub(crate) fn next_row(rows: &[KeyedRow], table: u16, above: Option<i64>) -> Option<(i64, Row)>
     requires { AreInOrder rows.now }
     ensures { IsNextInTable (contents_of rows.now) table above result }
 {
@@ -70,7 +70,7 @@ pub(crate) fn next_row(rows: &[Stored], table: u16, above: Option<i64>) -> Optio
 }
 
 /// How many rows stand before all rows of the table whose keys are above the key.
-fn passed_rows(rows: &[Stored], table: u16, above: Option<i64>) -> usize
+fn passed_rows(rows: &[KeyedRow], table: u16, above: Option<i64>) -> usize
     requires { AreInOrder rows.now }
     ensures within { result ≤ length rows.now }
     ensures passed { IsPassedUpTo rows.now table above result }

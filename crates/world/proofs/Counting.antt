@@ -5,7 +5,7 @@ use Rattle.std.proofs.lemmas.Bool.{false≢true}
 use Rattle.world.specs.declared.events.Reply.{Reply}
 use Rattle.world.specs.Past.{is_failure}
 use Rattle.world.specs.Put.{FailedBy, OneFailed, SomeFailed}
-use Rattle.world.specs.State.{World, Wire, Rests, counts_of, IsCounted, TellsFailure}
+use Rattle.world.specs.State.{World, Link, Rests, counts_of, IsCounted, TellsFailure}
 use Rattle.world.specs.Run.{AreCounted, TellFailures}
 
 -- ---- one of them failed
@@ -114,7 +114,7 @@ tells_none faults reply old new quiet same runs = record {
 -- where the log and its devices rest
 pub tells_rest : {D R : Type 0} (faults : D → ℕ) (reply : Reply) (old new : World D R) → Rests reply old.wire new.wire → TellsFailure faults reply old new
 tells_rest faults reply old new rests =
-    tells_none faults reply old new rests.quiet (ap (λ (x : Wire _). counts_of faults x) rests.same) (ap (λ (x : Wire _). x.log.failed) rests.same)
+    tells_none faults reply old new rests.quiet (ap (λ (x : Link _). counts_of faults x) rests.same) (ap (λ (x : Link _). x.log.failed) rests.same)
 
 pub tell_nothing : {D R : Type 0} (faults : D → ℕ) (w : World D R) → TellFailures faults [] w w
 tell_nothing faults w = record { counted = refl; seen = λ running failed. absurd (false≢true (sym running ∙ failed)) }

@@ -16,11 +16,11 @@ use Rattle.world.specs.Crash.{FindsLog, FindsTold, RunsSafely, LeaveTold, Synced
 use Rattle.world.proofs.Parts.{take_longer}
 use Rattle.world.proofs.Crash.{safe_left, weaker}
 
-same_between : (source told : List ℕ) (least told_least most told_most : List Record) (lefts : List (List ℕ)) → source ≡ told → least ≡ told_least → most ≡ told_most →
-    SetFindsBetween source least most lefts → SetFindsBetween told told_least told_most lefts
-same_between source told least told_least most told_most lefts sources leasts mosts finds =
-    subst (λ (l : List ℕ). SetFindsBetween l told_least told_most lefts) sources
-    (subst (λ (l : List Record). SetFindsBetween source l told_most lefts) leasts (subst (λ (l : List Record). SetFindsBetween source least l lefts) mosts finds))
+same_between : {head told : Head} {least told_least most told_most : List Record} (lefts : List (List ℕ)) → head ≡ told → least ≡ told_least → most ≡ told_most →
+    SetFindsBetween head least most lefts → SetFindsBetween told told_least told_most lefts
+same_between {head} {told} {least} {told_least} {most} {told_most} lefts heads leasts mosts finds =
+    subst (λ (h : Head). SetFindsBetween h told_least told_most lefts) heads
+    (subst (λ (l : List Record). SetFindsBetween head l told_most lefts) leasts (subst (λ (l : List Record). SetFindsBetween head least l lefts) mosts finds))
 
 -- the log of a world is the one that the pairs tell of
 finds_told : {D R : Type 0} (contents : R → Database) (setup : Setup) (past : Past) (w : World D R) (log : List Record) (left : List (List ℕ)) → IsWorld contents w → Stands setup past w →
@@ -29,8 +29,7 @@ finds_told contents setup past w log left h st longer finds =
     let number : w.source.synced ≡ synced past = ap (λ (s : Source). s.synced) st.source.is in
     let least = ap (λ n. take n w.source.log) number ∙ sym (take_longer w.source.log log longer (synced past) (omega (arith, number, h.source.sound.synced_within))) in
     let most = ap (λ (s : Source). s.log) st.source.is ∙ sym (take_longer w.source.log log longer (flushed past) (omega (arith, st.source.flushed))) in
-    same_between w.wire.log.head.source setup.identifier (take w.source.synced w.source.log) (take (synced past) log) w.source.log (take (flushed past) log) left (ap (λ (b : Head).
-    b.source) st.wire.head) least most finds
+    same_between left st.wire.head least most finds
 
 module _ {D R : Type 0} (contents : R → Database) (seen : D → List ℕ) (may_leave : D → List ℕ → Type 0) (moment : D → ℕ) (left_since : D → ℕ → List ℕ → Type 0) where
   log_grows : (old new : World D R) (es : List Event) (rs : List Reply) → RunsSafely contents seen may_leave moment left_since old es rs new → IsPrefix old.source.log new.source.log

@@ -31,7 +31,7 @@ use Rattle.world.specs.Past.{Past, flushed, accepted, unsynced, synced_groups, f
 use Rattle.world.specs.Legal.{Setup, source_at, replica_at, Allowed}
 
 -- what lies between the two sides
-pub record Wire (D : Type 0) : Type 0 where
+pub record Link (D : Type 0) : Type 0 where
   -- the log of all files, which has the groups that are synced
   pub log : Log
   -- the gno that each file begins with, and how many groups stand in the files before it
@@ -45,21 +45,21 @@ pub record Wire (D : Type 0) : Type 0 where
   pub unsynced : List GroupValue
 
 -- the log's files, and their devices
-abbrev pub set_of : {D : Type 0} → Wire D → SetOn D
+abbrev pub set_of : {D : Type 0} → Link D → SetOn D
 set_of wire = record { log = wire.log; firsts = wire.firsts; starts = wire.starts; past = wire.past; device = wire.device }
 
 -- all devices, in the order in which files are made on them
-abbrev pub devices_of : {D : Type 0} → Wire D → List D
+abbrev pub devices_of : {D : Type 0} → Link D → List D
 devices_of wire = wire.past ++ wire.device ∷ wire.spare
 
 -- the count of failures of each; that of the last file's device is the log's
-abbrev pub counts_of : {D : Type 0} → (D → ℕ) → Wire D → List ℕ
+abbrev pub counts_of : {D : Type 0} → (D → ℕ) → Link D → List ℕ
 counts_of faults wire = map faults wire.past ++ wire.log.faults ∷ map faults wire.spare
 
 -- a world as the values of its parts
 pub record World (D R : Type 0) : Type 0 where
   pub source : Source
-  pub wire : Wire D
+  pub wire : Link D
   pub replica : Replica
   -- the jobs that wait to be executed, in log order
   pub jobs : List Job
@@ -131,7 +131,7 @@ pub record SourceIs (said : Source) (flushed_ : ℕ) (s : Source) : Type 0 where
   pub is : s ≡ said
 
 -- The log is that of this source; these groups are flushed and not synced, and these are synced; its files begin so.
-pub record WireIs {D : Type 0} (identifier_ : List ℕ) (unsynced_ synced_ : List (ℕ × ℕ)) (firsts_ starts_ : List ℕ) (wire : Wire D) : Type 0 where
+pub record WireIs {D : Type 0} (identifier_ : List ℕ) (unsynced_ synced_ : List (ℕ × ℕ)) (firsts_ starts_ : List ℕ) (wire : Link D) : Type 0 where
   pub head : wire.log.head ≡ new_head identifier_
   pub unsynced : map ends_of wire.unsynced ≡ unsynced_
   pub synced : map ends_of wire.log.groups ≡ synced_
@@ -145,7 +145,7 @@ pub record ReplicaIs (said : Replica) (accepted_ : ℕ) (r : Replica) : Type 0 w
 
 -- Each side is as it is said to be. What readers see follows from the replica's side.
 pub record SidesAre {D : Type 0} (source_ : Source) (flushed_ : ℕ) (identifier_ : List ℕ) (unsynced_ synced_ : List (ℕ × ℕ)) (firsts_ starts_ : List ℕ) (replica_ : Replica)
-    (accepted_ : ℕ) (s : Source) (wire_ : Wire D) (r : Replica) : Type 0 where
+    (accepted_ : ℕ) (s : Source) (wire_ : Link D) (r : Replica) : Type 0 where
   pub source : SourceIs source_ flushed_ s
   pub wire : WireIs identifier_ unsynced_ synced_ firsts_ starts_ wire_
   pub replica : ReplicaIs replica_ accepted_ r
@@ -168,7 +168,7 @@ pub record TellsFailure {D R : Type 0} (faults : D → ℕ) (reply : Reply) (old
   pub seen : old.wire.log.failed ≡ false → new.wire.log.failed ≡ true → SomeFailed (counts_of faults old.wire) (counts_of faults new.wire)
 
 -- The log and its devices are as they were, and the reply tells of no failure.
-pub record Rests {D : Type 0} (reply : Reply) (old new : Wire D) : Type 0 where
+pub record Rests {D : Type 0} (reply : Reply) (old new : Link D) : Type 0 where
   pub quiet : is_failure reply ≡ false
   pub same : new ≡ record old { unsynced = new.unsynced }
 

@@ -23,7 +23,7 @@ use noting::{note, parent_by};
 use schema::Memory;
 use std::alloc::Global;
 use std::marker::Model;
-use tracker_trait::Tracker;
+use tracker_trait::{Resumable, Tracker};
 use write_set::WriteSet;
 use writeset_history::History;
 
@@ -76,8 +76,15 @@ impl Tracker for WriteSetTracker {
         order_parent: u64,
     ) -> u64 {
         let parent = parent_by(&self.history, t, w, order_parent);
-        note(&mut self.history, t, w, log.len() as u64 + 1);
+        note(&mut self.history, log, t, w);
         parent
+    }
+}
+
+impl Resumable for WriteSetTracker {
+    /// The time is that of entering each digest of the write set.
+    fn observe(&mut self, log: &Log, t: &Footprint, w: &WriteSet) {
+        note(&mut self.history, log, t, w);
     }
 }
 
@@ -135,12 +142,18 @@ impl Tracker for WriteSetSession {
         session: u16,
         order_parent: u64,
     ) -> u64 {
-        let sequence = log.len() as u64 + 1;
         let place = session as usize - 1;
         let own = self.last[place];
         let parent = parent_by(&self.history, t, w, order_parent);
-        note(&mut self.history, t, w, sequence);
-        self.last[place] = sequence;
+        note(&mut self.history, log, t, w);
+        self.last[place] = log.len() as u64 + 1;
         parent.max(own)
+    }
+}
+
+impl Resumable for WriteSetSession {
+    /// The time is that of `WriteSetTracker`'s.
+    fn observe(&mut self, log: &Log, t: &Footprint, w: &WriteSet) {
+        note(&mut self.history, log, t, w);
     }
 }

@@ -1,10 +1,14 @@
 //! What a history says of the next transaction, and how it goes on behind it. Both trackers do this alike.
 
-ghost use Rattle.std.specs.Prelude.{◌≡◌, ◌<◌};
+ghost use Rattle.std.specs.Prelude.{◌≡◌, ◌<◌, ℕ, List};
+ghost use Rattle.std.proofs.Common.{reverse};
+ghost use Rattle.schema.specs.declared.Table.{Table};
+ghost use Rattle.tracker_trait.specs.Law.{IsOfTables, stamped};
 ghost use Rattle.writeset_history.specs.History.{IsUpTo};
+ghost use Rattle.writeset_trackers.specs.Agreement.{IsHistoryOf};
 ghost use Rattle.writeset_trackers.specs.Noted.{last_number, parent_by, empties, noted};
 
-use log_index::Footprint;
+use log_index::{Footprint, Log};
 use write_set::WriteSet;
 use writeset_history::History;
 
@@ -30,9 +34,19 @@ fn last_number(history: &History, digests: &[u64]) -> u64
     last
 }
 
+/// Notes the transaction behind the log, which the history is of.
+pub(crate) fn note(history: &mut History, log: &Log, t: &Footprint, w: &WriteSet)
+    requires { (ts : List Table) × IsHistoryOf ts (reverse log.now.entries) history.old }
+    ensures goes_on { (ts : List Table) (session parent : ℕ) → IsHistoryOf ts (reverse log.now.entries) history.old
+        → IsOfTables ts t.now w.now → IsHistoryOf ts (reverse (stamped log.now.entries t.now session parent)) history.new }
+    ensures limit { history.new.limit ≡ history.old.limit }
+{
+    note_at(history, t, w, log.len() as u64 + 1);
+}
+
 /// Notes the transaction, which has this number: its digests are entered, or the history is emptied. Whether there is room is
 /// asked for all digests as if each were new, before any is entered.
-pub(crate) fn note(history: &mut History, t: &Footprint, w: &WriteSet, sequence: u64)
+fn note_at(history: &mut History, t: &Footprint, w: &WriteSet, sequence: u64)
     requires up_to { IsUpTo history.old sequence }
     requires above { history.old.start < sequence }
     ensures { history.new ≡ noted history.old t.now w.now sequence }

@@ -1,4 +1,4 @@
-use Rattle.std.specs.Prelude.{true}
+use Rattle.replica_shared.specs.Names.{replica_names}
 use Rattle.embedding.proofs.open.Given as goal
 
 -- the history of receipts that was just made, and the rows and the tables of the source
@@ -7,8 +7,8 @@ ghosts-run-J-SourceNaming g a = record { book = a.receipts; base = a.pair.source
 
 -- the tables, the source and the rows of the replica
 abbrev pub ghosts-run-K-ReplicaNaming : goal.ghosts-run-K-ReplicaNaming
-ghosts-run-K-ReplicaNaming g a = record { tables = a.pair.replica.tables; source = a.pair.replica.source; base = a.pair.replica.base }
+ghosts-run-K-ReplicaNaming g a = record { names = replica_names a.pair.replica }
 
--- the publication that just began, in the order of the log
+-- the publication that just began, in the order that the replica keeps
 abbrev pub ghosts-run-K-Naming : goal.ghosts-run-K-Naming
-ghosts-run-K-Naming g a = record { book = a.publication.book; preserve = true }
+ghosts-run-K-Naming g a = record { book = a.publication.book; preserve = a.pair.replica.preserve }

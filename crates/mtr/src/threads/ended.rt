@@ -7,7 +7,7 @@ ghost use Rattle.mtr.specs.Threads.{IsLast, IsEnded, Holds, TookPart, are_within
 
 use super::Verdict;
 use super::reading::Shown;
-use super::serving::READS;
+use super::shared::READS;
 use crate::options::{Options, Plan};
 use replica_core::ReplicaCore;
 use source_core::{Receipt, SourceCore};

@@ -1,13 +1,13 @@
 //! The two sides, from their opening to their end.
 
-ghost use Rattle.std.specs.Prelude.{◌≡◌, ◌≤◌, ◌∷◌, [], All, None, IfOk};
+ghost use Rattle.std.specs.Prelude.{◌≡◌, All, IfOk};
 ghost use Rattle.source_core.specs.Source.{new_source};
-ghost use Rattle.replica_core.specs.Calls.{new_over};
 ghost use Rattle.log_file.specs.Log.{IsNew};
 ghost use Rattle.mtr.specs.Options.{AreSides, IsInRange};
 ghost use Rattle.mtr.specs.Pair.{IsNewTracker};
 ghost use Rattle.mtr.specs.Reading.{AreTold};
 ghost use Rattle.mtr.specs.Threads.{IsEnded};
+ghost use Rattle.replica_shared.specs.Names.{replica_names, IsNewReplica, IsReplicaOf, OpensReplica};
 ghost use Rattle.source_shared.specs.Engine.{IsCommitted};
 
 use super::changes::TABLE;
@@ -89,8 +89,7 @@ fn new_cores<S: NewStore, T: Tracker + Drop>(
     requires tracker { IsNewTracker T.agrees tracker }
     ensures source { IfOk result (λ made. made.source ≡ new_source made.source.tables made.source.base made.source.limit made.source.kind) }
     ensures log { IfOk result (λ made. IsNew made.log.log) }
-    ensures replica { IfOk result (λ made. made.replica ≡ new_over made.replica.tables made.replica.source made.replica.base
-        made.replica.workers made.replica.preserve) }
+    ensures replica { IfOk result (λ made. IsNewReplica (replica_names made.replica) made.replica.preserve made.replica) }
     ensures order { IfOk result (λ made. made.replica.preserve ≡ sides.preserve) }
     ensures tables { IfOk result (λ made. made.replica.tables ≡ made.source.tables) }
 {
@@ -134,24 +133,35 @@ fn run_named<
     requires plan { IsInRange (Options.Threads plan.now) }
     requires source { cores.source ≡ new_source cores.source.tables cores.source.base cores.source.limit cores.source.kind }
     requires log { IsNew cores.log.log }
-    requires replica { cores.replica ≡ new_over cores.replica.tables cores.replica.source cores.replica.base cores.replica.workers
-        cores.replica.preserve }
-    requires order { cores.replica.preserve ≡ plan.now.sides.preserve }
-    requires tables { cores.replica.tables ≡ cores.source.tables }
     requires source_base { cores.source.base ≡ J.base }
     requires source_tables { cores.source.tables ≡ J.tables }
     requires receipts { receipts ≡ J.book }
-    requires replica_tables { cores.replica.tables ≡ K.tables }
-    requires replica_source { cores.replica.source ≡ K.source }
-    requires replica_base { cores.replica.base ≡ K.base }
-    requires replica_order { cores.replica.preserve ≡ K.preserve }
-    requires publication { publication.book ≡ K.book }
-    requires published { publication.base ≡ cores.replica.base }
+    requires replica { OpensReplica K.names K.preserve K.book cores.replica publication }
+    requires order { K.preserve ≡ plan.now.sides.preserve }
+    requires tables { K.names.tables ≡ J.tables }
     ensures ended { IfOk result (IsEnded plan.now) }
     ensures source { IfOk result (λ ended. (ended.source.tables ≡ J.tables) × (ended.source.base ≡ J.base)) }
-    ensures replica { IfOk result (λ ended. (ended.replica.tables ≡ K.tables) × (ended.replica.base ≡ K.base)) }
+    ensures replica { IfOk result (λ ended. IsReplicaOf K.names K.preserve ended.replica) }
 {
-    let (source, replica) = share::<S, T, J, K, H>(rt, alloc, plan, cores, receipts, publication)?;
+    let Pair {
+        source,
+        log,
+        replica,
+    } = cores;
+    let source: Source<S, T, J> = match SharedSource::new(alloc, source, log, receipts) {
+        Ok(source) => source,
+        Err(fault) => {
+            drop(replica);
+            return Err(fault.into());
+        }
+    };
+    let replica: Replica<S, K> = match new_replica(rt, alloc, plan, replica, publication) {
+        Ok(replica) => replica,
+        Err(trouble) => {
+            drop(source);
+            return Err(trouble);
+        }
+    };
     let shared = Shared {
         rt,
         alloc,
@@ -162,57 +172,6 @@ fn run_named<
     let met = shared.meet();
     let published = replica.status(rt).published;
     end_all(rt, alloc, plan, source, replica, met, published)
-}
-
-/// Both sides for many threads.
-fn share<
-    S: NewStore,
-    T: Tracker + Drop + Send + Sync,
-    J: SourceNaming + Send + Sync,
-    K: ReplicaNaming + Send + Sync,
-    H: Wait,
->(
-    rt: &H,
-    alloc: Global,
-    plan: &Plan,
-    cores: Cores<S, T>,
-    receipts: source_shared::Beginning,
-    publication: published::Beginning,
-) -> Result<(Source<S, T, J>, Replica<S, K>), Trouble>
-    requires plan { IsInRange (Options.Threads plan.now) }
-    requires source { cores.source ≡ new_source cores.source.tables cores.source.base cores.source.limit cores.source.kind }
-    requires log { IsNew cores.log.log }
-    requires replica { cores.replica ≡ new_over cores.replica.tables cores.replica.source cores.replica.base cores.replica.workers
-        cores.replica.preserve }
-    requires source_base { cores.source.base ≡ J.base }
-    requires source_tables { cores.source.tables ≡ J.tables }
-    requires receipts { receipts ≡ J.book }
-    requires replica_tables { cores.replica.tables ≡ K.tables }
-    requires replica_source { cores.replica.source ≡ K.source }
-    requires replica_base { cores.replica.base ≡ K.base }
-    requires replica_order { cores.replica.preserve ≡ K.preserve }
-    requires publication { publication.book ≡ K.book }
-    requires published { publication.base ≡ cores.replica.base }
-{
-    let Pair {
-        source,
-        log,
-        replica,
-    } = cores;
-    let source = match SharedSource::new(alloc, source, log, receipts) {
-        Ok(source) => source,
-        Err(fault) => {
-            drop(replica);
-            return Err(fault.into());
-        }
-    };
-    match new_replica(rt, alloc, plan, replica, publication) {
-        Ok(replica) => Ok((source, replica)),
-        Err(trouble) => {
-            drop(source);
-            Err(trouble)
-        }
-    }
 }
 
 /// Both sides as they ended, once the threads came to this and the replica told that it has published so many commits.
@@ -232,10 +191,10 @@ fn end_all<
     published: u64,
 ) -> Result<Ended<S, T>, Trouble>
     requires order { K.preserve ≡ plan.now.sides.preserve }
-    requires tables { K.tables ≡ J.tables }
+    requires tables { K.names.tables ≡ J.tables }
     ensures ended { IfOk result (IsEnded plan.now) }
     ensures source { IfOk result (λ ended. (ended.source.tables ≡ J.tables) × (ended.source.base ≡ J.base)) }
-    ensures replica { IfOk result (λ ended. (ended.replica.tables ≡ K.tables) × (ended.replica.base ≡ K.base)) }
+    ensures replica { IfOk result (λ ended. IsReplicaOf K.names K.preserve ended.replica) }
 {
     let (replica, publisher) = replica.end();
     let told = tell_all(alloc, met, &publisher);
@@ -317,13 +276,7 @@ fn new_replica<S: NewStore, K: ReplicaNaming, H: Wait>(
     publication: published::Beginning,
 ) -> Result<Replica<S, K>, Trouble>
     requires plan { IsInRange (Options.Threads plan.now) }
-    requires core { core ≡ new_over core.tables core.source core.base core.workers core.preserve }
-    requires tables { core.tables ≡ K.tables }
-    requires source { core.source ≡ K.source }
-    requires base { core.base ≡ K.base }
-    requires order { core.preserve ≡ K.preserve }
-    requires publication { publication.book ≡ K.book }
-    requires published { publication.base ≡ core.base }
+    requires replica { OpensReplica K.names K.preserve K.book core publication }
 {
     let (first, second) = (
         S::without_rows(alloc, plan.sides.store),

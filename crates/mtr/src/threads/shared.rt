@@ -1,20 +1,25 @@
-//! Both sides as their threads share them, and the work of all threads.
+//! Both sides as their threads share them: the work of all threads but those that feed the replica, and the comparison of each row once
+//! all have ended.
 
 ghost use Rattle.mtr.specs.Options.{IsInRange};
 ghost use Rattle.mtr.specs.declared.options.Options.TheVariants as asked;
 
+use super::changes::{row_left, row_of};
 use super::ended::Counts;
 use super::reading::Reader;
 use super::trouble::Trouble;
 use crate::options::Plan;
 use crate::pair::NewStore;
 use log_device::MemoryDevice;
-use replica_shared::{ReplicaNaming, SharedReplica};
-use source_shared::{Receipt, SharedSource, SourceNaming};
+use replica_shared::{NoGate, ReplicaNaming, SharedReplica};
+use source_shared::{Receipt, SessionSeat, SharedSource, SourceNaming};
 use std::alloc::Global;
 use std::sync::Wait;
-use std::thread::{Threads, join};
+use std::thread::{Threads, join, map_indices};
 use tracker_trait::Tracker;
+
+/// How often each reader reads.
+pub const READS: usize = 100;
 
 /// The source, with its log file in memory.
 pub type Source<S, T, J> = SharedSource<S, T, MemoryDevice, J>;
@@ -66,4 +71,86 @@ impl<
     fn apply(&self) -> (Result<usize, Trouble>, Result<Vec<Receipt<J>>, Trouble>) {
         join(self.rt, || self.work_all(), || self.feed())
     }
+
+    /// Runs the workers, each in a thread of its own, until all records are committed and published. It answers how many did so.
+    fn work_all(&self) -> Result<usize, Trouble> {
+        let workers = self.plan.sides.workers;
+        let each = map_indices(self.rt, self.alloc, workers, &|_place| self.work())?;
+        let count = each.len();
+        for worked in each {
+            worked?;
+        }
+        Ok(count)
+    }
+
+    fn work(&self) -> Result<(), Trouble> {
+        Ok(self.replica.worker(self.rt, self.alloc, &NoGate)?)
+    }
+
+    /// Lets each seat read in a thread of its own, and gives the seats back.
+    fn read_all(&self) -> Result<Vec<Reader<S, K>>, Trouble> {
+        let seats = self.plan.seats;
+        let each = map_indices(self.rt, self.alloc, seats, &|_place| self.read_many())?;
+        let mut readers = Vec::new(self.alloc);
+        for reader in each {
+            readers.push(reader?)?;
+        }
+        Ok(readers)
+    }
+
+    /// Takes a seat and reads the first row of the first session, again and again. Each read has to answer.
+    fn read_many(&self) -> Result<Reader<S, K>, Trouble> {
+        let seat = self.replica.seat(self.rt).ok_or(Trouble::Different)?;
+        let mut reader = Reader::new(self.alloc, seat, READS)?;
+        for _ in 0..READS {
+            reader.read(row_of(1, 1))?;
+        }
+        Ok(reader)
+    }
+
+    /// Reads each row at the source and by a reader that learnt of the last commit. It answers how many of them both have as
+    /// the sessions left them.
+    fn compare(
+        &self,
+        reader: &mut Reader<S, K>,
+        receipts: &[Receipt<J>],
+    ) -> Result<usize, Trouble> {
+        reader.learn(self.replica.wait_for(self.rt, last_gno(receipts))?);
+        let sessions = self.plan.sessions as u16;
+        // A session that wrote nothing sees just what is committed.
+        let mut seat = self.source.session(self.rt, sessions + 1)?;
+        let mut count = 0usize;
+        for session in 1..=sessions {
+            count = count.saturating_add(self.compare_session(&mut seat, reader, session)?);
+        }
+        Ok(count)
+    }
+
+    /// How many rows of the session both sides have as it left them.
+    fn compare_session(
+        &self,
+        seat: &mut SessionSeat<J>,
+        reader: &mut Reader<S, K>,
+        session: u16,
+    ) -> Result<usize, Trouble> {
+        let transactions = self.plan.transactions as u16;
+        let mut count = 0usize;
+        for transaction in 1..=transactions {
+            let row = row_of(session, transaction);
+            let left = Some(row_left(session, transaction, transactions));
+            if self.source.read(self.rt, seat, row)? == left && reader.read(row)? == left {
+                count = count.saturating_add(1);
+            }
+        }
+        Ok(count)
+    }
+}
+
+/// The greatest gno of receipts; 0 where there are none.
+fn last_gno<J: SourceNaming>(receipts: &[Receipt<J>]) -> u64 {
+    let mut last = 0;
+    for receipt in receipts {
+        last = receipt.given().gno.max(last);
+    }
+    last
 }

@@ -7,11 +7,11 @@ use Rattle.overlay.proofs.row_seen.Goals as goal
 pub returns-in-Some-clause-value : goal.returns-in-Some-clause-value
 returns-in-Some-clause-value g c =
     let db = g.S.RowStore.contents c.args.store.now in
-    sym (get-put_batch c.args.overlay.now.left db c.args.id c.see.ensures.rising
+    sym (get-put_batch c.args.pending.now.left db c.args.id c.see.ensures.rising
     ∙ ap (λ o. unwrap_or o (get db c.args.id)) (sym c.see.ensures.value ∙ c.in-Some.is))
 
 pub returns-in-None-clause-value : goal.returns-in-None-clause-value
 returns-in-None-clause-value g c =
     let db = g.S.RowStore.contents c.args.store.now in
-    c.get.ensures ∙ sym (get-put_batch c.args.overlay.now.left db c.args.id c.see.ensures.rising
+    c.get.ensures ∙ sym (get-put_batch c.args.pending.now.left db c.args.id c.see.ensures.rising
     ∙ ap (λ o. unwrap_or o (get db c.args.id)) (sym c.see.ensures.value ∙ c.in-None.is))

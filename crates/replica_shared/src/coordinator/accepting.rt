@@ -3,7 +3,8 @@ ghost use Rattle.std.specs.Prelude.{◌≡◌, ◌⊎◌, ◌≤◌, ◌<◌, le
 ghost use Rattle.replica_core.specs.Calls.{received};
 ghost use Rattle.replica_core.specs.Wire.{Takes};
 ghost use Rattle.replica_shared.specs.Feeding.{left_by_take, SettlesOrLacks, told_behind, TakesAndSettles, HandsAs, HandsAndSettles};
-ghost use Rattle.replica_shared.specs.Together.{IsNamed, IsCaughtUp, left_by_accept, AcceptsAndSettles};
+ghost use Rattle.replica_shared.specs.Names.{IsReplicaOf};
+ghost use Rattle.replica_shared.specs.Together.{IsCaughtUp, left_by_accept, AcceptsAndSettles};
 
 use super::{Coordinator, store_words};
 use crate::naming::ReplicaNaming;
@@ -25,11 +26,12 @@ impl<S: RowStore + Drop, J: ReplicaNaming> Coordinator<S, J> {
         ensures answer { IsErrOf result ReplicaFault.Memory ⊎ (result ≡ received self.old.core from new.now) }
         ensures memory { IsErrOf result ReplicaFault.Memory
             → received self.old.core from new.now ≡ Ok Received.Accepted }
-        ensures accepted { result ≡ Ok Received.Accepted → AcceptsAndSettles self.old new.now self.new × IsCaughtUp self.new }
+        ensures accepted { result ≡ Ok Received.Accepted
+            → AcceptsAndSettles self.old new.now self.new × IsCaughtUp self.new.core self.new.outlet }
         ensures skipped { result ≡ Ok Received.Skipped → self.new ≡ self.old }
         ensures lacking { IsErrOf result ReplicaFault.Memory → (self.new ≡ self.old) ⊎ AcceptsAndSettles self.old new.now self.new }
         ensures refused { IfErr result (λ fault. (fault ≡ ReplicaFault.Memory → ⊥) → self.new ≡ self.old) }
-        ensures named { IsNamed J.tables J.source J.base J.preserve self.old.core }
+        ensures named { IsReplicaOf J.names J.preserve self.old.core }
     {
         let answer = self.accept(rt, from, new)?;
         if answer == Received::Accepted {
@@ -45,7 +47,7 @@ impl<S: RowStore + Drop, J: ReplicaNaming> Coordinator<S, J> {
             → received self.old.core from new.now ≡ Ok Received.Accepted }
         ensures ok { IfOk result (λ answer. self.new ≡ left_by_accept self.old new.now answer) }
         ensures err { OnErr result (self.new ≡ self.old) }
-        ensures named { IsNamed J.tables J.source J.base J.preserve self.old.core }
+        ensures named { IsReplicaOf J.names J.preserve self.old.core }
     {
         let answer = self.core.receive(from, new)?;
         if answer == Received::Accepted {
@@ -65,7 +67,7 @@ impl<S: RowStore + Drop, J: ReplicaNaming> Coordinator<S, J> {
         piece: &[u8],
     ) -> Result<u64, WireFault>
         ensures takes { TakesAndSettles self.old wire.old piece.now result wire.new self.new }
-        ensures named { IsNamed J.tables J.source J.base J.preserve self.old.core }
+        ensures named { IsReplicaOf J.names J.preserve self.old.core }
     {
         let before = self.accepted();
         let taken = self.take_piece(rt, wire, piece);
@@ -76,7 +78,7 @@ impl<S: RowStore + Drop, J: ReplicaNaming> Coordinator<S, J> {
     // The same of a piece that was gathered already, where no record waited before.
     pub(crate) fn hand(&mut self, rt: &impl Wait, wire: &mut Wire) -> Result<u64, WireFault>
         ensures takes { HandsAndSettles self.old wire.old result wire.new self.new }
-        ensures named { IsNamed J.tables J.source J.base J.preserve self.old.core }
+        ensures named { IsReplicaOf J.names J.preserve self.old.core }
     {
         let before = self.accepted();
         let taken = self.hand_waiting(rt, wire);
@@ -93,7 +95,7 @@ impl<S: RowStore + Drop, J: ReplicaNaming> Coordinator<S, J> {
     ) -> Result<u64, WireFault>
         ensures takes { Takes wire.old self.old.core piece.now result wire.new self.new.core }
         ensures left { self.new ≡ left_by_take self.old self.new.core }
-        ensures named { IsNamed J.tables J.source J.base J.preserve self.old.core }
+        ensures named { IsReplicaOf J.names J.preserve self.old.core }
     {
         let before = self.core.accepted().len();
         let taken = wire.take(&mut self.core, piece);
@@ -108,7 +110,7 @@ impl<S: RowStore + Drop, J: ReplicaNaming> Coordinator<S, J> {
     fn hand_waiting(&mut self, rt: &impl Wait, wire: &mut Wire) -> Result<u64, WireFault>
         ensures hands { HandsAs wire.old self.old.core result wire.new self.new.core }
         ensures left { self.new ≡ left_by_take self.old self.new.core }
-        ensures named { IsNamed J.tables J.source J.base J.preserve self.old.core }
+        ensures named { IsReplicaOf J.names J.preserve self.old.core }
     {
         let before = self.core.accepted().len();
         let handed = wire.hand(&mut self.core);

@@ -15,7 +15,7 @@ impl<S: RowStore + Drop, J: ReplicaNaming> Coordinator<S, J> {
     // Commits what can be committed, publishes it, and dispatches what then may be.
     pub(super) fn settle(&mut self, rt: &impl Wait) -> Result<(), ReplicaFault>
         ensures settles { Settles self.old self.new }
-        ensures ok { OnOk result (IsCaughtUp self.new × (self.new.behind ≡ false) × (self.old.core.stopped ≡ None)) }
+        ensures ok { OnOk result (IsCaughtUp self.new.core self.new.outlet × (self.new.behind ≡ false) × (self.old.core.stopped ≡ None)) }
         ensures stopped { IfSome self.old.core.stopped (λ at. result ≡ Err (ReplicaFault.Stopped at)) }
         ensures err { IfErr result (λ fault. IsFaultOf self.old fault × (self.new.behind ≡ true)) }
     {
@@ -78,7 +78,7 @@ impl<S: RowStore + Drop, J: ReplicaNaming> Coordinator<S, J> {
     // Appends the waiting commits that were not appended yet.
     fn append_all(&mut self, rt: &impl Wait) -> Result<(), ReplicaFault>
         ensures same { self.new ≡ with_waiting self.old self.new.publication.waiting }
-        ensures all { OnOk result (IsAppended self.new) }
+        ensures all { OnOk result (IsAppended self.new.core self.new.publication) }
         ensures err { IfErr result (λ fault. fault ≡ ReplicaFault.Memory) }
     {
         for _ in rt.forever() {
@@ -92,7 +92,7 @@ impl<S: RowStore + Drop, J: ReplicaNaming> Coordinator<S, J> {
     // Appends the next of the waiting commits. `false` where all were appended.
     fn append_next(&mut self) -> Result<bool, ReplicaFault>
         ensures same { self.new ≡ with_waiting self.old self.new.publication.waiting }
-        ensures all { IfOk result (λ more. more ≡ false → IsAppended self.new) }
+        ensures all { IfOk result (λ more. more ≡ false → IsAppended self.new.core self.new.publication) }
         ensures err { IfErr result (λ fault. (fault ≡ ReplicaFault.Memory) × (self.new ≡ self.old)) }
     {
         let (published, committed) = (self.core.published(), self.core.committed());

@@ -69,9 +69,9 @@ impl<S: RowStore + Drop, J: ReplicaNaming> Coordinator<S, J> {
         requires answered { is_awaited self.now wanted.now ≡ false }
         ensures all { IfOk result (λ notice. has_all (gnos_of notice) wanted.now ≡ true) }
         ensures history { IfOk result (λ notice. IsHistory J.preserve notice) }
-        ensures begins { IfOk result (λ notice. IsPrefix (Load J.base ∷ []) notice) }
+        ensures begins { IfOk result (λ notice. IsPrefix (Load J.names.base ∷ []) notice) }
         ensures published { IfOk result (λ notice. notice ≡ self.now.publication.published) }
-        ensures stopped { IfErr result (IsStopBehind J.tables J.source J.base J.preserve wanted.now self.now) }
+        ensures stopped { IfErr result (IsStopBehind J.names J.preserve wanted.now self.now) }
     {
         let stopped = self.core.stopped();
         if self.shows_all(wanted) {

@@ -4,22 +4,8 @@ ghost use Rattle.executor.specs.Job.{IsResult};
 ghost use Rattle.replica_core.specs.Calls.{finish_fault, IsHandedOut};
 ghost use Rattle.replica_core.specs.Sound.{IsSound};
 ghost use Rattle.scheduler.specs.Gnos.{has_gno};
-ghost use Rattle.replica_shared.specs.Together.{
-  IsCaughtUp,
-  Settles,
-  left_by_finish,
-  refused_so,
-  HandsIn,
-  NoneIsKept,
-  Finds,
-  FindsBehind,
-  is_idle,
-  answered,
-  NoneLost,
-  laid,
-  taken_back,
-  TakesOut,
-};
+ghost use Rattle.replica_shared.specs.Together.{IsCaughtUp, Settles, left_by_finish, refused_so, HandsIn, NoneIsKept, Finds, FindsBehind};
+ghost use Rattle.replica_shared.specs.Together.{is_idle, answered, NoneLost, laid, taken_back, TakesOut};
 
 use super::Coordinator;
 use crate::naming::ReplicaNaming;
@@ -84,7 +70,7 @@ impl<S: RowStore + Drop, J: ReplicaNaming> Coordinator<S, J> {
             → (result ≡ Err ReplicaFault.WrongInput) × (self.new ≡ self.old) }
         ensures taken { finish_fault self.old.core done.job.gno ≡ None → IsHandedOut self.old.core done
             → HandsIn self.old done.job done.outcome result self.new }
-        ensures ok { OnOk result (IsCaughtUp self.new) }
+        ensures ok { OnOk result (IsCaughtUp self.new.core self.new.outlet) }
     {
         self.finish(done)?;
         self.settle(rt)

@@ -1,4 +1,4 @@
-use Rattle.std.proofs.Common.{◌∙◌, ◌<◌, ℤ, rules, sym, subst, w64, FitsSigned, to_z-of_z, true, true≢false, Some, refl}
+use Rattle.std.proofs.Common.{◌∙◌, ◌<◌, ℤ, rules, sym, subst, w64, FitsSigned, to_z-of_z, true≢false, Some, refl}
 use Rattle.store_trait.proofs.Ahead.{rows_ahead, ahead_falls}
 use Rattle.store_trait.proofs.Own.{OwnBehind, own_passed, all_own, own_here}
 use Rattle.store_trait.proofs.are_own_in_column.Goals as goal

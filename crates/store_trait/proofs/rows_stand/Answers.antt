@@ -1,7 +1,7 @@
 use Rattle.std.proofs.Common.{◌≡◌, refl, arith, rules}
 use Rattle.std.specs.FinMap.{len}
 use Rattle.std.proofs.lemmas.Bool.{false≢true}
-use Rattle.store_trait.proofs.Visits.{none_standing, stands_on, all_stand, none_ahead}
+use Rattle.store_trait.proofs.Visits.{none_standing, stands_on, all_stand, none_ahead, stand_of_tables}
 use Rattle.store_trait.proofs.rows_stand.Goals as goal
 
 pub loop-init : goal.loop-init
@@ -11,7 +11,7 @@ pub returns-in_default : goal.returns-in_default
 returns-in_default g c = (
   λ no. absurd (false≢true no),
   λ stand. absurd (none_ahead c.args.schema.now (g.S.RowStore.contents c.args.store.now) c.loop.last c.loop.counter c.loop.invariant.visits
-      (rw c.len-end.ensures at c.loop-test.true) (rw c.tables.ensures.value at c.in_default.ensures) stand),
+      (rw c.len-end.ensures at c.loop-test.true) (rw c.tables.ensures.value at c.in_default.ensures) (stand_of_tables c.args.schema.now _ stand)),
 )
 
 pub loop-preserved : goal.loop-preserved

@@ -3,7 +3,6 @@ use Rattle.std.specs.FinMap.{len, empty}
 use Rattle.store_trait.specs.Batch.{Entry, put_batch, all_rows}
 use Rattle.store_trait.proofs.Batches.{put_batch-all_rows}
 use Rattle.store_trait.proofs.Visits.{none_ahead}
-use Rattle.store_trait.proofs.Values.{fits_stand}
 use Rattle.store_trait.proofs.Copies.{Copies, none_copied, copies_on, all_copied}
 use Rattle.store_trait.proofs.snapshot.Goals as goal
 use Rattle.store_trait.proofs.snapshot.Goals.{After-from_rising, else-loop-test, then-loop-test+in_default}
@@ -24,7 +23,7 @@ all_in g c =
     c.from_rising.ensures ∙ elim c.loop-test.branch [
       | else-loop-test w ↦ let size : c.loop.counter ≡ len db = omega arith in all_copied c.args.schema.now db c.loop.last c.loop.counter c.loop.entries.items c.loop.invariant size
       | then-loop-test+in_default w ↦ absurd (none_ahead c.args.schema.now db c.loop.last c.loop.counter c.loop.invariant.visits (omega arith) (rw w.tables.ensures.value at w.in_default.ensures)
-          (fits_stand c.args.schema.now db c.requires))
+          c.requires)
     ]
 
 pub returns-clause-rows : goal.returns-clause-rows

@@ -16,9 +16,34 @@ use tests_log::common::source;
 use tests_stores::common::boxed;
 
 /// A path for such files, which no other process has.
-pub fn path_of(rt: &HostRuntime, name: &str) -> Result<String, AllocError> {
+fn path_of(rt: &HostRuntime, name: &str) -> Result<String, AllocError> {
     let process = process::id(rt.process());
     format!(in rt.alloc(); "/tmp/mtr_{name}_{process}")
+}
+
+/// The file at such a path, which is there for one test: what lies there is removed, before and behind it.
+pub struct OwnFile<'r> {
+    rt: &'r HostRuntime,
+    path: String,
+}
+
+impl<'r> OwnFile<'r> {
+    pub fn new(rt: &'r HostRuntime, name: &str) -> Result<OwnFile<'r>, AllocError> {
+        let path = path_of(rt, name)?;
+        let _ = fs::remove_file(rt, path.as_str());
+        Ok(OwnFile { rt, path })
+    }
+
+    pub fn path(&self) -> &str {
+        self.path.as_str()
+    }
+}
+
+impl<'r> Drop for OwnFile<'r> {
+    fn drop(self) {
+        let OwnFile { rt, path } = self;
+        let _ = fs::remove_file(rt, path.as_str());
+    }
 }
 
 /// The log that the file has, or a new one where it has none.
@@ -73,11 +98,8 @@ fn goes_on<R: Files<File = File> + AllocGlobal + Abort>(rt: &R, path: &str) -> R
 /// A log that is not on the file once its process is gone, and bytes behind its closed gate that stay.
 #[test]
 fn a_log_on_a_file_goes_on(rt: HostRuntime) -> Result<(), Fail> {
-    let path = path_of(&rt, "log")?;
-    let _ = fs::remove_file(&rt, path.as_str());
-    let done = goes_on(&rt, path.as_str());
-    let _ = fs::remove_file(&rt, path.as_str());
-    done
+    let file = OwnFile::new(&rt, "log")?;
+    goes_on(&rt, file.path())
 }
 
 fn is_held<R: Files<File = File> + AllocGlobal + Abort>(rt: &R, path: &str) -> Result<(), Fail> {
@@ -99,11 +121,8 @@ fn is_held<R: Files<File = File> + AllocGlobal + Abort>(rt: &R, path: &str) -> R
 /// A file that two write, and one that holds other bytes than are told.
 #[test]
 fn a_file_is_held_by_one(rt: HostRuntime) -> Result<(), Fail> {
-    let path = path_of(&rt, "held")?;
-    let _ = fs::remove_file(&rt, path.as_str());
-    let done = is_held(&rt, path.as_str());
-    let _ = fs::remove_file(&rt, path.as_str());
-    done
+    let file = OwnFile::new(&rt, "held")?;
+    is_held(&rt, file.path())
 }
 
 fn are_refused<R: Files<File = File> + AllocGlobal + Abort>(
@@ -133,9 +152,8 @@ fn are_refused<R: Files<File = File> + AllocGlobal + Abort>(
 /// A folder that is taken for a file, a link that is followed, and a file that is made in a folder that is not there.
 #[test]
 fn what_is_no_file_is_refused(rt: HostRuntime) -> Result<(), Fail> {
-    let (folder, link) = (path_of(&rt, "folder")?, path_of(&rt, "link")?);
-    let done = are_refused(&rt, folder.as_str(), link.as_str());
+    let (folder, link) = (path_of(&rt, "folder")?, OwnFile::new(&rt, "link")?);
+    let done = are_refused(&rt, folder.as_str(), link.path());
     let _ = fs::remove_dir(&rt, folder.as_str());
-    let _ = fs::remove_file(&rt, link.as_str());
     done
 }

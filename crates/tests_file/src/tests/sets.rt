@@ -2,7 +2,7 @@
 
 ghost use Rattle.std.specs.Prelude.{◌≡◌, false, IfOk};
 
-use crate::tests::files::path_of;
+use crate::tests::files::OwnFile;
 use crate::tests::makers::group;
 use file_device::FileDevice;
 use log_device::{Device, FaultyDevice, MemoryDevice};
@@ -10,11 +10,12 @@ use log_file::{Form, LogFault, LogFile, Place, find};
 use log_set::LogSet;
 use schema::Memory;
 use std::alloc::{AllocError, Global};
-use std::fs;
 use std::fs::File;
+use std::io::{Error, ErrorKind};
 use std::process::Abort;
 use std::rt::Files;
 use std::test::Fail;
+use std::thread::Builder;
 use tests_log::common::source;
 use tests_stores::again;
 use tests_stores::common::boxed;
@@ -67,7 +68,8 @@ fn new_set<D: Device + Drop>(alloc: Global, device: D) -> Result<Box<LogSet<D>>,
 /// Has the group of the next record written and synced.
 fn put_next<D: Device>(alloc: Global, set: &mut LogSet<D>) -> Result<(), LogFault> {
     let group = group(alloc, set.version(), set.records().len() as u64 + 1)?;
-    again!(LogFault::Memory => set.put(&group))
+    again!(LogFault::Memory => set.append(&group))?;
+    again!(LogFault::Memory => set.sync())
 }
 
 /// Goes on in a next file on the device.
@@ -294,6 +296,41 @@ fn files_are_opened_in_order_again(rt: HostRuntime) -> Result<(), Fail> {
     Ok(())
 }
 
+/// How many files the log on a small stack has.
+const MANY: usize = 30_000;
+
+/// The count of files of a log in which each but the last is finished, and none has a group.
+fn open_many(alloc: Global) -> Result<usize, LogFault> {
+    let mut devices = Vec::with_capacity(alloc, MANY)?;
+    for file in 1..=MANY {
+        let mut bytes = Vec::from_slice(alloc, &FIRST[..32])?;
+        bytes.push(u8::from(file < MANY))?;
+        devices.push(MemoryDevice::of(bytes))?;
+    }
+    let set = open(alloc, devices).map_err(|e| e.0)?;
+    Ok(set.firsts().len())
+}
+
+/// Why no thread was made. The system tells want of memory for one, and for its stack, as a call that would block.
+fn refused(error: Error) -> Fail {
+    match error.kind() {
+        ErrorKind::WouldBlock => Memory.into(),
+        _ => error.into(),
+    }
+}
+
+/// A log of so many files that a call for each would pass the end of a stack of 1 MiB.
+#[test]
+fn many_files_open_on_a_small_stack(rt: HostRuntime) -> Result<(), Fail> {
+    let alloc = rt.alloc();
+    let thread = Builder::new()
+        .stack_size(1 << 20)
+        .spawn(&rt, move || open_many(alloc))
+        .map_err(refused)?;
+    assert_eq!(rt; thread.join(&rt), Ok(MANY));
+    Ok(())
+}
+
 /// A next file that counts before the one in front of it is finished; a log that goes on in it then.
 #[test]
 fn a_file_behind_an_unfinished_one_is_dropped_again(rt: HostRuntime) -> Result<(), Fail> {
@@ -309,11 +346,15 @@ fn a_file_behind_an_unfinished_one_is_dropped_again(rt: HostRuntime) -> Result<(
 }
 
 /// Writes a log of three groups in two files.
-fn write_set<R: Files<File = File> + AllocGlobal>(rt: &R, paths: &[&str; 2]) -> Result<(), Fail> {
+fn write_set<R: Files<File = File> + AllocGlobal>(
+    rt: &R,
+    first: &str,
+    second: &str,
+) -> Result<(), Fail> {
     let alloc = rt.alloc();
-    let mut set = new_set(alloc, FileDevice::open(rt, alloc, paths[0])?)?;
+    let mut set = new_set(alloc, FileDevice::open(rt, alloc, first)?)?;
     put_next(alloc, &mut set)?;
-    rotate(&mut set, FileDevice::open(rt, alloc, paths[1])?).map_err(|e| e.0)?;
+    rotate(&mut set, FileDevice::open(rt, alloc, second)?).map_err(|e| e.0)?;
     put_next(alloc, &mut set)?;
     put_next(alloc, &mut set)?;
     Ok(())
@@ -321,12 +362,13 @@ fn write_set<R: Files<File = File> + AllocGlobal>(rt: &R, paths: &[&str; 2]) -> 
 
 fn is_read<R: Files<File = File> + AllocGlobal + Abort>(
     rt: &R,
-    paths: &[&str; 2],
+    first: &str,
+    second: &str,
 ) -> Result<(), Fail> {
-    write_set(rt, paths)?;
+    write_set(rt, first, second)?;
     let mut devices = [
-        FileDevice::open(rt, rt.alloc(), paths[0])?,
-        FileDevice::open(rt, rt.alloc(), paths[1])?,
+        FileDevice::open(rt, rt.alloc(), first)?,
+        FileDevice::open(rt, rt.alloc(), second)?,
     ];
     assert_eq!(rt; (devices[0].len(), devices[1].len()), (101, 162));
     assert_eq!(rt; found_on(rt.alloc(), &mut devices)?, (2, 4));
@@ -336,14 +378,6 @@ fn is_read<R: Files<File = File> + AllocGlobal + Abort>(
 /// A log that is not on its files once its process is gone, or on another than the one that it was given.
 #[test]
 fn a_log_in_two_files_is_read(rt: HostRuntime) -> Result<(), Fail> {
-    let (first, second) = (path_of(&rt, "set_1")?, path_of(&rt, "set_2")?);
-    let paths = [first.as_str(), second.as_str()];
-    for path in paths {
-        let _ = fs::remove_file(&rt, path);
-    }
-    let done = is_read(&rt, &paths);
-    for path in paths {
-        let _ = fs::remove_file(&rt, path);
-    }
-    done
+    let (first, second) = (OwnFile::new(&rt, "set_1")?, OwnFile::new(&rt, "set_2")?);
+    is_read(&rt, first.path(), second.path())
 }

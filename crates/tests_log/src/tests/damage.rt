@@ -63,7 +63,7 @@ fn fields_of(alloc: Global, version: Version, record: &Record) -> Result<Vec<i64
         record.parent.cast_signed(),
         i64::from(record.flags.fk) + 2 * i64::from(record.flags.missing_keys),
     ]?;
-    put_rows(&mut fields, record.refs.rows())?;
+    put_rows(&mut fields, record.refs.list())?;
     if version == Version::Two || !marks.is_empty() {
         put_marks(&mut fields, marks)?;
     }

@@ -122,7 +122,7 @@ fn synced_at(alloc: Global, bytes: &[u8], place: Place) -> Result<Synced, LogFau
 {
     let mut device = MemoryDevice::of(bytes.to_vec(alloc)?);
     let found = find(alloc, &mut device, place)?;
-    Ok(found.into_synced(alloc))
+    Ok(found.into_synced())
 }
 
 /// What readers see of two files, one behind the other.

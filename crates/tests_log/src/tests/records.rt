@@ -52,7 +52,7 @@ fn the_greatest_record_again(rt: HostRuntime) -> Result<(), Fail> {
     for (version, marks) in [(Version::One, 0), (Version::Two, 2048)] {
         let bytes = greatest(rt.alloc(), version)?;
         let record = boxed(rt.alloc(), decode_again(rt.alloc(), version, &bytes)?)?;
-        assert_eq!(rt; record.refs.rows().len(), 2048);
+        assert_eq!(rt; record.refs.list().len(), 2048);
         assert_eq!(rt; record.marks.list().len(), marks);
         assert_eq!(rt; record.changes.list().len(), 1024);
         let copy = boxed(rt.alloc(), again!(record.copy())?)?;

@@ -1,18 +1,11 @@
 //! Every event that is refused for want of memory is sent once more, and succeeds: the replies are those of a world that
 //! met no refusal.
 
-ghost use Rattle.std.specs.Prelude.{IfOk};
 ghost use Rattle.world.specs.Seen.{seen};
 ghost use Rattle.world.specs.State.{IsWorld};
 
-use crate::tests::courses::{
-    kin_at_the_replica, kin_at_the_source, three_at_the_source, three_behind_a_gap,
-    two_at_the_replica, two_at_the_source, values_at_the_replica, values_at_the_source,
-};
-use crate::tests::makers::{InOne, unordered_world, world, world_of_kin, world_of_values};
+use crate::tests::makers::InOne;
 use crate::tests::steps::{Course, Step};
-use btree_store::BTreeStore;
-use commit_order_tracker::CommitOrder;
 use log_device::Device;
 use log_file::LogFault;
 use record_codec::CodecFault;
@@ -26,102 +19,18 @@ use std::test::Fail;
 use store_trait::RowStore;
 use tests_stores::again;
 use tracker_trait::Tracker;
-use vector_store::VectorStore;
 use world::{Event, Reply, World};
-use writeset_trackers::WriteSetTracker;
-
-#[test]
-fn events_are_sent_again(rt: HostRuntime) -> Result<(), Fail> {
-    let world = world_again(rt.alloc())?;
-    answer_all(
-        &rt,
-        rt.alloc(),
-        world,
-        &two_at_the_source(),
-        &two_at_the_replica(),
-    )
-}
-
-/// Catches what is left half done where commits are not in the order of the log, and commits behind a gap that are not shown, or are
-/// counted as if there were none.
-#[test]
-fn events_out_of_order_are_sent_again(rt: HostRuntime) -> Result<(), Fail> {
-    let world = unordered_world_again(rt.alloc())?;
-    answer_all(
-        &rt,
-        rt.alloc(),
-        world,
-        &three_at_the_source(),
-        &three_behind_a_gap(),
-    )
-}
-
-/// Catches what is left half done where rows have parents or no keys, and a transaction that the history of written rows
-/// notes twice.
-#[test]
-fn events_of_kin_are_sent_again(rt: HostRuntime) -> Result<(), Fail> {
-    let world = world_of_kin_again(rt.alloc())?;
-    answer_all(
-        &rt,
-        rt.alloc(),
-        world,
-        &kin_at_the_source(),
-        &kin_at_the_replica(),
-    )
-}
-
-/// Catches what is left half done where rows give values of unique columns up and take them, and where children move.
-#[test]
-fn events_of_values_are_sent_again(rt: HostRuntime) -> Result<(), Fail> {
-    let world = world_of_values_again(rt.alloc())?;
-    answer_all(
-        &rt,
-        rt.alloc(),
-        world,
-        &values_at_the_source(),
-        &values_at_the_replica(),
-    )
-}
-
-/// A new world, made once more where memory is refused.
-fn world_again(alloc: Global) -> Result<InOne<BTreeStore, CommitOrder>, LogFault>
-    ensures { IfOk result (λ world. IsWorld (λ rows. rows) (seen world)) }
-{
-    again!(world(alloc))
-}
-
-/// The same of one whose replica commits in the order in which jobs are finished.
-fn unordered_world_again(alloc: Global) -> Result<InOne<BTreeStore, CommitOrder>, LogFault>
-    ensures { IfOk result (λ world. IsWorld (λ rows. rows) (seen world)) }
-{
-    again!(unordered_world(alloc))
-}
-
-/// The same of one with kin.
-fn world_of_kin_again(alloc: Global) -> Result<InOne<VectorStore, WriteSetTracker>, LogFault>
-    ensures { IfOk result (λ world. IsWorld (λ rows. rows) (seen world)) }
-{
-    again!(world_of_kin(alloc))
-}
-
-/// The same of one with values.
-fn world_of_values_again(alloc: Global) -> Result<InOne<VectorStore, WriteSetTracker>, LogFault>
-    ensures { IfOk result (λ world. IsWorld (λ rows. rows) (seen world)) }
-{
-    again!(world_of_values(alloc))
-}
 
 /// Sends a world what happens at its source and then at its replica, and compares what each event is answered.
-fn answer_all<S: RowStore + Drop, T: Tracker + Drop>(
-    rt: &impl Abort,
-    alloc: Global,
+pub fn answer_all<S: RowStore + Drop, T: Tracker + Drop>(
+    rt: &(impl Abort + AllocGlobal),
     mut world: InOne<S, T>,
     source: &[Step],
     replica: &[Step],
 ) -> Result<(), Fail>
     requires { IsWorld S.contents (seen world) }
 {
-    let told = answer_both(rt, alloc, &mut world, source, replica);
+    let told = answer_both(rt, rt.alloc(), &mut world, source, replica);
     drop(world);
     told
 }
@@ -135,13 +44,11 @@ fn answer_both<S: RowStore, T: Tracker, D: Device, R: RowStore>(
 ) -> Result<(), Fail>
     requires { IsWorld R.contents (seen world.old) }
 {
-    let source = again!(Course::new(alloc, source))?;
-    let replica = again!(Course::new(alloc, replica))?;
-    answer_as_told(rt, alloc, world, &source.told)?;
-    answer_as_told(rt, alloc, world, &replica.told)
+    let course = again!(Course::new(alloc, source, replica))?;
+    answer_as_told(rt, alloc, world, &course.told)
 }
 
-/// Sends events, and compares what each is answered with what it is to be.
+/// Sends events, each once more where memory was refused, and compares what it is answered with what it is to be.
 fn answer_as_told<S: RowStore, T: Tracker, D: Device, R: RowStore>(
     rt: &impl Abort,
     alloc: Global,
@@ -149,28 +56,12 @@ fn answer_as_told<S: RowStore, T: Tracker, D: Device, R: RowStore>(
     course: &[(Event, String)],
 ) -> Result<(), Fail>
     requires { IsWorld R.contents (seen world.old) }
-    ensures { IsWorld R.contents (seen world.new) }
 {
     for (event, want) in course {
-        let answer = answer_again(alloc, world, event)?;
+        let answer = again!(answer(alloc, world, event))?;
         assert_eq!(rt; answer.as_str(), want.as_str(), "{event:?}");
     }
     Ok(())
-}
-
-/// What an event is answered, sent once more where memory was refused.
-fn answer_again<S: RowStore, T: Tracker, D: Device, R: RowStore>(
-    alloc: Global,
-    world: &mut World<S, T, D, R>,
-    event: &Event,
-) -> Result<String, Memory>
-    requires { IsWorld R.contents (seen world.old) }
-    ensures { IsWorld R.contents (seen world.new) }
-{
-    match answer(alloc, world, event) {
-        Ok(text) => Ok(text),
-        Err(_) => answer(alloc, world, event),
-    }
 }
 
 /// What one event is answered, as text, where memory was there.

@@ -1,13 +1,64 @@
-//! What happens in a world, step by step, and what each event is answered.
+//! What happens in a world, step by step, and what each event is answered, also where it is sent again for want of memory.
 
-use crate::tests::makers::{CHILD, OTHER_PARENT, PARENT, insert, insert_of, row, set, set_of};
+ghost use Rattle.std.specs.Prelude.{IfOk};
+ghost use Rattle.world.specs.Seen.{seen};
+ghost use Rattle.world.specs.State.{IsWorld};
+
+use crate::tests::again::answer_all;
+use crate::tests::makers::{
+    CHILD, InOne, OTHER_PARENT, PARENT, insert, insert_of, row, set, set_of, unordered_world,
+    world, world_of_kin, world_of_values,
+};
 use crate::tests::steps::Step::{self, Applies, Commits, Takes, Told};
+use btree_store::BTreeStore;
+use commit_order_tracker::CommitOrder;
+use log_file::LogFault;
 use rows::{Change, Row};
 use schema::RowId;
+use std::alloc::Global;
+use std::test::Fail;
+use tests_stores::again;
+use vector_store::VectorStore;
 use world::Event;
+use writeset_trackers::WriteSetTracker;
+
+/// A new world, made once more where memory is refused.
+fn world_again(alloc: Global) -> Result<InOne<BTreeStore, CommitOrder>, LogFault>
+    ensures { IfOk result (λ world. IsWorld (λ rows. rows) (seen world)) }
+{
+    again!(world(alloc))
+}
+
+/// The same of one whose replica commits in the order in which jobs are finished.
+fn unordered_world_again(alloc: Global) -> Result<InOne<BTreeStore, CommitOrder>, LogFault>
+    ensures { IfOk result (λ world. IsWorld (λ rows. rows) (seen world)) }
+{
+    again!(unordered_world(alloc))
+}
+
+/// The same of one with kin.
+fn world_of_kin_again(alloc: Global) -> Result<InOne<VectorStore, WriteSetTracker>, LogFault>
+    ensures { IfOk result (λ world. IsWorld (λ rows. rows) (seen world)) }
+{
+    again!(world_of_kin(alloc))
+}
+
+/// The same of one with unique columns.
+fn world_of_values_again(alloc: Global) -> Result<InOne<VectorStore, WriteSetTracker>, LogFault>
+    ensures { IfOk result (λ world. IsWorld (λ rows. rows) (seen world)) }
+{
+    again!(world_of_values(alloc))
+}
+
+/// Catches what is left half done, in transactions that are one group and at a replica that publishes two as one.
+#[test]
+fn events_are_sent_again(rt: HostRuntime) -> Result<(), Fail> {
+    let world = world_again(rt.alloc())?;
+    answer_all(&rt, world, &two_at_the_source(), &two_at_the_replica())
+}
 
 /// Two sessions whose transactions are one group, one that is aborted, and one that deletes a row.
-pub fn two_at_the_source() -> [Step; 14] {
+fn two_at_the_source() -> [Step; 14] {
     [
         Told(Event::Begin { session: 1 }, "Done"),
         Told(Event::Begin { session: 2 }, "Done"),
@@ -48,7 +99,7 @@ const LOG_OF_TWO_SESSIONS: &str = "\
 
 /// Their records at a replica of two workers: the last comes too early once, and two are published as one. It tells its ids while
 /// it has none, and behind its commits.
-pub fn two_at_the_replica() -> [Step; 15] {
+fn two_at_the_replica() -> [Step; 15] {
     [
         Told(Event::Executed, "executed []"),
         Told(Event::Deliver { gno: 3 }, "Replica(Gap)"),
@@ -71,8 +122,16 @@ pub fn two_at_the_replica() -> [Step; 15] {
     ]
 }
 
+/// Catches what is left half done where commits are not in the order of the log, and commits behind a gap that are not shown, or are
+/// counted as if there were none.
+#[test]
+fn events_out_of_order_are_sent_again(rt: HostRuntime) -> Result<(), Fail> {
+    let world = unordered_world_again(rt.alloc())?;
+    answer_all(&rt, world, &three_at_the_source(), &three_behind_a_gap())
+}
+
 /// Three sessions whose transactions are one group, so that none has a parent.
-pub fn three_at_the_source() -> [Step; 7] {
+fn three_at_the_source() -> [Step; 7] {
     [
         Told(Event::Begin { session: 1 }, "Done"),
         Told(Event::Begin { session: 2 }, "Done"),
@@ -86,7 +145,7 @@ pub fn three_at_the_source() -> [Step; 7] {
 
 /// Their records at a replica of two workers that commits in the order in which jobs are finished: the second and then the third are
 /// published while the first is under way.
-pub fn three_behind_a_gap() -> [Step; 22] {
+fn three_behind_a_gap() -> [Step; 22] {
     [
         Takes(1, 3),
         Told(Event::Dispatch, "Job { gno: 1 }"),
@@ -125,6 +184,14 @@ pub fn three_behind_a_gap() -> [Step; 22] {
     ]
 }
 
+/// Catches what is left half done where rows have parents or no keys, and a transaction that the history of written rows
+/// notes twice.
+#[test]
+fn events_of_kin_are_sent_again(rt: HostRuntime) -> Result<(), Fail> {
+    let world = world_of_kin_again(rt.alloc())?;
+    answer_all(&rt, world, &kin_at_the_source(), &kin_at_the_replica())
+}
+
 /// At a source that goes by written rows, over a parent with its child:
 /// - Two transactions share no row, so the second's parent is not the first.
 /// - A parent is locked for its new child until that one's session gives up; it is deleted once its child is. Each transaction on
@@ -132,7 +199,7 @@ pub fn three_behind_a_gap() -> [Step; 22] {
 /// - A row without a key has the order of commits as its parent, and the row beside it in the group is behind the kin.
 /// - A transaction of five changes, which takes more room than the first, sets rows again: of those written since the kin the
 ///   last is its parent, which is not the last transaction.
-pub fn kin_at_the_source() -> [Step; 37] {
+fn kin_at_the_source() -> [Step; 37] {
     [
         Told(Event::Begin { session: 1 }, "Done"),
         Told(write(1, insert(10, 5, 6)), "Done"),
@@ -186,7 +253,7 @@ const LOG_OF_ONE_INSERT: &str = "\
     00";
 
 /// The same records at a replica of one worker, who takes one job, and the next once it is committed.
-pub fn kin_at_the_replica() -> [Step; 26] {
+fn kin_at_the_replica() -> [Step; 26] {
     [
         Told(Event::Executed, "executed []"),
         Told(Event::Deliver { gno: 3 }, "Replica(Gap)"),
@@ -220,13 +287,25 @@ pub fn kin_at_the_replica() -> [Step; 26] {
     ]
 }
 
+/// Catches what is left half done where rows give values of unique columns up and take them, and where children move.
+#[test]
+fn events_of_values_are_sent_again(rt: HostRuntime) -> Result<(), Fail> {
+    let world = world_of_values_again(rt.alloc())?;
+    answer_all(
+        &rt,
+        world,
+        &values_at_the_source(),
+        &values_at_the_replica(),
+    )
+}
+
 /// At a source that goes by written rows, over a row with the value 5 and two parents, of which one has a child with the value 7:
 /// - A value that a transaction gives up is locked until it is committed, and then another row takes it. Its parent is that
 ///   transaction, which is not the last one.
 /// - A value that another row has is refused. Two rows swap theirs by way of a third value.
 /// - A child moves to the other parent, then takes another value. Its parents are locked, and then the one that it left is deleted,
 ///   and the one that it has is not.
-pub fn values_at_the_source() -> [Step; 37] {
+fn values_at_the_source() -> [Step; 37] {
     [
         Told(Event::Begin { session: 1 }, "Done"),
         Told(Event::Begin { session: 2 }, "Done"),
@@ -281,7 +360,7 @@ const LOG_OF_ONE_DELETE: &str = "\
     00";
 
 /// The same records at a replica of two workers: the third, which takes the value that the first gave up, waits for that one.
-pub fn values_at_the_replica() -> [Step; 26] {
+fn values_at_the_replica() -> [Step; 26] {
     [
         Takes(1, 3),
         Told(Event::Dispatch, "Job { gno: 1 }"),

@@ -3,8 +3,8 @@
 ghost use Rattle.std.specs.Prelude.{◌≡◌, ◌≤◌, ◌<◌, [], List, IfOk, length};
 ghost use Rattle.std.specs.FinMap.{empty};
 ghost use Rattle.schema.specs.declared.Table.{Table as ATable};
+ghost use Rattle.replica_shared.specs.Names.{replica_names, IsNewReplica};
 ghost use Rattle.source_core.specs.Source.{new_source};
-ghost use Rattle.replica_core.specs.Calls.{new_over};
 ghost use Rattle.log_file.specs.Log.{IsNew};
 ghost use Rattle.world.specs.Seen.{seen};
 ghost use Rattle.world.specs.State.{IsWorld};
@@ -104,8 +104,7 @@ pub fn sides(alloc: Global) -> Result<InMemory, LogFault>
     ensures source { IfOk result (λ made.
         made.source ≡ new_source made.source.tables made.source.base made.source.limit made.source.kind) }
     ensures log { IfOk result (λ made. IsNew made.log.log) }
-    ensures replica { IfOk result (λ made.
-        made.replica ≡ new_over made.replica.tables made.replica.source made.replica.base made.replica.workers made.replica.preserve) }
+    ensures replica { IfOk result (λ made. IsNewReplica (replica_names made.replica) made.replica.preserve made.replica) }
 {
     let (schema, base, parts) = (schema(alloc)?, Batch::new(alloc), parts(alloc));
     let identifier = Uuid::from_bytes(SOURCE);

@@ -1,9 +1,9 @@
 //! Both sides on one thread, call by call: two sessions whose transactions clash, a replica that is handed their records in
 //! wrong ways before the right one, and both sides compared in the end; and the same over a log that is filled (`limits`).
 
+ghost use Rattle.replica_shared.specs.Names.{replica_names, IsNewReplica, OpensReplica};
 ghost use Rattle.std.specs.Prelude.{◌≡◌};
 ghost use Rattle.source_core.specs.Source.{new_source};
-ghost use Rattle.replica_core.specs.Calls.{new_over};
 ghost use Rattle.log_file.specs.Log.{IsNew};
 
 use crate::tests::makers::{SOURCE, columns, insert, row, set, sides};
@@ -81,7 +81,7 @@ fn over_source<J: SourceNaming + Send + Sync, R: Threads + Wait + Abort + Sync>(
     requires core { core ≡ new_source core.tables core.base core.limit core.kind }
     requires log { IsNew log.log }
     requires named { (core.base ≡ J.base) × (core.tables ≡ J.tables) × (receipts ≡ J.book) }
-    requires replica { replica ≡ new_over replica.tables replica.source replica.base replica.workers replica.preserve }
+    requires replica { IsNewReplica (replica_names replica) replica.preserve replica }
 {
     let source: Source<J> = match SharedSource::new(alloc, core, log, receipts) {
         Ok(source) => source,
@@ -128,10 +128,7 @@ where
     J: SourceNaming + Send + Sync,
     K: ReplicaNaming + Send + Sync,
     R: Threads + Wait + Abort + Sync,
-    requires core { core ≡ new_over core.tables core.source core.base core.workers core.preserve }
-    requires named { (core.tables ≡ K.tables) × (core.source ≡ K.source) × (core.base ≡ K.base) }
-    requires publication { (publication.base ≡ core.base) × (publication.book ≡ K.book) }
-    requires order { core.preserve ≡ K.preserve }
+    requires { OpensReplica K.names K.preserve K.book core publication }
 {
     let (first, second) = (BTreeStore::new(alloc), BTreeStore::new(alloc));
     let preserve = core.preserve();

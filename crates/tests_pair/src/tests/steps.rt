@@ -25,15 +25,21 @@ pub struct Course {
 }
 
 impl Course {
-    /// The events of these steps.
-    pub fn new(alloc: Global, steps: &[Step]) -> Result<Course, Memory> {
+    /// The events of these steps, at the source and then at the replica.
+    pub fn new(alloc: Global, source: &[Step], replica: &[Step]) -> Result<Course, Memory> {
         let mut course = Course {
             told: Vec::new(alloc),
         };
-        for step in steps {
-            course.add(alloc, step)?;
-        }
+        course.add_all(alloc, source)?;
+        course.add_all(alloc, replica)?;
         Ok(course)
+    }
+
+    fn add_all(&mut self, alloc: Global, steps: &[Step]) -> Result<(), Memory> {
+        for step in steps {
+            self.add(alloc, step)?;
+        }
+        Ok(())
     }
 
     fn add(&mut self, alloc: Global, step: &Step) -> Result<(), Memory> {

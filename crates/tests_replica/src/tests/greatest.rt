@@ -72,7 +72,7 @@ fn leaves_all(replica: &Replica) -> bool {
 fn the_greatest_moves_are_committed(rt: HostRuntime) -> Result<(), Fail> {
     let new = moves(rt.alloc())?;
     assert_eq!(rt;
-        (new.refs.rows().len(), new.marks.list().len()),
+        (new.refs.list().len(), new.marks.list().len()),
         (2048, 2048)
     );
     let mut replica = replica_of_moves(rt.alloc())?;

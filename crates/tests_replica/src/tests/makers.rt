@@ -5,10 +5,11 @@ ghost use Rattle.std.specs.Prelude.{◌≤◌};
 use btree_store::BTreeStore;
 use record_codec::{Flags, Record, Refs};
 use replica_core::ReplicaCore;
+use row_index::values_apart;
 use rows::{Change, Named, Row};
 use schema::{Memory, RowId, Schema, Table};
 use std::alloc::Global;
-use store_trait::{Batch, fits};
+use store_trait::{Batch, RowStore, are_of_tables, fits};
 use tests_log::common::{record, record_of, source};
 use tests_stores::common;
 
@@ -116,6 +117,26 @@ fn new_replica(
 {
     if fits(&schema, &store) {
         let core = ReplicaCore::new(alloc, schema, source(), store, workers, preserve)?;
+        Ok(common::boxed(alloc, core)?)
+    } else {
+        Err(Memory)
+    }
+}
+
+/// A new replica of these tables and of the rows of this batch, whether they fit or not, which commits in the order of the log.
+pub fn replica_loaded(
+    alloc: Global,
+    schema: Schema,
+    base: &Batch,
+    workers: usize,
+) -> Result<Box<Replica>, Memory>
+    requires some { 1 ≤ workers }
+    requires few { workers ≤ 64 }
+{
+    let mut store = BTreeStore::new(alloc);
+    store.put_all(base)?;
+    if values_apart(alloc, &schema, base)? && are_of_tables(&schema, &store) {
+        let core = ReplicaCore::new(alloc, schema, source(), store, workers, true)?;
         Ok(common::boxed(alloc, core)?)
     } else {
         Err(Memory)

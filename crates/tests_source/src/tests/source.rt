@@ -1,6 +1,6 @@
 //! The texts of a source's faults, and a group that is made where each call that was refused memory is made again.
 
-ghost use Rattle.std.specs.Prelude.{IfOk, IfSome};
+ghost use Rattle.std.specs.Prelude.{◌≡◌, IfOk, IfSome, OnOk};
 ghost use Rattle.source_core.specs.Calls.{Flushes};
 
 use btree_store::BTreeStore;
@@ -15,6 +15,7 @@ use std::test::Fail;
 use store_trait::fits;
 use tests_stores::again;
 use tests_stores::common::{boxed, insert, row, unique_tables};
+use tracker_trait::Tracker;
 
 /// Catches a text that no clause fixes.
 #[test]
@@ -57,22 +58,31 @@ fn source(alloc: Global) -> Result<Box<Source>, Memory> {
 }
 
 /// Writes the change in a transaction of the session, and queues it.
-fn enqueue(source: &mut Source, session: u16, change: Change) -> Result<(), SourceFault> {
+pub(super) fn enqueue<T: Tracker>(
+    source: &mut SourceCore<BTreeStore, T>,
+    session: u16,
+    change: Change,
+) -> Result<(), SourceFault>
+    ensures { OnOk result (source.new.tables ≡ source.old.tables) }
+{
     source.begin(session)?;
     again!(source.write(session, change))?;
     source.prepare(session)?;
     source.queue(session)
 }
 
-fn flush(source: &mut Source) -> Result<Option<Group>, SourceFault>
+fn flush<T: Tracker>(source: &mut SourceCore<BTreeStore, T>) -> Result<Option<Group>, SourceFault>
     ensures { IfOk result (λ found. IfSome found (λ group. Flushes source.old group source.new)) }
 {
     again!(source.flush())
 }
 
-/// Flushes and syncs what is queued at a source whose log is empty.
-fn sync(source: &mut Source) -> Result<(), SourceFault> {
-    if !source.log().is_empty() {
+/// Flushes and syncs what is queued at a source whose records are all committed.
+pub(super) fn sync<T: Tracker>(source: &mut SourceCore<BTreeStore, T>) -> Result<(), SourceFault>
+    ensures { OnOk result (source.new.tables ≡ source.old.tables) }
+{
+    source.log();
+    if source.busy() {
         return Err(SourceFault::Exhausted);
     }
     match flush(source)? {

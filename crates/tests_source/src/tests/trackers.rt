@@ -105,13 +105,13 @@ fn follow<T: Tracker>(
     Ok(())
 }
 
-fn by_rows(alloc: Global, limit: u32) -> Result<WriteSetTracker, Memory>
+pub(super) fn by_rows(alloc: Global, limit: u32) -> Result<WriteSetTracker, Memory>
     ensures { IfOk result (λ tracker. (ts : List ATable) → IsHistoryOf ts [] tracker) }
 {
     again!(WriteSetTracker::with_limit(alloc, limit))
 }
 
-fn by_session(alloc: Global, limit: u32) -> Result<WriteSetSession, Memory>
+pub(super) fn by_session(alloc: Global, limit: u32) -> Result<WriteSetSession, Memory>
     ensures { IfOk result (λ tracker. (ts : List ATable) → IsHistoryOf ts [] tracker.history × AreLast [] tracker.last) }
 {
     again!(WriteSetSession::with_limit(alloc, limit))

@@ -7,8 +7,8 @@ use crate::tests::makers::{
     same_rows, set, store, update,
 };
 use btree_store::BTreeStore;
-use overlay::{Overlay, Step, parent_holds, step_seen, value_holds};
-use rows::Change;
+use overlay::{Pending, parent_holds, step_seen, value_holds};
+use rows::{Change, Step};
 use schema::{Memory, Schema};
 use std::alloc::Global;
 use std::process::Abort;
@@ -17,7 +17,7 @@ use store_trait::{Batch, holder_of};
 
 /// Whether the parent and the value that the change gives its row stand, as the transaction sees the rows.
 fn stands(
-    overlay: &Overlay,
+    pending: &Pending,
     schema: &Schema,
     store: &BTreeStore,
     change: &Change,
@@ -27,29 +27,29 @@ fn stands(
         Some(mark) => holder_of(schema, store, mark),
         None => None,
     };
-    parent_holds(overlay, schema, store, change, step.left.as_ref())
-        && value_holds(overlay, schema, change, step.takes, holder)
+    parent_holds(pending, schema, store, change, step.left.as_ref())
+        && value_holds(pending, schema, change, step.takes, holder)
 }
 
-/// The overlay of the changes, step by step, or `None` where one of them does not apply behind those before it; each call is
+/// What is pending of the changes, step by step, or `None` where one of them does not apply behind those before it; each call is
 /// made again where memory lacked.
 fn ran(
     alloc: Global,
     schema: &Schema,
     store: &BTreeStore,
     changes: &[Change],
-) -> Result<Option<Overlay>, Memory> {
-    let mut overlay = Overlay::new(alloc);
+) -> Result<Option<Pending>, Memory> {
+    let mut pending = Pending::new(alloc);
     for change in changes {
-        let Ok(step) = step_seen(&overlay, schema, store, change) else {
+        let Ok(step) = step_seen(&pending, schema, store, change) else {
             return Ok(None);
         };
-        if !stands(&overlay, schema, store, change, &step) {
+        if !stands(&pending, schema, store, change, &step) {
             return Ok(None);
         }
-        again!(overlay.push(*change, step.left))?;
+        again!(pending.push(*change, &step))?;
     }
-    Ok(Some(overlay))
+    Ok(Some(pending))
 }
 
 /// Whether the changes leave this over the rows, or where it is `None` one of them does not apply; each call is made again
@@ -61,10 +61,10 @@ fn leaves(
     changes: &[Change],
     want: Option<&[Entry]>,
 ) -> Result<bool, Memory> {
-    let Some(overlay) = ran(alloc, schema, store, changes)? else {
+    let Some(pending) = ran(alloc, schema, store, changes)? else {
         return Ok(want.is_none());
     };
-    let batch = again!(overlay.batch(alloc))?;
+    let batch = again!(pending.batch(alloc))?;
     Ok(want.is_some_and(|want| batch.entries() == want))
 }
 
@@ -208,37 +208,50 @@ fn most_changes_are_run_again(rt: HostRuntime) -> Result<(), Fail> {
     Ok(())
 }
 
-fn push(overlay: &mut Overlay, entry: &Entry) -> Result<(), Memory> {
-    overlay.push(Change::Delete { row: entry.0 }, entry.1)
+/// A step that leaves this of a row, and takes it from a parent.
+fn step_of(entry: &Entry) -> Step {
+    Step {
+        left: entry.1,
+        old: Some(entry.0),
+        new: None,
+        gives_up: None,
+        takes: None,
+    }
 }
 
 /// Two changes of a row, room for the first of which is taken before, and each call again where memory lacked.
-fn push_again(overlay: Overlay, entry: &Entry) -> Result<Overlay, Memory> {
-    let roomy = match overlay.into_roomy() {
+fn push_again(pending: Pending, entry: &Entry) -> Result<Pending, Memory> {
+    let change = Change::Delete { row: entry.0 };
+    let step = step_of(entry);
+    let roomy = match pending.reserve(&step) {
         Ok(roomy) => roomy,
-        Err((_, overlay)) => overlay.into_roomy().map_err(|refused| refused.0)?,
+        Err((_, pending)) => match pending.reserve(&step) {
+            Ok(roomy) => roomy,
+            Err((memory, _)) => return Err(memory),
+        },
     };
-    let mut overlay = roomy.push(Change::Delete { row: entry.0 }, entry.1);
-    again!(push(&mut overlay, entry))?;
-    Ok(overlay)
+    let mut pending = roomy.push(change, &step);
+    again!(pending.push(change, &step))?;
+    Ok(pending)
 }
 
-fn pushed_again(alloc: Global, rows: &Batch) -> Result<Overlay, Memory> {
-    let mut overlay = Overlay::new(alloc);
+fn pushed_again(alloc: Global, rows: &Batch) -> Result<Pending, Memory> {
+    let mut pending = Pending::new(alloc);
     for entry in rows.entries() {
-        overlay = push_again(overlay, entry)?;
+        pending = push_again(pending, entry)?;
     }
-    Ok(overlay)
+    Ok(pending)
 }
 
-/// A push that gives up where there are many, or an overlay that is left otherwise where memory lacked once.
+/// A push that gives up where there are many, or changes that are left otherwise where memory lacked once.
 #[test]
 fn many_changes_are_pushed_again(rt: HostRuntime) -> Result<(), Fail> {
     let alloc = rt.alloc();
     let rows = again!(many_rows(alloc, &[1, 2], 256))?;
-    let overlay = pushed_again(alloc, &rows)?;
-    assert_eq!(rt; overlay.len(), 1024);
-    let batch = again!(overlay.batch(alloc))?;
+    let pending = pushed_again(alloc, &rows)?;
+    assert_eq!(rt; pending.len(), 1024);
+    assert_eq!(rt; pending.kin().len(), 1024);
+    let batch = again!(pending.batch(alloc))?;
     assert!(rt; same_rows(&batch, &rows));
     Ok(())
 }

@@ -20,12 +20,12 @@ new_of_its_own : (s : Source) (ts : List Table) (base : List Entry) (limit : ℕ
 new_of_its_own s ts base limit kind new = subst (λ (x : Source). x ≡ new_source x.tables base x.limit x.kind) (sym new) refl
 
 -- what a world is set up with that is made of a new source and a new replica over these
-set_up : (s : Source) (r : Replica) (own named identifier : List ℕ) (ts tables : List Table) (base : List Entry) (limit : ℕ) (kind mode : Kind) (workers : ℕ) (preserve : Bool) →
+set_up : {s : Source} {r : Replica} {own named identifier : List ℕ} {ts tables : List Table} {base : List Entry} {limit : ℕ} {kind mode : Kind} {workers : ℕ} {preserve : Bool} →
     s ≡ new_source ts base limit kind → own ≡ named → r ≡ new_over ts named base workers preserve → named ≡ identifier → ts ≡ tables → kind ≡ mode →
     ◌≡◌ {A = Setup} (record { identifier = own; tables = s.tables; base = s.base; limit = s.limit; kind = s.kind; workers = r.workers; preserve = r.preserve })
     (record { identifier = identifier; tables = tables; base = base; limit = limit; kind = mode; workers = workers; preserve = preserve })
-set_up s r own named identifier ts tables base limit kind mode workers preserve source its replica told over is =
-    let same : own ≡ identifier = its ∙ told in
+set_up {s = s} {tables = tables} {mode = mode} source its replica told over is =
+    let same = its ∙ told in
     let in_tables : s.tables ≡ tables = ap (λ (x : Source). x.tables) source ∙ over in
     let in_kind : s.kind ≡ mode = ap (λ (x : Source). x.kind) source ∙ is in
     λ i. record { identifier = same i; tables = in_tables i; base = (source i).base; limit = (source i).limit; kind = in_kind i; workers = (replica i).workers; preserve = (replica i).preserve }
@@ -58,8 +58,6 @@ returns-in_ok-into_world-in-Some-2 g c =
       given = subst (λ o. IfSome o (λ batch. IsPermutation (map present c.args.rows.now) batch)) c.in-Some.is c.in_ok-base.ensures.rows;
       starts = subst (λ setup. HasRun g.S.RowStore.contents setup [] [] (seen c.in_ok-into_world-in-Some-2.field-0))
           (c.in_ok-into_world-in-Some-2.ensures.setup
-          ∙ set_up c.in-Some-2.pair.source c.in-Some-2.pair.replica c.in-Some-2.pair.log.log.head.source identifier own schema c.args.tables.items rows 9223372036854775807 kind
-          (g.T.Tracker.kind c.args.tracker) c.args.sides.workers c.args.sides.preserve
-          source named replica c.from_bytes-from.ensures c.in_ok-schema.ensures.value (ap g.T.Tracker.kind c.parts_over-parts.ensures.tracker))
+          ∙ set_up source named replica c.from_bytes-from.ensures c.in_ok-schema.ensures.value (ap g.T.Tracker.kind c.parts_over-parts.ensures.tracker))
           c.in_ok-into_world-in-Some-2.ensures.starts;
     }

@@ -5,14 +5,10 @@ use Rattle.mtr.proofs.Puts.{put_none, put_more, put_refused, put_full, put_nothi
 use Rattle.mtr.proofs.words.put_numbers.Goals as goal
 
 pub returns-then-count-eq-MOST : goal.returns-then-count-eq-MOST
-returns-then-count-eq-MOST c =
-    put_full c.args.words c.loop-word.words c.in-Some.rest c.in-Some.word.now c.loop-word.count c.args.columns.now.items c.loop-word.columns.items c.loop-word.invariant.put
-    (sym c.in-Some.ensures) c.if-count-eq-MOST.true
+returns-then-count-eq-MOST c = put_full c.loop-word.invariant.put (sym c.in-Some.ensures) c.if-count-eq-MOST.true
 
 pub returns-in_err-i64_of : goal.returns-in_err-i64_of
-returns-in_err-i64_of c =
-    rw c.from_residual.ensures (put_refused c.args.words c.loop-word.words c.in-Some.rest c.in-Some.word.now c.loop-word.count c.args.columns.now.items c.loop-word.columns.items
-    c.loop-word.invariant.put (sym c.in-Some.ensures) (sym c.in_err-i64_of.ensures.exact))
+returns-in_err-i64_of c = rw c.from_residual.ensures (put_refused c.loop-word.invariant.put (sym c.in-Some.ensures) (sym c.in_err-i64_of.ensures.exact))
 
 pub loop-word-init : goal.loop-word-init
 loop-word-init c = record { few = omega arith; put = put_none c.args.words c.args.columns.now.items; room = c.requires }
@@ -23,19 +19,12 @@ loop-word-preserved c =
     let left : length c.loop-word.words ≡ length (c.in-Some.word.now ∷ c.in-Some.rest) = ap length (words_are _ _ _ (sym c.in-Some.ensures)) in
     record {
       few = omega arith;
-      put =
-          put_more c.args.words c.loop-word.words c.in-Some.rest c.in-Some.word.now c.loop-word.count c.args.columns.now.items c.loop-word.columns.items c.push_reserved.new.self.items
-          c.in_ok-i64_of.field-0 _ c.loop-word.invariant.put (sym c.in-Some.ensures) (sym c.in_ok-i64_of.ensures.exact)
-          (to_z-of_z w64 c.in_ok-i64_of.field-0 fits) c.push_reserved.ensures.items;
+      put = put_more c.loop-word.invariant.put (sym c.in-Some.ensures) (sym c.in_ok-i64_of.ensures.exact) (to_z-of_z w64 c.in_ok-i64_of.field-0 fits) c.push_reserved.ensures.items;
       room = omega (arith, left, c.loop-word.invariant.room, c.push_reserved.ensures.len, c.push_reserved.ensures.capacity);
     }
 
 pub returns-then-count-eq0 : goal.returns-then-count-eq0
-returns-then-count-eq0 c =
-    put_nothing c.args.words c.loop-word.words c.loop-word.count c.args.columns.now.items c.loop-word.columns.items c.loop-word.invariant.put (none_are _ (sym c.in_default.ensures))
-    c.if-count-eq0.true
+returns-then-count-eq0 c = put_nothing c.loop-word.invariant.put (none_are _ (sym c.in_default.ensures)) c.if-count-eq0.true
 
 pub returns-else-count-eq0 : goal.returns-else-count-eq0
-returns-else-count-eq0 c =
-    put_all c.args.words c.loop-word.words c.loop-word.count c.args.columns.now.items c.loop-word.columns.items c.loop-word.invariant.put (none_are _ (sym c.in_default.ensures))
-    (omega arith) c.loop-word.invariant.few
+returns-else-count-eq0 c = put_all c.loop-word.invariant.put (none_are _ (sym c.in_default.ensures)) (omega arith) c.loop-word.invariant.few

@@ -21,15 +21,15 @@ invariant_of-self-2 c =
     let pushed : c.push_reserved.new.self.items ≡ was.accepted.items ++ c.args.new ∷ [] = grind (arith, common_steps) in
     let new = c.args.new in
     let next = next_of r c.args.self.now c.args.from new c.self.view_is c.requires in
-    one_more_kept was.schema was.source was.accepted.items was.ids was.touches.rows was.touches.marks new (record {
+    one_more_kept was.schema was.source was.accepted.items was.ids was.touches.rows.map was.touches.marks.map new (record {
       kept = c.self.invariant;
       next = next.1;
       left = c.push_reserved.new.self.items;
       left_is = pushed;
       with_next = c.take_room-taken.new.ids;
       ids_are = c.in_default.ensures.ids ∙ ap (λ (s : List ℕ). first_ids s new.gno) next.0;
-      now = c.note.new.self.rows;
-      notes = subst (λ (t : LastTouches). Notes t new c.note.new.self.rows) c.take_room-taken.ensures.rows c.note.ensures.rows;
-      marks_now = c.note.new.self.marks;
-      notes_marks = subst (λ (t : LastMarks). NotesMarks new.gno t new.marks c.note.new.self.marks) c.take_room-taken.ensures.marks c.note.ensures.marks;
+      now = c.note.new.self.rows.map;
+      notes = subst (λ (t : LastTouches). Notes t new c.note.new.self.rows.map) c.take_room-taken.ensures.rows c.note.ensures.rows;
+      marks_now = c.note.new.self.marks.map;
+      notes_marks = subst (λ (t : LastMarks). NotesMarks new.gno t new.marks c.note.new.self.marks.map) c.take_room-taken.ensures.marks c.note.ensures.marks;
     })

@@ -6,5 +6,5 @@ use Rattle.relay.proofs.Relay.new.Goals as goal
 
 pub invariant_of-result : goal.invariant_of-result
 invariant_of-result c =
-    subst (λ (l : List Record). IsKept c.args.schema c.args.source l c.new-2.result c.new-3.result.rows c.new-3.result.marks) (sym c.new.ensures.items)
-    (none_kept c.args.schema c.args.source c.new-2.result c.new-3.result.rows c.new-3.result.marks c.new-2.ensures c.new-3.ensures.rows c.new-3.ensures.marks)
+    subst (λ (l : List Record). IsKept c.args.schema c.args.source l c.new-2.result c.new-3.result.rows.map c.new-3.result.marks.map) (sym c.new.ensures.items)
+    (none_kept c.args.schema c.args.source c.new-2.result c.new-3.result.rows.map c.new-3.result.marks.map c.new-2.ensures c.new-3.ensures.rows c.new-3.ensures.marks)

@@ -8,56 +8,56 @@ use Rattle.replica_core.proofs.Steps.{not_stopped, commits_of, leaves_of, none_n
 use Rattle.replica_core.proofs.ReplicaCore.commit_next.Goals as goal
 
 pub returns-in_err-refuse_stopped-clause-sound : goal.returns-in_err-refuse_stopped-clause-sound
-returns-in_err-refuse_stopped-clause-sound g c = sound_as_seen _ _ _ _ _ _ _ _ c.self.invariant c.self.view_is
+returns-in_err-refuse_stopped-clause-sound g c = sound_as_seen c.self.invariant c.self.view_is
 
 pub returns-in_err-gno-clause-sound : goal.returns-in_err-gno-clause-sound
-returns-in_err-gno-clause-sound g c = sound_as_seen _ _ _ _ _ _ _ _ c.self.invariant c.self.view_is
+returns-in_err-gno-clause-sound g c = sound_as_seen c.self.invariant c.self.view_is
 
 pub returns-in_default-clause-sound : goal.returns-in_default-clause-sound
-returns-in_default-clause-sound g c = sound_as_seen _ _ _ _ _ _ _ _ c.self.invariant c.self.view_is
+returns-in_default-clause-sound g c = sound_as_seen c.self.invariant c.self.view_is
 
 pub returns-clause-sound : goal.returns-clause-sound
-returns-clause-sound g c = sound_as_seen _ _ _ _ _ _ _ _ c.self.invariant c.self.view_is
+returns-clause-sound g c = sound_as_seen c.self.invariant c.self.view_is
 
 pub returns-in_err-gno-clause-memory : goal.returns-in_err-gno-clause-memory
 returns-in_err-gno-clause-memory g c = λ _. (
   sym (ap (λ (r : Replica). r.stopped) c.self.view_is) ∙ not_stopped c.self.inside.stopped _ c.in_ok-refuse_stopped.ensures,
-  ap (λ (r : Replica). is_some (next_commit r)) (sym c.self.view_is) ∙ sym (next_some _ _ _ _ _ _ _ c.self.invariant) ∙ c.in_err-gno.ensures.there,
+  ap (λ (r : Replica). is_some (next_commit r)) (sym c.self.view_is) ∙ sym (next_some c.self.invariant) ∙ c.in_err-gno.ensures.there,
 )
 
 pub returns-in_default-clause-answer : goal.returns-in_default-clause-answer
 returns-in_default-clause-answer g c =
-    let none = none_next _ _ _ _ _ c.self.invariant (leaves_of _ _ _ _ c.in_default.is c.in_ok-gno.ensures) in
+    let none = none_next c.self.invariant (leaves_of _ _ _ _ c.in_default.is c.in_ok-gno.ensures) in
     inr (sym (ap (λ (r : Replica). unless_stopped r (next_commit r)) (sym c.self.view_is)
     ∙ (λ i. option_map_or (λ gno. Err (Stopped gno)) (not_stopped c.self.inside.stopped _ c.in_ok-refuse_stopped.ensures i) (Ok (none i)))))
 
 pub returns-in_default-clause-gapped : goal.returns-in_default-clause-gapped
-returns-in_default-clause-gapped g c = still_gapped _ _ _ _ _ c.self.invariant (leaves_of _ _ _ _ c.in_default.is c.in_ok-gno.ensures) refl
+returns-in_default-clause-gapped g c = still_gapped c.self.invariant (leaves_of _ _ _ _ c.in_default.is c.in_ok-gno.ensures) refl
 
 pub committed-requires-clause-later : goal.committed-requires-clause-later
-committed-requires-clause-later g c = turn_later _ _ _ c.in-Some.gno _ _ c.self.invariant (commits_of _ _ _ _ _ _ c.schema.ensures c.in-Some.is c.in_ok-gno.ensures)
+committed-requires-clause-later g c = turn_later c.self.invariant (commits_of _ _ _ _ _ _ c.schema.ensures c.in-Some.is c.in_ok-gno.ensures)
 
 pub committed-requires-clause-near : goal.committed-requires-clause-near
-committed-requires-clause-near g c = turn_near _ _ _ c.in-Some.gno _ _ c.self.invariant (commits_of _ _ _ _ _ _ c.schema.ensures c.in-Some.is c.in_ok-gno.ensures)
+committed-requires-clause-near g c = turn_near c.self.invariant (commits_of _ _ _ _ _ _ c.schema.ensures c.in-Some.is c.in_ok-gno.ensures)
 
 pub invariant_of-self-2 : goal.invariant_of-self-2
 invariant_of-self-2 g c =
-    committed_kept _ _ _ c.in-Some.gno _ _ c.committed.new.self c.self.invariant (commits_of _ _ _ _ _ _ c.schema.ensures c.in-Some.is c.in_ok-gno.ensures)
+    committed_kept c.committed.new.self c.self.invariant (commits_of _ _ _ _ _ _ c.schema.ensures c.in-Some.is c.in_ok-gno.ensures)
     c.committed.ensures.exact c.committed.ensures.greatest refl
 
 pub returns-clause-answer : goal.returns-clause-answer
 returns-clause-answer g c =
-    let next = turn_next _ _ _ c.in-Some.gno _ _ c.self.invariant (commits_of _ _ _ _ _ _ c.schema.ensures c.in-Some.is c.in_ok-gno.ensures) in
+    let next = turn_next c.self.invariant (commits_of _ _ _ _ _ _ c.schema.ensures c.in-Some.is c.in_ok-gno.ensures) in
     inr (sym (ap (λ (r : Replica). unless_stopped r (next_commit r)) (sym c.self.view_is)
     ∙ (λ i. option_map_or (λ gno. Err (Stopped gno)) (not_stopped c.self.inside.stopped _ c.in_ok-refuse_stopped.ensures i) (Ok (sym next i)))))
 
 pub returns-clause-ok : goal.returns-clause-ok
 returns-clause-ok g c =
-    committed_seen _ _ _ c.in-Some.gno _ _ c.committed.new.self c.self.invariant (commits_of _ _ _ _ _ _ c.schema.ensures c.in-Some.is c.in_ok-gno.ensures)
+    committed_seen c.committed.new.self c.self.invariant (commits_of _ _ _ _ _ _ c.schema.ensures c.in-Some.is c.in_ok-gno.ensures)
     c.committed.ensures.exact c.committed.ensures.greatest refl
     ∙ ap (λ (r : Replica). with_commit r c.in-Some.gno) c.self.view_is
 
 pub returns-clause-gapped : goal.returns-clause-gapped
 returns-clause-gapped g c =
-    committed_gapped _ _ _ c.in-Some.gno _ _ c.committed.new.self c.self.invariant (commits_of _ _ _ _ _ _ c.schema.ensures c.in-Some.is c.in_ok-gno.ensures)
+    committed_gapped c.committed.new.self c.self.invariant (commits_of _ _ _ _ _ _ c.schema.ensures c.in-Some.is c.in_ok-gno.ensures)
     c.committed.ensures.exact c.committed.ensures.greatest refl

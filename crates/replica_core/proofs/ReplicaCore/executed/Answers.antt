@@ -32,20 +32,20 @@ returns-then-preserve-clause-ok g c =
 
 pub committed_ids-requires-clause-low : goal.committed_ids-requires-clause-low
 committed_ids-requires-clause-low g c =
-    let low = low_dispatched _ _ _ _ _ _ _ c.self.invariant in
+    let low = low_dispatched c.self.invariant in
     let count = c.dispatched.ensures ∙ ap (λ (r : Replica). r.dispatched) (sym c.self.view_is) in
     omega arith
 
 pub committed_ids-requires-clause-few : goal.committed_ids-requires-clause-few
 committed_ids-requires-clause-few g c =
-    let few = few_dispatched _ _ _ _ _ _ _ c.self.invariant in
+    let few = few_dispatched c.self.invariant in
     let count = c.dispatched.ensures ∙ ap (λ (r : Replica). r.dispatched) (sym c.self.view_is) in
     omega arith
 
 pub returns-in_err-committed_ids-clause-memory : goal.returns-in_err-committed_ids-clause-memory
 returns-in_err-committed_ids-clause-memory g c = λ _. (
   sym (ap (λ (r : Replica). r.stopped) c.self.view_is) ∙ not_stopped c.self.inside.stopped _ c.in_ok-refuse_stopped.ensures,
-  subst (λ (r : Replica). 0 < length r.commits) c.self.view_is (some_commit _ _ c.self.invariant.counted c.in_err-committed_ids.ensures.memory),
+  subst (λ (r : Replica). 0 < length r.commits) c.self.view_is (some_commit _ _ c.self.invariant.counted.marked c.in_err-committed_ids.ensures.memory),
 )
 
 pub returns-clause-ok : goal.returns-clause-ok

@@ -16,7 +16,7 @@ returns-else-eligible g c =
     let got = (λ i. slice_get (sym c.accepted.ensures.value i) (sym count i)) ∙ got_there c.accepted.result.now c.dispatched-dispatched.result next found.3.0 found.1 in
     stays_false c.eligible.result free c.if-eligible.false
     ∙ ap (λ b. b && free) (c.eligible.ensures ∙ ap (λ (n : ℕ). nat_le next.parent was.scheduler.low && nat_le (n + 1) (was.scheduler.low + 4096)) count)
-    ∙ eligible_seen _ _ _ _ _ _ _ next c.self.invariant got
+    ∙ eligible_seen c.self.invariant next got
     ∙ ap is_eligible c.self.view_is
 
 pub returns-in-None : goal.returns-in-None

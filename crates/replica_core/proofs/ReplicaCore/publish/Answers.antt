@@ -7,7 +7,7 @@ use Rattle.replica_core.proofs.ReplicaCore.publish.Goals as goal
 pub drop_first-requires : goal.drop_first-requires
 drop_first-requires g c =
     let was = c.self.inside in
-    let count = length_ops _ _ _ _ _ _ _ c.self.invariant in
+    let count = length_ops c.self.invariant in
     let committed = ap (λ (r : Replica). length r.commits) c.self.view_is in
     omega (arith, c.requires.done)
 
@@ -17,9 +17,9 @@ invariant_of-self g c =
     let committed = ap (λ (r : Replica). length r.commits) c.self.view_is in
     let published : was.published ≡ c.args.self.now.published = ap (λ (r : Replica). r.published) c.self.view_is in
     let later : was.published ≤ c.args.upto = omega (arith, c.requires.later) in
-    published_kept _ _ _ _ _ _ _ c.args.upto c.drop_first.new.list.items c.self.invariant later (omega (arith, c.requires.done)) c.drop_first.ensures
+    published_kept c.self.invariant c.args.upto c.drop_first.new.list.items later (omega (arith, c.requires.done)) c.drop_first.ensures
 
 pub returns-clause-gapped : goal.returns-clause-gapped
 returns-clause-gapped g c =
     let committed = ap (λ (r : Replica). length r.commits) c.self.view_is in
-    shows_gapped _ _ _ c.self.inside.handed.items _ _ c.drop_first.new.list.items c.args.upto (invariant_of-self g c) (omega (arith, c.requires.done))
+    shows_gapped (invariant_of-self g c) c.args.upto (omega (arith, c.requires.done))

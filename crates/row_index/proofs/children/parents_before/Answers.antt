@@ -13,11 +13,11 @@ loop-entry-preserved g c =
     let found = c.loop-entry.parents.items in
     elim c.match-parent_in.branch [
       | in-Some+in_ok-push w ↦
-          one_listed f entries c.loop-entry.entry-index c.entry-item.result found w.push.new.self.items c.match-parent_in.parents.items c.parent_in.result
+          one_listed f entries c.loop-entry.entry-index c.entry-item.result found
           (Some w.in-Some.parent) c.loop-entry-test.true c.entry-item.is c.loop-entry.invariant
           w.in-Some.is c.parent_in.ensures (ap (λ (v : Vec RowId Global). v.items) w.parents-is) w.in_ok-push.ensures.items
       | in_default w ↦
-          one_listed f entries c.loop-entry.entry-index c.entry-item.result found found c.match-parent_in.parents.items c.parent_in.result None c.loop-entry-test.true c.entry-item.is
+          one_listed f entries c.loop-entry.entry-index c.entry-item.result found None c.loop-entry-test.true c.entry-item.is
           c.loop-entry.invariant
           w.in_default.is c.parent_in.ensures (ap (λ (v : Vec RowId Global). v.items) w.parents-is) (sym (append-nil found))
     ]

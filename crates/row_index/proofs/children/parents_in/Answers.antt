@@ -1,7 +1,7 @@
 use Rattle.std.proofs.Common.{◌≡◌, ◌∙◌, rules, is_some}
 use Rattle.std.specs.List.{count_by}
 use Rattle.store_trait.specs.Batch.{Entry}
-use Rattle.overlay.specs.Step.{parent_at}
+use Rattle.rows.specs.Step.{parent_at}
 use Rattle.row_index.proofs.Walked.{count_listed}
 use Rattle.row_index.proofs.children.parents_in.Goals as goal
 

@@ -13,11 +13,11 @@ loop-entry-preserved g c =
     let found = c.loop-entry.marks.items in
     elim c.match-mark_in.branch [
       | in-Some+in_ok-push w ↦
-          one_listed f entries c.loop-entry.entry-index c.entry-item.result found w.push.new.self.items c.match-mark_in.marks.items c.mark_in.result
+          one_listed f entries c.loop-entry.entry-index c.entry-item.result found
           (Some w.in-Some.mark) c.loop-entry-test.true c.entry-item.is c.loop-entry.invariant
           w.in-Some.is c.mark_in.ensures (ap (λ (v : Vec Mark Global). v.items) w.marks-is) w.in_ok-push.ensures.items
       | in_default w ↦
-          one_listed f entries c.loop-entry.entry-index c.entry-item.result found found c.match-mark_in.marks.items c.mark_in.result None c.loop-entry-test.true c.entry-item.is c.loop-entry.invariant
+          one_listed f entries c.loop-entry.entry-index c.entry-item.result found None c.loop-entry-test.true c.entry-item.is c.loop-entry.invariant
           w.in_default.is c.mark_in.ensures (ap (λ (v : Vec Mark Global). v.items) w.marks-is) (sym (append-nil found))
     ]
 

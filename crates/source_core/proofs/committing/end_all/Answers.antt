@@ -24,6 +24,6 @@ loop-session-preserved c = (
   one_left c.args.places.now c.loop-session.places c.args.sessions.now c.loop-session.session-index c.loop-session-test.true c.loop-session.invariant.0
       c.take-ended.new.self c.take-ended.ensures.after,
   c.release_all.ensures.released ∙ one_released c.args.locks.now c.loop-session.locks c.args.sessions.now c.loop-session.session-index c.loop-session-test.true c.loop-session.invariant.1,
-  c.release_all.ensures.no_clash,
-  c.release_all.ensures.no_mark_clash,
+  c.release_all.ensures.clear.rows,
+  c.release_all.ensures.clear.marks,
 )

@@ -1,9 +1,8 @@
 use Rattle.std.proofs.Common.{◌∙◌, ◌-◌, arith, IsSome}
 use Rattle.schema.proofs.Lists.{AllByRecursion-at}
 use Rattle.overlay.specs.Joining.{joined}
-use Rattle.source_core.specs.Core.{placed}
+use Rattle.source_core.specs.Core.{placed, pending_in}
 use Rattle.commit_stages.specs.Queues.{IsSession}
-use Rattle.source_core.specs.Commit.{pending_in}
 use Rattle.source_core.proofs.Commit.Loops.{place_at, not_yet, one_joined}
 use Rattle.source_core.proofs.committing.join_all.Goals as goal
 

@@ -1,22 +1,12 @@
-use Rattle.std.proofs.Common.{◌∙◌, ap, ◌-◌, List, max, refl, reverse, arith}
+use Rattle.std.proofs.Common.{◌∙◌, sym, ap, subst, ◌-◌, List, max, refl, reverse, arith}
 use Rattle.std.proofs.lemmas.List.{get_or_read}
 use Rattle.schema.specs.declared.Table.{Table}
 use Rattle.tracker_trait.specs.Law.{IsOfTables}
 use Rattle.writeset_trackers.specs.Agreement.{IsHistoryOf}
 use Rattle.writeset_trackers.specs.Places.{AreLast, Sessions}
 use Rattle.writeset_trackers.proofs.Cover.{later_covers}
-use Rattle.writeset_trackers.proofs.Stamps.{is_up_to, is_above, Stamp, is_exact, is_covered, has_gone_on, Own, own_is, have_gone_on}
+use Rattle.writeset_trackers.proofs.Stamps.{Stamp, is_exact, is_covered, Own, own_is, have_gone_on}
 use Rattle.writeset_trackers.proofs.WriteSetSessionTracker.stamp.Goals as goal
-
-pub note-requires-clause-up_to : goal.note-requires-clause-up_to
-note-requires-clause-up_to c =
-    is_up_to c.requires.seen.0 c.args.log.now.entries c.self.inside.history c.args.self.now.history c.len.result
-    (ap (λ (s : Sessions). s.history) c.self.view_is) c.requires.seen.1.0 c.len.ensures.value
-
-pub note-requires-clause-above : goal.note-requires-clause-above
-note-requires-clause-above c =
-    is_above c.requires.seen.0 c.args.log.now.entries c.self.inside.history c.args.self.now.history c.len.result
-    (ap (λ (s : Sessions). s.history) c.self.view_is) c.requires.seen.1.0 c.len.ensures.value
 
 -- the transaction that was stamped
 abbrev stamp_of : (c : goal.After-max) (ts : List Table) → IsHistoryOf ts (reverse c.args.log.now.entries) c.args.self.now.history → IsOfTables ts c.args.t.now c.args.w.now →
@@ -49,6 +39,6 @@ returns-clause-covers c ts is of_ =
 
 pub returns-clause-goes_on : goal.returns-clause-goes_on
 returns-clause-goes_on c ts is of_ = (
-  has_gone_on _ _ _ _ (stamp_of c ts is.0 of_) c.note.new.history c.args.session c.max.result c.len.result c.len.ensures.value c.note.ensures,
+  c.note.ensures.goes_on ts c.args.session c.max.result (subst (IsHistoryOf ts (reverse c.args.log.now.entries)) (sym (ap (λ (s : Sessions). s.history) c.self.view_is)) is.0) of_,
   have_gone_on _ _ (own_of c is.1) _ c.args.t.now c.max.result c.len.result c.len.ensures.value refl,
 )

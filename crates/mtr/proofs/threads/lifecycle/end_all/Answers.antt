@@ -6,10 +6,10 @@ use Rattle.mtr.proofs.threads.lifecycle.end_all.Goals as goal
 
 pub returns-clause-ended : goal.returns-clause-ended
 returns-clause-ended g c =
-    let order = c.end-replica.ensures.order in
+    let order = c.end-replica.ensures.named.3 in
     record {
       order = order ∙ c.requires.order;
-      tables = c.end-replica.ensures.tables ∙ c.requires.tables ∙ sym c.in-Ok-end_source.ensures.tables;
+      tables = c.end-replica.ensures.named.0 ∙ c.requires.tables ∙ sym c.in-Ok-end_source.ensures.tables;
       given = c.in-Ok-end_source.ensures.receipts;
       shown = c.end-replica.result.1.published;
       are = c.end-replica.ensures.published;

@@ -8,7 +8,7 @@ use Rattle.mtr.proofs.threads.lifecycle.new_replica.Goals as goal
 
 pub new-requires-clause-seats : goal.new-requires-clause-seats
 new-requires-clause-seats g c =
-    let base = c.args.core.base in
-    let same : Load c.args.publication.base ∷ [] ≡ Load base ∷ [] = ap (λ (b : List Entry). Load b ∷ []) c.requires.published in
+    let base = g.K.ReplicaNaming.names.base in
+    let same : Load c.args.publication.base ∷ [] ≡ Load base ∷ [] = ap (λ (b : List Entry). Load b ∷ []) c.requires.replica.2 in
     subst (All (λ (seat : List Op). seat ≡ Load base ∷ [])) (sym c.in-Ok.ensures.seats)
     (All-replicate (λ (seat : List Op). seat ≡ Load base ∷ []) c.args.plan.now.seats (Load c.args.publication.base ∷ []) same)

@@ -1,3 +1,4 @@
+use Rattle.replica_shared.specs.Names.{replica_names}
 use Rattle.mtr.proofs.threads.lifecycle.open_and_run.Given as goal
 
 -- the history of receipts that was just made, and the rows and the tables of the source
@@ -6,7 +7,7 @@ ghosts-run_named-J-SourceNaming g a = record { book = a.receipts; base = a.cores
 
 -- the tables, the source and the rows of the replica
 abbrev pub ghosts-run_named-K-ReplicaNaming : goal.ghosts-run_named-K-ReplicaNaming
-ghosts-run_named-K-ReplicaNaming g a = record { tables = a.cores.replica.tables; source = a.cores.replica.source; base = a.cores.replica.base }
+ghosts-run_named-K-ReplicaNaming g a = record { names = replica_names a.cores.replica }
 
 -- the publication that just began, in the order that the replica keeps
 abbrev pub ghosts-run_named-K-Naming : goal.ghosts-run_named-K-Naming

@@ -10,25 +10,25 @@ pub returns-in_err-append-clause-rising : goal.returns-in_err-append-clause-risi
 returns-in_err-append-clause-rising c = in_order_rises c.append.new.entries.items
 
 pub returns-in_err-append-clause-left : goal.returns-in_err-append-clause-left
-returns-in_err-append-clause-left c = rw (← c.overlay.view_is) (in_order_rises c.overlay.inside.left.entries)
+returns-in_err-append-clause-left c = rw (← c.pending.view_is) (in_order_rises c.pending.inside.lists.left.entries)
 
 pub invariant_of-self-2 : goal.invariant_of-self-2
 invariant_of-self-2 c =
     let es = c.self.inside.entries.items in
-    let fs = c.overlay.inside.left.entries in
+    let fs = c.pending.inside.lists.left.entries in
     rw c.in_ok-append.ensures.ok (distinct-append es fs c.self.invariant c.append.ensures.distinct
-    (not_found_yet es fs c.args.self.now c.args.overlay.now c.self.view_is (ap (λ (p : Pending). p.left) c.overlay.view_is) c.requires.apart))
+    (not_found_yet es fs c.args.self.now c.args.pending.now c.self.view_is (ap (λ (p : Pending). p.left) c.pending.view_is) c.requires.apart))
 
 pub returns-clause-ok : goal.returns-clause-ok
 returns-clause-ok c =
     let es = c.self.inside.entries.items in
-    let fs = c.overlay.inside.left.entries in
+    let fs = c.pending.inside.lists.left.entries in
     ap in_order c.in_ok-append.ensures.ok ∙ in_order-append es fs
     ∙ ap (λ (l : List Entry). in_order (l ++ in_order fs)) c.self.view_is
-    ∙ ap (λ (p : Pending). joined c.args.self.now p) c.overlay.view_is
+    ∙ ap (λ (p : Pending). joined c.args.self.now p) c.pending.view_is
 
 pub returns-clause-rising : goal.returns-clause-rising
 returns-clause-rising c = in_order_rises c.append.new.entries.items
 
 pub returns-clause-left : goal.returns-clause-left
-returns-clause-left c = rw (← c.overlay.view_is) (in_order_rises c.overlay.inside.left.entries)
+returns-clause-left c = rw (← c.pending.view_is) (in_order_rises c.pending.inside.lists.left.entries)

@@ -10,12 +10,12 @@ use Rattle.published.proofs.publisher.Publisher.append.Goals as goal
 pub room_for-requires : goal.room_for-requires
 room_for-requires g c =
     let may = subst (λ (p : Publishing). MayAppend g.J.Naming.preserve (p.published ++ p.waiting) c.args.op.now) (sym c.self.view_is) c.requires in
-    (new_number _ _ _ _ _ c.in-Commit.gno c.in-Commit.batch c.self.invariant may c.in-Commit.is).0
+    (new_number c.self.invariant c.in-Commit.is may).0
 
 pub add-requires-2-clause-new : goal.add-requires-2-clause-new
 add-requires-2-clause-new g c =
     let may = subst (λ (p : Publishing). MayAppend g.J.Naming.preserve (p.published ++ p.waiting) c.args.op.now) (sym c.self.view_is) c.requires in
-    let none = (new_number _ _ _ _ _ c.in-Commit.gno c.in-Commit.batch c.self.invariant may c.in-Commit.is).1 in
+    let none = (new_number c.self.invariant c.in-Commit.is may).1 in
     subst (λ (l : List ℕ). has_gno l c.in-Commit.gno ≡ false) (sym c.room_for.ensures.same) none
 
 pub invariant_of-self-2 : goal.invariant_of-self-2
@@ -26,7 +26,7 @@ invariant_of-self-2 g c =
     let same : Commit c.in-Commit.gno c.in_ok-batch.batch ≡ op = ap (Commit c.in-Commit.gno) c.in_ok-batch.ensures ∙ sym c.in-Commit.is in
     let longer = ap puts_in c.in_ok-add.ensures.ok ∙ puts_in-put steps (Commit c.in-Commit.gno c.in_ok-batch.batch) ∙ ap (λ o. puts_in steps ++ o ∷ []) same in
     rw c.add.ensures.desk
-    (tied_put _ _ _ _ c.self.inside.appended.gnos c.add-2.new.self.gnos op c.in-Commit.gno c.in-Commit.batch c.self.invariant may c.in-Commit.is longer
+    (tied_put c.self.invariant c.add-2.new.self.gnos c.in-Commit.is may longer
     (rw (← c.room_for.ensures.same) c.add-2.ensures.has) (rw (← c.room_for.ensures.same) c.add-2.ensures.count))
 
 pub returns-clause-ok : goal.returns-clause-ok

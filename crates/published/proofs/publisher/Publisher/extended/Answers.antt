@@ -7,12 +7,12 @@ use Rattle.published.proofs.publisher.Publisher.extended.Goals as goal
 
 pub and-requires-clause-history : goal.and-requires-clause-history
 and-requires-clause-history g c =
-    subst (λ (p : Publishing). IsHistory g.J.Naming.preserve (c.self.inside.history ++ unsaid p)) c.self.view_is (whole_history _ _ _ _ c.self.invariant)
+    subst (λ (p : Publishing). IsHistory g.J.Naming.preserve (c.self.inside.history ++ unsaid p)) c.self.view_is (whole_history c.self.invariant)
 
 pub and-requires-clause-number : goal.and-requires-clause-number
 and-requires-clause-number g c =
-    subst (λ (p : Publishing). c.count-count.result ≡ commits_in (c.self.inside.history ++ unsaid p)) c.self.view_is (whole_number _ _ _ _ _ c.self.invariant c.count-count.ensures)
+    subst (λ (p : Publishing). c.count-count.result ≡ commits_in (c.self.inside.history ++ unsaid p)) c.self.view_is (whole_number c.self.invariant c.count-count.ensures)
 
 pub and-requires-clause-mark : goal.and-requires-clause-mark
 and-requires-clause-mark g c =
-    subst (λ (p : Publishing). c.upto-upto.result ≡ low_of (gnos_of (c.self.inside.history ++ unsaid p))) c.self.view_is (whole_mark _ _ _ _ _ c.self.invariant c.upto-upto.ensures.mark)
+    subst (λ (p : Publishing). c.upto-upto.result ≡ low_of (gnos_of (c.self.inside.history ++ unsaid p))) c.self.view_is (whole_mark c.self.invariant c.upto-upto.ensures.mark)

@@ -1,7 +1,7 @@
 use Rattle.std.proofs.Common.{◌≡◌, drop, ap, sym, ◌∙◌, ◌++◌, refl}
 use Rattle.std.proofs.lemmas.Result.{err_from_is_err_and}
 use Rattle.store_trait.specs.Operation.{left_by}
-use Rattle.published.specs.Held.{Held}
+use Rattle.published.specs.VersionValue.{VersionValue}
 use Rattle.published.specs.Copies.{puts_in}
 use Rattle.published.specs.Publication.{Publishing, IsTied}
 use Rattle.published.proofs.Steps.{settles, published_after, puts_in-note, tied_known, tied_shown, same_publishing, found}
@@ -20,7 +20,7 @@ invariant_of-self-in_err-show g c =
     let steps = drop c.self.inside.writer.behind c.self.inside.writer.log.items in
     let all = found _ _ _ c.extended.result c.self.view_is c.in-Some.is c.extended.ensures in
     let waits = ap puts_in (c.in_err-show.ensures.err ∙ c.in_ok-add.ensures.ok) ∙ puts_in-note steps c.again.result in
-    rw (c.in_err-show.ensures.same, c.add.ensures.desk, waits) (tied_known _ _ _ c.in-Some.history c.self.inside.appended.gnos c.self.invariant all)
+    rw (c.in_err-show.ensures.same, c.add.ensures.desk, waits) (tied_known c.self.invariant all)
 
 pub returns-in_err-show-clause-err : goal.returns-in_err-show-clause-err
 returns-in_err-show-clause-err g c =
@@ -43,8 +43,7 @@ invariant_of-self-2 g c =
     let whole : c.again.result ≡ published ++ puts_in steps = c.again.ensures ∙ all in
     let done = c.in_ok-show.ensures.shown in
     let settled = settles rows published c.again.result steps after tied.left whole c.in_ok-add.ensures.ok in
-    let left = ap (λ (h : Held). h.rows) done ∙ settled ∙ ap (λ (h : Held). left_by h.by) (sym done) in
-    let by = ap (λ (h : Held). h.by) done ∙ published_after rows published c.again.result steps after c.in_ok-add.ensures.ok ∙ c.again.ensures in
+    let left = ap (λ (h : VersionValue). h.rows) done ∙ settled ∙ ap (λ (h : VersionValue). left_by h.by) (sym done) in
+    let by = ap (λ (h : VersionValue). h.by) done ∙ published_after rows published c.again.result steps after c.in_ok-add.ensures.ok ∙ c.again.ensures in
     rw (ap puts_in c.in_ok-show.ensures.ok)
-    (tied_shown g.J.Naming.preserve rows _ (record p { history = c.in-Some.history }) _ c.self.inside.appended.gnos
-    (tied_known g.J.Naming.preserve rows p c.in-Some.history c.self.inside.appended.gnos tied all) all left by)
+    (tied_shown (tied_known tied all) all left by)

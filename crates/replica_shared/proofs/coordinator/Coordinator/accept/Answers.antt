@@ -3,4 +3,4 @@ use Rattle.replica_shared.proofs.coordinator.Coordinator.accept.Goals as goal
 
 pub invariant_of-self-then-eq : goal.invariant_of-self-then-eq
 invariant_of-self-then-eq g c =
-    whole_grown _ _ _ _ _ _ _ _ _ (receive_grows _ _ _ _ c.in_ok-answer.ensures.ok) c.store_words.ensures.sound c.store_words.ensures.stored c.self.invariant
+    whole_grown c.self.invariant (receive_grows _ _ _ _ c.in_ok-answer.ensures.ok) c.store_words.ensures.sound c.store_words.ensures.stored

@@ -16,5 +16,5 @@ invariant_of-self-then-is_some g c =
     let was = c.self.inside.core in
     let left = left_committed was _ _ c.if-is_some.ensures c.in_ok-next.ensures.ok in
     rw left.1
-    (whole_committed _ _ _ _ _ left.0 _ _ _ (ap (λ (s : State). s.behind) c.self.view_is ∙ c.requires) (runs_where_ok was _ _ c.in_ok-next.ensures.answer)
-    (subst IsSound left.1 c.store_words.ensures.sound) (c.store_words.ensures.stored ∙ ap words_of left.1) c.self.invariant)
+    (whole_committed c.self.invariant left.0 (ap (λ (s : State). s.behind) c.self.view_is ∙ c.requires) (runs_where_ok was _ _ c.in_ok-next.ensures.answer)
+    (subst IsSound left.1 c.store_words.ensures.sound) (c.store_words.ensures.stored ∙ ap words_of left.1))

@@ -6,7 +6,7 @@ use Rattle.replica_shared.proofs.Whole.{whole_dispatched}
 use Rattle.replica_shared.proofs.coordinator.Coordinator.dispatch.Goals as goal
 
 pub invariant_of-self-in-Some : goal.invariant_of-self-in-Some
-invariant_of-self-in-Some g c = whole_dispatched _ _ _ _ _ _ _ _ (search rules) (search rules) (search rules) (search rules) c.self.invariant
+invariant_of-self-in-Some g c = whole_dispatched c.self.invariant (search rules) (search rules) (search rules) (search rules)
 
 pub returns-in-None-clause-none : goal.returns-in-None-clause-none
 returns-in-None-clause-none g c = λ _.

@@ -17,4 +17,4 @@ invariant_of-self-in-Err g c =
     let told = c.in-Err.ensures in
     let stops = stops_refused c.self.inside.core c.args.done c.in-Err.done c.in-Err.fault (Err (c.in-Err.fault, c.in-Err.done)) refl
     (record { of_job = c.requires; sound = c.finish.ensures.sound; refused = told.refused; other = told.other; taken = told.taken }) c.self.invariant.stops in
-    whole_refused _ _ _ _ _ _ c.in-Err.fault _ _ told.err stops c.self.invariant
+    whole_refused c.self.invariant c.in-Err.fault told.err stops

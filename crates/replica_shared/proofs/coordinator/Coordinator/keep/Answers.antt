@@ -21,7 +21,7 @@ invariant_of-self g c =
     let sound = subst (λ (s : State). IsSound s.core) (sym c.self.view_is) c.requires.sound in
     let out = subst (λ (s : State). has_gno s.core.out c.args.job.gno ≡ true) (sym c.self.view_is) c.requires.out in
     let kept : c.lay.new.self ≡ laid was.core c.args.job was.kept = c.lay.ensures ∙ ap (λ (jobs : List Job). jobs ++ c.args.job ∷ []) c.keep_out_beside.ensures in
-    rw kept (whole_beside _ _ _ _ _ _ _ _ _ _ _ (kept_laid _ _ _ sound out c.self.invariant.kept) c.self.invariant.claims c.self.invariant)
+    rw kept (whole_beside c.self.invariant (kept_laid _ _ _ sound out c.self.invariant.kept) c.self.invariant.claims)
 
 pub returns-clause-none_lost : goal.returns-clause-none_lost
 returns-clause-none_lost g c =

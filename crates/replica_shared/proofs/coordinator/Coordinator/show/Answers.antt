@@ -4,7 +4,7 @@ use Rattle.replica_shared.proofs.coordinator.Coordinator.show.Goals as goal
 
 pub publish-requires-2-clause-done : goal.publish-requires-2-clause-done
 publish-requires-2-clause-done g c =
-    let least = appended_within _ _ _ _ _ _ _ _ c.self.invariant.stand in
+    let least = appended_within c.self.invariant.stand in
     let upto = c.in_ok-upto.ensures.number.1 in
     let number = c.self.invariant.stand.number in
     omega arith

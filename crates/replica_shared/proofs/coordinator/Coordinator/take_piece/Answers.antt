@@ -7,8 +7,8 @@ store_words-requires g c = words_rise _ _ c.self.inside.status.stored (takes_gro
 
 pub invariant_of-self : goal.invariant_of-self
 invariant_of-self g c =
-    whole_grown _ _ _ _ _ _ _ _ _ (takes_grow _ _ _ _ _ _ c.take-taken.ensures) c.store_words.ensures.sound c.store_words.ensures.stored c.self.invariant
+    whole_grown c.self.invariant (takes_grow _ _ _ _ _ _ c.take-taken.ensures) c.store_words.ensures.sound c.store_words.ensures.stored
 
 pub invariant_of-self-else-before-accepted : goal.invariant_of-self-else-before-accepted
 invariant_of-self-else-before-accepted g c =
-    whole_same _ _ _ _ _ _ _ _ (same_core _ _ _ _ (takes_grow _ _ _ _ _ _ c.take-taken.ensures) c.accepted-before.ensures c.accepted.ensures c.if-before-accepted.false) c.self.invariant
+    whole_same c.self.invariant (same_core _ _ _ _ (takes_grow _ _ _ _ _ _ c.take-taken.ensures) c.accepted-before.ensures c.accepted.ensures c.if-before-accepted.false)

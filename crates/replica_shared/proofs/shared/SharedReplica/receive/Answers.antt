@@ -10,7 +10,7 @@ returns-clause-answer g c = record {
 }
 
 pub returns-clause-foreign : goal.returns-clause-foreign
-returns-clause-foreign g c = refuses_foreign _ _ _ _ _ _ _ (returns-clause-answer g c)
+returns-clause-foreign g c = refuses_foreign (returns-clause-answer g c)
 
 pub returns-clause-own : goal.returns-clause-own
-returns-clause-own g c = refuses_no_own _ _ _ _ _ _ _ (returns-clause-answer g c)
+returns-clause-own g c = refuses_no_own (returns-clause-answer g c)

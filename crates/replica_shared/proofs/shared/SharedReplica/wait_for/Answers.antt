@@ -10,4 +10,4 @@ pub returns-clause-in_order : goal.returns-clause-in_order
 returns-clause-in_order g c order = ok_both _ _ _ c.wait_for_each.result (λ ops all h. upto_in_order _ ops c.args.gno order h all) c.wait_for_each.ensures.all c.wait_for_each.ensures.history
 
 pub returns-clause-stop : goal.returns-clause-stop
-returns-clause-stop g c = err_weaker _ _ c.wait_for_each.result (λ fault stop. told_upto _ _ _ _ c.args.gno fault stop) c.wait_for_each.ensures.stop
+returns-clause-stop g c = err_weaker _ _ c.wait_for_each.result (λ fault stop. told_upto stop) c.wait_for_each.ensures.stop

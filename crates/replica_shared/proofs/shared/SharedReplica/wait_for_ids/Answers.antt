@@ -14,7 +14,7 @@ returns-then-not-preserve-clause-has g c =
 pub returns-then-not-preserve-clause-stop : goal.returns-then-not-preserve-clause-stop
 returns-then-not-preserve-clause-stop g c =
     let ids = c.intervals-ids in
-    err_weaker _ _ c.wait_for_each.result (λ fault stop. told_set _ _ _ _ c.args.set.now ids.result.now fault ids.ensures.value ids.ensures.valid stop) c.wait_for_each.ensures.stop
+    err_weaker _ _ c.wait_for_each.result (λ fault stop. told_set ids.ensures.value ids.ensures.valid stop) c.wait_for_each.ensures.stop
 
 pub returns-clause-has : goal.returns-clause-has
 returns-clause-has g c =
@@ -26,6 +26,5 @@ returns-clause-has g c =
 pub returns-clause-stop : goal.returns-clause-stop
 returns-clause-stop g c =
     err_weaker _ _ c.wait_for_each-2.result
-    (λ fault stop. told_greatest _ _ _ _ c.args.set.now c.greatest.result c.unwrap_or-last.result fault
-    (sym c.requires ∙ c.if-not-preserve.false) c.greatest.ensures c.unwrap_or-last.ensures stop)
+    (λ fault stop. told_greatest c.greatest.result (sym c.requires ∙ c.if-not-preserve.false) c.greatest.ensures c.unwrap_or-last.ensures stop)
     c.wait_for_each-2.ensures.stop

@@ -10,8 +10,8 @@ give_up_one-requires c =
     let old = c.args.old.now in
     let i = c.loop-row.row-index in
     let row : RowId = get_or old i (record { table = 0; key = pos 0 }) in
-    is_counted old (drop (i + 1) old) row c.args.self.now.counts c.loop-row.self.counts
-    (subst (λ l. Recounts old l c.args.self.now.counts c.loop-row.self.counts) (drop_more old i (record { table = 0; key = pos 0 }) c.loop-row-test.true) c.loop-row.invariant.counts) (c.requires row)
+    is_counted old (drop (i + 1) old) row c.args.self.now.map c.loop-row.self.map
+    (subst (λ l. Recounts old l c.args.self.now.map c.loop-row.self.map) (drop_more old i (record { table = 0; key = pos 0 }) c.loop-row-test.true) c.loop-row.invariant.counts) (c.requires row)
 
 pub loop-row-preserved : goal.loop-row-preserved
 loop-row-preserved c =
@@ -19,12 +19,12 @@ loop-row-preserved c =
     let i = c.loop-row.row-index in
     let row : RowId = get_or old i (record { table = 0; key = pos 0 }) in
     record {
-      counts = next_lost old (drop (i + 1) old) row c.args.self.now.counts c.loop-row.self.counts c.give_up_one.new.self.counts
-          (subst (λ l. Recounts old l c.args.self.now.counts c.loop-row.self.counts) (drop_more old i (record { table = 0; key = pos 0 }) c.loop-row-test.true) c.loop-row.invariant.counts)
+      counts = next_lost old (drop (i + 1) old) row c.args.self.now.map c.loop-row.self.map c.give_up_one.new.self.map
+          (subst (λ l. Recounts old l c.args.self.now.map c.loop-row.self.map) (drop_more old i (record { table = 0; key = pos 0 }) c.loop-row-test.true) c.loop-row.invariant.counts)
           c.give_up_one.ensures.counts;
       room = omega (arith, c.loop-row.invariant.room, c.give_up_one.ensures.room);
     }
 
 pub returns-clause-counts : goal.returns-clause-counts
 returns-clause-counts c =
-    subst (λ l. Recounts c.args.old.now l c.args.self.now.counts c.loop-row.self.counts) (drop_all c.loop-row.row-index c.args.old.now c.loop-row-test.false) c.loop-row.invariant.counts
+    subst (λ l. Recounts c.args.old.now l c.args.self.now.map c.loop-row.self.map) (drop_all c.loop-row.row-index c.args.old.now c.loop-row-test.false) c.loop-row.invariant.counts

@@ -6,10 +6,10 @@ use Rattle.row_index.proofs.Counts.{loaded_counts, few_come}
 use Rattle.row_index.proofs.children.Children.of.Goals as goal
 
 pub take_up-requires-clause-fits : goal.take_up-requires-clause-fits
-take_up-requires-clause-fits c row = few_come c.args.schema.now c.entries-entries.result.now c.reserve.new.self.counts row (c.in_ok-reserve.ensures.counts ∙ c.new-children.ensures)
+take_up-requires-clause-fits c row = few_come c.args.schema.now c.entries-entries.result.now c.reserve.new.self.map row (c.in_ok-reserve.ensures.map ∙ c.new-children.ensures)
 
 pub returns : goal.returns
 returns c =
-    subst (λ (l : List Entry). CountsChildren c.args.schema.now (put_batch l empty) c.take_up.new.self.counts) c.entries-entries.ensures.value
-    (loaded_counts c.args.schema.now c.entries-entries.result.now c.reserve.new.self.counts c.take_up.new.self.counts c.entries-entries.ensures.rising
-    (c.in_ok-reserve.ensures.counts ∙ c.new-children.ensures) c.take_up.ensures)
+    subst (λ (l : List Entry). CountsChildren c.args.schema.now (put_batch l empty) c.take_up.new.self.map) c.entries-entries.ensures.value
+    (loaded_counts c.args.schema.now c.entries-entries.result.now c.reserve.new.self.map c.take_up.new.self.map c.entries-entries.ensures.rising
+    (c.in_ok-reserve.ensures.map ∙ c.new-children.ensures) c.take_up.ensures)

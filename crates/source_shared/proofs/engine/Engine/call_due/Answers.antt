@@ -11,7 +11,7 @@ loop-place-preserved g c =
     elim c.if-sleeps.branch [
       | then-sleeps w ↦
           rw (w.self-is, w.called-is, w.lead-is, w.left-is)
-          (then_asleep _ _ _ _ _ _ _ c.asleep-left.ensures.sessions c.loop-place-test.true
+          (then_asleep c.asleep-left.ensures.sessions c.loop-place-test.true
           (sym c.sleeps.ensures ∙ w.if-sleeps.true) c.loop-place.invariant _ _ _ w.call_one-lead.ensures.lead w.call_one-lead.ensures.called w.call_one-lead.ensures.left)
       | else-sleeps w ↦
           rw (w.self-is, w.called-is, w.lead-is, w.left-is)

@@ -2,7 +2,7 @@ use Rattle.std.proofs.Common.{refl, arith}
 use Rattle.tests_source.proofs.tests.source.source.Goals as goal
 
 pub new-requires-clause-fits : goal.new-requires-clause-fits
-new-requires-clause-fits c = c.if-not-fits.ensures.0 refl
+new-requires-clause-fits c = c.if-not-fits.ensures.fit.0 refl
 
 pub new-requires-clause-some : goal.new-requires-clause-some
 new-requires-clause-some c = omega arith

@@ -1,0 +1,4 @@
+pub mod Logged
+pub mod Made
+pub mod Goes
+pub mod Lives

@@ -1,0 +1,6 @@
+pub mod Durable
+pub mod Calls
+pub mod Crash
+pub mod Making
+pub mod Opening
+pub mod Laws

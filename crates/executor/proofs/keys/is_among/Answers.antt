@@ -1,8 +1,0 @@
-use Rattle.std.proofs.Common.{◌∙◌}
-use Rattle.executor.proofs.KeySets.{is_found}
-use Rattle.executor.proofs.keys.is_among.Goals as goal
-
-pub returns : goal.returns
-returns g c =
-    c.is_ok.ensures.value
-    ∙ is_found g.met.K.Ord.total c.args.sorted.now c.args.key.now c.binary_search.result c.requires c.binary_search.ensures.bound c.binary_search.ensures.position

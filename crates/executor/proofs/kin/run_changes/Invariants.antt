@@ -1,9 +1,0 @@
-use Rattle.rows.specs.Database.{Database}
-use Rattle.executor.specs.Shown.{IsShown}
-use Rattle.executor.proofs.Running.{HasRun}
-use Rattle.executor.proofs.kin.run_changes.Given as goal
-
-abbrev pub invariant-loop-change : goal.invariant-loop-change
-invariant-loop-change g l =
-    (db : Database) → IsShown l.schema l.changes (g.S.RowStore.contents l.store) l.holders db
-    → HasRun l.schema l.changes db l.change-index l.run.overlay l.run.kin.items l.run.marks.items

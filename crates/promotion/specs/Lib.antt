@@ -1,0 +1,2 @@
+pub mod Promotion
+pub mod Laws

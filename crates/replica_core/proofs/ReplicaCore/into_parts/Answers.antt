@@ -1,0 +1,10 @@
+use Rattle.replica_core.proofs.Kept.{stands, sound_as_seen}
+use Rattle.replica_core.proofs.Showing.{rows_apart}
+use Rattle.replica_core.proofs.ReplicaCore.into_parts.Goals as goal
+
+pub returns-clause-apart : goal.returns-clause-apart
+returns-clause-apart g c =
+    rw (c.into_parts-schema.ensures.tables, c.into_store.ensures) (rows_apart _ _ (stands c.self.invariant) c.self.invariant.log.rows_are)
+
+pub returns-clause-sound : goal.returns-clause-sound
+returns-clause-sound g c = sound_as_seen c.self.invariant c.self.view_is

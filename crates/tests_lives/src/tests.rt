@@ -1,0 +1,7 @@
+mod courses;
+mod durable;
+mod promotions;
+mod replays;
+mod replicas;
+mod starts;
+mod trackers;
