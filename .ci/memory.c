@@ -1,8 +1,13 @@
-// What is loaded before the C library (`.ci/preload`). Of the calls that CALL names, `memory`, `read` or `write`, it refuses the one whose
-// number REFUSE is and as many behind it as BEHIND says, a read or a write with the error ERROR, and says so to descriptor 9. Where CALL
-// is `file` these are the calls that change a file at a place, cut it or have it kept; where it is `half`, the first half of the bytes
-// is written before such a write is refused. Where CALL is `count` it tells descriptor 9 at the end how many requests for memory there
-// were, and of how many bytes in all.
+// What is loaded before the C library (`.ci/preload`). Of the calls that CALL names it refuses the one whose number REFUSE is and as many
+// after it as BEHIND says, all but `memory` with the error ERROR, and says so to descriptor 9. CALL is one of these words:
+//
+// - `memory`: the requests for memory; `entropy`: those for bytes at random
+// - `read` and `write`: the reads of standard input, and the writes to the two other streams
+// - `look`: the reads of files
+// - `file`: the calls that change a file, cut it or have it kept; `half`: the same, but of a write the first half of the bytes is written
+//   before it is refused
+//
+// If CALL is `count` it tells descriptor 9 at the end how many requests for memory there were, and of how many bytes in all.
 extern void *__libc_malloc(unsigned long);
 extern void *__libc_realloc(void *, unsigned long);
 extern char *getenv(const char *);
@@ -70,15 +75,22 @@ void *malloc(unsigned long size) { return has_memory(size) ? __libc_malloc(size)
 
 void *realloc(void *old, unsigned long size) { return has_memory(size) ? __libc_realloc(old, size) : 0; }
 
-long read(int from, void *bytes, unsigned long size) {
-    return from == 0 && is_refused('r') ? failed() : syscall(0, from, bytes, size);
+int getentropy(void *bytes, unsigned long size) {
+    if (is_refused('e')) return failed();
+    return syscall(318, bytes, size, 0) == (long)size ? 0 : -1;
 }
 
-long write(int to, const void *bytes, unsigned long size) {
-    return (to == 1 || to == 2) && is_refused('w') ? failed() : syscall(1, to, bytes, size);
-}
+long read(int from, void *bytes, unsigned long size) { return is_refused(from ? 'l' : 'r') ? failed() : syscall(0, from, bytes, size); }
+
+long pread(int from, void *bytes, unsigned long size, long at) { return is_refused('l') ? failed() : syscall(17, from, bytes, size, at); }
 
 static int is_refused_of_file(void) { return is_refused('f') || is_refused('h'); }
+
+long write(int to, const void *bytes, unsigned long size) {
+    if (to == 1 || to == 2 ? !is_refused('w') : !is_refused_of_file()) return syscall(1, to, bytes, size);
+    if (call == 'h') syscall(1, to, bytes, size / 2);
+    return failed();
+}
 
 long pwrite(int to, const void *bytes, unsigned long size, long at) {
     if (!is_refused_of_file()) return syscall(18, to, bytes, size, at);

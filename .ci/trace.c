@@ -1,14 +1,14 @@
 // What is loaded before the C library (`.ci/preload`) to tell descriptor 9 what a program does with files, a line a call that
-// succeeded, in order: what it opens or makes, locks, reads, writes, cuts, syncs, renames and removes, and what it tells on standard
-// output. A file is called by the last part of its path, a folder `folder`; what stands behind it is a place and a count of bytes. A sync
-// is one whether it keeps the times too or not, and one call of no bytes is none.
+// succeeded, in order: what it opens or makes, locks, reads, writes, cuts, syncs, renames and removes; and each line that it tells on
+// standard output, once the line is whole, or how many bytes it sends there that are no text. A file is called by the last part of its path, a folder `folder`; what stands after it is a
+// place and a count of bytes. A sync is one whether it keeps the times too or not, and one call of no bytes is none.
 extern long syscall(long, ...);
-enum { WRITE = 1, OPEN = 2, FSTAT = 5, PREAD = 17, PWRITE = 18, FLOCK = 73, FSYNC = 74, FDATASYNC = 75, FTRUNCATE = 77, RENAME = 82, UNLINK = 87,
+enum { READ = 0, WRITE = 1, OPEN = 2, FSTAT = 5, LSEEK = 8, PREAD = 17, PWRITE = 18, FLOCK = 73, FSYNC = 74, FDATASYNC = 75, FTRUNCATE = 77, RENAME = 82, UNLINK = 87,
        OPENAT = 257, UNLINKAT = 263 };
 enum { FILES = 64, LENGTH = 32, MAKES = 0100, FOLDER = 0040000, KIND = 0170000 };
 static char names[FILES][LENGTH];
-static char line[512];
-static unsigned long end;
+static char line[512], told[512];
+static unsigned long end, told_end;
 
 static void put(const char *text, unsigned long length) {
     for (unsigned long at = 0; at < length && end < sizeof line; at++) line[end++] = text[at];
@@ -108,12 +108,36 @@ int unlinkat(int from, const char *path, int flags) {
     return came;
 }
 
-long write(int to, const void *bytes, unsigned long size) {
-    long came = syscall(WRITE, to, bytes, size);
-    if (to == 1 && came > 0) {
-        word("tell "), put(bytes, ((const char *)bytes)[came - 1] == '\n' ? came - 1 : came), tell();
-    } else if (to > 2) {
-        placed("write", to, 0, came);
+// Text is told line by line; of other bytes how many were sent.
+static void tell_lines(const char *bytes, long count) {
+    for (long at = 0; at < count; at++) {
+        if (!bytes[at]) {
+            word("send"), number(count), tell();
+            return;
+        }
     }
-    return came;
+    for (long at = 0; at < count; at++) {
+        if (bytes[at] == '\n') {
+            word("tell "), put(told, told_end), tell();
+            told_end = 0;
+        } else if (told_end < sizeof told) {
+            told[told_end++] = bytes[at];
+        }
+    }
+}
+
+// Where the next byte of the file is read or written.
+static unsigned long place_of(int file) { return syscall(LSEEK, file, 0, 1); }
+
+long write(int to, const void *bytes, unsigned long size) {
+    unsigned long at = to > 2 ? place_of(to) : 0;
+    long came = syscall(WRITE, to, bytes, size);
+    if (to == 1) tell_lines(bytes, came);
+    return to > 2 ? placed("write", to, at, came) : came;
+}
+
+long read(int from, void *bytes, unsigned long size) {
+    unsigned long at = from > 2 ? place_of(from) : 0;
+    long came = syscall(READ, from, bytes, size);
+    return from > 2 ? placed("read", from, at, came) : came;
 }

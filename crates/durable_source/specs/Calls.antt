@@ -41,8 +41,11 @@ pub record SyncFails {D : Type 0} (old new : Durable D) : Type 0 where
   pub log : FailsToPut group old.set.log new.set.log
   pub files : HasSameFiles old.set new.set
 
--- memory ran out: nothing changed, but that the last file's device may have been called
+-- memory ran out: the group goes on waiting, and nothing changed, but that the last file's device may have been called
 pub record SyncLacks {D : Type 0} (old new : Durable D) : Type 0 where
+  pub group : GroupValue
+  pub others : List GroupValue
+  pub waits : old.unsynced ≡ group ∷ others
   pub same : new ≡ record old { set = new.set }
   pub log : new.set.log ≡ old.set.log
   pub files : HasSameFiles old.set new.set

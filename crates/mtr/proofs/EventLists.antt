@@ -6,8 +6,9 @@ use Rattle.std.proofs.Math.ListN.{set}
 use Rattle.std.proofs.lemmas.List.{take-append-le, drop-append-le, take_all, length-drop}
 use Rattle.std.proofs.lemmas.List.Sums.{sum_by-cons}
 use Rattle.world.specs.declared.events.Event.{Event}
-use Rattle.mtr.specs.declared.kept.KeptEvent.{KeptEvent}
-use Rattle.mtr.specs.Events.{AreWhole, Keeps, one_or_none, width_of, event_of, events_of, events_in}
+use Rattle.script_text.specs.declared.kept.KeptEvent.{KeptEvent}
+use Rattle.script_text.specs.Kept.{Keeps, width_of, event_of}
+use Rattle.mtr.specs.Events.{AreWhole, one_or_none, events_of, events_in}
 
 nothing : (columns : List ℤ) → 0 ≡ length columns → columns ≡ []
 nothing [] e = refl

@@ -1,25 +1,23 @@
 -- Hexadecimal text, a piece behind another.
-use Rattle.std.proofs.Common.{◌≡◌, ◌∙◌, sym, ap, ap₂, refl, ℕ, ◌+◌, ◌*◌, ◌/◌, ◌%◌, ◌<◌, Bool, true, false, not, List, [], ◌∷◌, ◌++◌, length, length-append, take, drop, get_or, map, append_assoc}
+use Rattle.std.proofs.Common.{◌≡◌, ◌∙◌, sym, ap, ap₂, refl, ℕ, ◌+◌, ◌*◌, ◌/◌, ◌%◌, ◌<◌, Bool, true, false, List, [], ◌∷◌, ◌++◌, length, length-append, take, drop, get_or, map, append_assoc}
 use Rattle.std.proofs.Common.{append-nil, Option, Some, None, option_to_list, arith, Contains, subst, take-append-drop, zero, suc}
-use Rattle.std.specs.List.{filter, flat_map}
+use Rattle.std.specs.List.{flat_map}
 use Rattle.std.specs.Prelude.{IfSome}
 use Rattle.std.specs.Io.KnownBytes.{Consumes, IsAtEnd}
 use Rattle.std.proofs.lemmas.Grind.{flat_map-append}
-use Rattle.std.proofs.lemmas.List.{map-append, take_more}
-use Rattle.std.proofs.lemmas.List.Elements.{filter-append, Contains-append_left, Contains-append_right}
+use Rattle.std.proofs.lemmas.List.{take_more}
+use Rattle.std.proofs.lemmas.List.Elements.{Contains-append_left, Contains-append_right}
 use Rattle.std.proofs.lemmas.Nat.{div-mul-add}
 use Rattle.std.specs.Prelude.{MatchOption, MatchResult}
 use Rattle.std.specs.Option.{ok_or}
 use Rattle.mtr.specs.declared.ending.Stop.TheVariants as stops
-use Rattle.mtr.specs.Hex.{is_white, hex_digit, digits_read, halves, digits_of, SaysBytes, SaysNone, IsUnread, GoesOnBy}
+use Rattle.script_text.specs.HexText.{is_white, hex_digit, digits_read, halves, digits_of, SaysBytes}
+use Rattle.script_text.proofs.HexBack.{digits_behind, one_digit}
+use Rattle.mtr.specs.Hex.{SaysNone, IsUnread, GoesOnBy}
 
 pub no_digits : digits_of [] ≡ []
 unfolding digits_of
 no_digits = refl
-
-pub nothing_read : digits_read [] ≡ []
-unfolding digits_read
-nothing_read = refl
 
 high_half : (high low : ℕ) → low < 16 → (high * 16 + low) / 16 ≡ high
 high_half high low below = div-mul-add high 16 low below
@@ -54,18 +52,9 @@ pub alone_digit : (bytes others : List ℕ) (high : ℕ) → digits_of bytes ++ 
 alone_digit bytes others high e =
     omega (arith, two_each bytes, two_each others, ap length e, length-append (digits_of bytes) (high ∷ []))
 
-pub digits_behind : (text more : List ℕ) → digits_read (text ++ more) ≡ digits_read text ++ digits_read more
-unfolding digits_read
-digits_behind text more =
-    ap (map hex_digit) (filter-append (λ c. not (is_white c)) text more) ∙ map-append hex_digit (filter (λ c. not (is_white c)) text) (filter (λ c. not (is_white c)) more)
-
 pub white_is_none : (c : ℕ) → is_white c ≡ true → digits_read (c ∷ []) ≡ []
 unfolding digits_read
 white_is_none c e = rw e refl
-
-pub one_digit : (c : ℕ) (digit : Option ℕ) → is_white c ≡ false → hex_digit c ≡ digit → digits_read (c ∷ []) ≡ digit ∷ []
-unfolding digits_read
-one_digit c digit e h = rw e (ap (λ d. d ∷ []) h)
 
 -- the digits of one character more
 read_more : (text : List ℕ) (i d c : ℕ) → i < length text → c ≡ get_or text i d → digits_read (take (i + 1) text) ≡ digits_read (take i text) ++ digits_read (c ∷ [])

@@ -8,7 +8,7 @@ use Rattle.clap.specs.declared.builder.value_parser.ValueParser.TheVariants as p
 use Rattle.clap.proofs.ValueTestLemmas.{accepts-Accepts, Accepts-accepts}
 use Rattle.std.proofs.lemmas.Bool.{le-leb, lt-leb}
 use Rattle.clap.proofs.WalkLemmas.{both, one_text-rows}
-use Rattle.mtr.specs.Words.{◌>>=◌}
+use Rattle.script_text.specs.Words.{◌>>=◌}
 use Rattle.mtr.specs.Options.{number_of}
 
 -- a number of the range

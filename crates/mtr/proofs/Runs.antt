@@ -15,8 +15,8 @@ use Rattle.mtr.specs.declared.ending.Stop.{Stop}
 use Rattle.mtr.specs.Ending.{IsCutOff, PrintsNoReply}
 use Rattle.mtr.specs.Script.{Said}
 use Rattle.mtr.specs.Pair.{BeginsWith, GoesOn, Prints, setup_of}
-use Rattle.mtr.specs.Printing.{line_of}
-use Rattle.mtr.proofs.Pieces.{along}
+use Rattle.script_text.specs.Printing.{line_of}
+use Rattle.script_text.proofs.Pieces.{along}
 
 run_along : {D R : Type 0} (contents : R → Database) (setup : Setup) (es fs : List Event) (rs ss : List Reply) (w : World D R) → es ≡ fs → rs ≡ ss → HasRun contents setup es rs w →
     HasRun contents setup fs ss w

@@ -4,11 +4,11 @@ use Rattle.std.specs.Str.{is_utf8, IsUtf8}
 use Rattle.std.proofs.lemmas.Str.{IsUtf8-from_is_utf8, is_utf8-from_IsUtf8}
 use Rattle.std.specs.Option.{option_map, option_map_or, IfSome}
 use Rattle.std.specs.List.{slice_split}
-use Rattle.mtr.specs.Lines.{About, about, skipped, event, line_of, text_line}
-use Rattle.mtr.specs.Script.{Said, added, said_with, said_by, script_of, Knows, LeavesLines}
-use Rattle.mtr.specs.Words.{Word, ◌>>=◌}
-use Rattle.mtr.specs.declared.script.Line.{Line}
-use Rattle.mtr.specs.Command.{event_of}
+use Rattle.script_text.specs.Lines.{About, about, skipped, event, line_of, text_line, LeavesLines}
+use Rattle.mtr.specs.Script.{Said, added, said_with, said_by, script_of, Knows}
+use Rattle.script_text.specs.Words.{Word, ◌>>=◌}
+use Rattle.script_text.specs.declared.lines.Line.{Line}
+use Rattle.script_text.specs.Command.{event_of}
 use Rattle.mtr.specs.Events.{one_or_none}
 use Rattle.world.specs.declared.events.Event.{Event}
 use Rattle.std.specs.Prelude.{IfOk, OnOk}

@@ -1,17 +1,10 @@
-pub mod Number
-pub mod Words
-pub mod Command
-pub mod Lines
 pub mod Events
 pub mod Script
 pub mod Any
 pub mod Options
 pub mod Pair
-pub mod Printing
 pub mod Ending
 pub mod Hex
-pub mod LogLines
 pub mod Decode
-pub mod HexText
 pub mod Reading
 pub mod Threads

@@ -9,8 +9,8 @@ use Rattle.clap.specs.ValueTests.{is_unsigned_in}
 use Rattle.clap.specs.declared.builder.value_parser.ValueParser.TheVariants as parsers
 use Rattle.clap.specs.declared.error.kind.ErrorKind.{ErrorKind}
 use Rattle.clap.specs.declared.error.kind.ErrorKind.TheVariants as kinds
-use Rattle.mtr.specs.Words.{◌>>=◌}
-use Rattle.commit_order_tracker.specs.Tracker.{by_order}
+use Rattle.script_text.specs.Words.{◌>>=◌}
+use Rattle.any_tracker.specs.Any.{mode_named, kind_for as tracker_kind}
 use Rattle.tracker_trait.specs.Kind.{Kind}
 use Rattle.tracker_trait.specs.declared.Tracking.{Tracking}
 use Rattle.tracker_trait.specs.declared.Tracking.TheVariants as modes
@@ -96,14 +96,6 @@ abbrev pub number_of : Text → ℕ → ℕ → List Row → Option ℕ
 number_of name least greatest rows = do
   text ← one_of name rows
   if is_unsigned_in least greatest text then Some (digits_value 10 (without_leading_plus text)) else None
-
--- the mode of this name
-abbrev pub mode_named : Text → Option Tracking
-mode_named name =
-    if bytes_eq name (codes "commit-order") then Some modes.CommitOrder
-    else if bytes_eq name (codes "writeset") then Some modes.Writeset
-    else if bytes_eq name (codes "writeset-session") then Some modes.WritesetSession
-    else None
 
 -- the mode that the words name, or the one by default
 abbrev pub mode_of : List Row → Option Tracking
@@ -226,10 +218,6 @@ pub record TellsFaults (words : List Text) (answer : Result Options LineFault) :
   pub are : AreNames names
   pub told : MatchResult answer (λ _. fault_of (program names) words ≡ []) (IsOfWords names words)
 
--- what a tracker is made for that these options ask for; the commit order keeps no history
+-- what a tracker is made for that these options ask for
 abbrev pub kind_for : Sides → Kind
-kind_for sides = elim sides.tracker [
-  | modes.CommitOrder ↦ by_order
-  | modes.Writeset ↦ record { mode = modes.Writeset; limit = sides.history }
-  | modes.WritesetSession ↦ record { mode = modes.WritesetSession; limit = sides.history }
-]
+kind_for sides = tracker_kind sides.tracker sides.history

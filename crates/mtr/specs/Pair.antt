@@ -7,7 +7,6 @@ use Rattle.schema.specs.declared.RowId.{RowId}
 use Rattle.schema.specs.declared.Table.{Table}
 use Rattle.store_trait.specs.Batch.{Entry, put_batch, all_rows}
 use Rattle.tracker_trait.specs.Kind.{Kind}
-use Rattle.log_index.specs.declared.Entry.{Entry as Seen}
 use Rattle.record_codec.specs.declared.records.Record.{Record}
 use Rattle.world.specs.declared.events.Event.{Event}
 use Rattle.world.specs.declared.events.Reply.{Reply}
@@ -15,7 +14,7 @@ use Rattle.world.specs.Laws.{IsOnlyAnswer}
 use Rattle.world.specs.Legal.{Setup, AreLegal}
 use Rattle.world.specs.Run.{HasRun}
 use Rattle.world.specs.State.{World}
-use Rattle.mtr.specs.Printing.{lines_of}
+use Rattle.script_text.specs.Printing.{lines_of}
 use Rattle.mtr.specs.Script.{Said, script_of}
 
 -- the row is there
@@ -25,10 +24,6 @@ present row = (row.0, Some row.1)
 -- the identifier of the program's source
 abbrev pub source : List ℕ
 source = 109 ∷ 116 ∷ 114 ∷ 0 ∷ 0 ∷ 0 ∷ 64 ∷ 0 ∷ 128 ∷ 0 ∷ 0 ∷ 0 ∷ 0 ∷ 0 ∷ 0 ∷ 1 ∷ []
-
--- a new tracker, which has seen no log
-abbrev pub IsNewTracker : {T : Type 0} → (T → List Table → List Seen → Type 0) → T → Type 0
-IsNewTracker agrees tracker = (ts : List Table) → agrees tracker ts []
 
 -- what the pair begins with: this source, these tables, the rows that the batch loads, parents by a tracker of this kind, so many
 -- workers, and whether the replica commits in the order of the log

@@ -1,6 +1,6 @@
 -- Scripts: in which order lines may come, and what a text says line by line.
-use Rattle.std.specs.Prelude.{◌≡◌, ℕ, ◌+◌, ℤ, Bool, true, false, ◌==◌, ◌&&◌, if◌then◌else◌, List, [], ◌∷◌, ◌++◌, length, Option, Some, None, Result, Ok, Err}
-use Rattle.std.specs.List.{All, slice_split}
+use Rattle.std.specs.Prelude.{◌≡◌, ℕ, ◌+◌, ℤ, ◌==◌, ◌&&◌, if◌then◌else◌, List, [], ◌∷◌, ◌++◌, length, Option, Some, None, Result, Ok, Err}
+use Rattle.std.specs.List.{slice_split}
 use Rattle.std.specs.Option.{option_map_or}
 use Rattle.schema.specs.declared.RowId.{RowId}
 use Rattle.schema.specs.declared.Table.{Table}
@@ -8,9 +8,9 @@ use Rattle.world.specs.declared.events.Event.{Event}
 use Rattle.mtr.specs.declared.ending.Stop.{Stop}
 use Rattle.mtr.specs.declared.ending.Stop.TheVariants as stops
 use Rattle.mtr.specs.declared.script.Script.{Script}
-use Rattle.mtr.specs.Words.{◌>>=◌}
-use Rattle.mtr.specs.Lines.{About, skipped, table, base, event, table_of, base_of, line_of}
-use Rattle.mtr.specs.Command.{event_of}
+use Rattle.script_text.specs.Words.{◌>>=◌}
+use Rattle.script_text.specs.Lines.{About, skipped, table, base, event, table_of, base_of, line_of}
+use Rattle.script_text.specs.Command.{event_of}
 
 -- a script as its lists
 pub record Said : Type 0 where
@@ -66,20 +66,6 @@ Says text (Err (stops.Log fault)) = ⊥
 abbrev pub SaysIn : {A : Type 0} → List ℕ → Script → Result A Stop → Type 0
 SaysIn text script (Ok done) = script_of text ≡ Ok (said script)
 SaysIn text script (Err stop) = Says text (Err stop)
-
--- one line: it has no LF
-abbrev pub IsLine : List ℕ → Type 0
-IsLine line = All (λ b. (b == 10) ≡ false) line
-
--- the text is this line and, where there is more, these bytes behind its LF
-abbrev pub LeavesLines : List ℕ → List ℕ → Bool → Option (List ℕ) → Type 0
-LeavesLines text line true rest = (more : List ℕ) × (rest ≡ Some more) × (slice_split (λ b. b == 10) text ≡ line ∷ slice_split (λ b. b == 10) more)
-LeavesLines text line false rest = slice_split (λ b. b == 10) text ≡ line ∷ []
-
--- the LF at the end was taken off; or there is none
-abbrev pub TakesEnd : List ℕ → List ℕ → Bool → Type 0
-TakesEnd old new true = old ≡ new ++ 10 ∷ []
-TakesEnd old new false = (new ≡ old) × ((front : List ℕ) → old ≡ front ++ 10 ∷ [] → ⊥)
 
 -- a fact of the text that was known, and of what is left of it
 abbrev pub Knows : Option (List ℕ) → Option (List ℕ) → (List ℕ → List ℕ → Type 0) → Type 0

@@ -8,7 +8,8 @@ ghost use Rattle.mtr.specs.Options.{program, run_app, source_app, sides_app, thr
 ghost use Rattle.mtr.specs.Options.{mode_of, store_of, preserve_of, number_of, most_calls, IsWithin, AreSides, sides_of, threads_options};
 ghost use Rattle.mtr.specs.Options.{options_for, AsksFor, TellsFaults, IsInRange, IsByDefault, IsOfKind};
 
-use crate::options::{LineFault, Options, Plan, Sides, Store, mode_named, preserve_named};
+use crate::options::{LineFault, Options, Plan, Sides, Store, preserve_named};
+use any_tracker::mode_named;
 use clap::error::ErrorKind;
 use clap::{Arg, ArgMatches, Command, value_parser};
 use std::alloc::{AllocError, Global};

@@ -1,14 +1,14 @@
 //! The events of a script, kept short (`kept`) and in pieces until they are run.
 
 ghost use Rattle.std.specs.Prelude.{◌≡◌, ◌≤◌, ◌+◌, ◌++◌, [], ◌==◌, length, vec_len, vec_capacity, is_some, IfOk, OnOk, OnErr};
-ghost use Rattle.mtr.specs.Command.{event_of};
+ghost use Rattle.script_text.specs.Command.{event_of};
 ghost use Rattle.mtr.specs.Events.{AreWhole, events_of, one_or_none, events_in};
 
-use crate::command::keep;
-use crate::kept::KeptEvent;
-use crate::words::Words;
 use rows::Change;
 use schema::Memory;
+use script_text::command::keep;
+use script_text::kept::KeptEvent;
+use script_text::words::Words;
 use std::alloc::Global;
 use std::marker::Model;
 use world::Event;

@@ -1,35 +1,26 @@
 //! The program `mtr`: it runs a script over one source and one replica, and prints what each event answers; it runs a
 //! source and a replica in many threads, and compares them; or it prints the records of a log file.
 //!
-//! `command_line` reads what the words ask for. To run a script, `script` reads the whole of it, and `pair` makes the
-//! two sides, with the store and the tracker that are asked for (`any_store`, `any_tracker`); so nothing is done before all is
-//! read and checked. `run` runs the events, which are kept short (`kept`), piece by piece (`events`), and what they print stands
-//! in `printing`, over `short`. `threads` runs both sides in many threads. To print a log file, `decode` reads it by `hex` and
-//! prints the lines of `log_lines`. Each fault and its exit status stand in `ending`; `serve` does it all over any reader and
+//! `command_line` reads what the words ask for. To run a script, `script` reads the whole of it, by the lines of `script_text`, and
+//! `pair` makes the two sides, with the store and the tracker that are asked for (`any_store`, and the crate `any_tracker`); so nothing
+//! is done before all is read and checked. `run` runs the events, which are kept short, piece by piece (`events`), and prints their
+//! replies by `script_text`. `threads` runs both sides in many threads. To print a log file, `decode` reads it by `hex` and
+//! prints its lines by `script_text`. Each fault and its exit status stand in `ending`; `serve` does it all over any reader and
 //! two writers.
 #![tactic(auto)]
 
 mod any_store;
-mod any_tracker;
-mod command;
 mod command_line;
-mod cut;
 mod decode;
 mod ending;
 mod events;
 mod hex;
-mod kept;
-mod log_lines;
-mod number;
 mod options;
 mod pair;
-mod printing;
 mod run;
 mod script;
 mod serve;
-mod short;
 mod threads;
-mod words;
 
 use serve::run_program;
 use std::env;

@@ -1,7 +1,7 @@
 //! What the command line asks for.
 
 ghost use Rattle.std.specs.Prelude.{◌≡◌};
-ghost use Rattle.mtr.specs.Options.{mode_named, preserve_named};
+ghost use Rattle.mtr.specs.Options.{preserve_named};
 
 use std::alloc::AllocError;
 use thiserror::Error;
@@ -36,18 +36,6 @@ pub struct Sides {
     pub workers: usize,
     /// Whether the replica commits in the order of the log: MySQL's `replica_preserve_commit_order`.
     pub preserve: bool,
-}
-
-/// How the source finds the parents of transactions, by its name.
-pub fn mode_named(name: &str) -> Option<Tracking>
-    ensures { result ≡ mode_named name.now }
-{
-    match name {
-        "commit-order" => Some(Tracking::CommitOrder),
-        "writeset" => Some(Tracking::Writeset),
-        "writeset-session" => Some(Tracking::WritesetSession),
-        _ => None,
-    }
 }
 
 /// Whether the replica commits in the order of the log, by the word for it.

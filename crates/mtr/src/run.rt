@@ -6,22 +6,23 @@ ghost use Rattle.world.specs.State.{IsWorld};
 ghost use Rattle.world.specs.Seen.{seen};
 ghost use Rattle.mtr.specs.Events.{events_in};
 ghost use Rattle.mtr.specs.Script.{said};
-ghost use Rattle.mtr.specs.Printing.{lines_of};
+ghost use Rattle.script_text.specs.Printing.{lines_of};
 ghost use Rattle.mtr.specs.Ending.{IsCutOff, PrintsNoReply};
 ghost use Rattle.mtr.specs.Options.{AreSides, kind_for};
-ghost use Rattle.mtr.specs.Pair.{IsNewTracker, BeginsWith, GoesOn, Prints, PrintsText};
+ghost use Rattle.mtr.specs.Pair.{BeginsWith, GoesOn, Prints, PrintsText};
+ghost use Rattle.any_tracker.specs.Any.{IsNewTracker};
 
 use crate::any_store::AnyStore;
-use crate::any_tracker::AnyTracker;
 use crate::ending::Stop;
 use crate::events::Piece;
 use crate::options::Sides;
 use crate::pair::{Devices, MAX_RECORDS, NewStore, SOURCE, base_of, parts_over};
-use crate::printing::write_replies;
 use crate::script::Script;
+use any_tracker::AnyTracker;
 use log_device::Device;
 use rows::Row;
 use schema::{RowId, Schema, Table};
+use script_text::printing::write_replies;
 use std::alloc::Global;
 use std::io::{BufReader, Read, Write};
 use store_trait::RowStore;
@@ -53,7 +54,7 @@ pub fn run_text<D: Device + Drop, R: Read, W: Write>(
 {
     let mut input = BufReader::with_capacity(alloc, CHUNK, input)?;
     let script = Script::read(alloc, &mut input)?;
-    let tracker = AnyTracker::of(alloc, sides)?;
+    let tracker = AnyTracker::of(alloc, sides.tracker, sides.history as u32)?;
     run_script::<AnyStore, AnyTracker, D, W>(alloc, sides, tracker, devices, script, output)
 }
 

@@ -7,7 +7,6 @@ ghost use Rattle.mtr.specs.Options.{IsInRange, AreSides, kind_for};
 ghost use Rattle.mtr.specs.Pair.{PrintsText};
 
 use crate::any_store::AnyStore;
-use crate::any_tracker::AnyTracker;
 use crate::command_line::{NOT_UTF8, asked};
 use crate::decode::decode;
 use crate::ending::{Ending, Stop};
@@ -15,6 +14,7 @@ use crate::options::{LineFault, Options, Plan, Sides};
 use crate::pair::devices_in_memory;
 use crate::run::run_text;
 use crate::threads::run_threads;
+use any_tracker::AnyTracker;
 use std::alloc::Global;
 use std::env::Args;
 use std::io;
@@ -133,7 +133,7 @@ fn threads<H: Threads + Wait + Sync, W: Write, E: Write>(
 ) -> Ending
     requires { IsInRange (Options.Threads plan.now) }
 {
-    match AnyTracker::of(alloc, plan.sides) {
+    match AnyTracker::of(alloc, plan.sides.tracker, plan.sides.history as u32) {
         Ok(tracker) => tell_ending(
             run_threads::<AnyStore, AnyTracker, H, W>(rt, alloc, tracker, plan, output),
             errors,

@@ -23,7 +23,7 @@ mod trouble;
 ghost use Rattle.std.specs.Prelude.{◌≡◌, ◌++◌, ◌∷◌, [], IfOk, IfSome, OnOk};
 ghost use Rattle.std.specs.Io.KnownBytes.{Appends};
 ghost use Rattle.mtr.specs.Options.{IsInRange};
-ghost use Rattle.mtr.specs.Pair.{IsNewTracker};
+ghost use Rattle.any_tracker.specs.Any.{IsNewTracker};
 ghost use Rattle.mtr.specs.Threads.{IsEnded, IsVerdictOf, PrintsVerdict, verdict_text, ending_for};
 
 use crate::ending::{Ending, Stop};

@@ -78,8 +78,10 @@ where
     })
 }
 
-/// What the source begins with beside the replica's rows.
-fn opening_of<S: RowStore>(
+/// What a source begins with that the replica becomes under this identifier: its tables, and its rows after its commits. It only looks at
+/// the replica, which may go on, and refuses what `promote` refuses. Who writes the new log in another process takes its tables and rows
+/// from here. With n rows the time is n log n, and the memory that of a copy of the rows and of `SourceCore::new`.
+pub fn opening_of<S: RowStore>(
     alloc: Global,
     replica: &ReplicaCore<S>,
     identifier: Uuid,

@@ -112,4 +112,18 @@ impl Opening {
         };
         Ok(Opening { base, beside })
     }
+
+    /// The tables.
+    pub fn schema(&self) -> &Schema
+        ensures { result.now ≡ self.now.tables }
+    {
+        &self.beside.schema
+    }
+
+    /// The rows, as the batch that loads them.
+    pub fn base(&self) -> &Batch
+        ensures { result.now ≡ self.now.base }
+    {
+        &self.base
+    }
 }

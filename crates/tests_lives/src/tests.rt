@@ -1,3 +1,4 @@
+mod answers;
 mod courses;
 mod durable;
 mod promotions;

@@ -2,6 +2,7 @@ mod crashes;
 mod damage;
 mod devices;
 mod entries;
+mod feeds;
 mod ids;
 mod logs;
 mod makers;

@@ -4,7 +4,7 @@ ghost use Rattle.std.specs.Prelude.{◌≡◌, All, IfOk};
 ghost use Rattle.source_core.specs.Source.{new_source};
 ghost use Rattle.log_file.specs.Log.{IsNew};
 ghost use Rattle.mtr.specs.Options.{AreSides, IsInRange};
-ghost use Rattle.mtr.specs.Pair.{IsNewTracker};
+ghost use Rattle.any_tracker.specs.Any.{IsNewTracker};
 ghost use Rattle.mtr.specs.Reading.{AreTold};
 ghost use Rattle.mtr.specs.Threads.{IsEnded};
 ghost use Rattle.replica_shared.specs.Names.{replica_names, IsNewReplica, IsReplicaOf, OpensReplica};

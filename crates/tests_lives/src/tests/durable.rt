@@ -16,7 +16,7 @@ use tests_log::common::source;
 use tests_stores::common::{boxed, five_tables, insert, row};
 use uuid::Uuid;
 
-type Life<D> = DurableSource<BTreeStore, CommitOrder, D>;
+pub(super) type Life<D> = DurableSource<BTreeStore, CommitOrder, D>;
 
 /// So many moments pass as the log is made: its cut, its write and its sync; and so many with each group: its write, a sync, the write of
 /// its gate, a sync.
@@ -28,7 +28,7 @@ const GROUP: usize = 4;
 type Made<D> = Result<Box<Life<D>>, (MakeFault, D)>;
 
 /// Makes a first life, of no rows.
-fn make<D: Device + Drop>(alloc: Global, device: D) -> Result<Made<D>, Fail> {
+fn make<D: Device + Drop>(alloc: Global, device: D) -> Result<Made<D>, Memory> {
     let (schema, store) = (five_tables(alloc)?, BTreeStore::new(alloc));
     if !fits(&schema, &store) {
         Err(Memory)?;
@@ -40,10 +40,10 @@ fn make<D: Device + Drop>(alloc: Global, device: D) -> Result<Made<D>, Fail> {
 }
 
 /// A first life, of no rows. A device in memory fails for want of it.
-fn begun<D: Device + Drop>(alloc: Global, device: D) -> Result<Box<Life<D>>, Fail> {
+pub(super) fn begun<D: Device + Drop>(alloc: Global, device: D) -> Result<Box<Life<D>>, Memory> {
     match make(alloc, device)? {
         Ok(life) => Ok(life),
-        Err(_) => Err(Memory)?,
+        Err(_) => Err(Memory),
     }
 }
 

@@ -1,6 +1,6 @@
 use Rattle.std.proofs.Common.{◌∙◌, sym, ap, arith, inl, inr}
 use Rattle.clap.specs.Words.{found_of}
-use Rattle.mtr.specs.Words.{◌>>=◌}
+use Rattle.script_text.specs.Words.{◌>>=◌}
 use Rattle.mtr.proofs.OptionNumbers.{number_read, within, inside, outside}
 use Rattle.mtr.proofs.command_line.number.Goals as goal
 use Rattle.mtr.proofs.command_line.number.Goals.{else-least-number-via-then-least-number+else-number-greatest, else-least-number-via-else-least-number}

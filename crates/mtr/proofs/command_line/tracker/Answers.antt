@@ -1,6 +1,6 @@
 use Rattle.std.specs.Prelude.{codes}
 use Rattle.clap.specs.Words.{found_of}
-use Rattle.mtr.specs.Options.{mode_named}
+use Rattle.any_tracker.specs.Any.{mode_named}
 use Rattle.mtr.proofs.Choices.{none_found, some_found}
 use Rattle.mtr.proofs.command_line.tracker.Goals as goal
 

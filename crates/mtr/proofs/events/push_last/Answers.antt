@@ -1,5 +1,5 @@
 use Rattle.std.proofs.Common.{arith}
-use Rattle.mtr.specs.Command.{event_of}
+use Rattle.script_text.specs.Command.{event_of}
 use Rattle.mtr.specs.Events.{one_or_none}
 use Rattle.mtr.proofs.EventLists.{last_grown}
 use Rattle.mtr.proofs.events.push_last.Goals as goal

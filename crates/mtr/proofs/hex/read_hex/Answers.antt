@@ -1,8 +1,10 @@
 use Rattle.std.proofs.Common.{◌∙◌, ◌++◌, ap, sym, map, Some, take, [], arith}
 use Rattle.std.proofs.KnownBytes.{Consumes-nil, Consumes-trans}
 use Rattle.std.specs.Prelude.{MatchResult}
-use Rattle.mtr.specs.Hex.{SaysBytes, IsUnread}
-use Rattle.mtr.proofs.HexTexts.{nothing_read, bad_piece, bad_digits, more_digits, to_end, says_digits}
+use Rattle.script_text.specs.HexText.{SaysBytes}
+use Rattle.mtr.specs.Hex.{IsUnread}
+use Rattle.script_text.proofs.HexBack.{nothing_read}
+use Rattle.mtr.proofs.HexTexts.{bad_piece, bad_digits, more_digits, to_end, says_digits}
 use Rattle.mtr.proofs.hex.read_hex.Goals as goal
 
 pub loop-init : goal.loop-init

@@ -1,6 +1,6 @@
 use Rattle.std.proofs.Common.{◌≡◌, map, Some, List, ℕ}
 use Rattle.std.specs.Io.KnownBytes.{Consumes}
-use Rattle.mtr.specs.Hex.{digits_read}
+use Rattle.script_text.specs.HexText.{digits_read}
 use Rattle.mtr.proofs.hex.read_hex.Given as goal
 
 -- what was read so far has these digits

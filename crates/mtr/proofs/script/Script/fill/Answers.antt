@@ -1,7 +1,8 @@
 use Rattle.std.proofs.Common.{◌≡◌, ◌∙◌, ap, sym, Some, None, true, false, Bool, List, ℕ, Option, subst}
 use Rattle.std.specs.Bool.{then_some}
 use Rattle.std.specs.Option.{IfSome}
-use Rattle.mtr.specs.Script.{Said, said, said_with, LeavesLines}
+use Rattle.script_text.specs.Lines.{LeavesLines}
+use Rattle.mtr.specs.Script.{Said, said, said_with}
 use Rattle.mtr.proofs.ScriptLines.{known_refused, known_last, known_more}
 use Rattle.mtr.proofs.script.Script.fill.Goals as goal
 

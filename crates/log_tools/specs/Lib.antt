@@ -1,0 +1,5 @@
+pub mod Check
+pub mod Diff
+pub mod Head
+pub mod Restore
+pub mod Rows

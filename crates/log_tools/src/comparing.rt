@@ -1,0 +1,323 @@
+//! `diff`: whether two logs leave the same.
+
+ghost use Rattle.std.specs.Prelude.{◌≡◌, ◌↔◌, ◌++◌, length, IsTrue, IfOk, IfErr, IfSome, IfNone, OnOk};
+ghost use Rattle.std.specs.List.{flat_map};
+ghost use Rattle.std.specs.Io.KnownBytes.{Appends};
+ghost use Rattle.store_trait.specs.Batch.{all_rows};
+ghost use Rattle.store_trait.specs.Fits.{AreOfTables};
+ghost use Rattle.log_tools.specs.Diff.{DiffersAt, AreAlike, TellsDifferences, row_words, difference_line, changed_line, added_line};
+ghost use Rattle.log_tools.specs.Diff.{tables_line, record_line, rows_text, same_line};
+
+use crate::ending::{Stop, StopAt};
+use crate::logs::Copied;
+use btree_store::BTreeStore;
+use record_codec::{Record, same_records};
+use recovery::RecoveredLog;
+use rows::Row;
+use schema::{RowId, Schema};
+use script_text::printing::write_columns;
+use std::alloc::Global;
+use std::fs::File;
+use std::io;
+use std::io::Write;
+use std::rt::Files;
+use store_trait::{Batch, RowStore, snapshot};
+
+/// One of two logs that are compared: its tables, the records that are compared, and a store of the rows that these leave.
+#[derive(Drop)]
+pub struct Side<'a, S: RowStore> {
+    schema: &'a Schema,
+    records: &'a [Record],
+    store: &'a S,
+}
+
+/// Prints what differs between two logs after this many records, or after as many as both have: that their tables do, the first record that
+/// does, and each row that does. It ends with `Stop::Different` if anything does.
+pub fn diff<'a, H: Files<File = File>, W: Write>(
+    rt: &H,
+    alloc: Global,
+    one: &'a str,
+    other: &'a str,
+    upto: Option<usize>,
+    out: &mut W,
+) -> Result<(), StopAt<'a>> {
+    let mine = read(rt, alloc, one)?;
+    let theirs = read(rt, alloc, other)?;
+    compare_read(alloc, one, &mine, other, &theirs, upto, out)
+}
+
+/// The same of two logs that were read.
+fn compare_read<'a, W: Write>(
+    alloc: Global,
+    one: &'a str,
+    mine: &Copied,
+    other: &'a str,
+    theirs: &Copied,
+    upto: Option<usize>,
+    out: &mut W,
+) -> Result<(), StopAt<'a>> {
+    let both = mine.set.records().len().min(theirs.set.records().len());
+    let upto = upto.unwrap_or(both);
+    let my_records = records(one, mine, upto)?;
+    let their_records = records(other, theirs, upto)?;
+    let left = replayed(alloc, one, mine, my_records)?;
+    let right = replayed(alloc, other, theirs, their_records)?;
+    compare_found(alloc, one, mine, &left, theirs, &right, out)
+}
+
+fn read<'a, H: Files<File = File>>(
+    rt: &H,
+    alloc: Global,
+    prefix: &'a str,
+) -> Result<Copied, StopAt<'a>> {
+    Copied::read(rt, alloc, prefix).map_err(|stop| stop.at(prefix))
+}
+
+/// This many of the log's records.
+fn records<'a, 'b>(
+    prefix: &'a str,
+    log: &'b Copied,
+    upto: usize,
+) -> Result<&'b [Record], StopAt<'a>>
+    ensures { IfOk result (λ records. length records.now ≡ upto) }
+{
+    match log.records(Some(upto)) {
+        Ok(records) => Ok(records),
+        Err(stop) => Err(stop.at(prefix)),
+    }
+}
+
+/// The log of these records, replayed.
+fn replayed<'a>(
+    alloc: Global,
+    prefix: &'a str,
+    log: &Copied,
+    records: &[Record],
+) -> Result<RecoveredLog<BTreeStore>, StopAt<'a>>
+    ensures tables { IfOk result (λ found. found.tables ≡ log.now.described.head.schema) }
+    ensures log { IfOk result (λ found. found.log ≡ records.now) }
+{
+    match log.replayed(alloc, records) {
+        Ok(found) => Ok(found),
+        Err(stop) => Err(stop.at(prefix)),
+    }
+}
+
+/// Compares two logs by what they were replayed to.
+fn compare_found<'a, W: Write>(
+    alloc: Global,
+    one: &'a str,
+    mine: &Copied,
+    left: &RecoveredLog<BTreeStore>,
+    theirs: &Copied,
+    right: &RecoveredLog<BTreeStore>,
+    out: &mut W,
+) -> Result<(), StopAt<'a>>
+    requires my_tables { left.now.tables ≡ mine.now.described.head.schema }
+    requires their_tables { right.now.tables ≡ theirs.now.described.head.schema }
+    requires count { length left.now.log ≡ length right.now.log }
+{
+    let mine = Side {
+        schema: &mine.described.head.schema,
+        records: left.records(),
+        store: left.store(),
+    };
+    let theirs = Side {
+        schema: &theirs.described.head.schema,
+        records: right.records(),
+        store: right.store(),
+    };
+    match compare(alloc, &mine, &theirs, out) {
+        Ok(()) => Ok(()),
+        Err(stop) => Err(stop.at(one)),
+    }
+}
+
+/// Compares both: each row of one that the other has otherwise or has not is told, and then each that only the other has.
+fn compare<S: RowStore, W: Write>(
+    alloc: Global,
+    mine: &Side<S>,
+    theirs: &Side<S>,
+    out: &mut W,
+) -> Result<(), Stop>
+    requires my_tables { AreOfTables mine.now.schema.now (S.contents mine.now.store.now) }
+    requires their_tables { AreOfTables theirs.now.schema.now (S.contents theirs.now.store.now) }
+    requires count { length mine.now.records.now ≡ length theirs.now.records.now }
+    ensures same { OnOk result (AreAlike mine.now.schema.now theirs.now.schema.now mine.now.records.now theirs.now.records.now
+        (S.contents mine.now.store.now) (S.contents theirs.now.store.now)
+        × Appends (W.contents out.old) (W.contents out.new) (same_line (length mine.now.records.now))) }
+    ensures different { IfErr result (λ stop. stop ≡ Stop.Different
+        → (¬ AreAlike mine.now.schema.now theirs.now.schema.now mine.now.records.now theirs.now.records.now
+        (S.contents mine.now.store.now) (S.contents theirs.now.store.now))
+        × TellsDifferences mine.now.schema.now theirs.now.schema.now mine.now.records.now theirs.now.records.now
+        (S.contents mine.now.store.now) (S.contents theirs.now.store.now) (W.contents out.old) (W.contents out.new)) }
+{
+    let my_rows = snapshot(alloc, mine.store, mine.schema)?;
+    let their_rows = snapshot(alloc, theirs.store, theirs.schema)?;
+    let tables = same_schemas(mine.schema, theirs.schema);
+    let first = first_difference(mine.records, theirs.records);
+    if tables && first.is_none() && same_batches(&my_rows, &their_rows) {
+        writeln!(out, "no difference in {} records", mine.records.len())?;
+        return Ok(());
+    }
+    write_beginning(out, tables, first)?;
+    write_rows(out, &my_rows, mine.store, &their_rows, theirs.store)?;
+    Err(Stop::Different)
+}
+
+/// Writes a line for each row that is not the same in both stores, of which these are the rows.
+fn write_rows<S: RowStore, W: Write>(
+    out: &mut W,
+    my_rows: &Batch,
+    mine: &S,
+    their_rows: &Batch,
+    theirs: &S,
+) -> io::Result<()>
+    requires mine { my_rows.now ≡ all_rows (S.contents mine.now) }
+    requires theirs { their_rows.now ≡ all_rows (S.contents theirs.now) }
+    ensures { OnOk result (Appends (W.contents out.old) (W.contents out.new) (rows_text (S.contents mine.now) (S.contents theirs.now))) }
+{
+    write_changed(out, my_rows.entries(), theirs)?;
+    write_added(out, their_rows.entries(), mine)
+}
+
+fn same_schemas(one: &Schema, other: &Schema) -> bool
+    ensures { IsTrue result ↔ (one.now ≡ other.now) }
+{
+    one.tables() == other.tables()
+}
+
+fn same_batches(one: &Batch, other: &Batch) -> bool
+    ensures { IsTrue result ↔ (one.now ≡ other.now) }
+{
+    one.entries() == other.entries()
+}
+
+fn same_row(one: &Option<Row>, other: &Option<Row>) -> bool
+    ensures { IsTrue result ↔ (one.now ≡ other.now) }
+{
+    one == other
+}
+
+/// The place of the first record that is not the same in both lists, counted from 0.
+fn first_difference(one: &[Record], other: &[Record]) -> Option<usize>
+    requires { length one.now ≡ length other.now }
+    ensures some { IfSome result (DiffersAt one.now other.now) }
+    ensures none { IfNone result (one.now ≡ other.now) }
+{
+    for at in 0..one.len() {
+        if !same_records(&one[at], &other[at]) {
+            return Some(at);
+        }
+    }
+    None
+}
+
+/// Writes that the tables differ, if they do, and which record does first, if one does.
+fn write_beginning<W: Write>(out: &mut W, tables: bool, first: Option<usize>) -> io::Result<()>
+    ensures { OnOk result (Appends (W.contents out.old) (W.contents out.new) (tables_line tables ++ record_line first)) }
+{
+    write_tables_differ(out, tables)?;
+    write_record_differs(out, first)
+}
+
+fn write_tables_differ<W: Write>(out: &mut W, are_same: bool) -> io::Result<()>
+    ensures { OnOk result (Appends (W.contents out.old) (W.contents out.new) (tables_line are_same)) }
+{
+    if are_same {
+        Ok(())
+    } else {
+        writeln!(out, "tables differ")
+    }
+}
+
+fn write_record_differs<W: Write>(out: &mut W, first: Option<usize>) -> io::Result<()>
+    ensures { OnOk result (Appends (W.contents out.old) (W.contents out.new) (record_line first)) }
+{
+    match first {
+        Some(at) => writeln!(out, "first difference: record {}", at as u128 + 1),
+        None => Ok(()),
+    }
+}
+
+/// Writes a line for each row that the store has otherwise, or has not.
+fn write_changed<S: RowStore, W: Write>(
+    out: &mut W,
+    entries: &[(RowId, Option<Row>)],
+    store: &S,
+) -> io::Result<()>
+    ensures { OnOk result (Appends (W.contents out.old) (W.contents out.new) (flat_map (changed_line (S.contents store.now)) entries.now)) }
+{
+    for entry in entries {
+        write_if_changed(out, entry, store)?;
+    }
+    Ok(())
+}
+
+fn write_if_changed<S: RowStore, W: Write>(
+    out: &mut W,
+    entry: &(RowId, Option<Row>),
+    store: &S,
+) -> io::Result<()>
+    ensures { OnOk result (Appends (W.contents out.old) (W.contents out.new) (changed_line (S.contents store.now) entry.now)) }
+{
+    let theirs = store.get(entry.0);
+    if same_row(&entry.1, &theirs) {
+        Ok(())
+    } else {
+        write_difference(out, entry.0, &entry.1, &theirs)
+    }
+}
+
+/// Writes a line for each row that the store has not.
+fn write_added<S: RowStore, W: Write>(
+    out: &mut W,
+    entries: &[(RowId, Option<Row>)],
+    store: &S,
+) -> io::Result<()>
+    ensures { OnOk result (Appends (W.contents out.old) (W.contents out.new) (flat_map (added_line (S.contents store.now)) entries.now)) }
+{
+    for entry in entries {
+        write_if_added(out, entry, store)?;
+    }
+    Ok(())
+}
+
+fn write_if_added<S: RowStore, W: Write>(
+    out: &mut W,
+    entry: &(RowId, Option<Row>),
+    store: &S,
+) -> io::Result<()>
+    ensures { OnOk result (Appends (W.contents out.old) (W.contents out.new) (added_line (S.contents store.now) entry.now)) }
+{
+    match store.get(entry.0) {
+        Some(_) => Ok(()),
+        None => write_difference(out, entry.0, &None, &entry.1),
+    }
+}
+
+/// Writes the line of a row that is not the same.
+fn write_difference<W: Write>(
+    out: &mut W,
+    id: RowId,
+    mine: &Option<Row>,
+    theirs: &Option<Row>,
+) -> io::Result<()>
+    ensures { OnOk result (Appends (W.contents out.old) (W.contents out.new) (difference_line id mine.now theirs.now)) }
+{
+    write!(out, "{} {}:", id.table, id.key)?;
+    write_row(out, mine)?;
+    write!(out, " |")?;
+    write_row(out, theirs)?;
+    writeln!(out)
+}
+
+/// Writes a row's columns, each after a space; or that there is none.
+fn write_row<W: Write>(out: &mut W, row: &Option<Row>) -> io::Result<()>
+    ensures { OnOk result (Appends (W.contents out.old) (W.contents out.new) (row_words row.now)) }
+{
+    match row {
+        Some(row) => write_columns(out, row),
+        None => write!(out, " none"),
+    }
+}

@@ -1,0 +1,15 @@
+//! A replica that follows a wire in a process of its own, and what it answers to lines.
+//!
+//! `replica` makes it of the head of a wire (`replicating`), hands over what comes (`following`) while workers execute it, and answers
+//! each line at once (`reading`): its reads are of beginnings of the source's log, each no shorter than the one before
+//! (`specs/Replica.antt`). Once the wire is closed a line may ask for a log of its rows, for a new source (`promoting`).
+//!
+//! It stands on `replica_shared` for the replica, on `log_feed` for the wire, and on `log_tools` for lines, faults and logs.
+#![tactic(auto)]
+
+mod following;
+mod promoting;
+mod reading;
+mod replicating;
+
+pub use replicating::{Crew, replica};

@@ -1,0 +1,306 @@
+//! The lines that a replica is told, and what it answers to each.
+
+ghost use Rattle.std.specs.Prelude.{◌≡◌, ◌≤◌, true, OnOk};
+ghost use mathlib.Core.List.{IsPrefix};
+ghost use Rattle.published.specs.History.{commits_in};
+ghost use Rattle.replica_answers.specs.Replica.{TellsRead};
+
+use crate::following::pause;
+use crate::replicating::Replica;
+use btree_store::BTreeStore;
+use gtid_set::GtidSet;
+use log_tools::{Lines, Stop};
+use published::ReadSeat;
+use relay::ReplicaFault;
+use replica_shared::ReplicaNaming;
+use schema::RowId;
+use script_text::command::alone;
+use script_text::lines::{Line, text_line};
+use script_text::printing::write_reply;
+use script_text::words::Words;
+use std::alloc::{AllocError, Global};
+use std::io;
+use std::io::{BufRead, Write};
+use std::sync::{Mutex, OnceLock, Wait};
+use std::time::Clock;
+use uuid::Uuid;
+use world::Reply;
+
+/// What `help` says.
+const HELP: &str = "\
+read TABLE KEY          the row after the published commits, and how many these are: 'COMMITS: V ..' or 'COMMITS: none'
+executed                the ids of the published commits
+status                  how many records were received, are committed, and are published
+wait N                  waits until the commit N is published, and says 'ok': a later read has it
+promote PREFIX [ID]     makes a log over the rows, for a source, once the wire is closed; then the replica ends
+";
+
+/// A reader of the replica.
+pub type Seat<K> = ReadSeat<BTreeStore, K>;
+
+/// What is asked for: a log of these files, and of this identifier if one was said.
+#[derive(Debug, Drop)]
+pub struct Wish {
+    pub prefix: String,
+    pub identifier: Option<Uuid>,
+}
+
+/// How the lines ended.
+#[derive(Debug, Drop)]
+pub enum End {
+    /// All were read.
+    Read,
+    /// A log is to be made of what the replica has.
+    Promote(Wish),
+}
+
+/// What a line asks for.
+#[derive(Clone, Copy)]
+enum Command {
+    /// Nothing.
+    Skipped,
+    /// What lines there are.
+    Help,
+    /// A row.
+    Read(RowId),
+    /// The ids of the published commits.
+    Executed,
+    /// How far the replica is.
+    Status,
+    /// That the commit of this number is published.
+    Wait(u64),
+}
+
+/// What waiting came to.
+#[derive(Clone, Copy)]
+enum Waited {
+    /// The commit is published, and a later read has it.
+    Published,
+    /// The wire is closed, and the record did not come.
+    Never,
+    /// The replica stopped before it.
+    Stopped(ReplicaFault),
+}
+
+/// What is asked, as its threads share it.
+#[derive(Drop)]
+pub struct Asked<'a, K: ReplicaNaming, E: Write> {
+    pub alloc: Global,
+    pub replica: &'a Replica<K>,
+    /// The identifier of the source whose records it takes.
+    pub source: Uuid,
+    /// Set once nothing more comes over the wire.
+    pub closed: &'a OnceLock<()>,
+    /// Where faults are told.
+    pub errors: &'a Mutex<E>,
+}
+
+/// What the line asks for; `None` if it is bad, or a log is to be made.
+fn command_in(line: &[u8]) -> Option<Command> {
+    match text_line(str::from_utf8(line).ok()?)? {
+        Line::Skipped => Some(Command::Skipped),
+        Line::Event("help", words) => words.is_empty().then_some(Command::Help),
+        Line::Event("executed", words) => words.is_empty().then_some(Command::Executed),
+        Line::Event("status", words) => words.is_empty().then_some(Command::Status),
+        Line::Event("read", words) => alone(words.row_id()).map(|row| Command::Read(row)),
+        Line::Event("wait", words) => alone(words.u64()).map(|gno| Command::Wait(gno)),
+        Line::Event(_, _) | Line::Table(_) | Line::Base(_) => None,
+    }
+}
+
+/// Whether a line is empty, or begins with `#`.
+pub fn says_nothing(line: &[u8]) -> bool {
+    matches!(command_in(line), Some(Command::Skipped))
+}
+
+/// The log that a line asks for; `None` if it asks for something else, or is bad.
+pub fn wish_in(alloc: Global, line: &[u8]) -> Result<Option<Wish>, AllocError> {
+    let Ok(text) = str::from_utf8(line) else {
+        return Ok(None);
+    };
+    match text_line(text) {
+        Some(Line::Event("promote", words)) => wish_of(alloc, words),
+        _ => Ok(None),
+    }
+}
+
+/// The prefix of a log, and its identifier if one is said.
+fn wish_of(alloc: Global, words: Words) -> Result<Option<Wish>, AllocError> {
+    let Some((prefix, words)) = words.first() else {
+        return Ok(None);
+    };
+    let Some(identifier) = identifier_in(words) else {
+        return Ok(None);
+    };
+    Ok(Some(Wish {
+        prefix: String::from_str(alloc, prefix)?,
+        identifier,
+    }))
+}
+
+/// The identifier that the words are, or that there are no words; `None` if they are something else.
+fn identifier_in(words: Words) -> Option<Option<Uuid>> {
+    if words.is_empty() {
+        return Some(None);
+    }
+    let identifier = Uuid::try_parse(alone(words.first())?).ok()?;
+    Some(Some(identifier))
+}
+
+impl<K: ReplicaNaming, E: Write> Asked<'_, K, E> {
+    /// Answers each line of the input, at once; a bad one is told, with its number. It ends after the last line, or once a log is to be
+    /// made.
+    pub fn converse<H: Wait + Clock, R: BufRead, W: Write>(
+        &self,
+        rt: &H,
+        seat: &mut Seat<K>,
+        lines: &mut Lines,
+        input: &mut R,
+        output: &mut W,
+    ) -> Result<End, Stop>
+        requires { K.preserve ≡ true }
+    {
+        for _ in 0..u64::MAX {
+            self.prompt(rt, lines)?;
+            let Some(line) = lines.next(input)? else {
+                return Ok(End::Read);
+            };
+            if let Some(wish) = wish_in(self.alloc, line)? {
+                if self.closed.get().is_some() {
+                    return Ok(End::Promote(wish));
+                }
+                writeln!(output, "wire open")?;
+            } else if !self.obey(rt, seat, line, output)? {
+                self.refuse(rt, lines)?;
+            }
+            output.flush()?;
+        }
+        Ok(End::Read)
+    }
+
+    fn prompt<H: Wait>(&self, rt: &H, lines: &Lines) -> io::Result<()> {
+        lines.prompt(&mut *self.errors.lock(rt))
+    }
+
+    fn refuse<H: Wait>(&self, rt: &H, lines: &mut Lines) -> io::Result<()> {
+        lines.refuse(&mut *self.errors.lock(rt))
+    }
+
+    /// Does what a line asks for, and says what is answered. `false`, and nothing is done, if it asks for nothing that a replica answers.
+    fn obey<H: Wait + Clock, W: Write>(
+        &self,
+        rt: &H,
+        seat: &mut Seat<K>,
+        line: &[u8],
+        out: &mut W,
+    ) -> Result<bool, Stop>
+        requires { K.preserve ≡ true }
+    {
+        match command_in(line) {
+            None => return Ok(false),
+            Some(Command::Skipped) => {}
+            Some(Command::Help) => out.write_all(HELP.as_bytes())?,
+            Some(Command::Read(row)) => tell_read(seat, row, out)?,
+            Some(Command::Executed) => self.tell_executed(rt, out)?,
+            Some(Command::Status) => self.tell_status(rt, out)?,
+            Some(Command::Wait(gno)) => {
+                let waited = self.wait(rt, seat, gno);
+                tell_waited(out, waited)?;
+            }
+        }
+        Ok(true)
+    }
+
+    /// Says the ids of the published commits, which are the first of the source's.
+    fn tell_executed<H: Wait, W: Write>(&self, rt: &H, out: &mut W) -> Result<(), Stop> {
+        let published = self.replica.status(rt).published.min(i64::MAX as u64);
+        let ids = GtidSet::first(self.alloc, self.source, published)?;
+        write_reply(out, &Reply::Executed(ids))?;
+        Ok(())
+    }
+
+    /// Says how far the replica is.
+    fn tell_status<H: Wait, W: Write>(&self, rt: &H, out: &mut W) -> io::Result<()> {
+        let counts = self.replica.status(rt);
+        writeln!(
+            out,
+            "received {} committed {} published {}",
+            counts.received, counts.committed, counts.published
+        )
+    }
+
+    /// Waits until the commit of this number is published, and lets the seat know of it; or until the wire is closed and the record did not
+    /// come.
+    fn wait<H: Wait + Clock>(&self, rt: &H, seat: &mut Seat<K>, gno: u64) -> Waited
+        requires { K.preserve ≡ true }
+        ensures published { result ≡ Waited.Published → gno ≤ commits_in seat.new }
+        ensures kept { IsPrefix seat.old seat.new }
+    {
+        if self.comes(rt, gno) {
+            self.learn(rt, seat, gno)
+        } else {
+            Waited::Never
+        }
+    }
+
+    /// Waits until the record of this number came. `false` once the wire is closed, and it did not.
+    fn comes<H: Wait + Clock>(&self, rt: &H, gno: u64) -> bool {
+        for _ in rt.forever() {
+            // First this, since records may come until it is set.
+            let is_closed = self.closed.get().is_some();
+            if gno <= self.replica.status(rt).received {
+                return true;
+            }
+            if is_closed {
+                return false;
+            }
+            pause(rt);
+        }
+        unreachable!()
+    }
+
+    /// The same of a record that came.
+    fn learn<H: Wait>(&self, rt: &H, seat: &mut Seat<K>, gno: u64) -> Waited
+        requires { K.preserve ≡ true }
+        ensures published { result ≡ Waited.Published → gno ≤ commits_in seat.new }
+        ensures kept { IsPrefix seat.old seat.new }
+    {
+        match self.replica.wait_for(rt, gno) {
+            Ok(notice) => {
+                seat.learn(notice);
+                Waited::Published
+            }
+            Err(fault) => Waited::Stopped(fault),
+        }
+    }
+}
+
+/// Says the row as the published commits leave it, and how many these are. They begin with all that the seat saw or learnt.
+fn tell_read<K: ReplicaNaming, W: Write>(
+    seat: &mut Seat<K>,
+    row: RowId,
+    out: &mut W,
+) -> Result<(), Stop>
+    requires { K.preserve ≡ true }
+    ensures { OnOk result (TellsRead row seat.old seat.new (W.contents out.old) (W.contents out.new)) }
+{
+    let Some(answer) = seat.read(row) else {
+        return Err(Stop::NoReader);
+    };
+    let reply = Reply::Read {
+        upto: answer.upto,
+        more: answer.more,
+        row: answer.row,
+    };
+    write_reply(out, &reply)?;
+    Ok(())
+}
+
+/// Says what waiting came to.
+fn tell_waited<W: Write>(out: &mut W, waited: Waited) -> io::Result<()> {
+    match waited {
+        Waited::Published => out.write_all(b"ok\n"),
+        Waited::Never => out.write_all(b"wire closed\n"),
+        Waited::Stopped(fault) => writeln!(out, "{fault}"),
+    }
+}

@@ -1,0 +1,460 @@
+//! `replica`: a replica that follows a wire. Its lines are answered while workers execute what comes.
+
+ghost use Rattle.std.specs.Prelude.{◌≡◌, true, IfOk};
+ghost use Rattle.replica_shared.specs.Names.{replica_names, IsNewReplica, OpensReplica};
+
+use crate::following::{WireEnd, follow, pause};
+use crate::promoting::promote;
+use crate::reading::{Asked, End};
+use btree_store::BTreeStore;
+use log_feed::{HeadFault, read_head};
+use log_tools::{Ending, Head, Lines, Stop};
+use published::{LeftRight, OpenError, open};
+use relay::ReplicaFault;
+use replica_core::{ReplicaCore, WireFault};
+use replica_shared::{NoGate, ReplicaNaming, SharedReplica};
+use std::alloc::{AllocError, Global};
+use std::fs::File;
+use std::io;
+use std::io::{BufRead, BufReader, IsTerminal, Read, Write};
+use std::marker::Brand;
+use std::rt::Files;
+use std::sync::{Mutex, OnceLock, Wait};
+use std::thread::{Threads, join, map_indices};
+use std::time::Clock;
+use uuid::Uuid;
+
+/// How a replica works.
+#[derive(Clone, Copy, Debug)]
+pub struct Crew {
+    /// So many workers execute records, 1 to 64.
+    pub workers: usize,
+    /// The source whose wire is to be followed alone, if one was said.
+    pub source: Option<Uuid>,
+}
+
+/// The replica, which commits in the order of the log.
+pub type Replica<K> = SharedReplica<BTreeStore, K>;
+
+/// The wire after its head, the path by which its faults are told, and what follows it.
+#[derive(Drop)]
+struct NamedWire {
+    path: String,
+    file: File,
+    source: Uuid,
+    workers: usize,
+}
+
+/// Follows the wire, and answers each line of the input at once, until both are at their end. That the wire is closed, and each fault, is
+/// told on `errors` when it happens.
+pub fn replica<
+    H: Files<File = File> + Alloc<A = Global> + Threads + Wait + Clock + Clone + Drop + Sync,
+    R: Read + IsTerminal + Send,
+    W: Write + Send,
+    E: Write + Send,
+>(
+    rt: &H,
+    alloc: Global,
+    path: &str,
+    crew: &Crew,
+    new: io::Result<Uuid>,
+    input: &mut R,
+    output: &mut W,
+    errors: &mut E,
+) -> Ending {
+    let mut file = match File::open(rt, path) {
+        Ok(file) => file,
+        Err(error) => return Stop::of_file(error).at(path).tell(errors),
+    };
+    let core = match core_of(alloc, &mut file, crew) {
+        Ok(core) => core,
+        Err(stop) => return stop.at(path).tell(errors),
+    };
+    let base = match core.base().copy() {
+        Ok(base) => base,
+        Err(memory) => return Stop::from(memory).at(path).tell(errors),
+    };
+    let wire = match NamedWire::new(alloc, path, file, core.source(), crew.workers) {
+        Ok(wire) => wire,
+        Err(memory) => return Stop::from(memory).at(path).tell(errors),
+    };
+    let publication = published::Beginning::of(base);
+    match run_core::<Brand, H, R, W, E>(
+        rt,
+        alloc,
+        core,
+        publication,
+        wire,
+        new,
+        input,
+        output,
+        errors,
+    ) {
+        Ok(ending) => ending,
+        Err(stop) => stop.at(path).tell(errors),
+    }
+}
+
+impl NamedWire {
+    fn new(
+        alloc: Global,
+        path: &str,
+        file: File,
+        source: Uuid,
+        workers: usize,
+    ) -> Result<NamedWire, AllocError> {
+        Ok(NamedWire {
+            path: String::from_str(alloc, path)?,
+            file,
+            source,
+            workers: workers.clamp(1, 64),
+        })
+    }
+}
+
+/// A new replica of the wire's source, over the tables and the rows that its head says. Refused is, in this order, a wire without a whole
+/// head, one of another source than was asked for, one that does not begin with the first record, and one whose text says no tables and
+/// rows.
+fn core_of<R: Read>(
+    alloc: Global,
+    input: &mut R,
+    crew: &Crew,
+) -> Result<ReplicaCore<BTreeStore>, Stop>
+    ensures new { IfOk result (λ core. IsNewReplica (replica_names core) true core) }
+{
+    let (source, head) = head_of(alloc, input, crew)?;
+    let store = match head.store(alloc) {
+        Ok(store) => store,
+        Err(fault) => return Err(Stop::of_wire_head(fault)),
+    };
+    let Head { schema, base } = head;
+    drop(base);
+    let workers = crew.workers.clamp(1, 64);
+    Ok(ReplicaCore::new(alloc, schema, source, store, workers, true)?)
+}
+
+/// The source and what its log is written over, as the wire's head says.
+fn head_of<R: Read>(alloc: Global, input: &mut R, crew: &Crew) -> Result<(Uuid, Head), Stop> {
+    let wire = match read_head(alloc, input) {
+        Ok(wire) => wire,
+        Err(fault) => return Err(of_wire(fault)),
+    };
+    if crew.source.is_some_and(|source| source != wire.source) {
+        return Err(Stop::Record(ReplicaFault::ForeignSource));
+    }
+    if wire.first != 1 {
+        return Err(Stop::Record(ReplicaFault::Gap));
+    }
+    match Head::of(alloc, &wire.text, 0) {
+        Ok(head) => Ok((wire.source, head)),
+        Err(fault) => Err(Stop::of_wire_head(fault)),
+    }
+}
+
+/// Why a wire has no whole head.
+fn of_wire(fault: HeadFault) -> Stop {
+    match fault {
+        HeadFault::Short => Stop::Wire("W1 Short"),
+        HeadFault::BadMagic => Stop::Wire("W2 BadMagic"),
+        HeadFault::Memory => Stop::Memory,
+        HeadFault::Stream(error) => Stop::of_file(error),
+    }
+}
+
+/// Runs the replica, under the name of its history, until the wire and the lines are at their end, and makes a log of what it has if a line
+/// asked for that.
+fn run_core<
+    K: ReplicaNaming + Send + Sync,
+    H: Files<File = File> + Alloc<A = Global> + Threads + Wait + Clock + Clone + Drop + Sync,
+    R: Read + IsTerminal + Send,
+    W: Write + Send,
+    E: Write + Send,
+>(
+    rt: &H,
+    alloc: Global,
+    core: ReplicaCore<BTreeStore>,
+    publication: published::Beginning,
+    wire: NamedWire,
+    new: io::Result<Uuid>,
+    input: &mut R,
+    output: &mut W,
+    errors: &mut E,
+) -> Result<Ending, Stop>
+    requires replica { OpensReplica K.names K.preserve K.book core publication }
+    requires order { K.preserve ≡ true }
+{
+    let mut lines = Lines::new(alloc, input.is_terminal());
+    let mut buffered = match BufReader::new(alloc, &mut *input) {
+        Ok(buffered) => buffered,
+        Err(error) => {
+            drop(core);
+            return Err(error.into());
+        }
+    };
+    let replica: Replica<K> = new_replica(rt, alloc, core, publication)?;
+    let (ended, ending) = meet(
+        rt,
+        alloc,
+        &replica,
+        wire,
+        &mut lines,
+        &mut buffered,
+        output,
+        errors,
+    );
+    let (core, publisher) = replica.end();
+    drop(publisher.close(rt));
+    match ended {
+        Err(stop) => {
+            drop(core);
+            Err(stop)
+        }
+        Ok(End::Read) => {
+            drop(core);
+            Ok(ending_of(ending, lines.is_good()))
+        }
+        Ok(End::Promote(wish)) => promote(
+            rt,
+            alloc,
+            &core,
+            wish,
+            &new,
+            &mut lines,
+            &mut buffered,
+            output,
+            errors,
+        ),
+    }
+}
+
+/// How the program ends once the wire ended so, and all lines were good or not.
+pub fn ending_of(wire: Ending, are_good: bool) -> Ending {
+    if wire == Ending::Done && !are_good {
+        Ending::Refused
+    } else {
+        wire
+    }
+}
+
+/// The replica for many threads, with one seat.
+fn new_replica<K: ReplicaNaming>(
+    rt: &impl Wait,
+    alloc: Global,
+    core: ReplicaCore<BTreeStore>,
+    publication: published::Beginning,
+) -> Result<Replica<K>, Stop>
+    requires { OpensReplica K.names K.preserve K.book core publication }
+{
+    let (first, second) = (BTreeStore::new(alloc), BTreeStore::new(alloc));
+    let preserve = core.preserve();
+    match open::<BTreeStore, K, _, LeftRight>(rt, alloc, publication, preserve, first, second, 1) {
+        Ok((publisher, seats)) => Ok(SharedReplica::new(rt, alloc, core, publisher, seats)?),
+        Err(fault) => {
+            drop(core);
+            Err(match fault {
+                OpenError::Memory => Stop::Memory,
+                OpenError::SeatRefused => Stop::NoReader,
+            })
+        }
+    }
+}
+
+/// Answers the lines while the wire is followed and its records are executed, until all are at their end. It answers how the lines ended,
+/// and how the wire did.
+fn meet<
+    K: ReplicaNaming + Send + Sync,
+    H: Threads + Wait + Clock + Sync,
+    R: BufRead + Send,
+    W: Write + Send,
+    E: Write + Send,
+>(
+    rt: &H,
+    alloc: Global,
+    replica: &Replica<K>,
+    wire: NamedWire,
+    lines: &mut Lines,
+    input: &mut R,
+    output: &mut W,
+    errors: &mut E,
+) -> (Result<End, Stop>, Ending)
+    requires { K.preserve ≡ true }
+{
+    let mut wire = wire;
+    let closed = OnceLock::new();
+    let errors = Mutex::new(&mut *errors);
+    meet_over(
+        rt, alloc, replica, &closed, &errors, &mut wire, lines, input, output,
+    )
+}
+
+/// The same, with what tells that nothing more comes, and with where faults are told.
+fn meet_over<
+    K: ReplicaNaming + Send + Sync,
+    H: Threads + Wait + Clock + Sync,
+    R: BufRead + Send,
+    W: Write + Send,
+    E: Write + Send,
+>(
+    rt: &H,
+    alloc: Global,
+    replica: &Replica<K>,
+    closed: &OnceLock<()>,
+    errors: &Mutex<E>,
+    wire: &mut NamedWire,
+    lines: &mut Lines,
+    input: &mut R,
+    output: &mut W,
+) -> (Result<End, Stop>, Ending)
+    requires { K.preserve ≡ true }
+{
+    let NamedWire {
+        path,
+        file,
+        source,
+        workers,
+    } = wire;
+    let asked = Asked {
+        alloc,
+        replica,
+        source: *source,
+        closed,
+        errors,
+    };
+    let (path, workers) = (path.as_str(), *workers);
+    // The second one goes first if no thread can be made: so nobody waits for a record of a wire that nobody reads.
+    join(
+        rt,
+        || converse(rt, &asked, lines, input, output),
+        || apply(rt, alloc, &asked, path, workers, file),
+    )
+}
+
+/// Answers the lines by a reader of its own.
+fn converse<K: ReplicaNaming, H: Wait + Clock, R: BufRead, W: Write, E: Write>(
+    rt: &H,
+    asked: &Asked<K, E>,
+    lines: &mut Lines,
+    input: &mut R,
+    output: &mut W,
+) -> Result<End, Stop>
+    requires { K.preserve ≡ true }
+{
+    let Some(mut seat) = asked.replica.seat(rt) else {
+        return Err(Stop::NoReader);
+    };
+    asked.converse(rt, &mut seat, lines, input, output)
+}
+
+/// Follows the wire while workers execute what comes. It answers the ending of the first of both that did not end well.
+fn apply<
+    K: ReplicaNaming + Send + Sync,
+    H: Threads + Wait + Clock + Sync,
+    E: Write + Send,
+    F: Read + Send,
+>(rt: &H, alloc: Global, asked: &Asked<K, E>, path: &str, workers: usize, file: &mut F) -> Ending {
+    let (worked, followed) = join(
+        rt,
+        || work_all(rt, alloc, asked, path, workers),
+        || follow_wire(rt, alloc, asked, path, file),
+    );
+    if worked == Ending::Done {
+        followed
+    } else {
+        worked
+    }
+}
+
+/// Runs the workers, each in a thread of its own, and tells why the replica stopped, if it did.
+fn work_all<K: ReplicaNaming + Send + Sync, H: Threads + Wait + Clock + Sync, E: Write + Send>(
+    rt: &H,
+    alloc: Global,
+    asked: &Asked<K, E>,
+    path: &str,
+    workers: usize,
+) -> Ending {
+    for _ in rt.forever() {
+        match map_indices(rt, alloc, workers, &|_place| work(rt, alloc, asked.replica)) {
+            Ok(each) => return told(rt, asked, path, &each),
+            Err(_) => pause(rt),
+        }
+    }
+    unreachable!()
+}
+
+/// A worker: executes what comes until all is committed. One that lacks memory is called again.
+fn work<K: ReplicaNaming>(
+    rt: &(impl Wait + Clock),
+    alloc: Global,
+    replica: &Replica<K>,
+) -> Result<(), ReplicaFault> {
+    for _ in rt.forever() {
+        match replica.worker(rt, alloc, &NoGate) {
+            Err(ReplicaFault::Memory) => pause(rt),
+            ended => return ended,
+        }
+    }
+    unreachable!()
+}
+
+/// Tells why workers ended, if not because all was done: all for one cause.
+fn told<K: ReplicaNaming, H: Wait, E: Write>(
+    rt: &H,
+    asked: &Asked<K, E>,
+    path: &str,
+    each: &[Result<(), ReplicaFault>],
+) -> Ending {
+    for worked in each {
+        if let Err(fault) = worked {
+            return Stop::Record(*fault)
+                .at(path)
+                .tell(&mut *asked.errors.lock(rt));
+        }
+    }
+    Ending::Done
+}
+
+/// Follows the wire, and tells how it ended. After that the workers end too, once all that came is committed.
+fn follow_wire<K: ReplicaNaming, H: Wait + Clock, E: Write, F: Read>(
+    rt: &H,
+    alloc: Global,
+    asked: &Asked<K, E>,
+    path: &str,
+    file: &mut F,
+) -> Ending {
+    let end = follow(rt, alloc, asked.source, asked.replica, file);
+    asked.replica.close(rt);
+    let received = asked.replica.status(rt).received;
+    let ending = tell_end(&mut *asked.errors.lock(rt), path, end, received);
+    let _ = asked.closed.set(rt, ());
+    ending
+}
+
+/// Tells how the wire ended, after so many records. That the replica stopped is told by its workers.
+fn tell_end<E: Write>(errors: &mut E, path: &str, end: WireEnd, received: u64) -> Ending {
+    let (told, ending) = match end {
+        WireEnd::Closed => (
+            writeln!(errors, "wire closed behind {received}"),
+            Ending::Done,
+        ),
+        WireEnd::Cut => (
+            writeln!(errors, "wire closed within a record behind {received}"),
+            Ending::Done,
+        ),
+        WireEnd::Failed(error) => (
+            writeln!(errors, "{path}: {error} behind {received}"),
+            Ending::Failed,
+        ),
+        WireEnd::Refused(
+            WireFault::Replica(ReplicaFault::Stopped { .. })
+            | WireFault::Waiting(ReplicaFault::Stopped { .. }),
+        ) => (Ok(()), Ending::Done),
+        WireEnd::Refused(fault) => (
+            writeln!(errors, "{path}: {fault} behind {received}"),
+            Ending::Refused,
+        ),
+    };
+    match told {
+        Ok(()) => ending,
+        Err(_) => Ending::Stream,
+    }
+}

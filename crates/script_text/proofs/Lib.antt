@@ -1,0 +1,12 @@
+pub mod NumberTexts
+pub mod WordLists
+pub mod Puts
+pub mod Names
+pub mod Keeping
+pub mod ShortTexts
+pub mod Pieces
+pub mod Splits
+pub mod ReadLines
+pub mod LogTexts
+pub mod HexBack
+pub mod ReadBack

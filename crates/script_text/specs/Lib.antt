@@ -1,0 +1,10 @@
+pub mod Number
+pub mod Words
+pub mod Command
+pub mod Lines
+pub mod Kept
+pub mod Printing
+pub mod HexText
+pub mod LogLines
+pub mod Heads
+pub mod Laws

@@ -1,0 +1,217 @@
+//! The event that a line's words are, as it is kept.
+
+ghost use Rattle.std.specs.Prelude.{◌≡◌, ◌≢◌, ◌^◌, ◌==◌, [], if◌then◌else◌, length, option_map, slice_get, IfOk, IfSome, OnErr, Some, None};
+ghost use Rattle.std.specs.Str.{bytes_eq};
+ghost use Rattle.script_text.specs.Words.{alone, number_in, row_id_in};
+ghost use Rattle.script_text.specs.Command.{at_row, written_of, insert_of, set_of, event_of};
+ghost use Rattle.script_text.specs.Kept.{IsBare, Keeps, event_of as whole};
+
+use crate::kept::KeptEvent;
+use crate::words::Words;
+use schema::{Memory, RowId};
+use std::alloc::Global;
+use world::Event;
+
+/// The first letter of a name; `None` where it has none.
+#[inline(always)]
+fn letter(name: &str) -> Option<u8>
+    ensures { result ≡ slice_get name.now 0 }
+{
+    name.as_bytes().first().copied()
+}
+
+/// What was read, where no word stands behind it.
+pub fn alone<T: Drop>(found: Option<(T, Words)>) -> Option<T>
+    ensures { result ≡ alone found.entry }
+{
+    let (value, rest) = found?;
+    if rest.is_empty() { Some(value) } else { None }
+}
+
+/// What is kept of the event of this name and the words behind it; its columns go behind others. `None`, and none of these, where
+/// no event has the name, or the words are not its parameters. The name is compared with those alone that begin with its first letter.
+pub fn keep(name: &str, words: Words, columns: &mut Vec<i64>) -> Result<Option<KeptEvent>, Memory>
+    ensures kept { IfOk result (λ found. Keeps (event_of name.now words.entry) found columns.old.items columns.new.items) }
+    ensures err { OnErr result (columns.new.items ≡ columns.old.items) }
+{
+    match letter(name) {
+        None => Ok(None),
+        Some(b'i') => match name {
+            "insert" => insert_of(words, columns),
+            _ => Ok(None),
+        },
+        Some(b's') => match name {
+            "set" => set_of(words, columns),
+            "see" => Ok(at_row(words).map(|(session, RowId { table, key })| KeptEvent::See {
+                session,
+                table,
+                key,
+            })),
+            "sync" => Ok(bare(KeptEvent::Sync, words)),
+            _ => Ok(None),
+        },
+        Some(letter) => Ok(bare_of(letter, name, words)),
+    }
+}
+
+/// The event of this name and the words behind it; `None` where no event has the name, or the words are not its parameters. It takes
+/// no memory but for columns, and gives that back.
+pub fn event_of(alloc: Global, name: &str, words: Words) -> Result<Option<Event>, Memory>
+    ensures { IfOk result (λ found. found ≡ event_of name.now words.entry) }
+{
+    let mut columns = Vec::new(alloc);
+    match keep(name, words, &mut columns)? {
+        Some(kept) => Ok(Some(kept.with(&columns))),
+        None => Ok(None),
+    }
+}
+
+/// What is kept of an event without columns whose name begins with this letter, which is neither i nor s.
+fn bare_of(letter: u8, name: &str, words: Words) -> Option<KeptEvent>
+    requires first { slice_get name.now 0 ≡ Some letter }
+    requires not_i { letter ≢ 105 }
+    requires not_s { letter ≢ 115 }
+    ensures event { option_map (λ kept. whole kept []) result ≡ event_of name.now words.entry }
+    ensures bare { IfSome result IsBare }
+{
+    match letter {
+        b'a' => named(
+            name,
+            "abort",
+            session_of(words).map(|session| KeptEvent::Abort { session }),
+        ),
+        b'b' => named(
+            name,
+            "begin",
+            session_of(words).map(|session| KeptEvent::Begin { session }),
+        ),
+        b'c' => named(name, "commit", bare(KeptEvent::Commit, words)),
+        b'd' => match name {
+            "delete" => at_row(words).map(|(session, RowId { table, key })| KeptEvent::Delete {
+                session,
+                table,
+                key,
+            }),
+            "deliver" => gno_of(words).map(|gno| KeptEvent::Deliver { gno }),
+            "dispatch" => bare(KeptEvent::Dispatch, words),
+            _ => None,
+        },
+        b'e' => named(name, "executed", bare(KeptEvent::Executed, words)),
+        b'f' => match name {
+            "flush" => bare(KeptEvent::Flush, words),
+            "finish" => gno_of(words).map(|gno| KeptEvent::Finish { gno }),
+            _ => None,
+        },
+        b'l' => named(name, "log", bare(KeptEvent::Log, words)),
+        b'n' => named(name, "next", bare(KeptEvent::Next, words)),
+        b'p' => match name {
+            "prepare" => session_of(words).map(|session| KeptEvent::Prepare { session }),
+            "publish" => bare(KeptEvent::Publish, words),
+            _ => None,
+        },
+        b'q' => named(
+            name,
+            "queue",
+            session_of(words).map(|session| KeptEvent::Queue { session }),
+        ),
+        b'r' => match name {
+            "read" => row_of(words).map(|RowId { table, key }| KeptEvent::Read { table, key }),
+            "rotate" => bare(KeptEvent::Rotate, words),
+            _ => None,
+        },
+        _ => None,
+    }
+}
+
+/// What was read for the one event of its letter, where the name is that event's.
+#[inline(always)]
+fn named(name: &str, own: &str, found: Option<KeptEvent>) -> Option<KeptEvent>
+    ensures { result ≡ (if bytes_eq name.now own.now then found else None) }
+{
+    if name == own { found } else { None }
+}
+
+/// A session, to the end of the line.
+fn session_of(words: Words) -> Option<u16>
+    ensures { result ≡ alone (number_in (2 ^ 16) words.entry) }
+{
+    alone(words.u16())
+}
+
+/// A record's number, to the end of the line.
+fn gno_of(words: Words) -> Option<u64>
+    ensures { result ≡ alone (number_in (2 ^ 64) words.entry) }
+{
+    alone(words.u64())
+}
+
+/// A row's table and key, to the end of the line.
+fn row_of(words: Words) -> Option<RowId>
+    ensures { result ≡ alone (row_id_in words.entry) }
+{
+    alone(words.row_id())
+}
+
+/// An event without parameters.
+fn bare(kept: KeptEvent, words: Words) -> Option<KeptEvent>
+    ensures { result ≡ (if length words.entry == 0 then Some kept else None) }
+{
+    if words.is_empty() { Some(kept) } else { None }
+}
+
+/// An insert, with its columns behind others.
+fn insert_of(words: Words, columns: &mut Vec<i64>) -> Result<Option<KeptEvent>, Memory>
+    ensures kept { IfOk result (λ found. Keeps (insert_of words.entry) found columns.old.items columns.new.items) }
+    ensures err { OnErr result (columns.new.items ≡ columns.old.items) }
+{
+    let Some((session, RowId { table, key }, words)) = written_of(words) else {
+        return Ok(None);
+    };
+    let Some(count) = words.put_row(columns)? else {
+        return Ok(None);
+    };
+    Ok(Some(KeptEvent::Insert {
+        session,
+        table,
+        count,
+        key,
+    }))
+}
+
+/// A `set`, with its columns behind others.
+fn set_of(words: Words, columns: &mut Vec<i64>) -> Result<Option<KeptEvent>, Memory>
+    ensures kept { IfOk result (λ found. Keeps (set_of words.entry) found columns.old.items columns.new.items) }
+    ensures err { OnErr result (columns.new.items ≡ columns.old.items) }
+{
+    let Some((session, RowId { table, key }, words)) = written_of(words) else {
+        return Ok(None);
+    };
+    let Some(mask) = words.put_named(columns)? else {
+        return Ok(None);
+    };
+    Ok(Some(KeptEvent::Update {
+        session,
+        table,
+        mask,
+        key,
+    }))
+}
+
+/// The session and the row of a write, and the words behind them.
+#[tactic(auto, unfolding(crate::specs::Command::written_of))]
+fn written_of(words: Words) -> Option<(u16, RowId, Words)>
+    ensures { result ≡ written_of words.entry }
+{
+    let (session, words) = words.u16()?;
+    let (row, words) = words.row_id()?;
+    Some((session, row, words))
+}
+
+/// A session and a row, to the end of the line.
+fn at_row(words: Words) -> Option<(u16, RowId)>
+    ensures { result ≡ at_row words.entry }
+{
+    let (session, words) = words.u16()?;
+    let row = row_of(words)?;
+    Some((session, row))
+}

@@ -1,0 +1,65 @@
+//! A flush, and the stamps that it tells.
+
+ghost use Rattle.std.specs.Prelude.{◌≡◌, ◌≤◌, ◌+◌, ◌-◌, [], length, map, drop, vec_capacity, IfOk};
+ghost use Rattle.world.specs.Legal.{stamp_of};
+ghost use Rattle.source_answers.specs.Answers.{Answers};
+
+use durable_source::DurableSource;
+use log_device::Device;
+use record_codec::Record;
+use schema::Memory;
+use source_core::SourceFault;
+use std::alloc::Global;
+use store_trait::RowStore;
+use tracker_trait::Tracker;
+use world::{Event, Reply, Stamps};
+
+/// Room for the stamps of this many records.
+fn room_for_stamps(alloc: Global, count: usize) -> Result<Vec<(u64, u64)>, Memory>
+    ensures items { IfOk result (λ list. list.items ≡ []) }
+    ensures room { IfOk result (λ list. count ≤ vec_capacity list) }
+{
+    Ok(Vec::with_capacity(alloc, count)?)
+}
+
+/// The stamps of the records from this number on, in an empty list that has room for them.
+fn stamps_from(mut list: Vec<(u64, u64)>, log: &[Record], first: u64) -> Stamps
+    requires empty { list.items ≡ [] }
+    requires some { 1 ≤ first }
+    requires there { first ≤ length log.now + 1 }
+    requires room { length log.now - (first - 1) ≤ vec_capacity list }
+    ensures { result ≡ map stamp_of (drop (first - 1) log.now) }
+{
+    for made in &log[(first - 1) as usize..] {
+        list.push((made.sequence, made.parent)).unwrap();
+    }
+    Stamps::new(list)
+}
+
+/// Room for the stamps is taken before the flush: what is flushed stays flushed.
+pub(crate) fn flush<S: RowStore, T: Tracker, D: Device>(
+    alloc: Global,
+    source: &mut DurableSource<S, T, D>,
+) -> Reply
+    ensures { Answers source.old Event.Flush result source.new }
+{
+    if source.source().is_halted() {
+        return Reply::Source(SourceFault::Halted);
+    }
+    let count = source.source().queued();
+    if count == 0 {
+        return Reply::Nothing;
+    }
+    let list = match room_for_stamps(alloc, count) {
+        Ok(list) => list,
+        Err(memory) => return Reply::Source(memory.into()),
+    };
+    match source.flush() {
+        Ok(Some((first, _))) => Reply::Flushed {
+            first,
+            stamps: stamps_from(list, source.source().log(), first),
+        },
+        Ok(None) => Reply::Nothing,
+        Err(fault) => Reply::Source(fault),
+    }
+}
