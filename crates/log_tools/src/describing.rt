@@ -1,15 +1,20 @@
 //! What a log is written over, as text: its identifier, its tables, and the rows before its first record.
 
-ghost use Rattle.std.specs.Prelude.{◌≡◌, ◌↔◌, ◌++◌, IsTrue, IfOk, OnOk};
+ghost use Rattle.std.specs.Prelude.{◌≡◌, ◌⊎◌, ◌↔◌, ℕ, List, [], ◌∷◌, ◌++◌, map, codes, Some, IsTrue, IfOk, IfErr, IfSome, IfNone, OnOk, IsPermutation};
+ghost use Rattle.std.specs.Bool.{then_some};
 ghost use Rattle.std.specs.Io.KnownBytes.{Appends};
+ghost use Rattle.uuid.specs.Text.{parsed};
+ghost use Rattle.script_text.specs.Lines.{table, base};
 ghost use Rattle.store_trait.specs.Fits.{Fits};
 ghost use Rattle.store_trait.specs.Operation.{loaded};
-ghost use Rattle.log_tools.specs.Head.{tables_text, entries_text, entry_line, source_line};
+ghost use Rattle.log_tools.specs.Head.{tables_text, entries_text, entry_line, source_line, SaysLog};
+ghost use Rattle.log_tools.specs.Head.{lines_of, present, said, said_with, added, Reads, SaysHead, IsHeadFault, HasRowTwice, GetsNoStore};
 
 use btree_store::BTreeStore;
 use row_index::values_apart;
 use rows::Row;
 use schema::{Memory, RowId, Schema, SchemaFault, Table};
+use script_text::cut::place_of;
 use script_text::heads::{write_base, write_table};
 use script_text::lines::{Line, base_of, table_of, text_line};
 use script_text::words::Words;
@@ -38,24 +43,43 @@ pub enum HeadFault {
 }
 
 impl From<Memory> for HeadFault {
+    ghost use Rattle.std.specs.Prelude.{◌≡◌};
+    ghost use Rattle.log_tools.specs.declared.describing.HeadFault.TheVariants as faults;
+
+    ghost from_gives = { λ _ fault. fault ≡ faults.Memory };
+
     fn from(_memory: Memory) -> HeadFault {
         HeadFault::Memory
     }
 }
 
 impl From<AllocError> for HeadFault {
+    ghost use Rattle.std.specs.Prelude.{◌≡◌};
+    ghost use Rattle.log_tools.specs.declared.describing.HeadFault.TheVariants as faults;
+
+    ghost from_gives = { λ _ fault. fault ≡ faults.Memory };
+
     fn from(_error: AllocError) -> HeadFault {
         HeadFault::Memory
     }
 }
 
 impl<T: Drop> From<AllocFailed<T>> for HeadFault {
+    ghost use Rattle.std.specs.Prelude.{◌≡◌};
+    ghost use Rattle.log_tools.specs.declared.describing.HeadFault.TheVariants as faults;
+
+    ghost from_gives = { λ _ fault. fault ≡ faults.Memory };
+
     fn from(_error: AllocFailed<T>) -> HeadFault {
         HeadFault::Memory
     }
 }
 
 impl From<SchemaFault> for HeadFault {
+    ghost use Rattle.log_tools.specs.Head.{IsOfSchema};
+
+    ghost from_gives = { IsOfSchema };
+
     fn from(fault: SchemaFault) -> HeadFault {
         match fault {
             SchemaFault::Memory => HeadFault::Memory,
@@ -79,29 +103,45 @@ pub struct Described {
 }
 
 impl Described {
-    /// What the text says: its first line is the identifier, and the others are a head.
-    pub fn of(alloc: Global, text: &[u8]) -> Result<Described, HeadFault> {
-        let Some((line, rest)) = first_line(text) else {
+    /// What the text says: its first line is the identifier, and the others are a head. The time is that of `Head::of`.
+    pub fn of(alloc: Global, text: &[u8]) -> Result<Described, HeadFault>
+        ensures { IfOk result (λ d. SaysLog text.now d.source d.head.schema d.head.base) }
+    {
+        let (line, Some(rest)) = cut(text) else {
             return Err(HeadFault::Line(1));
         };
         let Some(source) = source_of(line) else {
             return Err(HeadFault::Line(1));
         };
-        let head = Head::of(alloc, rest, 1)?;
-        Ok(Described { source, head })
+        match Head::of(alloc, rest) {
+            Ok(head) => Ok(Described { source, head }),
+            Err(HeadFault::Line(number)) => Err(HeadFault::Line(number.saturating_add(1))),
+            Err(fault) => Err(fault),
+        }
     }
 }
 
-/// The first line of a text, without its LF, and what comes after it; `None` if no LF ends it.
-fn first_line(text: &[u8]) -> Option<(&[u8], &[u8])> {
-    let at = text.iter().position(|c| *c == b'\n')?;
-    Some((&text[..at], &text[at + 1..]))
+/// The first line of a text, without its LF, and what comes after that; `None` if no LF ends it.
+fn cut(text: &[u8]) -> (&[u8], Option<&[u8]>)
+    ensures last { IfNone result.1 (lines_of text.now ≡ result.0.now ∷ []) }
+    ensures more { IfSome result.1 (λ more. lines_of text.now ≡ result.0.now ∷ lines_of more.now) }
+    ensures split { IfSome result.1 (λ more. text.now ≡ result.0.now ++ 10 ∷ more.now) }
+{
+    match place_of(text, b'\n') {
+        Some(at) => (&text[..at], Some(&text[at + 1..])),
+        None => (text, None),
+    }
 }
 
 /// The identifier that the line says.
-fn source_of(line: &[u8]) -> Option<Uuid> {
-    let word = str::from_utf8(line).ok()?.strip_prefix("source ")?;
-    Uuid::try_parse(word).ok()
+fn source_of(line: &[u8]) -> Option<Uuid>
+    ensures { IfSome result (λ source. (word : List ℕ) × (line.now ≡ codes "source " ++ word) × (parsed word ≡ Some source)) }
+{
+    let word = line.strip_prefix(b"source ")?;
+    match Uuid::try_parse_ascii(word) {
+        Ok(source) => Some(source),
+        Err(_) => None,
+    }
 }
 
 /// What lines said.
@@ -112,27 +152,24 @@ struct Said {
 }
 
 impl Head {
-    /// What the lines of a text say, of which so many stand before it: all tables come before all rows; a line that is empty or begins
-    /// with `#` says nothing. It is refused for the first bad line, then for the tables, and then for the rows.
-    pub fn of(alloc: Global, text: &[u8], before: usize) -> Result<Head, HeadFault> {
-        let mut said = Said {
-            tables: Vec::new(alloc),
-            rows: Vec::new(alloc),
+    /// What the lines of a text say: all tables come before all rows; a line that is empty or begins with `#` says nothing. It is refused
+    /// for the first bad line, then for the tables, and then for the rows. The time is that of a walk over the text and of n log n for n
+    /// rows, and the memory that of what it answers, of the rows twice more and of their values in unique columns.
+    pub fn of(alloc: Global, text: &[u8]) -> Result<Head, HeadFault>
+        ensures ok { IfOk result (λ head. SaysHead text.now head.schema head.base) }
+        ensures fits { IfOk result (λ head. Fits head.schema (loaded head.base)) }
+        ensures err { IfErr result (IsHeadFault text.now) }
+    {
+        let Said { tables, rows } = Said::of(alloc, text)?;
+        let schema = Schema::new(tables)?;
+        let Some(base) = batch_of(alloc, &rows)? else {
+            return Err(HeadFault::Base);
         };
-        let mut number = before;
-        for line in text.split(|c| *c == b'\n') {
-            number = number.saturating_add(1);
-            if !said.add(line)? {
-                return Err(HeadFault::Line(number));
-            }
+        let head = Head { schema, base };
+        match head.store(alloc) {
+            Ok(_) => Ok(head),
+            Err(fault) => Err(fault),
         }
-        let Said { tables, rows } = said;
-        let head = Head {
-            schema: Schema::new(tables)?,
-            base: batch_of(alloc, &rows)?.ok_or(HeadFault::Base)?,
-        };
-        head.store(alloc)?;
-        Ok(head)
     }
 
     /// Writes the lines: of the tables, and of the rows.
@@ -149,6 +186,7 @@ impl Head {
     pub fn store(&self, alloc: Global) -> Result<BTreeStore, HeadFault>
         ensures fits { IfOk result (λ store. Fits self.now.schema store) }
         ensures rows { IfOk result (λ store. store ≡ loaded self.now.base) }
+        ensures err { IfErr result (GetsNoStore self.now.schema self.now.base) }
     {
         let mut store = BTreeStore::new(alloc);
         store.put_all(&self.base)?;
@@ -178,48 +216,86 @@ fn rows_fit(
 }
 
 impl Said {
+    /// What the lines of a text say, up to the first bad one, which is told by its number, counted from 1.
+    fn of(alloc: Global, text: &[u8]) -> Result<Said, HeadFault>
+        ensures { Reads text.now result }
+    {
+        let mut said = Said {
+            tables: Vec::new(alloc),
+            rows: Vec::new(alloc),
+        };
+        let mut rest = text;
+        for number in 1..usize::MAX {
+            let (line, more) = cut(rest);
+            if !said.add(line)? {
+                return Err(HeadFault::Line(number));
+            }
+            match more {
+                Some(more) => rest = more,
+                None => return Ok(said),
+            }
+        }
+        Err(HeadFault::Memory)
+    }
+
     /// Takes what a line says. `false`, and nothing is taken, if the line is bad or comes too late.
-    fn add(&mut self, line: &[u8]) -> Result<bool, Memory> {
+    fn add(&mut self, line: &[u8]) -> Result<bool, Memory>
+        ensures said { IfOk result (λ is_good. said_with (said self.old) line.now ≡ then_some is_good (said self.new)) }
+    {
         let Ok(text) = str::from_utf8(line) else {
             return Ok(false);
         };
         match text_line(text) {
+            None => Ok(false),
             Some(Line::Skipped) => Ok(true),
             Some(Line::Table(words)) => self.add_table(words),
             Some(Line::Base(words)) => self.add_row(words),
-            Some(Line::Event(_, _)) | None => Ok(false),
+            Some(Line::Event(_, _)) => Ok(false),
         }
     }
 
-    fn add_table(&mut self, words: Words) -> Result<bool, Memory> {
-        match table_of(words) {
-            Some(table) if self.rows.is_empty() => {
-                self.tables.push(table)?;
-                Ok(true)
-            }
-            _ => Ok(false),
+    /// Takes the table that the words are.
+    #[tactic(auto, unfolding(crate::specs::Head::added))]
+    fn add_table(&mut self, words: Words) -> Result<bool, Memory>
+        ensures { IfOk result (λ is_good. added (said self.old) (table words.entry) ≡ then_some is_good (said self.new)) }
+    {
+        let Some(table) = table_of(words) else {
+            return Ok(false);
+        };
+        if !self.rows.is_empty() {
+            return Ok(false);
         }
+        self.tables.push(table)?;
+        Ok(true)
     }
 
-    fn add_row(&mut self, words: Words) -> Result<bool, Memory> {
-        match base_of(words) {
-            Some(row) => {
-                self.rows.push(row)?;
-                Ok(true)
-            }
-            None => Ok(false),
-        }
+    /// Takes the row that the words are.
+    #[tactic(auto, unfolding(crate::specs::Head::added))]
+    fn add_row(&mut self, words: Words) -> Result<bool, Memory>
+        ensures { IfOk result (λ is_good. added (said self.old) (base words.entry) ≡ then_some is_good (said self.new)) }
+    {
+        let Some(row) = base_of(words) else {
+            return Ok(false);
+        };
+        self.rows.push(row)?;
+        Ok(true)
     }
 }
 
-/// The batch of these rows, in any order; `None` if one comes twice. The time is n log n.
-fn batch_of(alloc: Global, rows: &[(RowId, Row)]) -> Result<Option<Batch>, AllocError> {
-    let mut entries: Vec<(RowId, Option<Row>)> = rows
-        .iter()
-        .map(|row| (row.0, Some(row.1)))
-        .collect(alloc)?;
+/// The batch of these rows, in any order; `None` exactly if one comes twice. The time is n log n.
+fn batch_of(alloc: Global, rows: &[(RowId, Row)]) -> Result<Option<Batch>, AllocError>
+    ensures rows { IfOk result (λ made. IfSome made (λ batch. IsPermutation (map present rows.now) batch)) }
+    ensures twice { IfOk result (λ made. IfNone made (HasRowTwice rows.now)) }
+{
+    let mut entries = entries_of(alloc, rows)?;
     entries.sort_unstable_by_key(|entry| entry.0);
     Ok(Batch::from_entries(entries))
+}
+
+fn entries_of(alloc: Global, rows: &[(RowId, Row)]) -> Result<Vec<(RowId, Option<Row>)>, AllocError>
+    ensures { IfOk result (λ entries. entries.items ≡ map present rows.now) }
+{
+    rows.iter().map(|row| (row.0, Some(row.1))).collect(alloc)
 }
 
 /// Writes the identifier as a line.

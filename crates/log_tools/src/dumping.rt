@@ -5,6 +5,7 @@ ghost use Rattle.std.specs.Io.KnownBytes.{Appends};
 ghost use Rattle.store_trait.specs.Batch.{all_rows};
 ghost use Rattle.store_trait.specs.Fits.{AreOfTables};
 ghost use Rattle.log_tools.specs.Head.{tables_text, entries_text};
+ghost use Rattle.log_tools.specs.Logs.{PrintsLog};
 ghost use Rattle.log_tools.specs.Rows.{PrintsRows};
 
 use crate::describing::{write_entries, write_tables};
@@ -17,14 +18,17 @@ use std::io::Write;
 use std::rt::Files;
 use store_trait::{RowStore, snapshot};
 
-/// Prints the tables, and the rows after this many records, or after all, as lines that a new log is made of.
+/// Prints the tables, and the rows after this many records, or after all, as lines that a new log is made of. A log with fewer records is
+/// refused. The time and the memory are those of a start of a source.
 pub fn rows<H: Files<File = File>, W: Write>(
     rt: &H,
     alloc: Global,
     prefix: &str,
     upto: Option<usize>,
     out: &mut W,
-) -> Result<(), Stop> {
+) -> Result<(), Stop>
+    ensures { OnOk result (PrintsLog upto (W.contents out.old) (W.contents out.new)) }
+{
     let log = Copied::read(rt, alloc, prefix)?;
     show_rows(alloc, &log, upto, out)
 }

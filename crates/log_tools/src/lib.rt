@@ -5,7 +5,7 @@
 //! (`logs`), lock none and change none, so they may run beside a process that writes them: `check` says what the files hold and whether a
 //! source would go on from them (`checking`, and `changed` for where bytes changed), `decode` prints records, `rows` the rows that they
 //! leave (`dumping`), and `diff` what differs between two logs (`comparing`). Why the work on a path stopped, and how a program ends then,
-//! stands in `ending`; who is told lines reads them by `asking`.
+//! stands in `ending`; who is told lines reads them by `asking`. `laws` states that a head that was written is read back.
 //!
 //! It stands on `stored_log` for the files, on `recovery` for what a log leaves, on `script_text` for the lines, and on `log_feed` for
 //! wires.
@@ -19,6 +19,7 @@ mod decoding;
 mod describing;
 mod dumping;
 mod ending;
+pub mod laws;
 mod logs;
 mod making;
 mod restoring;
@@ -32,3 +33,4 @@ pub use dumping::rows;
 pub use ending::{Ending, Stop, StopAt};
 pub use logs::{MAX_RECORDS, described};
 pub use making::{make, make_over};
+pub use restoring::read_wire;

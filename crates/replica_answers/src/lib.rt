@@ -4,7 +4,7 @@
 //! each line at once (`reading`): its reads are of beginnings of the source's log, each no shorter than the one before
 //! (`specs/Replica.antt`). Once the wire is closed a line may ask for a log of its rows, for a new source (`promoting`).
 //!
-//! It stands on `replica_shared` for the replica, on `log_feed` for the wire, and on `log_tools` for lines, faults and logs.
+//! It stands on `replica_shared` for the replica, and on `log_tools` for lines, wires, faults and logs.
 #![tactic(auto)]
 
 mod following;

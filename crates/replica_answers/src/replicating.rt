@@ -1,14 +1,14 @@
 //! `replica`: a replica that follows a wire. Its lines are answered while workers execute what comes.
 
-ghost use Rattle.std.specs.Prelude.{◌≡◌, true, IfOk};
+ghost use Rattle.std.specs.Prelude.{◌≡◌, ◌≢◌, true, false, IfOk, IfSome};
+ghost use Rattle.replica_answers.specs.Replica.{IsOverWire};
 ghost use Rattle.replica_shared.specs.Names.{replica_names, IsNewReplica, OpensReplica};
 
 use crate::following::{WireEnd, follow, pause};
 use crate::promoting::promote;
 use crate::reading::{Asked, End};
 use btree_store::BTreeStore;
-use log_feed::{HeadFault, read_head};
-use log_tools::{Ending, Head, Lines, Stop};
+use log_tools::{Ending, Head, Lines, Stop, read_wire};
 use published::{LeftRight, OpenError, open};
 use relay::ReplicaFault;
 use replica_core::{ReplicaCore, WireFault};
@@ -121,8 +121,9 @@ fn core_of<R: Read>(
     crew: &Crew,
 ) -> Result<ReplicaCore<BTreeStore>, Stop>
     ensures new { IfOk result (λ core. IsNewReplica (replica_names core) true core) }
+    ensures over { IfOk result (λ core. IfSome (R.remaining input.old) (λ bytes. IsOverWire bytes (R.remaining input.new) core)) }
 {
-    let (source, head) = head_of(alloc, input, crew)?;
+    let (source, head) = read_wire(alloc, crew.source, input)?;
     let store = match head.store(alloc) {
         Ok(store) => store,
         Err(fault) => return Err(Stop::of_wire_head(fault)),
@@ -131,34 +132,6 @@ fn core_of<R: Read>(
     drop(base);
     let workers = crew.workers.clamp(1, 64);
     Ok(ReplicaCore::new(alloc, schema, source, store, workers, true)?)
-}
-
-/// The source and what its log is written over, as the wire's head says.
-fn head_of<R: Read>(alloc: Global, input: &mut R, crew: &Crew) -> Result<(Uuid, Head), Stop> {
-    let wire = match read_head(alloc, input) {
-        Ok(wire) => wire,
-        Err(fault) => return Err(of_wire(fault)),
-    };
-    if crew.source.is_some_and(|source| source != wire.source) {
-        return Err(Stop::Record(ReplicaFault::ForeignSource));
-    }
-    if wire.first != 1 {
-        return Err(Stop::Record(ReplicaFault::Gap));
-    }
-    match Head::of(alloc, &wire.text, 0) {
-        Ok(head) => Ok((wire.source, head)),
-        Err(fault) => Err(Stop::of_wire_head(fault)),
-    }
-}
-
-/// Why a wire has no whole head.
-fn of_wire(fault: HeadFault) -> Stop {
-    match fault {
-        HeadFault::Short => Stop::Wire("W1 Short"),
-        HeadFault::BadMagic => Stop::Wire("W2 BadMagic"),
-        HeadFault::Memory => Stop::Memory,
-        HeadFault::Stream(error) => Stop::of_file(error),
-    }
 }
 
 /// Runs the replica, under the name of its history, until the wire and the lines are at their end, and makes a log of what it has if a line
@@ -228,7 +201,11 @@ fn run_core<
 }
 
 /// How the program ends once the wire ended so, and all lines were good or not.
-pub fn ending_of(wire: Ending, are_good: bool) -> Ending {
+pub fn ending_of(wire: Ending, are_good: bool) -> Ending
+    ensures good { are_good ≡ true → result ≡ wire }
+    ensures bad { are_good ≡ false → wire ≡ Ending.Done → result ≡ Ending.Refused }
+    ensures other { wire ≢ Ending.Done → result ≡ wire }
+{
     if wire == Ending::Done && !are_good {
         Ending::Refused
     } else {

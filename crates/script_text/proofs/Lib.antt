@@ -10,3 +10,4 @@ pub mod ReadLines
 pub mod LogTexts
 pub mod HexBack
 pub mod ReadBack
+pub mod TextLines

@@ -3,7 +3,7 @@ use Rattle.std.specs.Prelude.{◌≡◌, ◌^◌, ◌<◌, ◌≤◌, ℤ, FitsS
 use Rattle.std.specs.Int.{w64}
 use Rattle.schema.specs.declared.RowId.{RowId}
 use Rattle.schema.specs.declared.Table.{Table}
-use Rattle.script_text.specs.Lines.{table, base, table_of, base_of, text_line, IsLine}
+use Rattle.script_text.specs.Lines.{table, base, table_of, base_of, line_of, IsLine}
 use Rattle.script_text.specs.Heads.{table_words, table_text, base_words, base_text}
 
 -- the numbers of a table are of their types
@@ -16,13 +16,13 @@ pub record HasRanges (t : Table) : Type 0 where
 -- The text of a table is one line, is about a table, and its words are that table.
 pub record TableReadsBack (t : Table) : Type 0 where
   pub one : IsLine (table_text t)
-  pub about : text_line (table_text t) ≡ Some (table (table_words t))
+  pub about : line_of (table_text t) ≡ Some (table (table_words t))
   pub read : table_of (table_words t) ≡ Some t
 
 -- The text of a row at the start is one line, is about such a row, and its words are that row.
 pub record BaseReadsBack (row : RowId) (columns : List ℤ) : Type 0 where
   pub one : IsLine (base_text row columns)
-  pub about : text_line (base_text row columns) ≡ Some (base (base_words row columns))
+  pub about : line_of (base_text row columns) ≡ Some (base (base_words row columns))
   pub read : base_of (base_words row columns) ≡ Some (row, columns)
 
 abbrev pub TablesReadBack : Type 0

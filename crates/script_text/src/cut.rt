@@ -15,8 +15,8 @@ pub fn cut_at(text: &str, mark: u8) -> Option<(&str, &str)>
     Some((&text[..at], &text[at + 1..]))
 }
 
-/// The place of the first such byte.
-fn place_of(bytes: &[u8], mark: u8) -> Option<usize>
+/// The place of the first such byte, counted from 0; `None` if there is none. The time is that of a walk to it.
+pub fn place_of(bytes: &[u8], mark: u8) -> Option<usize>
     ensures { result ≡ position (λ b. b == mark) bytes.now }
 {
     bytes.iter().position(|b| *b == mark)

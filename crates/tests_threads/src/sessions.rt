@@ -16,6 +16,12 @@ use std::thread::{Threads, join, map_indices, sleep};
 use std::time::{Clock, Duration};
 use tests_stores::again;
 
+/// So often sixteen sessions commit at most until they share their syncs: each time others, of 256.
+const ROUNDS: usize = 16;
+
+/// So many milliseconds lie between these.
+const PAUSE: u64 = 250;
+
 impl<J, R> SourceRig<'_, '_, J, R>
 where
     J: SourceNaming + Send + Sync,
@@ -214,18 +220,19 @@ where
     }
 
     /// Sixteen sessions commit twelve times each. They share nearly all of their syncs: each that comes back from a group comes to the next
-    /// one in time. Where one leads alone and the others behind it that makes two groups for each turn. (So often it is done again at most,
-    /// with other sessions, where the machine has no time for these threads; or no memory for threads, and the sessions commit one after
-    /// another.)
+    /// one in time. Where one leads alone and the others behind it that makes two groups for each turn. (It is done again, with other
+    /// sessions and a while later, where the machine has no time for these threads; or no memory for threads, and the sessions commit one
+    /// after another.)
     pub fn is_shared(&self) -> Result<usize, Fail> {
         let mut committed = 0usize;
-        for round in 0..5 {
+        for round in 0..ROUNDS {
             let before = self.orders.groups();
             let more = self.commit_beside(16 * round, 16, 12)?;
             committed = committed.saturating_add(more);
             if self.orders.groups().saturating_sub(before) < 22 {
                 return Ok(committed);
             }
+            sleep(self.rt, Duration::from_millis(PAUSE));
         }
         Err(Memory)?
     }

@@ -84,18 +84,18 @@ fn a_head_is_these_bytes(rt: HostRuntime) -> Result<(), Fail> {
 fn heads_that_are_none(rt: HostRuntime) -> Result<(), Fail> {
     for end in 0..HEAD.len() {
         let (front, _) = HEAD.split_at(end);
-        assert!(rt; is_refused(rt.alloc(), front, "W1 Short")?, "{end}");
+        assert!(rt; is_refused(rt.alloc(), front, "H1 Short")?, "{end}");
     }
     for at in 0..8 {
         let mut other = HEAD;
         other[at] ^= 0x20;
         let (front, _) = other.split_at(at + 1);
-        assert!(rt; is_refused(rt.alloc(), front, "W2 BadMagic")?, "{at}");
-        assert!(rt; is_refused(rt.alloc(), &other, "W2 BadMagic")?, "{at}");
+        assert!(rt; is_refused(rt.alloc(), front, "H2 BadMagic")?, "{at}");
+        assert!(rt; is_refused(rt.alloc(), &other, "H2 BadMagic")?, "{at}");
     }
     let mut lies = HEAD;
     lies[32..36].copy_from_slice(&[0xff; 4]);
-    assert!(rt; is_refused(rt.alloc(), &lies, "W1 Short")?);
+    assert!(rt; is_refused(rt.alloc(), &lies, "H1 Short")?);
     Ok(())
 }
 
