@@ -11,7 +11,7 @@ use Rattle.store_trait.specs.Batch.{Entry, put_batches}
 use Rattle.store_trait.specs.Operation.{batch_of, left_by}
 use Rattle.scheduler.specs.Gnos.{has_gno, low_of}
 use Rattle.scheduler.proofs.Gnos.{has_gno-push, low_of_same}
-use Rattle.published.specs.History.{IsHistory, MayAppend, gnos_of, commits_in}
+use Rattle.published.specs.History.{IsHistory, IsWithin, MayAppend, gnos_of, commits_in}
 use Rattle.published.specs.VersionValue.{VersionValue}
 use Rattle.published.specs.Copies.{after_step, puts_in, Settles}
 use Rattle.published.specs.Publication.{Publishing, unsaid, IsTied}
@@ -58,7 +58,7 @@ module _ {J : Type 0} where
   published_after rows published all steps after is =
       ap (λ (h : VersionValue). h.by) (ap (fold after_step (record { rows = rows; by = published })) is ∙ noted steps (record { rows = rows; by = published }) all)
 
-module _ {preserve : Bool} {rows : Database} {p : Publishing} {gnos : List ℕ} (tied : IsTied preserve rows p gnos) where
+module _ {preserve : Bool} {known : Option (List Op)} {rows : Database} {p : Publishing} {gnos : List ℕ} (tied : IsTied preserve known rows p gnos) where
   -- the history has no more than what is published and what waits
   known_within : length p.history - length p.published ≤ length p.waiting
   known_within =
@@ -73,8 +73,9 @@ module _ {preserve : Bool} {rows : Database} {p : Publishing} {gnos : List ℕ} 
 
   -- one more commit waits
   pub tied_put : {op : Op} {gno : ℕ} {batch : List Entry} {longer : List Op} (more : List ℕ) → op ≡ Commit gno batch → MayAppend preserve (p.published ++ p.waiting) op
-      → longer ≡ p.waiting ++ op ∷ [] → ((g : ℕ) → has_gno more g ≡ (has_gno gnos g || (gno == g))) → length more ≡ length gnos + 1 → IsTied preserve rows (record p { waiting = longer }) more
-  tied_put {op = op} {gno = gno} {longer = longer} more is may waits has count =
+      → IsWithin known (p.published ++ p.waiting ++ op ∷ []) → longer ≡ p.waiting ++ op ∷ [] → ((g : ℕ) → has_gno more g ≡ (has_gno gnos g || (gno == g))) → length more ≡ length gnos + 1
+      → IsTied preserve known rows (record p { waiting = longer }) more
+  tied_put {op = op} {gno = gno} {longer = longer} more is may within waits has count =
       let all : p.published ++ longer ≡ (p.published ++ p.waiting) ++ op ∷ [] = ap (λ l. p.published ++ l) waits ∙ sym (append_assoc p.published p.waiting (op ∷ [])) in
       let some : 1 ≤ length (p.published ++ p.waiting) = begun preserve (p.published ++ p.waiting) tied.history in record {
         left = tied.left;
@@ -94,10 +95,11 @@ module _ {preserve : Bool} {rows : Database} {p : Publishing} {gnos : List ℕ} 
             ∙ sym (append_assoc p.history (unsaid p) (op ∷ []))
             ∙ ap (λ l. l ++ op ∷ []) tied.whole
             ∙ sym all;
+        within = subst (IsWithin known) (sym all) within;
       }
 
   -- all that waits is in the history
-  pub tied_known : {all : List Op} → all ≡ p.published ++ p.waiting → IsTied preserve rows (record p { history = all }) gnos
+  pub tied_known : {all : List Op} → all ≡ p.published ++ p.waiting → IsTied preserve known rows (record p { history = all }) gnos
   tied_known {all = all} whole = record {
     left = tied.left;
     begun = tied.begun;
@@ -108,11 +110,12 @@ module _ {preserve : Bool} {rows : Database} {p : Publishing} {gnos : List ℕ} 
         let none : drop (length all - length p.published) p.waiting ≡ [] =
         ap (λ n. drop n p.waiting) (omega (arith, ap length whole, length-append p.published p.waiting)) ∙ drop-length p.waiting in
         ap (λ l. all ++ l) none ∙ append-nil all ∙ whole;
+    within = tied.within;
   }
 
   -- all that waited is published
   pub tied_shown : {rows' : Database} {by : List Op} → p.history ≡ p.published ++ p.waiting → rows' ≡ left_by by → by ≡ p.history
-      → IsTied preserve rows' (record { published = by; waiting = []; history = p.history }) gnos
+      → IsTied preserve known rows' (record { published = by; waiting = []; history = p.history }) gnos
   tied_shown {by = by} whole left same =
       let both : by ++ [] ≡ p.published ++ p.waiting = append-nil by ∙ same ∙ whole in record {
         left = left;
@@ -121,12 +124,17 @@ module _ {preserve : Bool} {rows : Database} {p : Publishing} {gnos : List ℕ} 
         has = λ g. tied.has g ∙ ap (λ l. has_gno (gnos_of l) g) (sym both);
         number = tied.number ∙ ap commits_in (sym both);
         whole = ap (λ l. p.history ++ l) (drop-nil (length p.history - length by)) ∙ ap (λ l. l ++ []) (sym same);
+        within = subst (IsWithin known) (sym both) tied.within;
       }
 
   -- The history, and then what is not in it, is all that was appended: a history, whose number of commits and whose mark are those of what
   -- was noted.
   pub whole_history : IsHistory preserve (p.history ++ unsaid p)
   whole_history = subst (IsHistory preserve) (sym tied.whole) tied.history
+
+  -- a beginning of all that ever may be published
+  pub whole_within : IsWithin known (p.history ++ unsaid p)
+  whole_within = subst (IsWithin known) (sym tied.whole) tied.within
 
   -- as many are noted as are commits in the history and in what waits and is not in it
   pub whole_number : {count : ℕ} → count ≡ length gnos → count ≡ commits_in (p.history ++ unsaid p)
@@ -137,15 +145,16 @@ module _ {preserve : Bool} {rows : Database} {p : Publishing} {gnos : List ℕ} 
   whole_mark is = is ∙ low_of_same gnos (gnos_of (p.published ++ p.waiting)) (λ g some. tied.has g) ∙ ap (λ l. low_of (gnos_of l)) (sym tied.whole)
 
 -- at first nothing is noted
-pub tied_begun : (preserve : Bool) (rows : Database) (load : List Op) (gnos : List ℕ) → IsHistory preserve load → commits_in load ≡ 0 → rows ≡ left_by load → gnos ≡ []
-    → IsTied preserve rows (record { published = load; waiting = []; history = load }) gnos
-tied_begun preserve rows load gnos h none left is = record {
+pub tied_begun : (preserve : Bool) (known : Option (List Op)) (rows : Database) (load : List Op) (gnos : List ℕ) → IsHistory preserve load → commits_in load ≡ 0 → IsWithin known load
+    → rows ≡ left_by load → gnos ≡ [] → IsTied preserve known rows (record { published = load; waiting = []; history = load }) gnos
+tied_begun preserve known rows load gnos h none within left is = record {
   left = left;
   begun = begun preserve load h;
   history = subst (IsHistory preserve) (sym (append-nil load)) h;
   has = λ g. ap (λ l. has_gno l g) (is ∙ sym (no_gnos preserve load h none) ∙ ap gnos_of (sym (append-nil load)));
   number = ap (λ (l : List ℕ). length l) is ∙ sym none ∙ ap commits_in (sym (append-nil load));
   whole = ap (λ l. load ++ l) (drop-nil (length load - length load));
+  within = subst (IsWithin known) (sym (append-nil load)) within;
 }
 
 -- a publisher is what is published, what waits, and the history

@@ -1,6 +1,7 @@
 -- Lists of operations that are published: the load of the base, and then commits.
-use Rattle.std.specs.Prelude.{◌≡◌, ℕ, ◌+◌, ◌-◌, ◌≤◌, nat_lt, Bool, true, false, List, [], ◌∷◌, ◌++◌, length}
+use Rattle.std.specs.Prelude.{◌≡◌, ℕ, ◌+◌, ◌-◌, ◌≤◌, nat_lt, Bool, true, false, Option, None, Some, List, [], ◌∷◌, ◌++◌, length}
 use Rattle.std.specs.List.{count_by}
+use mathlib.Core.List.{IsPrefix}
 use Rattle.store_trait.specs.declared.Op.{Op}
 use Rattle.store_trait.specs.declared.Op.TheVariants.{Load, Commit}
 use Rattle.scheduler.specs.Gnos.{has_gno}
@@ -48,3 +49,8 @@ MayAppend false ops (Commit gno batch) = (1 ≤ gno) × (has_gno (gnos_of ops) g
 -- how many commits stand behind the load
 abbrev pub commits_in : List Op → ℕ
 commits_in ops = length ops - 1
+
+-- what is published is a beginning of all that ever may be, if that is known
+abbrev pub IsWithin : Option (List Op) → List Op → Type 0
+IsWithin None ops = Unit {0}
+IsWithin (Some all) ops = IsPrefix ops all

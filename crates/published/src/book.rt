@@ -4,7 +4,7 @@
 ghost use Rattle.std.specs.Prelude.{◌≡◌, ◌≢◌, ◌+◌, ◌≤◌, true, false, ◌++◌, ◌∷◌, [], MatchBool, IfSome};
 ghost use mathlib.Core.List.{IsPrefix};
 ghost use Rattle.scheduler.specs.Gnos.{low_of};
-ghost use Rattle.published.specs.History.{IsHistory, gnos_of, commits_in, count_above};
+ghost use Rattle.published.specs.History.{IsHistory, IsWithin, gnos_of, commits_in, count_above};
 ghost use Rattle.published.specs.Book.{head_of};
 ghost use Rattle.store_trait.specs.declared.Op.TheVariants.{Load};
 
@@ -70,21 +70,27 @@ impl Play<Part, u64> for Add {
 /// kept, and requires `beginning.book ≡ J.book` and `preserve ≡ J.preserve`. Its caller passes the marker `Brand` for `J`, and
 /// says in its `Invariants.antt` that both are those of the arguments.
 pub trait Naming {
-    ghost use Rattle.std.specs.Prelude.{Bool};
+    ghost use Rattle.std.specs.Prelude.{Bool, Option, List};
     ghost use Rattle.logbook.specs.Pages.{Book};
+    ghost use Rattle.store_trait.specs.declared.Op.{Op};
 
     ghost book: { Book };
 
     /// Whether commits are published in the order of the log.
     ghost preserve: { Bool };
+
+    /// All that it may ever publish, the load first, if that is known before.
+    ghost known: { Option (List Op) };
 }
 
 impl Naming for Brand {
-    ghost use Rattle.std.specs.Prelude.{true};
+    ghost use Rattle.std.specs.Prelude.{true, None};
 
     ghost book = { record { number = 0; log_name = 0; cells_name = 0 } };
 
     ghost preserve = { true };
+
+    ghost known = { None };
 }
 
 /// The one word. It counts the commits of the history.
@@ -129,7 +135,8 @@ impl Beginning {
 
     // The parts, under the name of this publication.
     pub(crate) fn named<J: Naming>(self) -> (Batch, Head<J>, Notice<J>)
-        requires { self.book ≡ J.book }
+        requires named { self.book ≡ J.book }
+        requires within { IsWithin J.known (Load self.base ∷ []) }
         ensures base { result.0 ≡ self.base }
         ensures notice { result.2 ≡ Load self.base ∷ [] }
     {
@@ -162,7 +169,7 @@ impl<J: Naming> Model for Notice<J> {
     ghost use Rattle.std.specs.Prelude.{◌≡◌, List};
     ghost use Rattle.store_trait.specs.declared.Op.{Op};
     ghost use Rattle.scheduler.specs.Gnos.{low_of};
-    ghost use Rattle.published.specs.History.{IsHistory, gnos_of, commits_in};
+    ghost use Rattle.published.specs.History.{IsHistory, IsWithin, gnos_of, commits_in};
     ghost use Rattle.published.specs.Book.{operations_of};
 
     ghost Value = { List Op };
@@ -170,7 +177,7 @@ impl<J: Naming> Model for Notice<J> {
     ghost view = { λ n. operations_of n.seen.log };
 
     ghost invariant = { λ n. (n.count ≡ commits_in (operations_of n.seen.log)) × (n.upto ≡ low_of (gnos_of (operations_of n.seen.log))) ×
-        (n.seen.book ≡ J.book) × IsHistory J.preserve (operations_of n.seen.log) };
+        (n.seen.book ≡ J.book) × IsHistory J.preserve (operations_of n.seen.log) × IsWithin J.known (operations_of n.seen.log) };
 }
 
 impl<J: Naming> Notice<J> {
@@ -182,6 +189,7 @@ impl<J: Naming> Notice<J> {
         ensures within { result ≤ commits_in self.now }
         ensures above { count_above result (gnos_of self.now) + result ≡ commits_in self.now }
         ensures history { IsHistory J.preserve self.now }
+        ensures known { IsWithin J.known self.now }
     {
         self.upto
     }
@@ -227,6 +235,7 @@ impl<J: Naming> Notice<J> {
         requires history { IsHistory J.preserve (self.now ++ M.ask of.now) }
         requires number { count ≡ commits_in (self.now ++ M.ask of.now) }
         requires mark { upto ≡ low_of (gnos_of (self.now ++ M.ask of.now)) }
+        requires within { IsWithin J.known (self.now ++ M.ask of.now) }
         ensures { IfSome result (λ longer. longer ≡ self.now ++ M.ask of.now) }
     {
         let mut seen = self.seen.again();

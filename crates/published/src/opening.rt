@@ -3,6 +3,7 @@ ghost use Rattle.std.specs.Prelude.{◌≡◌, ◌≤◌, [], ◌∷◌, IfOk, I
 ghost use Rattle.std.specs.FinMap.{empty};
 ghost use Rattle.store_trait.specs.declared.Op.TheVariants.{Load};
 ghost use Rattle.store_trait.specs.Operation.{left_by};
+ghost use Rattle.published.specs.History.{IsWithin};
 ghost use Rattle.published.specs.Opening.{Tells};
 
 use crate::book::{Beginning, Naming, Notice};
@@ -58,6 +59,7 @@ pub trait Supply<S: RowStore + Drop, J: Naming> {
     ) -> Result<(Publisher<S, J>, Vec<ReadSeat<S, J>>), Memory>
         requires named { beginning.book ≡ J.book }
         requires order { preserve ≡ J.preserve }
+        requires known { IsWithin J.known (Load beginning.base ∷ []) }
         requires first { S.contents first ≡ empty }
         requires second { S.contents second ≡ empty }
         requires seats { (1 ≤ seats) × (seats ≤ 32) }
@@ -111,6 +113,7 @@ pub fn open<S: RowStore + Drop, J: Naming, R: Wait, P: Supply<S, J>>(
 ) -> Result<(Publisher<S, J>, Vec<ReadSeat<S, J>>), OpenError>
     requires named { beginning.book ≡ J.book }
     requires order { preserve ≡ J.preserve }
+    requires known { IsWithin J.known (Load beginning.base ∷ []) }
     requires first { S.contents first ≡ empty }
     requires second { S.contents second ≡ empty }
     requires some { 1 ≤ seats }

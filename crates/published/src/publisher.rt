@@ -2,7 +2,7 @@
 ghost use Rattle.std.specs.Prelude.{◌≡◌, ◌⊎◌, ◌+◌, [], ◌∷◌, ◌++◌, length, drop, OnOk, OnErr, IfOk, IfSome, fold};
 ghost use Rattle.published.specs.Copies.{after_step, Settles};
 ghost use Rattle.store_trait.specs.Operation.{left_by};
-ghost use Rattle.published.specs.History.{IsHistory, MayAppend, commits_in};
+ghost use Rattle.published.specs.History.{IsHistory, IsWithin, MayAppend, commits_in};
 
 use crate::book::{Head, Naming, Notice, Part};
 use crate::gaps::Gaps;
@@ -48,7 +48,7 @@ where
       history = p.history;
     } };
 
-    ghost invariant = { λ p. IsTied J.preserve (S.contents p.writer.desk.shown.value.store)
+    ghost invariant = { λ p. IsTied J.preserve J.known (S.contents p.writer.desk.shown.value.store)
         (record {
           published = p.writer.desk.shown.value.by;
           waiting = puts_in (drop p.writer.behind p.writer.log.items);
@@ -77,6 +77,7 @@ impl<S: RowStore + Drop, J: Naming> Publisher<S, J> {
         notice: Notice<J>,
     ) -> Publisher<S, J>
         requires load { IsHistory J.preserve notice × (commits_in notice ≡ 0) }
+        requires known { IsWithin J.known notice }
         requires shown { (writer.desk.shown.value.by ≡ notice) × (S.contents writer.desk.shown.value.store ≡ left_by notice) }
         requires none { drop writer.behind writer.log.items ≡ [] }
         ensures published { result.published ≡ notice }
@@ -103,7 +104,9 @@ impl<S: RowStore + Drop, J: Naming> Publisher<S, J> {
     /// gno after the last appended, 1 at first; else that of any gno from 1 on that was not appended. The time and the memory are
     /// those of a copy of the batch, and linear in the commits ahead of a gap.
     pub fn append(&mut self, op: &Op) -> Result<(), Memory>
-        requires { MayAppend J.preserve (self.old.published ++ self.old.waiting) op.now }
+        requires next { MayAppend J.preserve (self.old.published ++ self.old.waiting) op.now }
+        // If it is known what ever may be published, it is the next of that.
+        requires known { IsWithin J.known (self.old.published ++ self.old.waiting ++ op.now ∷ []) }
         ensures ok { OnOk result (self.new ≡ record self.old { waiting = self.old.waiting ++ op.now ∷ [] }) }
         ensures err { OnErr result (self.new ≡ self.old) }
     {

@@ -4,7 +4,7 @@ ghost use mathlib.Core.List.{IsPrefix};
 ghost use Rattle.std.specs.FinMap.{get as row_of};
 ghost use Rattle.store_trait.specs.Operation.{left_by};
 ghost use Rattle.scheduler.specs.Gnos.{low_of};
-ghost use Rattle.published.specs.History.{IsHistory, gnos_of, commits_in, count_above};
+ghost use Rattle.published.specs.History.{IsHistory, IsWithin, gnos_of, commits_in, count_above};
 
 use crate::Answer;
 use crate::book::{Naming, Notice};
@@ -52,6 +52,7 @@ impl<S: RowStore + Drop, J: Naming> ReadSeat<S, J> {
         ensures above { IfSome result (λ answer. answer.more ≡ count_above answer.upto (gnos_of self.new)) }
         ensures in_order { IfSome result (λ answer. J.preserve ≡ true → (answer.upto ≡ commits_in self.new) × (answer.more ≡ 0)) }
         ensures history { IfSome result (λ answer. IsHistory J.preserve self.new) }
+        ensures known { IfSome result (λ answer. IsWithin J.known self.new) }
         ensures later { IsPrefix self.old self.new }
         ensures none { IfNone result (self.new ≡ self.old) }
     {

@@ -1,7 +1,7 @@
 use Rattle.std.proofs.Common.{◌≡◌, ◌++◌, sym, ◌∙◌, ap, subst}
 use Rattle.scheduler.specs.Gnos.{low_of}
 use Rattle.published.specs.Book.{operations_of}
-use Rattle.published.specs.History.{IsHistory, gnos_of, commits_in}
+use Rattle.published.specs.History.{IsHistory, IsWithin, gnos_of, commits_in}
 use Rattle.published.proofs.Histories.{begun}
 use Rattle.published.proofs.Adding.{adds_moves, added}
 use Rattle.published.proofs.book.Notice.and.Goals as goal
@@ -36,4 +36,5 @@ invariant_of-result g c =
       c.requires.mark ∙ ap (λ l. low_of (gnos_of l)) whole,
       c.compare_exchange-found.ensures.0 ∙ ap (λ s. s.book) c.again-seen.ensures ∙ c.self.invariant.2,
       subst (IsHistory g.J.Naming.preserve) whole c.requires.history,
+      subst (IsWithin g.J.Naming.known) whole c.requires.within,
     )

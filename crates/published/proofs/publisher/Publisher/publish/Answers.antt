@@ -37,7 +37,7 @@ invariant_of-self-2 g c =
     let steps = drop c.self.inside.writer.behind c.self.inside.writer.log.items in
     let after = drop c.add.new.writer.behind c.add.new.writer.log.items in
     let p : Publishing = record { published = published; waiting = puts_in steps; history = c.self.inside.history } in
-    let tied : IsTied g.J.Naming.preserve rows p c.self.inside.appended.gnos = rw c.add.ensures.desk c.self.invariant in
+    let tied : IsTied g.J.Naming.preserve g.J.Naming.known rows p c.self.inside.appended.gnos = rw c.add.ensures.desk c.self.invariant in
     let known = found _ _ _ c.extended.result c.self.view_is c.in-Some.is c.extended.ensures in
     let all : c.in-Some.history ≡ published ++ puts_in steps = rw c.add.ensures.desk known in
     let whole : c.again.result ≡ published ++ puts_in steps = c.again.ensures ∙ all in
