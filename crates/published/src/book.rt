@@ -68,7 +68,8 @@ impl Play<Part, u64> for Add {
 /// Which publication a publisher, a seat and a notice are of: a type stands for it, so that those of two
 /// publications can't be mixed. Write a function over `J: Naming` that takes a `Beginning` and whether the order of the log is
 /// kept, and requires `beginning.book ≡ J.book` and `preserve ≡ J.preserve`. Its caller passes the marker `Brand` for `J`, and
-/// says in its `Invariants.antt` that both are those of the arguments.
+/// says in its `Invariants.antt` that both are those of the arguments, and that `known` is `None`. If it is known before what the
+/// publication may ever publish, `known` is that, the load first.
 pub trait Naming {
     ghost use Rattle.std.specs.Prelude.{Bool, Option, List};
     ghost use Rattle.logbook.specs.Pages.{Book};

@@ -21,14 +21,14 @@ pub prefix_length : (xs ys : List Op) → IsPrefix xs ys → length xs ≤ lengt
 prefix_length xs ys p = omega (arith, length-append xs p.0, ap length p.1)
 
 -- one more of the longer list
-pub prefix_next : (xs ys : List Op) (y : Op) → IsPrefix xs ys → slice_get ys (length xs) ≡ Some y → IsPrefix (xs ++ y ∷ []) ys
+pub prefix_next : {A : Type 0} (xs ys : List A) (y : A) → IsPrefix xs ys → slice_get ys (length xs) ≡ Some y → IsPrefix (xs ++ y ∷ []) ys
 prefix_next [] [] y p is = absurd (cc (is))
 prefix_next [] (z ∷ ys) y p is = (ys, ap (λ w. w ∷ ys) (cc (is)))
 prefix_next (x ∷ xs) [] y p is = absurd (cc (p.1))
 prefix_next (x ∷ xs) (z ∷ ys) y p is =
     let rest = prefix_next xs ys y (p.0, cc (p.1)) is in (rest.0, cc (p.1, rest.1))
 
-pub prefix_take : (n : ℕ) (xs : List Op) → IsPrefix (take n xs) xs
+pub prefix_take : {A : Type 0} (n : ℕ) (xs : List A) → IsPrefix (take n xs) xs
 prefix_take n xs = (drop n xs, take-append-drop n xs)
 
 -- a beginning is as much of the list as it is long

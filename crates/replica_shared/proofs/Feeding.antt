@@ -6,6 +6,7 @@ use Rattle.std.specs.Option.{option_map_or}
 use Rattle.std.proofs.Math.Bool.{or-false}
 use Rattle.std.proofs.lemmas.Bool.{false≢true, false_from_ne_true, eqb-true, ltb-true}
 use mathlib.Core.List.{IsPrefix}
+use Rattle.store_trait.specs.declared.Op.{Op}
 use Rattle.record_codec.specs.declared.fault.CodecFault.{CodecFault}
 use Rattle.record_codec.specs.declared.records.Record.{Record}
 use Rattle.published.specs.declared.counts.Counts.{Counts}
@@ -22,7 +23,7 @@ use Rattle.replica_core.specs.Wire.{Wire, HandsAll, Gathers, IsCodecCause, Takes
 use Rattle.replica_core.specs.declared.wire.WireFault.{WireFault}
 use Rattle.replica_core.specs.declared.wire.WireFault.TheVariants as wire
 use Rattle.replica_core.proofs.Handing.{Grows, takes_grow, hands_on_grow, takes_first, takes_nothing, grows_none}
-use Rattle.replica_shared.specs.Names.{ReplicaNames}
+use Rattle.replica_shared.specs.Names.{ReplicaNames, IsOfLog}
 use Rattle.replica_shared.specs.Together.{State, IsWhole, words_of}
 use Rattle.replica_shared.specs.Feeding.{left_by_take, SettlesOrLacks, told_behind, TakesAndSettles, HandsAs, Feeds}
 use Rattle.replica_core.proofs.Showing.{sound_stands, commits_within}
@@ -100,18 +101,18 @@ words_rise r then stored g words =
 
 -- ---- what is true under the lock
 
-module _ {names : ReplicaNames} {preserve : Bool} {s : State} {appended : ℕ} {stored : List Counts}
-    (h : IsWhole names preserve s appended stored) where
+module _ {names : ReplicaNames} {preserve : Bool} {known : Option (List Op)} {s : State} {appended : ℕ} {stored : List Counts}
+    (h : IsWhole names preserve known s appended stored) where
   -- more records are accepted, and the words are stored
-  pub whole_grown : {r : Replica} {after : List Counts} → Grows s.core r → IsSound r → latest after ≡ words_of r
-      → IsWhole names preserve (record s { core = r; behind = true }) appended after
-  whole_grown {after = after} g sound words =
+  pub whole_grown : {r : Replica} {after : List Counts} → Grows s.core r → IsOfLog names.log r.accepted → IsSound r → latest after ≡ words_of r
+      → IsWhole names preserve known (record s { core = r; behind = true }) appended after
+  whole_grown {after = after} g of_log sound words =
       let more : Replica = record s.core { accepted = s.core.accepted ++ g.more } in
       let t = h.stand in
       let p = s.publication in
       let whole : IsSound more = subst IsSound g.is sound in
       let same : ran more ≡ ran s.core = records_at_longer s.core.accepted g.more s.core.commits t.within in
-      subst (λ (x : Replica). IsWhole names preserve (record s { core = x; behind = true }) appended after) (sym g.is) (record {
+      subst (λ (x : Replica). IsWhole names preserve known (record s { core = x; behind = true }) appended after) (sym g.is) (record {
         stand = record {
           named = t.named;
           within = commits_within more (sound_stands more whole);
@@ -121,17 +122,19 @@ module _ {names : ReplicaNames} {preserve : Bool} {s : State} {appended : ℕ} {
           words = words ∙ ap words_of g.is;
           number = t.number;
           in_order = λ kept. (whole.in_order (t.named.3 ∙ kept)).ops;
+          of_log = subst (λ (q : Replica). IsOfLog names.log q.accepted) g.is of_log;
         };
         kept = h.kept;
         line = h.line;
         claims = h.claims;
         stops = stops_grown s.core more (record { more = g.more; is = refl }) whole t.within h.stops;
         rest = unsettled (record s { core = more; behind = true }) refl;
+        known_is = h.known_is;
       })
 
   -- the core is as it was
-  pub whole_same : {r : Replica} → r ≡ s.core → IsWhole names preserve (record s { core = r }) appended stored
-  whole_same is = subst (λ (x : Replica). IsWhole names preserve (record s { core = x }) appended stored) (sym is) h
+  pub whole_same : {r : Replica} → r ≡ s.core → IsWhole names preserve known (record s { core = r }) appended stored
+  whole_same is = subst (λ (x : Replica). IsWhole names preserve known (record s { core = x }) appended stored) (sym is) h
 
 -- ---- what a call is told
 

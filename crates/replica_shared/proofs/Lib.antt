@@ -1,4 +1,5 @@
 pub mod Commits
+pub mod Known
 pub mod Standing
 pub mod Keeping
 pub mod Awaiting

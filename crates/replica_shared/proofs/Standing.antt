@@ -19,7 +19,7 @@ use Rattle.scheduler.proofs.Gnos.{has_gno_last, has_gno-take, AreDistinct-take, 
 use Rattle.gapped.specs.Gapped.{records_at}
 use Rattle.gapped.proofs.Choosing.{records_at_joined, length_records_at, commits_are_distinct, AreWithin}
 use Rattle.published.specs.declared.counts.Counts.{Counts}
-use Rattle.published.specs.History.{IsHistory, MayAppend, gnos_of, commits_in}
+use Rattle.published.specs.History.{IsHistory, IsWithin, MayAppend, gnos_of, commits_in}
 use Rattle.published.specs.Publication.{Publishing}
 use Rattle.published.specs.Status.{NoneFalls, latest}
 use Rattle.published.proofs.Histories.{prefix_whole, history_length, history_load, gnos_of-append}
@@ -27,12 +27,13 @@ use Rattle.replica_core.specs.Replica.{Replica, ran, commits_from, operations, o
 use Rattle.replica_core.specs.Calls.{new_over, with_commit}
 use Rattle.replica_core.specs.Sound.{IsSound}
 use Rattle.replica_core.proofs.Showing.{sound_stands, commits_within, gnos_of_operations, length_operations, TellsGnos}
-use Rattle.replica_shared.specs.Names.{ReplicaNames, replica_names, IsNewReplica}
+use Rattle.replica_shared.specs.Names.{ReplicaNames, replica_names, IsNewReplica, IsKnown}
 use Rattle.replica_shared.specs.Together.{StandTogether, IsAppended, words_of, loaded_alone}
 use Rattle.replica_shared.specs.Awaited.{has_each, is_commit_in}
 use Rattle.replica_shared.proofs.Awaiting.{any_commit_in, front_has}
 use Rattle.replica_shared.proofs.Commits.{prefix_length, prefix_is, prefix_next, prefix_operations, first_operations, same_operations, all_operations, few_operations, commits_alone, gnos_of-drop}
 use Rattle.replica_shared.proofs.Commits.{front, slice_get-drop, looked_up}
+use Rattle.replica_shared.proofs.Known.{none_of_log, within_known}
 
 -- what is left where a number was answered
 pub left_committed : (r next : Replica) (gno : Option ℕ) → true ≡ is_some gno → next ≡ option_map_or (λ committed. with_commit r committed) gno r → (committed : ℕ) × (next ≡ with_commit r committed)
@@ -108,6 +109,7 @@ module _ {names : ReplicaNames} {preserve : Bool} {r : Replica} {p : Publishing}
     words = words;
     number = t.number;
     in_order = λ kept. (sound.in_order (t.named.3 ∙ kept)).ops;
+    of_log = t.of_log;
   }
     where
       one : List Record
@@ -188,6 +190,15 @@ module _ {names : ReplicaNames} {preserve : Bool} {r : Replica} {p : Publishing}
       may_append preserve ops op r appended sound t.named.3 more size (gnos_of_prefix ops appended sound (omega arith) size t.begins)
       (gnos_of_prefix (ops ++ op ∷ []) (appended + 1) sound (omega arith) (omega (arith, length-append ops (op ∷ []))) (next_begins op is))
 
+  -- and a beginning of all that may be published ends with it
+  pub next_known : (known : Option (List Op)) (op : Op) → IsKnown names preserve known → slice_get all appended ≡ Some op → IsWithin known ((p.published ++ p.waiting) ++ op ∷ [])
+  next_known known op is at =
+      let ops = (p.published ++ p.waiting) ++ op ∷ [] in
+      within_known names.tables names.base names.log preserve known r.accepted ops (length r.commits) is t.of_log (λ kept.
+      subst (λ (b : List Entry). IsPrefix ops (operations_in_order names.tables b r.accepted (length r.commits))) t.named.2
+      (subst (λ (ts : List Table). IsPrefix ops (operations_in_order ts r.base r.accepted (length r.commits))) t.named.0
+      (subst (λ (l : List Op). IsPrefix ops l) (t.in_order kept (length r.commits) (omega arith)) (next_begins op at))))
+
   -- and then it is appended
   pub stand_appended : (op : Op) → slice_get all appended ≡ Some op → StandTogether names preserve r (record p { waiting = p.waiting ++ op ∷ [] }) (appended + 1) stored
   stand_appended op is = record {
@@ -199,6 +210,7 @@ module _ {names : ReplicaNames} {preserve : Bool} {r : Replica} {p : Publishing}
     words = t.words;
     number = (let number = t.number in omega (arith, length-append p.waiting (op ∷ [])));
     in_order = t.in_order;
+    of_log = t.of_log;
   }
 
   -- ---- what is published
@@ -259,6 +271,7 @@ new_stands {names = names} {preserve = preserve} is none = record {
   words = ap latest none;
   number = sym (ap (λ (q : Publishing). commits_in q.published + length q.waiting) is);
   in_order = λ kept. first;
+  of_log = none_of_log names.log;
 }
   where
     first : (n : ℕ) → n ≤ 0 → operations names.tables names.base [] n ≡ operations_in_order names.tables names.base [] n

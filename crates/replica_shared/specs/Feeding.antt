@@ -1,6 +1,7 @@
 -- What is answered to a record; what a piece of a wire's bytes does to what lies under the lock, and to the wire; and what is told of a
 -- stop to one who waits for a set of ids.
-use Rattle.std.specs.Prelude.{◌≡◌, ◌⊎◌, ℕ, ◌<◌, ◌≤◌, ◌||◌, nat_lt, Bool, true, false, List, [], length, Result, Ok, Err, IsOk, IsErrOf, MatchResult}
+use Rattle.std.specs.Prelude.{◌≡◌, ◌⊎◌, ℕ, ◌<◌, ◌≤◌, ◌||◌, nat_lt, Bool, true, false, Option, None, Some, List, [], ◌++◌, length, Result, Ok, Err, IsOk, IsErrOf, MatchResult}
+use Rattle.std.specs.List.{AllByRecursion}
 use Rattle.gtid_set.specs.Ids.{Ids}
 use Rattle.gtid_set.specs.Numbers.{has_number}
 use Rattle.scheduler.specs.Gnos.{has_gno}
@@ -10,12 +11,14 @@ use Rattle.relay.specs.declared.ReplicaFault.TheVariants as faults
 use Rattle.relay.specs.declared.Received.{Received}
 use Rattle.relay.specs.declared.Received.TheVariants.{Accepted}
 use Rattle.record_codec.specs.declared.records.Record.{Record}
+use Rattle.record_codec.specs.Version.{current}
+use Rattle.record_stream.specs.Stream.{Splits}
 use Rattle.replica_core.specs.Replica.{Replica}
 use Rattle.replica_core.specs.Calls.{received}
 use Rattle.replica_core.specs.Wire.{Wire, Hands, Gathers, Takes, piece_taken}
 use Rattle.replica_core.specs.declared.wire.WireFault.{WireFault}
 use Rattle.replica_core.specs.declared.wire.WireFault.TheVariants as wire
-use Rattle.replica_shared.specs.Names.{ReplicaNames, IsReplicaOf}
+use Rattle.replica_shared.specs.Names.{ReplicaNames, IsReplicaOf, IsInLog}
 use Rattle.replica_shared.specs.Together.{State, Settles, IsCaughtUp, IsStopOf}
 
 -- What is answered to a record: what the core's `receive` answers over a core of this replica, or that memory ran out in the place
@@ -73,6 +76,20 @@ pub record Feeds (names : ReplicaNames) (preserve : Bool) (old : Wire) (piece : 
   pub takes : Takes old before piece taken new core
   pub told : (answer ≡ taken) ⊎ (IsOk taken × (answer ≡ Err (wire.Replica faults.Memory)))
   pub bytes : piece_taken answer piece ≡ piece_taken taken piece
+
+-- ---- a log that is known before
+
+-- each of these records has its place in the log, if that is known
+abbrev pub AreEachInLog : Option (List Record) → List Record → Type 0
+AreEachInLog None records = Unit {0}
+AreEachInLog (Some log) records = AllByRecursion (IsInLog (Some log)) records
+
+-- each record that waits at the wire has, and each that is whole with the piece
+abbrev pub AreInLog : Option (List Record) → Wire → List ℕ → Type 0
+AreInLog None wire piece = Unit {0}
+AreInLog (Some log) wire piece =
+    AllByRecursion (IsInLog (Some log)) wire.waiting
+    × ((added : List Record) (rest : List ℕ) → Splits current (wire.rest ++ piece) added rest → AllByRecursion (IsInLog (Some log)) added)
 
 -- ---- sets of ids
 

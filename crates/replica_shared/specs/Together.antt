@@ -26,7 +26,7 @@ use Rattle.replica_core.specs.Replica.{Replica, working_rows, ran, operations, o
 use Rattle.replica_core.specs.Calls.{next_commit, next_job, is_eligible, dispatched_next, with_finished, left_by_fault, with_published, left_by_receive}
 use Rattle.replica_core.specs.Sound.{IsUnderWay}
 use Rattle.replica_shared.specs.Awaited.{has_all}
-use Rattle.replica_shared.specs.Names.{ReplicaNames, IsReplicaOf}
+use Rattle.replica_shared.specs.Names.{ReplicaNames, IsReplicaOf, IsOfLog, IsKnown}
 use Rattle.replica_shared.specs.Outlet.{Queued, AreInLine, empty_outlet}
 use Rattle.replica_shared.specs.declared.news.News.{News}
 use Rattle.replica_shared.specs.declared.news.Outlook.{Outlook}
@@ -69,7 +69,7 @@ abbrev pub words_of : Replica → Counts
 words_of r = counts_of (length r.accepted) (length r.commits) r.published
 
 -- What the core keeps is true of itself: its rows are those after the committed records. With it, over one base, stand the
--- publisher and the words of the status. It takes the records of this source.
+-- publisher and the words of the status. It takes the records of this source, and only those of the log, if that is known.
 pub record StandTogether (names : ReplicaNames) (preserve : Bool) (r : Replica) (p : Publishing) (appended : ℕ) (stored : List Counts) : Type 0 where
   pub named : IsReplicaOf names preserve r
   -- each commit is of an accepted record
@@ -84,6 +84,7 @@ pub record StandTogether (names : ReplicaNames) (preserve : Bool) (r : Replica) 
   pub number : appended ≡ commits_in p.published + length p.waiting
   -- in the order of the log the operations of the commits are those of the first accepted records
   pub in_order : preserve ≡ true → (n : ℕ) → n ≤ length r.commits → operations r.tables r.base (ran r) n ≡ operations_in_order r.tables r.base r.accepted n
+  pub of_log : IsOfLog names.log r.accepted
 
 -- whatever the words were, and the number of those appended
 pub record StoodTogether (names : ReplicaNames) (preserve : Bool) (r : Replica) (p : Publishing) : Type 0 where
@@ -205,13 +206,14 @@ abbrev pub is_ended : State → Bool
 is_ended s = s.closed && (length s.core.commits == length s.core.accepted) && (s.core.published == length s.core.commits)
 
 -- all that is true each time that the lock is taken
-pub record IsWhole (names : ReplicaNames) (preserve : Bool) (s : State) (appended : ℕ) (stored : List Counts) : Type 0 where
+pub record IsWhole (names : ReplicaNames) (preserve : Bool) (known : Option (List Op)) (s : State) (appended : ℕ) (stored : List Counts) : Type 0 where
   pub stand : StandTogether names preserve s.core s.publication appended stored
   pub kept : AreKept s.kept
   pub line : AreInLine s.core.dispatched s.outlet
   pub claims : s.claimed ≤ s.outlet.pushed
   pub stops : StopsRightly s.core
   pub rest : IsBehindOrCaughtUp s
+  pub known_is : IsKnown names preserve known
 
 -- ---- what those who wait are told
 

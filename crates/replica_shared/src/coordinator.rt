@@ -5,7 +5,7 @@
 ghost use Rattle.std.specs.Prelude.{◌≡◌, [], true};
 ghost use Rattle.published.specs.Status.{NoneFalls, latest};
 ghost use Rattle.replica_core.specs.Sound.{IsSound};
-ghost use Rattle.replica_shared.specs.Names.{IsNewReplica};
+ghost use Rattle.replica_shared.specs.Names.{IsNewReplica, IsKnown};
 ghost use Rattle.replica_shared.specs.Outlet.{empty_outlet};
 ghost use Rattle.replica_shared.specs.Together.{StoodTogether, words_of, loaded_alone, new_state, is_ended};
 
@@ -61,7 +61,7 @@ where
 
     ghost view = { λ c. state_of c.core c.publisher c.closed c.kept c.outlet c.claimed c.behind c.told };
 
-    ghost invariant = { λ c. IsWhole J.names J.preserve
+    ghost invariant = { λ c. IsWhole J.names J.preserve J.known
         (state_of c.core c.publisher c.closed c.kept c.outlet c.claimed c.behind c.told) c.appended c.status.stored };
 }
 
@@ -79,6 +79,7 @@ impl<S: RowStore + Drop, J: ReplicaNaming> Coordinator<S, J> {
         requires status { status.stored ≡ [] }
         requires kept { kept ≡ [] }
         requires outlet { outlet ≡ empty_outlet }
+        requires known { IsKnown J.names J.preserve J.known }
         ensures { result ≡ new_state core }
     {
         Coordinator {

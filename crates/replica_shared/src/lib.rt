@@ -4,8 +4,9 @@
 //! is `IsWhole` of `specs/Together.antt`: what the publisher published and has appended are the first operations of the
 //! core's commits, in their order, the core counts as many as published as the publisher has published, the words
 //! that were stored last are the core's own numbers, each job that was dispatched was pushed into the queue (but for the last,
-//! where its push was refused), the core stopped, if it did, at a record that was handed out and has no output, and nothing is left
-//! to commit, publish or dispatch unless the state says so. The rest core and publisher say of themselves. A worker claims a job under
+//! where its push was refused), the core stopped, if it did, at a record that was handed out and has no output, what it accepted is a
+//! beginning of the log, if that is known before, and nothing is left to commit, publish or dispatch unless the state says so. The rest
+//! core and publisher say of themselves. A worker claims a job under
 //! the lock, takes it from the queue (`Jobs`) and executes it without, and hands in what came of it; what it does under the lock is said
 //! of the coordinator's own call. Who has nothing to do sleeps on a condition variable until there is what it waits for. Who has the
 //! lock has a `Held`, which can't be dropped: it ends in `let_go` or in a wait, and both ask the coordinator whom the change concerns and

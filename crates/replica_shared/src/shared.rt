@@ -11,12 +11,12 @@ ghost use Rattle.scheduler.specs.Gnos.{low_of};
 ghost use Rattle.published.specs.History.{IsHistory, gnos_of, commits_in};
 ghost use Rattle.published.specs.Status.{InOrder};
 ghost use Rattle.replica_core.specs.Replica.{ran, operations, operations_in_order};
-ghost use Rattle.replica_shared.specs.Names.{IsReplicaOf, IsNewReplica};
+ghost use Rattle.replica_shared.specs.Names.{IsReplicaOf, IsNewReplica, IsOfLog, IsInLog, IsKnown};
 ghost use Rattle.replica_shared.specs.Outlet.{empty_outlet};
 ghost use Rattle.replica_shared.specs.Queue.{IsPassOf};
 ghost use Rattle.replica_shared.specs.Awaited.{has_all, AreAmong, AreUpTo};
 ghost use Rattle.replica_shared.specs.Together.{IsStop, TellsStop, TellsStopBehind, loaded_alone};
-ghost use Rattle.replica_shared.specs.Feeding.{Receives, Feeds, TellsStopOf};
+ghost use Rattle.replica_shared.specs.Feeding.{Receives, Feeds, AreInLog, TellsStopOf};
 
 use crate::coordinator::Coordinator;
 use crate::gate::WorkerGate;
@@ -108,6 +108,7 @@ impl<S: RowStore + Drop, J: ReplicaNaming> SharedReplica<S, J> {
         requires core { IsNewReplica J.names J.preserve core }
         requires publisher { publisher ≡ loaded_alone J.names.base }
         requires seats { All (λ seat. seat ≡ Load J.names.base ∷ []) seats.items }
+        requires known { IsKnown J.names J.preserve J.known }
     {
         match Made::new(alloc) {
             Ok(made) => Ok(SharedReplica::over(core, publisher, seats, made)),
@@ -131,6 +132,7 @@ impl<S: RowStore + Drop, J: ReplicaNaming> SharedReplica<S, J> {
         requires kept { made.kept ≡ [] }
         requires status { made.status.stored ≡ [] }
         requires outlet { made.outlet ≡ empty_outlet }
+        requires known { IsKnown J.names J.preserve J.known }
     {
         let Made {
             kept,
@@ -155,6 +157,8 @@ impl<S: RowStore + Drop, J: ReplicaNaming> SharedReplica<S, J> {
         from: Uuid,
         new: &Record,
     ) -> Result<Received, ReplicaFault>
+        // If the log is known before, it is the record of its number there.
+        requires known { IsInLog J.names.log new.now }
         ensures answer { Receives J.names J.preserve from new.now result }
         ensures foreign { bytes_eq from J.names.source ≡ false
             → IsErrAnd result (λ fault. (fault ≡ ReplicaFault.ForeignSource) ⊎ IsStop fault) }
@@ -175,6 +179,8 @@ impl<S: RowStore + Drop, J: ReplicaNaming> SharedReplica<S, J> {
     /// `Replica` it is taken, and may not. Where all records were taken and memory ran out for what comes behind them, `Replica` tells
     /// `P9`: no record waits then, and what is left is done by the next call that accepts a record, or by a worker.
     pub fn feed(&self, rt: &impl Wait, wire: &mut Wire, piece: &[u8]) -> Result<u64, WireFault>
+        // If the log is known before, each record that waits or is whole with the piece is that of its number there.
+        requires known { AreInLog J.names.log wire.old piece.now }
         ensures { Feeds J.names J.preserve wire.old piece.now result wire.new }
     {
         if wire.waiting().is_empty() {
@@ -189,7 +195,8 @@ impl<S: RowStore + Drop, J: ReplicaNaming> SharedReplica<S, J> {
 
     // The same where no record waits: the piece is gathered without the lock.
     fn feed_first(&self, rt: &impl Wait, wire: &mut Wire, piece: &[u8]) -> Result<u64, WireFault>
-        requires { wire.old.waiting ≡ [] }
+        requires empty { wire.old.waiting ≡ [] }
+        requires known { AreInLog J.names.log wire.old piece.now }
         ensures { Feeds J.names J.preserve wire.old piece.now result wire.new }
     {
         if let Err(fault) = wire.gather(piece) {
@@ -429,6 +436,7 @@ impl<S: RowStore + Drop, J: ReplicaNaming> SharedReplica<S, J> {
         ensures begins { IsPrefix (result.1.published ++ result.1.waiting)
             (operations result.0.tables result.0.base (ran result.0) (length result.0.commits)) }
         ensures shown { result.0.published ≡ commits_in result.1.published }
+        ensures accepted { IsOfLog J.names.log result.0.accepted }
     {
         let SharedReplica {
             lock,

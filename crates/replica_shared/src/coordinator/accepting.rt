@@ -3,7 +3,8 @@ ghost use Rattle.std.specs.Prelude.{◌≡◌, ◌⊎◌, ◌≤◌, ◌<◌, le
 ghost use Rattle.replica_core.specs.Calls.{received};
 ghost use Rattle.replica_core.specs.Wire.{Takes};
 ghost use Rattle.replica_shared.specs.Feeding.{left_by_take, SettlesOrLacks, told_behind, TakesAndSettles, HandsAs, HandsAndSettles};
-ghost use Rattle.replica_shared.specs.Names.{IsReplicaOf};
+ghost use Rattle.replica_shared.specs.Feeding.{AreEachInLog, AreInLog};
+ghost use Rattle.replica_shared.specs.Names.{IsReplicaOf, IsInLog};
 ghost use Rattle.replica_shared.specs.Together.{IsCaughtUp, left_by_accept, AcceptsAndSettles};
 
 use super::{Coordinator, store_words};
@@ -23,6 +24,7 @@ impl<S: RowStore + Drop, J: ReplicaNaming> Coordinator<S, J> {
         from: Uuid,
         new: &Record,
     ) -> Result<Received, ReplicaFault>
+        requires known { IsInLog J.names.log new.now }
         ensures answer { IsErrOf result ReplicaFault.Memory ⊎ (result ≡ received self.old.core from new.now) }
         ensures memory { IsErrOf result ReplicaFault.Memory
             → received self.old.core from new.now ≡ Ok Received.Accepted }
@@ -42,6 +44,7 @@ impl<S: RowStore + Drop, J: ReplicaNaming> Coordinator<S, J> {
 
     // The core's call.
     fn accept(&mut self, rt: &impl Wait, from: Uuid, new: &Record) -> Result<Received, ReplicaFault>
+        requires known { IsInLog J.names.log new.now }
         ensures answer { IsErrOf result ReplicaFault.Memory ⊎ (result ≡ received self.old.core from new.now) }
         ensures memory { IsErrOf result ReplicaFault.Memory
             → received self.old.core from new.now ≡ Ok Received.Accepted }
@@ -66,6 +69,7 @@ impl<S: RowStore + Drop, J: ReplicaNaming> Coordinator<S, J> {
         wire: &mut Wire,
         piece: &[u8],
     ) -> Result<u64, WireFault>
+        requires known { AreInLog J.names.log wire.old piece.now }
         ensures takes { TakesAndSettles self.old wire.old piece.now result wire.new self.new }
         ensures named { IsReplicaOf J.names J.preserve self.old.core }
     {
@@ -77,6 +81,7 @@ impl<S: RowStore + Drop, J: ReplicaNaming> Coordinator<S, J> {
 
     // The same of a piece that was gathered already, where no record waited before.
     pub(crate) fn hand(&mut self, rt: &impl Wait, wire: &mut Wire) -> Result<u64, WireFault>
+        requires known { AreEachInLog J.names.log wire.old.waiting }
         ensures takes { HandsAndSettles self.old wire.old result wire.new self.new }
         ensures named { IsReplicaOf J.names J.preserve self.old.core }
     {
@@ -93,6 +98,7 @@ impl<S: RowStore + Drop, J: ReplicaNaming> Coordinator<S, J> {
         wire: &mut Wire,
         piece: &[u8],
     ) -> Result<u64, WireFault>
+        requires known { AreInLog J.names.log wire.old piece.now }
         ensures takes { Takes wire.old self.old.core piece.now result wire.new self.new.core }
         ensures left { self.new ≡ left_by_take self.old self.new.core }
         ensures named { IsReplicaOf J.names J.preserve self.old.core }
@@ -108,6 +114,7 @@ impl<S: RowStore + Drop, J: ReplicaNaming> Coordinator<S, J> {
 
     // Hands on the records that wait. What is refused is told as a record of the piece.
     fn hand_waiting(&mut self, rt: &impl Wait, wire: &mut Wire) -> Result<u64, WireFault>
+        requires known { AreEachInLog J.names.log wire.old.waiting }
         ensures hands { HandsAs wire.old self.old.core result wire.new self.new.core }
         ensures left { self.new ≡ left_by_take self.old self.new.core }
         ensures named { IsReplicaOf J.names J.preserve self.old.core }

@@ -1,4 +1,5 @@
 use Rattle.replica_core.proofs.Handing.{hands_on_grow}
+use Rattle.replica_shared.proofs.Known.{hands_of_log}
 use Rattle.replica_shared.proofs.Feeding.{same_core, words_rise, whole_grown, whole_same}
 use Rattle.replica_shared.proofs.coordinator.Coordinator.hand_waiting.Goals as goal
 
@@ -7,7 +8,9 @@ store_words-requires g c = words_rise _ _ c.self.inside.status.stored (hands_on_
 
 pub invariant_of-self : goal.invariant_of-self
 invariant_of-self g c =
-    whole_grown c.self.invariant (hands_on_grow _ _ _ _ _ c.hand-handed.ensures.hands) c.store_words.ensures.sound c.store_words.ensures.stored
+    let hands = c.hand-handed.ensures.hands in
+    whole_grown c.self.invariant (hands_on_grow _ _ _ _ _ hands) (hands_of_log _ _ _ _ _ _ hands c.requires.known c.self.invariant.stand.of_log)
+    c.store_words.ensures.sound c.store_words.ensures.stored
 
 pub invariant_of-self-else-before-accepted : goal.invariant_of-self-else-before-accepted
 invariant_of-self-else-before-accepted g c =

@@ -23,4 +23,5 @@ invariant_of-result g c = rw c.requires.core record {
     dispatched = refl;
     pushed = ap (λ (q : Queued). q.aside) c.requires.outlet;
   };
+  known_is = c.requires.known;
 }

@@ -1,4 +1,5 @@
 use Rattle.replica_core.proofs.Handing.{takes_grow}
+use Rattle.replica_shared.proofs.Known.{takes_of_log}
 use Rattle.replica_shared.proofs.Feeding.{same_core, words_rise, whole_grown, whole_same}
 use Rattle.replica_shared.proofs.coordinator.Coordinator.take_piece.Goals as goal
 
@@ -7,7 +8,9 @@ store_words-requires g c = words_rise _ _ c.self.inside.status.stored (takes_gro
 
 pub invariant_of-self : goal.invariant_of-self
 invariant_of-self g c =
-    whole_grown c.self.invariant (takes_grow _ _ _ _ _ _ c.take-taken.ensures) c.store_words.ensures.sound c.store_words.ensures.stored
+    let takes = c.take-taken.ensures in
+    whole_grown c.self.invariant (takes_grow _ _ _ _ _ _ takes) (takes_of_log _ _ _ _ _ _ _ takes c.requires.known c.self.invariant.stand.of_log)
+    c.store_words.ensures.sound c.store_words.ensures.stored
 
 pub invariant_of-self-else-before-accepted : goal.invariant_of-self-else-before-accepted
 invariant_of-self-else-before-accepted g c =

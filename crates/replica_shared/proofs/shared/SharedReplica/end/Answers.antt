@@ -9,3 +9,6 @@ returns-clause-in_order g c kept = published_in_order c.end.ensures.together.sta
 
 pub returns-clause-within : goal.returns-clause-within
 returns-clause-within g c = published_within c.end.ensures.together.stand
+
+pub returns-clause-accepted : goal.returns-clause-accepted
+returns-clause-accepted g c = c.end.ensures.together.stand.of_log
