@@ -1,1 +1,3 @@
 mod Fresh
+pub mod Followed
+pub mod Seen

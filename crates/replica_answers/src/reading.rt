@@ -4,6 +4,7 @@ ghost use Rattle.std.specs.Prelude.{◌≡◌, ◌≤◌, true, OnOk};
 ghost use mathlib.Core.List.{IsPrefix};
 ghost use Rattle.published.specs.History.{commits_in};
 ghost use Rattle.replica_answers.specs.Replica.{TellsRead};
+ghost use Rattle.replica_shared.specs.Names.{IsKnown};
 
 use crate::following::pause;
 use crate::replicating::Replica;
@@ -158,7 +159,8 @@ impl<K: ReplicaNaming, E: Write> Asked<'_, K, E> {
         input: &mut R,
         output: &mut W,
     ) -> Result<End, Stop>
-        requires { K.preserve ≡ true }
+        requires order { K.preserve ≡ true }
+        requires known { IsKnown K.names K.preserve K.known }
     {
         for _ in 0..u64::MAX {
             self.prompt(rt, lines)?;
@@ -194,7 +196,8 @@ impl<K: ReplicaNaming, E: Write> Asked<'_, K, E> {
         line: &[u8],
         out: &mut W,
     ) -> Result<bool, Stop>
-        requires { K.preserve ≡ true }
+        requires order { K.preserve ≡ true }
+        requires known { IsKnown K.names K.preserve K.known }
     {
         match command_in(line) {
             None => return Ok(false),
@@ -281,8 +284,9 @@ fn tell_read<K: ReplicaNaming, W: Write>(
     row: RowId,
     out: &mut W,
 ) -> Result<(), Stop>
-    requires { K.preserve ≡ true }
-    ensures { OnOk result (TellsRead row seat.old seat.new (W.contents out.old) (W.contents out.new)) }
+    requires order { K.preserve ≡ true }
+    requires known { IsKnown K.names K.preserve K.known }
+    ensures { OnOk result (TellsRead K.names row seat.old seat.new (W.contents out.old) (W.contents out.new)) }
 {
     let Some(answer) = seat.read(row) else {
         return Err(Stop::NoReader);

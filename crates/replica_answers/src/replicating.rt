@@ -1,8 +1,9 @@
 //! `replica`: a replica that follows a wire. Its lines are answered while workers execute what comes.
 
 ghost use Rattle.std.specs.Prelude.{◌≡◌, ◌≢◌, true, false, IfOk, IfSome};
+ghost use Rattle.replica_answers.specs.Followed.{log_in};
 ghost use Rattle.replica_answers.specs.Replica.{IsOverWire};
-ghost use Rattle.replica_shared.specs.Names.{replica_names, IsNewReplica, OpensReplica};
+ghost use Rattle.replica_shared.specs.Names.{replica_names, IsNewReplica, OpensReplica, IsKnown};
 
 use crate::following::{WireEnd, follow, pause};
 use crate::promoting::promote;
@@ -17,7 +18,7 @@ use std::alloc::{AllocError, Global};
 use std::fs::File;
 use std::io;
 use std::io::{BufRead, BufReader, IsTerminal, Read, Write};
-use std::marker::Brand;
+use std::marker::{Brand, PhantomData};
 use std::rt::Files;
 use std::sync::{Mutex, OnceLock, Wait};
 use std::thread::{Threads, join, map_indices};
@@ -38,9 +39,9 @@ pub type Replica<K> = SharedReplica<BTreeStore, K>;
 
 /// The wire after its head, the path by which its faults are told, and what follows it.
 #[derive(Drop)]
-struct NamedWire {
+struct NamedWire<F> {
     path: String,
-    file: File,
+    input: F,
     source: Uuid,
     workers: usize,
 }
@@ -62,11 +63,32 @@ pub fn replica<
     output: &mut W,
     errors: &mut E,
 ) -> Ending {
-    let mut file = match File::open(rt, path) {
-        Ok(file) => file,
-        Err(error) => return Stop::of_file(error).at(path).tell(errors),
-    };
-    let core = match core_of(alloc, &mut file, crew) {
+    match File::open(rt, path) {
+        Ok(file) => replica_of(rt, alloc, path, file, crew, new, input, output, errors),
+        Err(error) => Stop::of_file(error).at(path).tell(errors),
+    }
+}
+
+/// The same of a wire that was opened.
+fn replica_of<
+    H: Files<File = File> + Alloc<A = Global> + Threads + Wait + Clock + Clone + Drop + Sync,
+    F: Read + Send + Drop,
+    R: Read + IsTerminal + Send,
+    W: Write + Send,
+    E: Write + Send,
+>(
+    rt: &H,
+    alloc: Global,
+    path: &str,
+    wire: F,
+    crew: &Crew,
+    new: io::Result<Uuid>,
+    input: &mut R,
+    output: &mut W,
+    errors: &mut E,
+) -> Ending {
+    let mut wire = wire;
+    let core = match core_of(alloc, &mut wire, crew) {
         Ok(core) => core,
         Err(stop) => return stop.at(path).tell(errors),
     };
@@ -74,12 +96,12 @@ pub fn replica<
         Ok(base) => base,
         Err(memory) => return Stop::from(memory).at(path).tell(errors),
     };
-    let wire = match NamedWire::new(alloc, path, file, core.source(), crew.workers) {
+    let wire = match NamedWire::new(alloc, path, wire, core.source(), crew.workers) {
         Ok(wire) => wire,
         Err(memory) => return Stop::from(memory).at(path).tell(errors),
     };
     let publication = published::Beginning::of(base);
-    match run_core::<Brand, H, R, W, E>(
+    match run_core::<Brand, H, F, R, W, E>(
         rt,
         alloc,
         core,
@@ -95,17 +117,29 @@ pub fn replica<
     }
 }
 
-impl NamedWire {
+/// The same input, under the name of the replica that takes its records: these are the log's, if the bytes are known.
+#[derive(Drop)]
+struct Coming<K: ReplicaNaming, F: Read> {
+    input: F,
+    of: PhantomData<K>,
+    ghost log_is: { K.names.log ≡ log_in (F.remaining input) },
+}
+
+impl<F> NamedWire<F> {
     fn new(
         alloc: Global,
         path: &str,
-        file: File,
+        input: F,
         source: Uuid,
         workers: usize,
-    ) -> Result<NamedWire, AllocError> {
+    ) -> Result<NamedWire<F>, AllocError>
+    where
+        F: Drop,
+        ensures { IfOk result (λ wire. wire.input ≡ input) }
+    {
         Ok(NamedWire {
             path: String::from_str(alloc, path)?,
-            file,
+            input,
             source,
             workers: workers.clamp(1, 64),
         })
@@ -139,6 +173,7 @@ fn core_of<R: Read>(
 fn run_core<
     K: ReplicaNaming + Send + Sync,
     H: Files<File = File> + Alloc<A = Global> + Threads + Wait + Clock + Clone + Drop + Sync,
+    F: Read + Send + Drop,
     R: Read + IsTerminal + Send,
     W: Write + Send,
     E: Write + Send,
@@ -147,14 +182,15 @@ fn run_core<
     alloc: Global,
     core: ReplicaCore<BTreeStore>,
     publication: published::Beginning,
-    wire: NamedWire,
+    wire: NamedWire<F>,
     new: io::Result<Uuid>,
     input: &mut R,
     output: &mut W,
     errors: &mut E,
 ) -> Result<Ending, Stop>
-    requires replica { OpensReplica K.names K.preserve K.book core publication }
+    requires replica { OpensReplica K.names K.preserve K.book K.known core publication }
     requires order { K.preserve ≡ true }
+    requires log { K.names.log ≡ log_in (F.remaining wire.input) }
 {
     let mut lines = Lines::new(alloc, input.is_terminal());
     let mut buffered = match BufReader::new(alloc, &mut *input) {
@@ -220,7 +256,7 @@ fn new_replica<K: ReplicaNaming>(
     core: ReplicaCore<BTreeStore>,
     publication: published::Beginning,
 ) -> Result<Replica<K>, Stop>
-    requires { OpensReplica K.names K.preserve K.book core publication }
+    requires { OpensReplica K.names K.preserve K.book K.known core publication }
 {
     let (first, second) = (BTreeStore::new(alloc), BTreeStore::new(alloc));
     let preserve = core.preserve();
@@ -241,6 +277,7 @@ fn new_replica<K: ReplicaNaming>(
 fn meet<
     K: ReplicaNaming + Send + Sync,
     H: Threads + Wait + Clock + Sync,
+    F: Read + Send + Drop,
     R: BufRead + Send,
     W: Write + Send,
     E: Write + Send,
@@ -248,61 +285,67 @@ fn meet<
     rt: &H,
     alloc: Global,
     replica: &Replica<K>,
-    wire: NamedWire,
+    wire: NamedWire<F>,
     lines: &mut Lines,
     input: &mut R,
     output: &mut W,
     errors: &mut E,
 ) -> (Result<End, Stop>, Ending)
-    requires { K.preserve ≡ true }
+    requires order { K.preserve ≡ true }
+    requires known { IsKnown K.names K.preserve K.known }
+    requires log { K.names.log ≡ log_in (F.remaining wire.input) }
 {
-    let mut wire = wire;
+    let NamedWire {
+        path,
+        input: coming,
+        source,
+        workers,
+    } = wire;
+    let coming = Coming {
+        input: coming,
+        of: PhantomData,
+    };
     let closed = OnceLock::new();
     let errors = Mutex::new(&mut *errors);
+    let asked = Asked {
+        alloc,
+        replica,
+        source,
+        closed: &closed,
+        errors: &errors,
+    };
     meet_over(
-        rt, alloc, replica, &closed, &errors, &mut wire, lines, input, output,
+        rt, alloc, &asked, &path, workers, coming, lines, input, output,
     )
 }
 
-/// The same, with what tells that nothing more comes, and with where faults are told.
+/// The same, with what the threads share.
 fn meet_over<
     K: ReplicaNaming + Send + Sync,
     H: Threads + Wait + Clock + Sync,
+    F: Read + Send + Drop,
     R: BufRead + Send,
     W: Write + Send,
     E: Write + Send,
 >(
     rt: &H,
     alloc: Global,
-    replica: &Replica<K>,
-    closed: &OnceLock<()>,
-    errors: &Mutex<E>,
-    wire: &mut NamedWire,
+    asked: &Asked<K, E>,
+    path: &str,
+    workers: usize,
+    coming: Coming<K, F>,
     lines: &mut Lines,
     input: &mut R,
     output: &mut W,
 ) -> (Result<End, Stop>, Ending)
-    requires { K.preserve ≡ true }
+    requires order { K.preserve ≡ true }
+    requires known { IsKnown K.names K.preserve K.known }
 {
-    let NamedWire {
-        path,
-        file,
-        source,
-        workers,
-    } = wire;
-    let asked = Asked {
-        alloc,
-        replica,
-        source: *source,
-        closed,
-        errors,
-    };
-    let (path, workers) = (path.as_str(), *workers);
     // The second one goes first if no thread can be made: so nobody waits for a record of a wire that nobody reads.
     join(
         rt,
-        || converse(rt, &asked, lines, input, output),
-        || apply(rt, alloc, &asked, path, workers, file),
+        || converse(rt, asked, lines, input, output),
+        || apply(rt, alloc, asked, path, workers, coming),
     )
 }
 
@@ -314,7 +357,8 @@ fn converse<K: ReplicaNaming, H: Wait + Clock, R: BufRead, W: Write, E: Write>(
     input: &mut R,
     output: &mut W,
 ) -> Result<End, Stop>
-    requires { K.preserve ≡ true }
+    requires order { K.preserve ≡ true }
+    requires known { IsKnown K.names K.preserve K.known }
 {
     let Some(mut seat) = asked.replica.seat(rt) else {
         return Err(Stop::NoReader);
@@ -327,12 +371,19 @@ fn apply<
     K: ReplicaNaming + Send + Sync,
     H: Threads + Wait + Clock + Sync,
     E: Write + Send,
-    F: Read + Send,
->(rt: &H, alloc: Global, asked: &Asked<K, E>, path: &str, workers: usize, file: &mut F) -> Ending {
+    F: Read + Send + Drop,
+>(
+    rt: &H,
+    alloc: Global,
+    asked: &Asked<K, E>,
+    path: &str,
+    workers: usize,
+    coming: Coming<K, F>,
+) -> Ending {
     let (worked, followed) = join(
         rt,
         || work_all(rt, alloc, asked, path, workers),
-        || follow_wire(rt, alloc, asked, path, file),
+        || follow_wire(rt, alloc, asked, path, coming),
     );
     if worked == Ending::Done {
         followed
@@ -391,14 +442,15 @@ fn told<K: ReplicaNaming, H: Wait, E: Write>(
 }
 
 /// Follows the wire, and tells how it ended. After that the workers end too, once all that came is committed.
-fn follow_wire<K: ReplicaNaming, H: Wait + Clock, E: Write, F: Read>(
+fn follow_wire<K: ReplicaNaming, H: Wait + Clock, E: Write, F: Read + Drop>(
     rt: &H,
     alloc: Global,
     asked: &Asked<K, E>,
     path: &str,
-    file: &mut F,
+    coming: Coming<K, F>,
 ) -> Ending {
-    let end = follow(rt, alloc, asked.source, asked.replica, file);
+    let Coming { mut input, of: _ } = coming;
+    let end = follow(rt, alloc, asked.source, asked.replica, &mut input);
     asked.replica.close(rt);
     let received = asked.replica.status(rt).received;
     let ending = tell_end(&mut *asked.errors.lock(rt), path, end, received);

@@ -1,0 +1,15 @@
+use Rattle.std.proofs.Common.{rules, true}
+use Rattle.published.specs.History.{IsHistory, IsWithin}
+use Rattle.replica_answers.proofs.Seen.{as_after}
+use Rattle.replica_answers.proofs.reading.tell_read.Goals as goal
+
+pub returns : goal.returns
+returns g c =
+    let history : IsHistory true c.read.new.self = search rules in
+    let within : IsWithin g.K.Naming.known c.read.new.self = search rules in
+    record {
+      line = search rules;
+      history = history;
+      later = search rules;
+      of_log = as_after g.K.ReplicaNaming.names g.K.Naming.preserve g.K.Naming.known c.read.new.self c.requires.known within history;
+    }
