@@ -1,5 +1,6 @@
 //! The replica's opening, and the way of the log to it.
 
+ghost use Rattle.std.specs.Prelude.{◌≡◌, None};
 ghost use Rattle.replica_shared.specs.Names.{OpensReplica};
 
 use crate::trouble::Trouble;
@@ -34,7 +35,7 @@ pub fn new_replica<K: ReplicaNaming>(
     core: ReplicaCore<BTreeStore>,
     publication: published::Beginning,
 ) -> Result<Replica<K>, Trouble>
-    requires { OpensReplica K.names K.preserve K.book core publication }
+    requires { OpensReplica K.names K.preserve K.book K.known core publication }
 {
     let (first, second) = (BTreeStore::new(alloc), BTreeStore::new(alloc));
     let preserve = core.preserve();
@@ -57,7 +58,9 @@ pub fn send<J: SourceNaming, K: ReplicaNaming>(
     from: Uuid,
     source: &Source<J>,
     replica: &Replica<K>,
-) -> Result<(), Trouble> {
+) -> Result<(), Trouble>
+    requires { K.names.log ≡ None }
+{
     let mut wire = Wire::new(alloc, from);
     let mut sent = replica.status(rt).received;
     let mut bytes = Vec::with_capacity(alloc, 4096)?;
@@ -80,7 +83,9 @@ fn feed<K: ReplicaNaming>(
     replica: &Replica<K>,
     wire: &mut Wire,
     bytes: &[u8],
-) -> Result<(), WireFault> {
+) -> Result<(), WireFault>
+    requires { K.names.log ≡ None }
+{
     let mut piece = bytes;
     for _ in 0..TRIES {
         match replica.feed(rt, wire, piece) {

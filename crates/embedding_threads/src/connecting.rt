@@ -1,5 +1,6 @@
 //! The replica's opening, and what carries the log to it and executes it while sessions commit.
 
+ghost use Rattle.std.specs.Prelude.{◌≡◌, None};
 ghost use Rattle.replica_shared.specs.Names.{OpensReplica};
 
 use crate::trouble::Trouble;
@@ -35,7 +36,7 @@ pub fn new_replica<K: ReplicaNaming>(
     core: ReplicaCore<BTreeStore>,
     publication: published::Beginning,
 ) -> Result<Replica<K>, Trouble>
-    requires { OpensReplica K.names K.preserve K.book core publication }
+    requires { OpensReplica K.names K.preserve K.book K.known core publication }
 {
     let (first, second) = (BTreeStore::new(alloc), BTreeStore::new(alloc));
     let preserve = core.preserve();
@@ -59,7 +60,9 @@ pub fn carry<J: SourceNaming, K: ReplicaNaming>(
     from: Uuid,
     source: &Source<J>,
     replica: &Replica<K>,
-) -> Result<(), Trouble> {
+) -> Result<(), Trouble>
+    requires { K.names.log ≡ None }
+{
     let sent = send(rt, alloc, from, source, replica);
     replica.close(rt);
     sent
@@ -72,7 +75,9 @@ fn send<J: SourceNaming, K: ReplicaNaming>(
     from: Uuid,
     source: &Source<J>,
     replica: &Replica<K>,
-) -> Result<(), Trouble> {
+) -> Result<(), Trouble>
+    requires { K.names.log ≡ None }
+{
     let mut wire = Wire::new(alloc, from);
     let mut sent = replica.status(rt).received;
     let mut bytes = Vec::new(alloc);
@@ -98,7 +103,9 @@ fn feed<K: ReplicaNaming>(
     replica: &Replica<K>,
     wire: &mut Wire,
     bytes: &[u8],
-) -> Result<(), WireFault> {
+) -> Result<(), WireFault>
+    requires { K.names.log ≡ None }
+{
     let mut piece = bytes;
     for _ in rt.forever() {
         match replica.feed(rt, wire, piece) {

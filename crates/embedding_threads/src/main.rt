@@ -5,7 +5,7 @@
 //! `docs/EMBEDDING.md` goes through it.
 #![tactic(auto)]
 
-ghost use Rattle.std.specs.Prelude.{◌≡◌};
+ghost use Rattle.std.specs.Prelude.{◌≡◌, None};
 ghost use Rattle.source_core.specs.Source.{new_source};
 ghost use Rattle.log_file.specs.Log.{IsNew};
 ghost use Rattle.replica_shared.specs.Names.{OpensReplica};
@@ -121,7 +121,9 @@ fn run<
     requires source_base { pair.source.base ≡ J.base }
     requires source_tables { pair.source.tables ≡ J.tables }
     requires receipts { receipts ≡ J.book }
-    requires replica { OpensReplica K.names K.preserve K.book pair.replica publication }
+    requires replica { OpensReplica K.names K.preserve K.book K.known pair.replica publication }
+    // Nothing is known of its log before.
+    requires free { K.names.log ≡ None }
 {
     let Pair {
         source,
@@ -164,21 +166,31 @@ fn meet<
     from: Uuid,
     source: &Source<J>,
     replica: &Replica<K>,
-) -> Result<(Vec<Receipt<J>>, Told), Trouble> {
+) -> Result<(Vec<Receipt<J>>, Told), Trouble>
+    requires { K.names.log ≡ None }
+{
     let clients = [Client::new(1), Client::new(2), Client::new(3)];
     let pool = pool(rt, alloc, replica)?;
     let (accounts, (worked, (sent, served))) = join(
         rt,
         || read_all(rt, alloc, replica, &pool, &clients),
-        || join(
-            rt,
-            || join(rt, || work(rt, alloc, replica), || work(rt, alloc, replica)),
-            || join(
+        ||
+            requires { K.names.log ≡ None }
+        {
+            join(
                 rt,
-                || carry(rt, alloc, from, source, replica),
-                || serve(rt, alloc, source, &clients),
-            ),
-        ),
+                || join(rt, || work(rt, alloc, replica), || work(rt, alloc, replica)),
+                ||
+                    requires { K.names.log ≡ None }
+                {
+                    join(
+                        rt,
+                        || carry(rt, alloc, from, source, replica),
+                        || serve(rt, alloc, source, &clients),
+                    )
+                },
+            )
+        },
     );
     let (refusal, receipts) = served?;
     sent?;

@@ -1,5 +1,5 @@
 //! A publisher of commits that set one row to their own numbers. It ends itself, so that it may lie under a lock.
-ghost use Rattle.std.specs.Prelude.{◌≡◌, ◌≤◌, ◌<◌, ◌^◌, true};
+ghost use Rattle.std.specs.Prelude.{◌≡◌, ◌≤◌, ◌<◌, ◌^◌, true, None};
 ghost use Rattle.tests_threads.specs.Numbers.{behind as behind_it};
 
 use crate::makers::commit;
@@ -34,7 +34,7 @@ impl<'r, J: Naming, R: Wait> Model for Desk<'r, J, R>
 where
     Version<BTreeStore, J>: Absorb<CopyStep<J>, State = Common>,
 {
-    ghost use Rattle.std.specs.Prelude.{◌≡◌, ◌++◌};
+    ghost use Rattle.std.specs.Prelude.{◌≡◌, ◌++◌, None};
     ghost use Rattle.published.specs.Publication.{Publishing};
     ghost use Rattle.tests_threads.specs.Numbers.{IsNext};
 
@@ -42,7 +42,8 @@ where
 
     ghost view = { λ d. d.publisher };
 
-    ghost invariant = { λ d. (J.preserve ≡ d.preserve) × IsNext d.preserve (d.publisher.published ++ d.publisher.waiting) d.next };
+    ghost invariant = { λ d. (J.preserve ≡ d.preserve) × IsNext d.preserve (d.publisher.published ++ d.publisher.waiting) d.next
+        × (J.known ≡ None) };
 }
 
 impl<'r, J: Naming, R: Wait> Desk<'r, J, R> {
@@ -57,6 +58,7 @@ impl<'r, J: Naming, R: Wait> Desk<'r, J, R> {
     ) -> Result<(Desk<'r, J, R>, Vec<ReadSeat<BTreeStore, J>>), OpenError>
         requires book { beginning.book ≡ J.book }
         requires order { J.preserve ≡ preserve }
+        requires free { J.known ≡ None }
         requires first { preserve ≡ true → next ≡ 1 }
         requires seats { (1 ≤ seats) × (seats ≤ 32) }
     {

@@ -1,5 +1,5 @@
 //! Publication: what a seat, a watch and a plain store show, and what those who publish and read side by side see.
-ghost use Rattle.std.specs.Prelude.{◌≡◌, ◌≤◌, true, IfOk};
+ghost use Rattle.std.specs.Prelude.{◌≡◌, ◌≤◌, true, None, IfOk};
 
 use crate::desk::{Desk, LAST};
 use crate::makers::{ONE, answer, commit, set_to};
@@ -194,6 +194,7 @@ fn run_over<J: Naming + Send + Sync, R: Threads + Wait + Abort + Sync>(
 ) -> Result<bool, Fail>
     requires book { beginning.book ≡ J.book }
     requires order { J.preserve ≡ preserve }
+    requires free { J.known ≡ None }
     requires first { preserve ≡ true → next ≡ 1 }
     requires seats { (1 ≤ seats) × (seats ≤ 32) }
 {

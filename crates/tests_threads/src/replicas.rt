@@ -1,5 +1,5 @@
 //! A shared replica under test: the courses, how it is made for each, and how it ends.
-ghost use Rattle.std.specs.Prelude.{◌≡◌, IfOk};
+ghost use Rattle.std.specs.Prelude.{◌≡◌, None, IfOk};
 ghost use Rattle.std.specs.FinMap.{empty};
 ghost use Rattle.replica_shared.specs.Names.{replica_names, IsNewReplica, OpensReplica};
 
@@ -33,6 +33,8 @@ pub struct ReplicaRig<'a, J: ReplicaNaming, R: Wait> {
     pub shared: &'a Shared<J>,
     pub records: &'a [Record],
     pub notes: &'a Notes,
+    /// Nothing is known of the replica's log before.
+    ghost free: { J.names.log ≡ None },
 }
 
 /// What is done with a shared replica.
@@ -317,7 +319,8 @@ fn run_over<J: ReplicaNaming + Send + Sync, R: Threads + Wait + Abort + Clock + 
     copies: (Store, Store),
     plan: &Plan,
 ) -> Result<bool, Fail>
-    requires core { OpensReplica J.names J.preserve J.book core beginning }
+    requires core { OpensReplica J.names J.preserve J.book J.known core beginning }
+    requires free { J.names.log ≡ None }
     requires copies { (copies.0.inner ≡ empty) × (copies.1.inner ≡ empty) }
 {
     let shared: Shared<J> = match shared(rt, alloc, core, beginning, copies) {
@@ -349,7 +352,7 @@ fn shared<J: ReplicaNaming, R: Wait>(
     beginning: Beginning,
     copies: (Store, Store),
 ) -> Result<Shared<J>, OpenError>
-    requires core { OpensReplica J.names J.preserve J.book core beginning }
+    requires core { OpensReplica J.names J.preserve J.book J.known core beginning }
     requires copies { (copies.0.inner ≡ empty) × (copies.1.inner ≡ empty) }
 {
     let (first, second) = copies;

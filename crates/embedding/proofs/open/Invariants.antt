@@ -1,3 +1,4 @@
+use Rattle.std.proofs.Common.{None}
 use Rattle.replica_shared.specs.Names.{replica_names}
 use Rattle.embedding.proofs.open.Given as goal
 
@@ -9,6 +10,6 @@ ghosts-run-J-SourceNaming g a = record { book = a.receipts; base = a.pair.source
 abbrev pub ghosts-run-K-ReplicaNaming : goal.ghosts-run-K-ReplicaNaming
 ghosts-run-K-ReplicaNaming g a = record { names = replica_names a.pair.replica }
 
--- the publication that just began, in the order that the replica keeps
+-- the publication that just began, in the order that the replica keeps; nothing is known before
 abbrev pub ghosts-run-K-Naming : goal.ghosts-run-K-Naming
-ghosts-run-K-Naming g a = record { book = a.publication.book; preserve = a.pair.replica.preserve }
+ghosts-run-K-Naming g a = record { book = a.publication.book; preserve = a.pair.replica.preserve; known = None }

@@ -1,6 +1,6 @@
 //! The two sides, from their opening to their end.
 
-ghost use Rattle.std.specs.Prelude.{◌≡◌, All, IfOk};
+ghost use Rattle.std.specs.Prelude.{◌≡◌, None, All, IfOk};
 ghost use Rattle.source_core.specs.Source.{new_source};
 ghost use Rattle.log_file.specs.Log.{IsNew};
 ghost use Rattle.mtr.specs.Options.{AreSides, IsInRange};
@@ -136,7 +136,8 @@ fn run_named<
     requires source_base { cores.source.base ≡ J.base }
     requires source_tables { cores.source.tables ≡ J.tables }
     requires receipts { receipts ≡ J.book }
-    requires replica { OpensReplica K.names K.preserve K.book cores.replica publication }
+    requires replica { OpensReplica K.names K.preserve K.book K.known cores.replica publication }
+    requires free { K.names.log ≡ None }
     requires order { K.preserve ≡ plan.now.sides.preserve }
     requires tables { K.names.tables ≡ J.tables }
     ensures ended { IfOk result (IsEnded plan.now) }
@@ -276,7 +277,7 @@ fn new_replica<S: NewStore, K: ReplicaNaming, H: Wait>(
     publication: published::Beginning,
 ) -> Result<Replica<S, K>, Trouble>
     requires plan { IsInRange (Options.Threads plan.now) }
-    requires replica { OpensReplica K.names K.preserve K.book core publication }
+    requires replica { OpensReplica K.names K.preserve K.book K.known core publication }
 {
     let (first, second) = (
         S::without_rows(alloc, plan.sides.store),

@@ -1,6 +1,7 @@
 //! Both sides as their threads share them: the work of all threads but those that feed the replica, and the comparison of each row once
 //! all have ended.
 
+ghost use Rattle.std.specs.Prelude.{◌≡◌, None};
 ghost use Rattle.mtr.specs.Options.{IsInRange};
 ghost use Rattle.mtr.specs.declared.options.Options.TheVariants as asked;
 
@@ -46,6 +47,8 @@ pub struct Shared<
     pub source: &'a Source<S, T, J>,
     pub replica: &'a Replica<S, K>,
     ghost in_range: { IsInRange (asked.Threads plan.now) },
+    /// Nothing is known of the replica's log before.
+    ghost free: { K.names.log ≡ None },
 }
 
 impl<

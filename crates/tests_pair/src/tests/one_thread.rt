@@ -2,7 +2,7 @@
 //! wrong ways before the right one, and both sides compared in the end; and the same over a log that is filled (`limits`).
 
 ghost use Rattle.replica_shared.specs.Names.{replica_names, IsNewReplica, OpensReplica};
-ghost use Rattle.std.specs.Prelude.{◌≡◌};
+ghost use Rattle.std.specs.Prelude.{◌≡◌, None};
 ghost use Rattle.source_core.specs.Source.{new_source};
 ghost use Rattle.log_file.specs.Log.{IsNew};
 
@@ -128,7 +128,8 @@ where
     J: SourceNaming + Send + Sync,
     K: ReplicaNaming + Send + Sync,
     R: Threads + Wait + Abort + Sync,
-    requires { OpensReplica K.names K.preserve K.book core publication }
+    requires replica { OpensReplica K.names K.preserve K.book K.known core publication }
+    requires free { K.names.log ≡ None }
 {
     let (first, second) = (BTreeStore::new(alloc), BTreeStore::new(alloc));
     let preserve = core.preserve();
@@ -172,6 +173,8 @@ pub struct Rig<'a, J: SourceNaming, K: ReplicaNaming, R: Wait> {
     pub alloc: Global,
     pub source: &'a Source<J>,
     pub replica: &'a Replica<K>,
+    /// Nothing is known of the replica's log before.
+    ghost free: { K.names.log ≡ None },
 }
 
 impl<J, K, R> Rig<'_, J, K, R>

@@ -4,7 +4,11 @@ use Rattle.std.proofs.lemmas.List.Elements.{All-replicate}
 use Rattle.store_trait.specs.Batch.{Entry}
 use Rattle.store_trait.specs.declared.Op.{Op}
 use Rattle.store_trait.specs.declared.Op.TheVariants.{Load}
+use Rattle.replica_shared.proofs.Known.{load_is_known}
 use Rattle.mtr.proofs.threads.lifecycle.new_replica.Goals as goal
+
+pub open-requires-clause-known : goal.open-requires-clause-known
+open-requires-clause-known g c = load_is_known g.K.ReplicaNaming.names _ _ _ c.requires.replica.3 c.requires.replica.2
 
 pub new-requires-clause-seats : goal.new-requires-clause-seats
 new-requires-clause-seats g c =

@@ -1,3 +1,4 @@
+use Rattle.std.proofs.Common.{None}
 use Rattle.replica_shared.specs.Names.{replica_names}
 use Rattle.tests_pair.proofs.tests.one_thread.over_source.Given as goal
 
@@ -6,4 +7,4 @@ abbrev pub ghosts-over_both-K-ReplicaNaming : goal.ghosts-over_both-K-ReplicaNam
 ghosts-over_both-K-ReplicaNaming g a = record { names = replica_names a.core }
 
 abbrev pub ghosts-over_both-K-Naming : goal.ghosts-over_both-K-Naming
-ghosts-over_both-K-Naming g a = record { book = a.publication.book; preserve = a.core.preserve }
+ghosts-over_both-K-Naming g a = record { book = a.publication.book; preserve = a.core.preserve; known = None }
