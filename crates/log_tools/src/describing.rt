@@ -1,6 +1,7 @@
 //! What a log is written over, as text: its identifier, its tables, and the rows before its first record.
 
-ghost use Rattle.std.specs.Prelude.{◌≡◌, ◌⊎◌, ◌↔◌, ℕ, List, [], ◌∷◌, ◌++◌, map, codes, Some, IsTrue, IfOk, IfErr, IfSome, IfNone, OnOk, IsPermutation};
+ghost use Rattle.std.specs.Prelude.{◌≡◌, ◌↔◌, ℕ, List, [], ◌∷◌, ◌++◌, map, codes, Some, IsTrue, IfOk, IfErr, IfSome, IfNone, OnOk};
+ghost use Rattle.std.specs.Prelude.{IsPermutation};
 ghost use Rattle.std.specs.Bool.{then_some};
 ghost use Rattle.std.specs.Io.KnownBytes.{Appends};
 ghost use Rattle.uuid.specs.Text.{parsed};

@@ -2,8 +2,8 @@
 
 ghost use Rattle.log_tools.specs.Laws.{HeadsReadBack};
 
-/// What `Head::write` writes of tables and rows, of one to sixteen columns, says just these: so a log, what is fed of it and a replica of that
-/// are over the same tables and rows.
+/// What `Head::write` writes of tables and rows, of one to sixteen columns, says just these: so a log, what is fed of it and a replica of
+/// that are over the same tables and rows.
 pub fn head_reads_back()
     ensures { HeadsReadBack }
 {}

@@ -88,7 +88,8 @@ longer read piece records added rest left before behind =
     }
 
 -- the records are those that are gone then, and those that wait
-now_read : (read : List ℕ) (records : List Record) (left : List ℕ) (gone : List Record) (new : Wire) → records ≡ gone ++ new.waiting → left ≡ new.rest → Splits current read records left → HasRead read new
+now_read : (read : List ℕ) (records : List Record) (left : List ℕ) (gone : List Record) (new : Wire) → records ≡ gone ++ new.waiting → left ≡ new.rest → Splits current read records left →
+    HasRead read new
 now_read read records left gone new are rest splits = record {
   gone = gone;
   splits = subst (λ (l : List Record). Splits current read l new.rest) are (subst (λ (l : List ℕ). Splits current read records l) rest splits);

@@ -18,8 +18,8 @@ use Rattle.log_feed.proofs.Follow.{shows}
 use Rattle.replica_answers.specs.Followed.{known_over}
 use Rattle.replica_answers.specs.Replica.{IsAsAfter}
 
-seen_over : (ts : List Table) (base : List Entry) (log : Option (List Record)) (preserve : Bool) (known : Option (List Op)) (ops : List Op) → IsKnownOver ts base log preserve known → IsWithin known ops
-    → 1 ≤ length ops → IfSome log (λ l. IsLegalLog ts (loaded base) l → after ts (loaded base) (take (commits_in ops) l) ≡ Some (left_by ops))
+seen_over : (ts : List Table) (base : List Entry) (log : Option (List Record)) (preserve : Bool) (known : Option (List Op)) (ops : List Op) → IsKnownOver ts base log preserve known →
+    IsWithin known ops → 1 ≤ length ops → IfSome log (λ l. IsLegalLog ts (loaded base) l → after ts (loaded base) (take (commits_in ops) l) ≡ Some (left_by ops))
 seen_over ts base None preserve known ops is within some = tt
 seen_over ts base (Some log) preserve known ops is within some = λ legal.
     let r : Replica = record (new_over ts [] base 1 true) { accepted = log } in

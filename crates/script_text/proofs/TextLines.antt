@@ -26,8 +26,8 @@ pub text_said : {S : Type 0} (added : About → Option S) (line text : List ℕ)
 text_said added line text h same = ap (λ o. o >>= added) (sym (line_of_text line h)) ∙ ap (λ l. text_line l >>= added) (sym same)
 
 -- if its first word tells what the line is about
-pub line_said : {S : Type 0} (added : About → Option S) (line text : List ℕ) (found : Option Line) (told one : Line) → IsUtf8 line → text ≡ line → option_map about found ≡ text_line text → found ≡ Some told
-    → told ≡ one → (line_of line >>= added) ≡ added (about one)
+pub line_said : {S : Type 0} (added : About → Option S) (line text : List ℕ) (found : Option Line) (told one : Line) → IsUtf8 line → text ≡ line
+    → option_map about found ≡ text_line text → found ≡ Some told → told ≡ one → (line_of line >>= added) ≡ added (about one)
 line_said added line text found told one h same e some is =
     text_said added line text h same ∙ ap (λ o. o >>= added) (sym e ∙ ap (option_map about) some) ∙ ap (λ l. added (about l)) is
 

@@ -11,7 +11,8 @@ feed-requires g c =
     let bytes = c.args.bytes.now in
     let at = c.loop-at.at in
     let n = at + 1 - at in
-    let behind = ahead_moved log c.args.wire.now c.loop-at.wire (take at bytes) (drop at bytes) c.loop-at.invariant (subst (IsAhead log c.args.wire.now) (sym (take-append-drop at bytes)) c.requires) in
+    let before = subst (IsAhead log c.args.wire.now) (sym (take-append-drop at bytes)) c.requires in
+    let behind = ahead_moved log c.args.wire.now c.loop-at.wire (take at bytes) (drop at bytes) c.loop-at.invariant before in
     ahead_front log c.loop-at.wire (take n (drop at bytes)) (drop n (drop at bytes)) (subst (IsAhead log c.loop-at.wire) (sym (take-append-drop n (drop at bytes))) behind)
 
 pub loop-at-preserved : goal.loop-at-preserved
