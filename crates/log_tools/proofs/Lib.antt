@@ -1,5 +1,9 @@
+pub mod Compared
 pub mod Differences
 pub mod HeadBack
 pub mod HeadTexts
 pub mod Leaving
+pub mod Printing
 pub mod Putting
+pub mod Stops
+pub mod Sums

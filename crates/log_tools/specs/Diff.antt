@@ -1,5 +1,5 @@
 -- What differs between two logs.
-use Rattle.std.specs.Prelude.{◌≡◌, ◌≢◌, ℕ, ◌+◌, ℤ, List, [], ◌∷◌, ◌++◌, codes, take, slice_get, Option, Some, None, Bool, if◌then◌else◌, ◌↔◌, IsTrue, IfSome, IfNone}
+use Rattle.std.specs.Prelude.{◌≡◌, ◌≢◌, ℕ, ◌+◌, ℤ, List, [], ◌∷◌, ◌++◌, length, codes, take, slice_get, Option, Some, None, Bool, true, false, if◌then◌else◌, ◌↔◌, IsTrue, IfSome, IfNone}
 use Rattle.std.specs.Fmt.{decimal}
 use Rattle.std.specs.FinMap.{get as row_of}
 use Rattle.std.specs.Io.KnownBytes.{Appends}
@@ -75,3 +75,11 @@ pub record TellsDifferences (my_tables their_tables : List Table) (my_records th
   pub first_is : IfSome first (DiffersAt my_records their_records)
   pub none_is : IfNone first (my_records ≡ their_records)
   pub text : Appends before printed ((tables_line tables ++ record_line first) ++ rows_text my_rows their_rows)
+
+-- that both are alike is told, or else what differs
+abbrev pub Tells : Bool → List Table → List Table → List Record → List Record → Database → Database → Option (List ℕ) → Option (List ℕ) → Type 0
+Tells true my_tables their_tables my_records their_records my_rows their_rows before printed =
+    AreAlike my_tables their_tables my_records their_records my_rows their_rows × Appends before printed (same_line (length my_records))
+Tells false my_tables their_tables my_records their_records my_rows their_rows before printed =
+    (¬ AreAlike my_tables their_tables my_records their_records my_rows their_rows)
+    × TellsDifferences my_tables their_tables my_records their_records my_rows their_rows before printed

@@ -1,7 +1,10 @@
+pub mod Asking
 pub mod Check
 pub mod Diff
+pub mod Ending
 pub mod Head
 pub mod Laws
 pub mod Logs
+pub mod Make
 pub mod Restore
 pub mod Rows

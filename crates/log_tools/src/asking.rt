@@ -1,5 +1,12 @@
 //! Lines of an input, one after another, each with its number.
 
+ghost use Rattle.std.specs.Prelude.{◌≡◌, true, false, MatchResult, MatchOption, OnOk, OnErr, IfOk, IfNone};
+ghost use Rattle.std.specs.Borrow.{sem};
+ghost use Rattle.std.specs.Io.BufRead.{Rests};
+ghost use Rattle.std.specs.Io.KnownBytes.{Appends};
+ghost use Rattle.log_tools.specs.contracts.asking.Lines.{the_row};
+ghost use Rattle.log_tools.specs.Asking.{AreUnread, HaveRead, HaveNotRead, prompt_of, bad_line};
+
 use crate::ending::Stop;
 use script_text::lines::read_line;
 use std::alloc::Global;
@@ -22,7 +29,9 @@ pub struct Lines {
 
 impl Lines {
     /// None was read yet.
-    pub fn new(alloc: Global, terminal: bool) -> Lines {
+    pub fn new(alloc: Global, terminal: bool) -> Lines
+        ensures { AreUnread terminal result }
+    {
         Lines {
             line: Vec::new(alloc),
             number: 0,
@@ -33,7 +42,9 @@ impl Lines {
     }
 
     /// Writes the prompt, if more lines come from a terminal.
-    pub fn prompt<E: Write>(&self, errors: &mut E) -> io::Result<()> {
+    pub fn prompt<E: Write>(&self, errors: &mut E) -> io::Result<()>
+        ensures { OnOk result (Appends (E.contents errors.old) (E.contents errors.new) (prompt_of self.now)) }
+    {
         if !self.terminal || !self.is_more {
             return Ok(());
         }
@@ -42,23 +53,44 @@ impl Lines {
     }
 
     /// The next line; `None` after the last.
-    pub fn next<R: BufRead>(&mut self, input: &mut R) -> Result<Option<&[u8]>, Stop> {
+    pub fn next<R: BufRead>(&mut self, input: &mut R) -> Result<Option<&[u8]>, Stop>
+        ensures none { IfOk result (λ line. IfNone line (input.new ≡ input.old)) }
+        ensures* after { sem 𝓛 (Rests the_row self.entry (λ lines. MatchResult result
+            (λ line. MatchOption line ((self.old.is_more ≡ false) × (lines ≡ self.old))
+            (λ line. HaveRead self.old lines line.now (R.remaining input.old) (R.remaining input.new)))
+            (λ _. HaveNotRead self.old lines))) }
+    {
         if !self.is_more {
             return Ok(None);
         }
-        self.is_more = read_line(input, &mut self.line)?;
-        self.number = self.number.saturating_add(1);
+        self.read(input)?;
         Ok(Some(&self.line))
     }
 
+    /// Reads a line, in the place of the last one.
+    fn read<R: BufRead>(&mut self, input: &mut R) -> Result<(), Stop>
+        requires { self.old.is_more ≡ true }
+        ensures ok { OnOk result (HaveRead self.old self.new self.new.line.items (R.remaining input.old) (R.remaining input.new)) }
+        ensures err { OnErr result (HaveNotRead self.old self.new) }
+    {
+        self.is_more = read_line(input, &mut self.line)?;
+        self.number = self.number.saturating_add(1);
+        Ok(())
+    }
+
     /// Tells that the line is bad.
-    pub fn refuse<E: Write>(&mut self, errors: &mut E) -> io::Result<()> {
+    pub fn refuse<E: Write>(&mut self, errors: &mut E) -> io::Result<()>
+        ensures text { OnOk result (Appends (E.contents errors.old) (E.contents errors.new) (bad_line self.old.number)) }
+        ensures bad { self.new ≡ record self.old { is_good = false } }
+    {
         self.is_good = false;
         writeln!(errors, "line {}: bad command", self.number)
     }
 
     /// Whether none was bad.
-    pub fn is_good(&self) -> bool {
+    pub fn is_good(&self) -> bool
+        ensures { result ≡ self.now.is_good }
+    {
         self.is_good
     }
 }

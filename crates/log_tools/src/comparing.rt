@@ -1,12 +1,14 @@
 //! `diff`: whether two logs leave the same.
 
-ghost use Rattle.std.specs.Prelude.{◌≡◌, ◌↔◌, ◌++◌, length, IsTrue, IfOk, IfErr, IfSome, IfNone, OnOk};
+ghost use Rattle.std.specs.Prelude.{◌≡◌, ◌≢◌, ◌↔◌, ◌++◌, true, false, length, take, IsTrue, IfOk, IfErr, IfSome, IfNone, OnOk};
 ghost use Rattle.std.specs.List.{flat_map};
 ghost use Rattle.std.specs.Io.KnownBytes.{Appends};
 ghost use Rattle.store_trait.specs.Batch.{all_rows};
 ghost use Rattle.store_trait.specs.Fits.{AreOfTables};
+ghost use Rattle.store_trait.specs.Operation.{loaded};
 ghost use Rattle.log_tools.specs.Diff.{DiffersAt, AreAlike, TellsDifferences, row_words, difference_line, changed_line, added_line};
 ghost use Rattle.log_tools.specs.Diff.{tables_line, record_line, rows_text, same_line};
+ghost use Rattle.log_tools.specs.Logs.{IsLogOf, ComparesRecords, ComparesLogs};
 
 use crate::ending::{Stop, StopAt};
 use crate::logs::Copied;
@@ -40,7 +42,11 @@ pub fn diff<'a, H: Files<File = File>, W: Write>(
     other: &'a str,
     upto: Option<usize>,
     out: &mut W,
-) -> Result<(), StopAt<'a>> {
+) -> Result<(), StopAt<'a>>
+    ensures alike { OnOk result (ComparesLogs true upto (W.contents out.old) (W.contents out.new)) }
+    ensures different { IfErr result (λ stop. stop.stop ≡ Stop.Different
+        → ComparesLogs false upto (W.contents out.old) (W.contents out.new)) }
+{
     let mine = read(rt, alloc, one)?;
     let theirs = read(rt, alloc, other)?;
     compare_read(alloc, one, &mine, other, &theirs, upto, out)
@@ -55,7 +61,13 @@ fn compare_read<'a, W: Write>(
     theirs: &Copied,
     upto: Option<usize>,
     out: &mut W,
-) -> Result<(), StopAt<'a>> {
+) -> Result<(), StopAt<'a>>
+    requires mine { IsLogOf mine.now.described mine.now.set }
+    requires theirs { IsLogOf theirs.now.described theirs.now.set }
+    ensures alike { OnOk result (ComparesLogs true upto (W.contents out.old) (W.contents out.new)) }
+    ensures different { IfErr result (λ stop. stop.stop ≡ Stop.Different
+        → ComparesLogs false upto (W.contents out.old) (W.contents out.new)) }
+{
     let both = mine.set.records().len().min(theirs.set.records().len());
     let upto = upto.unwrap_or(both);
     let my_records = records(one, mine, upto)?;
@@ -69,7 +81,10 @@ fn read<'a, H: Files<File = File>>(
     rt: &H,
     alloc: Global,
     prefix: &'a str,
-) -> Result<Copied, StopAt<'a>> {
+) -> Result<Copied, StopAt<'a>>
+    ensures is { IfOk result (λ log. IsLogOf log.described log.set) }
+    ensures other { IfErr result (λ stop. stop.stop ≢ Stop.Different) }
+{
     Copied::read(rt, alloc, prefix).map_err(|stop| stop.at(prefix))
 }
 
@@ -79,7 +94,9 @@ fn records<'a, 'b>(
     log: &'b Copied,
     upto: usize,
 ) -> Result<&'b [Record], StopAt<'a>>
-    ensures { IfOk result (λ records. length records.now ≡ upto) }
+    ensures records { IfOk result (λ records. records.now ≡ take upto log.now.set.log.records) }
+    ensures count { IfOk result (λ records. length records.now ≡ upto) }
+    ensures other { IfErr result (λ stop. stop.stop ≢ Stop.Different) }
 {
     match log.records(Some(upto)) {
         Ok(records) => Ok(records),
@@ -95,7 +112,9 @@ fn replayed<'a>(
     records: &[Record],
 ) -> Result<RecoveredLog<BTreeStore>, StopAt<'a>>
     ensures tables { IfOk result (λ found. found.tables ≡ log.now.described.head.schema) }
+    ensures base { IfOk result (λ found. loaded found.base ≡ loaded log.now.described.head.base) }
     ensures log { IfOk result (λ found. found.log ≡ records.now) }
+    ensures other { IfErr result (λ stop. stop.stop ≢ Stop.Different) }
 {
     match log.replayed(alloc, records) {
         Ok(found) => Ok(found),
@@ -115,7 +134,14 @@ fn compare_found<'a, W: Write>(
 ) -> Result<(), StopAt<'a>>
     requires my_tables { left.now.tables ≡ mine.now.described.head.schema }
     requires their_tables { right.now.tables ≡ theirs.now.described.head.schema }
+    requires my_base { loaded left.now.base ≡ loaded mine.now.described.head.base }
+    requires their_base { loaded right.now.base ≡ loaded theirs.now.described.head.base }
     requires count { length left.now.log ≡ length right.now.log }
+    ensures alike { OnOk result (ComparesRecords true mine.now.described theirs.now.described left.now.log right.now.log
+        (W.contents out.old) (W.contents out.new)) }
+    ensures different { IfErr result (λ stop. stop.stop ≡ Stop.Different
+        → ComparesRecords false mine.now.described theirs.now.described left.now.log right.now.log
+        (W.contents out.old) (W.contents out.new)) }
 {
     let mine = Side {
         schema: &mine.described.head.schema,

@@ -1,5 +1,9 @@
 //! How the program ends, and what it tells then.
 
+ghost use Rattle.std.specs.Prelude.{◌≡◌, ◌⊎◌, IsTrue};
+ghost use Rattle.std.specs.IoError.{error_kind};
+ghost use Rattle.log_tools.specs.Ending.{status_of, ending_of, was_told, stop_of_error, stop_of_wire_head};
+
 use crate::describing::HeadFault;
 use log_file::LogFault;
 use promotion::PromotionFault;
@@ -31,7 +35,9 @@ pub enum Ending {
 
 impl Ending {
     /// The exit status.
-    pub fn status(self) -> u8 {
+    pub fn status(self) -> u8
+        ensures { result ≡ status_of self }
+    {
         match self {
             Ending::Done => 0,
             Ending::CommandLine => 2,
@@ -157,6 +163,11 @@ impl From<io::Error> for Stop {
 }
 
 impl From<StoreFault> for Stop {
+    ghost use Rattle.std.specs.Prelude.{◌≡◌};
+    ghost use Rattle.log_tools.specs.Ending.{stop_of_store};
+
+    ghost from_gives = { λ fault stop. stop ≡ stop_of_store fault };
+
     fn from(fault: StoreFault) -> Stop {
         match fault {
             StoreFault::Memory => Stop::Memory,
@@ -166,6 +177,11 @@ impl From<StoreFault> for Stop {
 }
 
 impl From<LogFault> for Stop {
+    ghost use Rattle.std.specs.Prelude.{◌≡◌};
+    ghost use Rattle.log_tools.specs.Ending.{stop_of_log};
+
+    ghost from_gives = { λ fault stop. stop ≡ stop_of_log fault };
+
     fn from(fault: LogFault) -> Stop {
         match fault {
             LogFault::Memory | LogFault::Codec(CodecFault::Memory) => Stop::Memory,
@@ -175,6 +191,11 @@ impl From<LogFault> for Stop {
 }
 
 impl From<RecoveryFault> for Stop {
+    ghost use Rattle.std.specs.Prelude.{◌≡◌};
+    ghost use Rattle.log_tools.specs.Ending.{stop_of_recovery};
+
+    ghost from_gives = { λ fault stop. stop ≡ stop_of_recovery fault };
+
     fn from(fault: RecoveryFault) -> Stop {
         match fault {
             RecoveryFault::Memory => Stop::Memory,
@@ -185,7 +206,9 @@ impl From<RecoveryFault> for Stop {
 
 impl Stop {
     /// A file that could not be opened or read, for what the system said.
-    pub fn of_file(error: io::Error) -> Stop {
+    pub fn of_file(error: io::Error) -> Stop
+        ensures { result ≡ stop_of_error error (Stop.NoFile error) }
+    {
         match error.kind() {
             ErrorKind::OutOfMemory => Stop::Memory,
             _ => Stop::NoFile(error),
@@ -193,7 +216,9 @@ impl Stop {
     }
 
     /// What a wire's head says is refused.
-    pub fn of_wire_head(fault: HeadFault) -> Stop {
+    pub fn of_wire_head(fault: HeadFault) -> Stop
+        ensures { result ≡ stop_of_wire_head fault }
+    {
         match fault {
             HeadFault::Memory => Stop::Memory,
             fault => Stop::WireHead(fault),
@@ -201,7 +226,9 @@ impl Stop {
     }
 
     /// The same of PREFIX.schema.
-    pub fn of_schema_file(error: io::Error) -> Stop {
+    pub fn of_schema_file(error: io::Error) -> Stop
+        ensures { result ≡ stop_of_error error (Stop.NoSchemaFile error) }
+    {
         match error.kind() {
             ErrorKind::OutOfMemory => Stop::Memory,
             _ => Stop::NoSchemaFile(error),
@@ -209,12 +236,17 @@ impl Stop {
     }
 
     /// It happened at the work on this path.
-    pub fn at(self, path: &str) -> StopAt {
+    pub fn at(self, path: &str) -> StopAt
+        ensures stop { result.stop ≡ self }
+        ensures path { result.path.now ≡ path.now }
+    {
         StopAt { stop: self, path }
     }
 
     /// How the program ends then.
-    fn ending(self) -> Ending {
+    fn ending(self) -> Ending
+        ensures { result ≡ ending_of self }
+    {
         match self {
             Stop::Head(_)
             | Stop::SchemaFile(_)
@@ -261,7 +293,10 @@ pub struct StopAt<'a> {
 
 impl<'a> StopAt<'a> {
     /// Tells it, in a line; bad lines and two logs that differ were told before, and a stream that fails has no text.
-    pub fn tell<E: Write>(self, errors: &mut E) -> Ending {
+    pub fn tell<E: Write>(self, errors: &mut E) -> Ending
+        ensures ending { (result ≡ ending_of self.entry.stop) ⊎ (result ≡ Ending.Stream) }
+        ensures silent { IsTrue (was_told self.entry.stop) → (result ≡ ending_of self.entry.stop) × (errors.new ≡ errors.old) }
+    {
         match self.stop {
             Stop::BadLines | Stop::Different | Stop::Stream => self.stop.ending(),
             stop => match self.write_line(errors) {
