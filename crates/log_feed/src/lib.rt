@@ -21,3 +21,4 @@ mod stream;
 pub use fault::HeadFault;
 pub use head::{Head, read_head, write_head};
 pub use records::{read_records, write_records};
+pub use stream::read_some;
