@@ -1,8 +1,8 @@
 -- The records that a wire hands on are those of its log.
 use mathlib.Core.List.{IsPrefix}
 use Rattle.std.proofs.Common.{◌≡◌, ◌∙◌, sym, ap, subst, refl, ℕ, zero, suc, ◌+◌, ◌-◌, ◌≤◌, Bool, true, false, eqb, cond, List, [], ◌∷◌, ◌++◌, length, append-nil, append_assoc, length-append, arith}
-use Rattle.std.proofs.Common.{Option, Some, None, Result, Ok, Err}
-use Rattle.std.specs.Io.KnownBytes.{Consumes}
+use Rattle.std.proofs.Common.{Option, Some, None, IfSome, Result, Ok, Err}
+use Rattle.std.specs.Io.KnownBytes.{Consumes, IsAtEnd}
 use Rattle.std.specs.List.{flat_map, AllByRecursion, slice_get}
 use Rattle.std.proofs.lemmas.Bool.{and_parts, eqb-true}
 use Rattle.record_codec.specs.declared.records.Record.{Record}
@@ -21,7 +21,7 @@ use Rattle.replica_core.specs.declared.wire.WireFault.{WireFault}
 use Rattle.replica_core.specs.declared.wire.WireFault.TheVariants as wire
 use Rattle.replica_shared.specs.Feeding.{AreInLog, Feeds}
 use Rattle.replica_shared.specs.Names.{ReplicaNames, IsInLog}
-use Rattle.replica_answers.specs.Followed.{with_next, records_by, records_in, are_numbered, log_in, HasRead, HasMoved, HasStayed, Covers, IsFollowing, IsAhead}
+use Rattle.replica_answers.specs.Followed.{with_next, records_by, records_in, are_numbered, log_in, HasRead, HasMoved, HasStayed, Covers, IsFollowing, IsAhead, IsReadOf, AreWhole, AreCut}
 
 -- ---- the records of bytes
 
@@ -204,3 +204,39 @@ following_on (Some log) (Some left) None bytes old new following gives moved = a
 following_on (Some log) (Some left) (Some rest) bytes old new following gives moved =
     let same : following.0 ++ left ≡ (following.0 ++ bytes) ++ rest = ap (λ (l : List ℕ). following.0 ++ l) gives ∙ sym (append_assoc following.0 bytes rest) in
     (following.0 ++ bytes, moved following.0 following.1, subst (Covers log) same following.2)
+
+-- ---- how a wire ends
+
+-- of a new wire all bytes are left
+pub read_begins : (bytes : Option (List ℕ)) (source : List ℕ) → IsReadOf bytes bytes (new_wire source)
+read_begins None source = tt
+read_begins (Some bytes) source = ([], refl, none_read source)
+
+-- once bytes that a stream gives were read fewer are
+pub read_on : (all before after : Option (List ℕ)) (bytes : List ℕ) (old new : Wire) → IsReadOf all before old → Consumes before after bytes →
+    ((read : List ℕ) → HasRead read old → HasRead (read ++ bytes) new) → IsReadOf all after new
+read_on None before after bytes old new is gives moved = tt
+read_on (Some all) None after bytes old new is gives moved = absurd is
+read_on (Some all) (Some left) None bytes old new is gives moved = absurd gives
+read_on (Some all) (Some left) (Some rest) bytes old new is gives moved =
+    (is.0 ++ bytes, is.1 ∙ ap (λ (l : List ℕ). is.0 ++ l) gives ∙ sym (append_assoc is.0 bytes rest), moved is.0 is.2)
+
+-- nothing is left
+read_all : (all left read : List ℕ) → all ≡ read ++ left → left ≡ [] → read ≡ all
+read_all all left read split none = sym (split ∙ ap (λ (l : List ℕ). read ++ l) none ∙ append-nil read)
+
+pub ends_whole : (all left : Option (List ℕ)) (w : Wire) → IsReadOf all left w → IsAtEnd left → w.rest ≡ [] → IfSome all (AreWhole left)
+ends_whole None left w is none whole = tt
+ends_whole (Some all) None w is none whole = absurd is
+ends_whole (Some all) (Some left) w is none whole =
+    let records = is.2.gone ++ w.waiting in
+    let splits : Splits current all records w.rest = subst (λ (l : List ℕ). Splits current l records w.rest) (read_all all left is.0 is.1 none) is.2.splits in
+    (ap (λ (l : List ℕ). Some l) none, (records, subst (Splits current all records) whole splits))
+
+pub ends_cut : (all left : Option (List ℕ)) (w : Wire) → IsReadOf all left w → IsAtEnd left → 1 ≤ length w.rest → IfSome all (AreCut left)
+ends_cut None left w is none some = tt
+ends_cut (Some all) None w is none some = absurd is
+ends_cut (Some all) (Some left) w is none some =
+    let records = is.2.gone ++ w.waiting in
+    let splits : Splits current all records w.rest = subst (λ (l : List ℕ). Splits current l records w.rest) (read_all all left is.0 is.1 none) is.2.splits in
+    (ap (λ (l : List ℕ). Some l) none, (records, w.rest, some, splits))

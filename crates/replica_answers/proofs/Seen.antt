@@ -1,6 +1,6 @@
 -- What is read at a replica whose log is known.
 use mathlib.Core.List.{IsPrefix}
-use Rattle.std.proofs.Common.{◌≡◌, sym, ◌∙◌, subst, refl, ℕ, ◌≤◌, Bool, true, List, [], length, take, append-nil, Option, Some, None, arith}
+use Rattle.std.proofs.Common.{◌≡◌, sym, ◌∙◌, subst, refl, ◌≤◌, Bool, true, List, [], length, take, append-nil, Option, Some, None, arith}
 use Rattle.std.specs.Option.{IfSome}
 use Rattle.std.proofs.lemmas.List.{take_all}
 use Rattle.schema.specs.declared.Table.{Table}

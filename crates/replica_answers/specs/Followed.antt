@@ -1,5 +1,5 @@
 -- The log of a wire's records, if the wire's bytes are known before, and what a wire has read of it.
-use Rattle.std.specs.Prelude.{ℕ, zero, suc, ◌+◌, Bool, true, ◌==◌, ◌&&◌, if◌then◌else◌, List, [], ◌∷◌, ◌++◌, length, Option, Some, None, option_map, Ok, Err}
+use Rattle.std.specs.Prelude.{◌≡◌, ◌≤◌, ℕ, zero, suc, ◌+◌, Bool, true, ◌==◌, ◌&&◌, if◌then◌else◌, List, [], ◌∷◌, ◌++◌, length, Option, Some, None, IfSome, option_map, Ok, Err}
 use mathlib.Core.List.{IsPrefix}
 use Rattle.schema.specs.declared.Table.{Table}
 use Rattle.store_trait.specs.Batch.{Entry}
@@ -15,6 +15,8 @@ use Rattle.replica_answers.specs.declared.following.Fed.{Fed}
 use Rattle.replica_answers.specs.declared.following.Fed.TheVariants as fed
 use Rattle.replica_answers.specs.declared.following.Handed.{Handed}
 use Rattle.replica_answers.specs.declared.following.Handed.TheVariants as handed
+use Rattle.replica_answers.specs.declared.following.WireEnd.{WireEnd}
+use Rattle.replica_answers.specs.declared.following.WireEnd.TheVariants as ends
 
 -- ---- the log of bytes
 
@@ -76,6 +78,29 @@ HasMoved old bytes new = (read : List ℕ) → HasRead read old → HasRead (rea
 -- none were
 abbrev pub HasStayed : Wire → Wire → Type 0
 HasStayed old new = (read : List ℕ) → HasRead read old → HasRead read new
+
+-- Of the bytes of a wire these are left, after those that were read, if the bytes are known.
+abbrev pub IsReadOf : Option (List ℕ) → Option (List ℕ) → Wire → Type 0
+IsReadOf None left wire = Unit {0}
+IsReadOf (Some bytes) None wire = ⊥
+IsReadOf (Some bytes) (Some left) wire = (read : List ℕ) × (bytes ≡ read ++ left) × HasRead read wire
+
+-- ---- how a wire ends
+
+-- all bytes were read, and they are whole records
+abbrev pub AreWhole : Option (List ℕ) → List ℕ → Type 0
+AreWhole left bytes = (left ≡ Some []) × ((records : List Record) × Splits current bytes records [])
+
+-- all were, and they are whole records, and less than one more
+abbrev pub AreCut : Option (List ℕ) → List ℕ → Type 0
+AreCut left bytes = (left ≡ Some []) × ((records : List Record) × (rest : List ℕ) × (1 ≤ length rest) × Splits current bytes records rest)
+
+-- how a wire of these bytes ended, if they are known, and what is left of them
+abbrev pub EndsSo : WireEnd → Option (List ℕ) → Option (List ℕ) → Type 0
+EndsSo ends.Closed bytes left = IfSome bytes (AreWhole left)
+EndsSo ends.Cut bytes left = IfSome bytes (AreCut left)
+EndsSo (ends.Failed error) bytes left = Unit {0}
+EndsSo (ends.Refused fault) bytes left = Unit {0}
 
 -- ---- what private functions say
 

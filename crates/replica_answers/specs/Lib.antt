@@ -1,2 +1,4 @@
+pub mod Conversation
 pub mod Followed
+pub mod Laws
 pub mod Replica

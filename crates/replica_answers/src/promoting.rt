@@ -1,5 +1,9 @@
 //! A replica becomes the log of a new source.
 
+ghost use Rattle.std.specs.Prelude.{◌≡◌, length, OnOk};
+ghost use Rattle.std.specs.Io.KnownBytes.{Appends};
+ghost use Rattle.replica_answers.specs.Conversation.{TellsPromoted, UnlessLost, promoted_text};
+
 use crate::reading::{Wish, says_nothing, wish_in};
 use crate::replicating::ending_of;
 use btree_store::BTreeStore;
@@ -30,7 +34,9 @@ pub fn promote<
     input: &mut R,
     output: &mut W,
     errors: &mut E,
-) -> Result<Ending, Stop> {
+) -> Result<Ending, Stop>
+    ensures { UnlessLost result (TellsPromoted core.now.source (length core.now.commits) (W.contents output.old) (W.contents output.new)) }
+{
     let mut wish = first;
     for _ in 0..u64::MAX {
         let ending = match make_promoted(rt, alloc, core, &wish, new) {
@@ -84,7 +90,10 @@ fn tell_promoted<W: Write>(
     out: &mut W,
     core: &ReplicaCore<BTreeStore>,
     identifier: Uuid,
-) -> io::Result<()> {
+) -> io::Result<()>
+    ensures { OnOk result (Appends (W.contents out.old) (W.contents out.new)
+        (promoted_text core.now.source (length core.now.commits) (Some identifier))) }
+{
     writeln!(out, "source {}", identifier.hyphenated())?;
     writeln!(
         out,

@@ -1,8 +1,14 @@
 //! The lines that a replica is told, and what it answers to each.
 
-ghost use Rattle.std.specs.Prelude.{◌≡◌, ◌≤◌, true, OnOk};
+ghost use Rattle.std.specs.Prelude.{◌≡◌, ℕ, ◌≤◌, true, OnOk};
+ghost use Rattle.std.specs.Io.KnownBytes.{Appends};
 ghost use mathlib.Core.List.{IsPrefix};
+ghost use Rattle.gtid_set.specs.Ids.{first_ids};
 ghost use Rattle.published.specs.History.{commits_in};
+ghost use Rattle.published.specs.Status.{InOrder};
+ghost use Rattle.published.specs.declared.counts.Counts.{Counts};
+ghost use Rattle.script_text.specs.Printing.{line_of};
+ghost use Rattle.replica_answers.specs.Conversation.{TellsAll, UnlessLost, help_text, status_text, waited_text};
 ghost use Rattle.replica_answers.specs.Replica.{TellsRead};
 ghost use Rattle.replica_shared.specs.Names.{IsKnown};
 
@@ -72,6 +78,17 @@ enum Command {
     Wait(u64),
 }
 
+/// What became of a line.
+#[derive(Drop)]
+enum Answered {
+    /// It was answered, or says nothing.
+    Told,
+    /// It is bad.
+    Bad,
+    /// A log is to be made.
+    Ends(Wish),
+}
+
 /// What waiting came to.
 #[derive(Clone, Copy)]
 enum Waited {
@@ -94,6 +111,7 @@ pub struct Asked<'a, K: ReplicaNaming, E: Write> {
     pub closed: &'a OnceLock<()>,
     /// Where faults are told.
     pub errors: &'a Mutex<E>,
+    ghost of_source: { source ≡ K.names.source },
 }
 
 /// What the line asks for; `None` if it is bad, or a log is to be made.
@@ -161,23 +179,40 @@ impl<K: ReplicaNaming, E: Write> Asked<'_, K, E> {
     ) -> Result<End, Stop>
         requires order { K.preserve ≡ true }
         requires known { IsKnown K.names K.preserve K.known }
+        ensures { UnlessLost result (TellsAll K.names seat.old seat.new (W.contents output.old) (W.contents output.new)) }
     {
         for _ in 0..u64::MAX {
-            self.prompt(rt, lines)?;
-            let Some(line) = lines.next(input)? else {
-                return Ok(End::Read);
-            };
-            if let Some(wish) = wish_in(self.alloc, line)? {
-                if self.closed.get().is_some() {
-                    return Ok(End::Promote(wish));
-                }
-                writeln!(output, "wire open")?;
-            } else if !self.obey(rt, seat, line, output)? {
-                self.refuse(rt, lines)?;
+            if let Some(end) = self.answer_next(rt, seat, lines, input, output)? {
+                return Ok(end);
             }
-            output.flush()?;
         }
         Ok(End::Read)
+    }
+
+    /// Answers the next line. How the lines ended, if there is none, or a log is to be made.
+    fn answer_next<H: Wait + Clock, R: BufRead, W: Write>(
+        &self,
+        rt: &H,
+        seat: &mut Seat<K>,
+        lines: &mut Lines,
+        input: &mut R,
+        output: &mut W,
+    ) -> Result<Option<End>, Stop>
+        requires order { K.preserve ≡ true }
+        requires known { IsKnown K.names K.preserve K.known }
+        ensures { UnlessLost result (TellsAll K.names seat.old seat.new (W.contents output.old) (W.contents output.new)) }
+    {
+        self.prompt(rt, lines)?;
+        let Some(line) = lines.next(input)? else {
+            return Ok(Some(End::Read));
+        };
+        match self.answer(rt, seat, line, output)? {
+            Answered::Told => {}
+            Answered::Bad => self.refuse(rt, lines)?,
+            Answered::Ends(wish) => return Ok(Some(End::Promote(wish))),
+        }
+        output.flush()?;
+        Ok(None)
     }
 
     fn prompt<H: Wait>(&self, rt: &H, lines: &Lines) -> io::Result<()> {
@@ -188,34 +223,64 @@ impl<K: ReplicaNaming, E: Write> Asked<'_, K, E> {
         lines.refuse(&mut *self.errors.lock(rt))
     }
 
-    /// Does what a line asks for, and says what is answered. `false`, and nothing is done, if it asks for nothing that a replica answers.
-    fn obey<H: Wait + Clock, W: Write>(
+    /// Answers a line. It is bad, and nothing is done, if it asks for nothing that a replica answers.
+    fn answer<H: Wait + Clock, W: Write>(
         &self,
         rt: &H,
         seat: &mut Seat<K>,
         line: &[u8],
         out: &mut W,
-    ) -> Result<bool, Stop>
+    ) -> Result<Answered, Stop>
         requires order { K.preserve ≡ true }
         requires known { IsKnown K.names K.preserve K.known }
+        ensures { UnlessLost result (TellsAll K.names seat.old seat.new (W.contents out.old) (W.contents out.new)) }
     {
-        match command_in(line) {
-            None => return Ok(false),
-            Some(Command::Skipped) => {}
-            Some(Command::Help) => out.write_all(HELP.as_bytes())?,
-            Some(Command::Read(row)) => tell_read(seat, row, out)?,
-            Some(Command::Executed) => self.tell_executed(rt, out)?,
-            Some(Command::Status) => self.tell_status(rt, out)?,
-            Some(Command::Wait(gno)) => {
-                let waited = self.wait(rt, seat, gno);
-                tell_waited(out, waited)?;
+        match wish_in(self.alloc, line)? {
+            Some(wish) if self.closed.get().is_some() => Ok(Answered::Ends(wish)),
+            Some(_) => {
+                writeln!(out, "wire open")?;
+                Ok(Answered::Told)
+            }
+            None => match command_in(line) {
+                Some(command) => {
+                    self.obey(rt, seat, command, out)?;
+                    Ok(Answered::Told)
+                }
+                None => Ok(Answered::Bad),
+            },
+        }
+    }
+
+    /// Does what a line asks for, and says what is answered.
+    fn obey<H: Wait + Clock, W: Write>(
+        &self,
+        rt: &H,
+        seat: &mut Seat<K>,
+        command: Command,
+        out: &mut W,
+    ) -> Result<(), Stop>
+        requires order { K.preserve ≡ true }
+        requires known { IsKnown K.names K.preserve K.known }
+        ensures { UnlessLost result (TellsAll K.names seat.old seat.new (W.contents out.old) (W.contents out.new)) }
+    {
+        match command {
+            Command::Skipped => Ok(()),
+            Command::Help => Ok(tell_help(out)?),
+            Command::Read(row) => tell_read(seat, row, out),
+            Command::Executed => self.tell_executed(rt, out),
+            Command::Status => Ok(self.tell_status(rt, out)?),
+            Command::Wait(gno) => {
+                let came = self.wait(rt, seat, gno);
+                Ok(tell_waited(out, came)?)
             }
         }
-        Ok(true)
     }
 
     /// Says the ids of the published commits, which are the first of the source's.
-    fn tell_executed<H: Wait, W: Write>(&self, rt: &H, out: &mut W) -> Result<(), Stop> {
+    fn tell_executed<H: Wait, W: Write>(&self, rt: &H, out: &mut W) -> Result<(), Stop>
+        ensures { UnlessLost result ((count : ℕ) × Appends (W.contents out.old) (W.contents out.new)
+            (line_of (Reply.Executed (first_ids self.now.source count)))) }
+    {
         let published = self.replica.status(rt).published.min(i64::MAX as u64);
         let ids = GtidSet::first(self.alloc, self.source, published)?;
         write_reply(out, &Reply::Executed(ids))?;
@@ -223,7 +288,10 @@ impl<K: ReplicaNaming, E: Write> Asked<'_, K, E> {
     }
 
     /// Says how far the replica is.
-    fn tell_status<H: Wait, W: Write>(&self, rt: &H, out: &mut W) -> io::Result<()> {
+    fn tell_status<H: Wait, W: Write>(&self, rt: &H, out: &mut W) -> io::Result<()>
+        ensures { OnOk result ((counts : Counts) × InOrder counts
+            × Appends (W.contents out.old) (W.contents out.new) (status_text counts)) }
+    {
         let counts = self.replica.status(rt);
         writeln!(
             out,
@@ -286,7 +354,8 @@ fn tell_read<K: ReplicaNaming, W: Write>(
 ) -> Result<(), Stop>
     requires order { K.preserve ≡ true }
     requires known { IsKnown K.names K.preserve K.known }
-    ensures { OnOk result (TellsRead K.names row seat.old seat.new (W.contents out.old) (W.contents out.new)) }
+    ensures told { OnOk result (TellsRead K.names row seat.old seat.new (W.contents out.old) (W.contents out.new)) }
+    ensures all { UnlessLost result (TellsAll K.names seat.old seat.new (W.contents out.old) (W.contents out.new)) }
 {
     let Some(answer) = seat.read(row) else {
         return Err(Stop::NoReader);
@@ -300,9 +369,19 @@ fn tell_read<K: ReplicaNaming, W: Write>(
     Ok(())
 }
 
+/// Says what lines there are.
+#[tactic(auto, unfolding(crate::specs::Conversation::help_text))]
+fn tell_help<W: Write>(out: &mut W) -> io::Result<()>
+    ensures { OnOk result (Appends (W.contents out.old) (W.contents out.new) help_text) }
+{
+    out.write_all(HELP.as_bytes())
+}
+
 /// Says what waiting came to.
-fn tell_waited<W: Write>(out: &mut W, waited: Waited) -> io::Result<()> {
-    match waited {
+fn tell_waited<W: Write>(out: &mut W, came: Waited) -> io::Result<()>
+    ensures { OnOk result (Appends (W.contents out.old) (W.contents out.new) (waited_text came)) }
+{
+    match came {
         Waited::Published => out.write_all(b"ok\n"),
         Waited::Never => out.write_all(b"wire closed\n"),
         Waited::Stopped(fault) => writeln!(out, "{fault}"),

@@ -1,6 +1,7 @@
 //! `replica`: a replica that follows a wire. Its lines are answered while workers execute what comes.
 
-ghost use Rattle.std.specs.Prelude.{◌≡◌, ◌≢◌, true, false, IfOk, IfSome};
+ghost use Rattle.std.specs.Prelude.{◌≡◌, ◌≢◌, ◌⊎◌, true, false, IfOk, IfSome, OnOk};
+ghost use Rattle.replica_answers.specs.Conversation.{Converses, AnswersAs, Answers, UnlessLost};
 ghost use Rattle.replica_answers.specs.Followed.{log_in};
 ghost use Rattle.replica_answers.specs.Replica.{IsOverWire};
 ghost use Rattle.replica_shared.specs.Names.{replica_names, IsNewReplica, OpensReplica, IsKnown};
@@ -21,7 +22,7 @@ use std::io::{BufRead, BufReader, IsTerminal, Read, Write};
 use std::marker::{Brand, PhantomData};
 use std::rt::Files;
 use std::sync::{Mutex, OnceLock, Wait};
-use std::thread::{Threads, join, map_indices};
+use std::thread::{Threads, join, join_mut, map_indices};
 use std::time::Clock;
 use uuid::Uuid;
 
@@ -63,14 +64,18 @@ pub fn replica<
     output: &mut W,
     errors: &mut E,
 ) -> Ending {
-    match File::open(rt, path) {
-        Ok(file) => replica_of(rt, alloc, path, file, crew, new, input, output, errors),
-        Err(error) => Stop::of_file(error).at(path).tell(errors),
+    let file = match File::open(rt, path) {
+        Ok(file) => file,
+        Err(error) => return Stop::of_file(error).at(path).tell(errors),
+    };
+    match replica_over(rt, alloc, path, file, crew, new, input, output, errors) {
+        Ok(ending) => ending,
+        Err(stop) => stop.at(path).tell(errors),
     }
 }
 
-/// The same of a wire that was opened.
-fn replica_of<
+/// The same of a wire that was opened. If it stops, the caller tells why.
+pub fn replica_over<
     H: Files<File = File> + Alloc<A = Global> + Threads + Wait + Clock + Clone + Drop + Sync,
     F: Read + Send + Drop,
     R: Read + IsTerminal + Send,
@@ -86,22 +91,30 @@ fn replica_of<
     input: &mut R,
     output: &mut W,
     errors: &mut E,
-) -> Ending {
+) -> Result<Ending, Stop>
+    ensures answers { OnOk result (Answers (F.remaining wire) (W.contents output.old) (W.contents output.new)) }
+    // If the replica stopped before a line was read, nothing was written.
+    ensures refused { UnlessLost result (Answers (F.remaining wire) (W.contents output.old) (W.contents output.new)
+        ⊎ (W.contents output.new ≡ W.contents output.old)) }
+{
     let mut wire = wire;
-    let core = match core_of(alloc, &mut wire, crew) {
-        Ok(core) => core,
-        Err(stop) => return stop.at(path).tell(errors),
-    };
+    let core = core_of(alloc, &mut wire, crew)?;
     let base = match core.base().copy() {
         Ok(base) => base,
-        Err(memory) => return Stop::from(memory).at(path).tell(errors),
+        Err(memory) => {
+            drop((core, wire));
+            return Err(memory.into());
+        }
     };
     let wire = match NamedWire::new(alloc, path, wire, core.source(), crew.workers) {
         Ok(wire) => wire,
-        Err(memory) => return Stop::from(memory).at(path).tell(errors),
+        Err(memory) => {
+            drop((core, base));
+            return Err(memory.into());
+        }
     };
     let publication = published::Beginning::of(base);
-    match run_core::<Brand, H, F, R, W, E>(
+    run_core::<Brand, H, F, R, W, E>(
         rt,
         alloc,
         core,
@@ -111,10 +124,7 @@ fn replica_of<
         input,
         output,
         errors,
-    ) {
-        Ok(ending) => ending,
-        Err(stop) => stop.at(path).tell(errors),
-    }
+    )
 }
 
 /// The same input, under the name of the replica that takes its records: these are the log's, if the bytes are known.
@@ -135,7 +145,8 @@ impl<F> NamedWire<F> {
     ) -> Result<NamedWire<F>, AllocError>
     where
         F: Drop,
-        ensures { IfOk result (λ wire. wire.input ≡ input) }
+        ensures input { IfOk result (λ wire. wire.input ≡ input) }
+        ensures source { IfOk result (λ wire. wire.source ≡ source) }
     {
         Ok(NamedWire {
             path: String::from_str(alloc, path)?,
@@ -191,6 +202,8 @@ fn run_core<
     requires replica { OpensReplica K.names K.preserve K.book K.known core publication }
     requires order { K.preserve ≡ true }
     requires log { K.names.log ≡ log_in (F.remaining wire.input) }
+    requires source { wire.source ≡ K.names.source }
+    ensures { UnlessLost result (AnswersAs K.names (W.contents output.old) (W.contents output.new)) }
 {
     let mut lines = Lines::new(alloc, input.is_terminal());
     let mut buffered = match BufReader::new(alloc, &mut *input) {
@@ -294,6 +307,8 @@ fn meet<
     requires order { K.preserve ≡ true }
     requires known { IsKnown K.names K.preserve K.known }
     requires log { K.names.log ≡ log_in (F.remaining wire.input) }
+    requires source { wire.source ≡ K.names.source }
+    ensures { UnlessLost result.0 (Converses K.names (W.contents output.old) (W.contents output.new)) }
 {
     let NamedWire {
         path,
@@ -340,13 +355,38 @@ fn meet_over<
 ) -> (Result<End, Stop>, Ending)
     requires order { K.preserve ≡ true }
     requires known { IsKnown K.names K.preserve K.known }
+    ensures { UnlessLost result.0 (Converses K.names (W.contents output.old) (W.contents output.new)) }
 {
+    let mut coming = Some(coming);
     // The second one goes first if no thread can be made: so nobody waits for a record of a wire that nobody reads.
-    join(
+    join_mut(
         rt,
-        || converse(rt, asked, lines, input, output),
-        || apply(rt, alloc, asked, path, workers, coming),
+        &mut ||
+            requires { (K.preserve ≡ true) × IsKnown K.names K.preserve K.known }
+            ensures { UnlessLost result (Converses K.names (W.contents output.entry.now) (W.contents output.exit.now)) }
+        { converse(rt, asked, lines, input, output) },
+        &mut move || apply_once(rt, alloc, asked, path, workers, &mut coming),
     )
+}
+
+/// Applies what comes over the wire, which is closed then.
+fn apply_once<
+    K: ReplicaNaming + Send + Sync,
+    H: Threads + Wait + Clock + Sync,
+    E: Write + Send,
+    F: Read + Send + Drop,
+>(
+    rt: &H,
+    alloc: Global,
+    asked: &Asked<K, E>,
+    path: &str,
+    workers: usize,
+    coming: &mut Option<Coming<K, F>>,
+) -> Ending {
+    match coming.take() {
+        Some(coming) => apply(rt, alloc, asked, path, workers, coming),
+        None => Ending::Done,
+    }
 }
 
 /// Answers the lines by a reader of its own.
@@ -359,6 +399,7 @@ fn converse<K: ReplicaNaming, H: Wait + Clock, R: BufRead, W: Write, E: Write>(
 ) -> Result<End, Stop>
     requires order { K.preserve ≡ true }
     requires known { IsKnown K.names K.preserve K.known }
+    ensures { UnlessLost result (Converses K.names (W.contents output.old) (W.contents output.new)) }
 {
     let Some(mut seat) = asked.replica.seat(rt) else {
         return Err(Stop::NoReader);

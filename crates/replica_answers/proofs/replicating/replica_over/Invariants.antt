@@ -1,7 +1,7 @@
 use Rattle.std.proofs.Common.{true}
 use Rattle.replica_shared.specs.Names.{replica_names}
 use Rattle.replica_answers.specs.Followed.{log_in, known_over}
-use Rattle.replica_answers.proofs.replicating.replica_of.Given as goal
+use Rattle.replica_answers.proofs.replicating.replica_over.Given as goal
 
 -- the tables, the source and the rows of the replica, and the records of the wire
 abbrev pub ghosts-run_core-K-ReplicaNaming : goal.ghosts-run_core-K-ReplicaNaming
