@@ -7,7 +7,7 @@ use Rattle.schema.specs.declared.RowId.{RowId}
 use Rattle.schema.specs.declared.Table.{Table}
 use Rattle.script_text.specs.Heads.{table_text, table_line, base_text}
 use Rattle.script_text.specs.Laws.{HasRanges}
-use Rattle.script_text.specs.Lines.{line_of, text_line, IsLine}
+use Rattle.script_text.specs.Lines.{skipped, line_of, IsLine}
 use Rattle.script_text.specs.Words.{◌>>=◌}
 use Rattle.script_text.proofs.ReadBack.{tables_read_back, bases_read_back}
 use Rattle.log_tools.specs.Head.{HeadLines, no_lines, added, said_with, said_by, lines_of, tables_text, entries_text, present}
@@ -59,8 +59,8 @@ row_said h row ranges =
 
 -- what stands after the last LF says nothing
 end_said : (h : HeadLines) → said_with h [] ≡ Some h
-unfolding line_of text_line added
-end_said h = ap (λ b. cond b (text_line []) None >>= added h) (is_utf8-from_IsUtf8 [] IsUtf8-nil)
+unfolding line_of added
+end_said h = ap (λ b. cond b (Some skipped) None >>= added h) (is_utf8-from_IsUtf8 [] IsUtf8-nil)
 
 rows_said : (rows : List (RowId × List ℤ)) (h : HeadLines) (n : ℕ) → AllByRecursion RowHasRanges rows → said_by h n (lines_of (entries_text (map present rows))) ≡ Ok (with_rows h rows)
 unfolding said_by with_rows

@@ -17,7 +17,7 @@ use rows::Row;
 use schema::{Memory, RowId, Schema, SchemaFault, Table};
 use script_text::cut::place_of;
 use script_text::heads::{write_base, write_table};
-use script_text::lines::{Line, base_of, table_of, text_line};
+use script_text::lines::{Line, base_of, line_of, table_of};
 use script_text::words::Words;
 use std::alloc::{AllocError, AllocFailed, Global};
 use std::io;
@@ -243,10 +243,7 @@ impl Said {
     fn add(&mut self, line: &[u8]) -> Result<bool, Memory>
         ensures said { IfOk result (λ is_good. said_with (said self.old) line.now ≡ then_some is_good (said self.new)) }
     {
-        let Ok(text) = str::from_utf8(line) else {
-            return Ok(false);
-        };
-        match text_line(text) {
+        match line_of(line) {
             None => Ok(false),
             Some(Line::Skipped) => Ok(true),
             Some(Line::Table(words)) => self.add_table(words),

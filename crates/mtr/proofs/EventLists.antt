@@ -1,13 +1,15 @@
 -- Events that are kept, and put behind one another.
-use Rattle.std.proofs.Common.{◌≡◌, ◌∙◌, sym, ap, refl, ℕ, ℤ, zero, suc, ◌+◌, ◌-◌, ◌≤◌, get_or, Option, Some, List, [], ◌∷◌, ◌++◌, length, take, drop, append_assoc, append-nil, arith, Result, Ok, Err}
+use Rattle.std.proofs.Common.{◌≡◌, ◌∙◌, sym, ap, refl, ℕ, ℤ, zero, suc, ◌+◌, ◌-◌, ◌≤◌, ◌<◌, get_or, subst, Option, Some, List, [], ◌∷◌, ◌++◌, length, take, drop}
+use Rattle.std.proofs.Common.{append_assoc, append-nil, arith, Result, Ok, Err}
 use Rattle.std.specs.Result.{OnOk}
-use Rattle.std.specs.List.{sum_by}
+use Rattle.std.specs.List.{All, sum_by}
+use Rattle.std.proofs.lemmas.List.Elements.{All-tail}
 use Rattle.std.proofs.Math.ListN.{set}
-use Rattle.std.proofs.lemmas.List.{take-append-le, drop-append-le, take_all, length-drop}
+use Rattle.std.proofs.lemmas.List.{take-append-le, drop-append-le, drop_more, take_all, length-drop}
 use Rattle.std.proofs.lemmas.List.Sums.{sum_by-cons}
 use Rattle.world.specs.declared.events.Event.{Event}
 use Rattle.script_text.specs.declared.kept.KeptEvent.{KeptEvent}
-use Rattle.script_text.specs.Kept.{Keeps, width_of, event_of}
+use Rattle.script_text.specs.Kept.{Keeps, IsWhole, width_of, event_of}
 use Rattle.mtr.specs.Events.{AreWhole, one_or_none, events_of, events_in}
 
 nothing : (columns : List ℤ) → 0 ≡ length columns → columns ≡ []
@@ -35,6 +37,25 @@ pub kept_more : (kept : List KeptEvent) (columns new : List ℤ) (event : Option
     events_of (kept ++ k ∷ []) new ≡ events_of kept columns ++ one_or_none event
 kept_more kept columns new event k h keeps =
     ap (events_of (kept ++ k ∷ [])) keeps.2 ∙ events_more kept k columns keeps.0 h.width keeps.4 ∙ ap (λ e. events_of kept columns ++ one_or_none e) (sym keeps.1)
+
+-- the next of the events that are left, and what is left behind it
+module _ (kept : List KeptEvent) (i n : ℕ) (d : KeptEvent) (columns own rest : List ℤ) (below : i < length kept) (width : n ≡ width_of (get_or kept i d)) (took : own ≡ take n columns)
+    (left : rest ≡ drop n columns) where
+  pub next_event : events_of (drop i kept) columns ≡ event_of (get_or kept i d) own ∷ events_of (drop (i + 1) kept) rest
+  next_event =
+      ap (λ ks. events_of ks columns) (drop_more kept i d below)
+      ∙ (λ j. event_of (get_or kept i d) (take (sym width j) columns) ∷ events_of (drop (i + 1) kept) (drop (sym width j) columns))
+      ∙ (λ j. event_of (get_or kept i d) (sym took j) ∷ events_of (drop (i + 1) kept) (sym left j))
+
+  pub next_whole : AreWhole (drop i kept) columns → AreWhole (drop (i + 1) kept) rest
+  next_whole h =
+      let k = get_or kept i d in
+      let behind = drop (i + 1) kept in
+      let cut : drop i kept ≡ k ∷ behind = drop_more kept i d below in
+      let each : All IsWhole (k ∷ behind) = subst (λ ks. All IsWhole ks) cut h.each in
+      let sum : sum_by width_of (k ∷ behind) ≡ length columns = sym (ap (sum_by width_of) cut) ∙ h.width in
+      let parts = sum_by-cons width_of k behind in
+      record { each = All-tail IsWhole k behind each; width = omega (arith, sum, parts, width, ap (λ (l : List ℤ). length l) left, length-drop n columns) }
 
 -- more events of the last piece
 pub events_in_set : (pieces : List (List Event)) (i : ℕ) (d new more : List Event) → i + 1 ≡ length pieces → new ≡ get_or pieces i d ++ more → events_in (set pieces i new) ≡ events_in pieces ++ more

@@ -1,43 +1,15 @@
 -- Lines of a script.
 use Rattle.std.proofs.Common.{◌≡◌, ◌∙◌, sym, ap, subst, refl, ℕ, Bool, true, false, cond, eqb, ◌+◌, List, [], ◌∷◌, ◌++◌, Option, Some, None, is_some, Result, Ok, Err}
-use Rattle.std.specs.Str.{is_utf8, IsUtf8}
-use Rattle.std.proofs.lemmas.Str.{IsUtf8-from_is_utf8, is_utf8-from_IsUtf8}
 use Rattle.std.specs.Option.{option_map, option_map_or, IfSome}
 use Rattle.std.specs.List.{slice_split}
-use Rattle.script_text.specs.Lines.{About, about, skipped, event, line_of, text_line, LeavesLines}
+use Rattle.script_text.specs.Lines.{skipped, event, LeavesLines}
 use Rattle.mtr.specs.Script.{Said, added, said_with, said_by, script_of, Knows}
 use Rattle.script_text.specs.Words.{Word, ◌>>=◌}
-use Rattle.script_text.specs.declared.lines.Line.{Line}
 use Rattle.script_text.specs.Command.{event_of}
 use Rattle.mtr.specs.Events.{one_or_none}
 use Rattle.world.specs.declared.events.Event.{Event}
 use Rattle.std.specs.Prelude.{IfOk, OnOk}
 use Rattle.std.specs.Bool.{then_some}
-
-pub line_of_text : (line : List ℕ) → IsUtf8 line → text_line line ≡ line_of line
-unfolding line_of
-line_of_text line h = sym (ap (λ b. cond b (text_line line) None) (is_utf8-from_IsUtf8 line h))
-
-refused : (b : Bool) → ¬ (b ≡ true) → b ≡ false
-refused true h = absurd (h refl)
-refused false h = refl
-
-pub line_of_bytes : (line : List ℕ) → ¬ (IsUtf8 line) → None ≡ line_of line
-unfolding line_of
-line_of_bytes line h = sym (ap (λ b. cond b (text_line line) None) (refused (is_utf8 line) (λ e. h (IsUtf8-from_is_utf8 line e))))
-
--- what a line of text makes of what was said
-pub said_with_text : (s : Said) (line text : List ℕ) → IsUtf8 line → text ≡ line → said_with s line ≡ (text_line text >>= added s)
-said_with_text s line text h same = ap (λ o. o >>= added s) (sym (line_of_text line h)) ∙ ap (λ l. text_line l >>= added s) (sym same)
-
--- where its first word tells what the line is about
-pub line_said : (s : Said) (line text : List ℕ) (found : Option Line) (told one : Line) → IsUtf8 line → text ≡ line → option_map about found ≡ text_line text → found ≡ Some told → told ≡ one →
-    said_with s line ≡ added s (about one)
-line_said s line text found told one h same e some is =
-    said_with_text s line text h same ∙ ap (λ o. o >>= added s) (sym e ∙ ap (option_map about) some) ∙ ap (λ l. added s (about l)) is
-
-pub said_with_bytes : (s : Said) (line : List ℕ) → ¬ (IsUtf8 line) → said_with s line ≡ None
-said_with_bytes s line h = ap (λ o. o >>= added s) (sym (line_of_bytes line h))
 
 -- the lines from the first on, where it is taken
 pub line_taken : (s more : Said) (n : ℕ) (line : List ℕ) (rest : List (List ℕ)) → said_with s line ≡ Some more → said_by s n (line ∷ rest) ≡ said_by more (n + 1) rest
@@ -108,9 +80,3 @@ pub event_added : {E : Type 0} (r : Result Bool E) (s : Said) (name : Word) (wor
 unfolding added
 event_added (Ok good) s name words events is h = tried s (event_of name words) good events is h
 event_added (Err x) s name words events is h = is
-
--- what was said of what a line is about is said of the line
-pub then_taken : {E : Type 0} (r : Result Bool E) (s after : Said) (line : List ℕ) (one : About) → said_with s line ≡ added s one
-    → IfOk r (λ is_good. added s one ≡ then_some is_good after) → IfOk r (λ is_good. said_with s line ≡ then_some is_good after)
-then_taken (Ok is_good) s after line one e h = e ∙ h
-then_taken (Err x) s after line one e h = h

@@ -1,19 +1,27 @@
-//! The events of a script, kept short (`kept`) and in pieces until they are run.
+//! The events of a script, kept short (`kept`) and in pieces until they are run, one after another.
 
-ghost use Rattle.std.specs.Prelude.{◌≡◌, ◌≤◌, ◌+◌, ◌++◌, [], ◌==◌, length, vec_len, vec_capacity, is_some, IfOk, OnOk, OnErr};
+ghost use Rattle.std.specs.Prelude.{◌≡◌, ◌≤◌, ◌++◌, [], ◌∷◌, ◌==◌, length, is_some, IfOk, OnOk, OnErr, Some};
+ghost use Rattle.world.specs.Seen.{seen};
+ghost use Rattle.world.specs.State.{IsWorld};
 ghost use Rattle.script_text.specs.Command.{event_of};
+ghost use Rattle.script_text.specs.Kept.{IsWhole, width_of, event_of as whole};
 ghost use Rattle.mtr.specs.Events.{AreWhole, events_of, one_or_none, events_in};
+ghost use Rattle.mtr.specs.Pair.{GoesOn};
 
-use rows::Change;
+use log_device::Device;
 use schema::Memory;
 use script_text::command::keep;
 use script_text::kept::KeptEvent;
+use script_text::printing::write_reply;
 use script_text::words::Words;
 use std::alloc::Global;
+use std::io;
 use std::marker::Model;
-use world::Event;
+use store_trait::RowStore;
+use tracker_trait::Tracker;
+use world::{Event, World};
 
-/// As many events are run at once.
+/// The replies of as many events are printed at once.
 const PIECE: usize = 1000;
 
 /// Events, in order.
@@ -48,7 +56,7 @@ impl Piece {
     }
 
     /// Keeps the event of this name and the words behind it behind the others. `false` where there is none.
-    fn push(&mut self, name: &str, words: Words) -> Result<bool, Memory>
+    fn push(&mut self, name: &[u8], words: Words) -> Result<bool, Memory>
         ensures good { IfOk result (λ is_good. is_good ≡ is_some (event_of name.now words.entry)) }
         ensures ok { OnOk result (self.new ≡ self.old ++ one_or_none (event_of name.now words.entry)) }
         ensures err { OnErr result (self.new ≡ self.old) }
@@ -57,36 +65,87 @@ impl Piece {
         let Some(kept) = keep(name, words, &mut self.columns)? else {
             return Ok(false);
         };
-        self.kept.push(kept).unwrap();
+        self.kept.push_reserved(kept);
         Ok(true)
     }
 
-    /// Puts the events into the place of others. It takes no memory but the list's; where that lacks the list is empty.
-    pub fn put_into(&self, events: &mut Vec<Event>) -> Result<(), Memory>
-        ensures ok { OnOk result (events.new.items ≡ self.now) }
-        ensures err { OnErr result (events.new.items ≡ []) }
+    /// Runs the events in order, and puts the lines of their replies behind a text.
+    pub fn run<S: RowStore, T: Tracker, D: Device, R: RowStore>(
+        &self,
+        alloc: Global,
+        world: &mut World<S, T, D, R>,
+        text: &mut Vec<u8>,
+    ) -> io::Result<()>
+        requires { IsWorld R.contents (seen world.old) }
+        ensures goes_on { OnOk result (GoesOn R.contents (seen world.old) (seen world.new) self.now (Some text.old.items)
+            (Some text.new.items)) }
+        ensures world { OnOk result (IsWorld R.contents (seen world.new)) }
     {
-        events.clear();
-        events.reserve(self.kept.len())?;
-        put_all(&self.kept, &self.columns, events);
-        Ok(())
+        run_all(alloc, world, &self.kept, &self.columns, text)
     }
 }
 
-/// Puts events behind others, where there is room for them.
-fn put_all(kept: &[KeptEvent], columns: &[i64], events: &mut Vec<Event>)
+/// Runs events in order, each with the next of the columns, and puts the lines of their replies behind a text.
+fn run_all<S: RowStore, T: Tracker, D: Device, R: RowStore>(
+    alloc: Global,
+    world: &mut World<S, T, D, R>,
+    kept: &[KeptEvent],
+    columns: &[i64],
+    text: &mut Vec<u8>,
+) -> io::Result<()>
+    requires world { IsWorld R.contents (seen world.old) }
     requires whole { AreWhole kept.now columns.now }
-    requires room { vec_len events.old + length kept.now ≤ vec_capacity events.old }
-    ensures { events.new.items ≡ events.old.items ++ events_of kept.now columns.now }
+    ensures goes_on { OnOk result (GoesOn R.contents (seen world.old) (seen world.new) (events_of kept.now columns.now)
+        (Some text.old.items) (Some text.new.items)) }
+    ensures world { OnOk result (IsWorld R.contents (seen world.new)) }
 {
-    // So the check knows the types within an event.
-    let _named: Option<Change> = None;
     let mut columns = columns;
     for one in kept {
         let (own, rest) = columns.split_at(one.width());
-        events.push_reserved(one.with(own));
+        run_kept(alloc, world, *one, own, text)?;
         columns = rest;
     }
+    Ok(())
+}
+
+/// Runs the event that is kept so, with its columns, and puts the line of its reply behind a text. An event without columns is made
+/// without room for them.
+fn run_kept<S: RowStore, T: Tracker, D: Device, R: RowStore>(
+    alloc: Global,
+    world: &mut World<S, T, D, R>,
+    kept: KeptEvent,
+    columns: &[i64],
+    text: &mut Vec<u8>,
+) -> io::Result<()>
+    requires world { IsWorld R.contents (seen world.old) }
+    requires whole { IsWhole kept }
+    requires width { length columns.now ≡ width_of kept }
+    ensures goes_on { OnOk result (GoesOn R.contents (seen world.old) (seen world.new) (whole kept columns.now ∷ [])
+        (Some text.old.items) (Some text.new.items)) }
+    ensures world { IsWorld R.contents (seen world.new) }
+{
+    match kept {
+        KeptEvent::Insert { .. } | KeptEvent::Update { .. } => {
+            run_event(alloc, world, &kept.with(columns), text)
+        }
+        _ => run_event(alloc, world, &kept.bare(), text),
+    }
+}
+
+/// Runs an event, and puts the line of its reply behind a text.
+#[inline(never)]
+fn run_event<S: RowStore, T: Tracker, D: Device, R: RowStore>(
+    alloc: Global,
+    world: &mut World<S, T, D, R>,
+    event: &Event,
+    text: &mut Vec<u8>,
+) -> io::Result<()>
+    requires { IsWorld R.contents (seen world.old) }
+    ensures goes_on { OnOk result (GoesOn R.contents (seen world.old) (seen world.new) (event.now ∷ []) (Some text.old.items)
+        (Some text.new.items)) }
+    ensures world { IsWorld R.contents (seen world.new) }
+{
+    write_reply(text, &world.step(alloc, event))
 }
 
 /// The events, in order, in pieces: so that each piece's memory is given back once its events were run.
@@ -128,7 +187,7 @@ impl EventList {
 
     /// Keeps the event of this name and the words behind it behind the others. `false` where there is none, since no event has the name or
     /// the words are not its parameters.
-    pub fn push(&mut self, name: &str, words: Words) -> Result<bool, Memory>
+    pub fn push(&mut self, name: &[u8], words: Words) -> Result<bool, Memory>
         ensures good { IfOk result (λ is_good. is_good ≡ is_some (event_of name.now words.entry)) }
         ensures ok { OnOk result (self.new ≡ self.old ++ one_or_none (event_of name.now words.entry)) }
         ensures err { OnErr result (self.new ≡ self.old) }
@@ -165,7 +224,7 @@ fn make_room(pieces: &mut Vec<Piece>) -> Result<(), Memory>
 }
 
 /// Keeps an event in the last piece.
-fn push_last(pieces: &mut Vec<Piece>, name: &str, words: Words) -> Result<bool, Memory>
+fn push_last(pieces: &mut Vec<Piece>, name: &[u8], words: Words) -> Result<bool, Memory>
     requires { 1 ≤ length pieces.old.items }
     ensures good { IfOk result (λ is_good. is_good ≡ is_some (event_of name.now words.entry)) }
     ensures ok { OnOk result (events_in pieces.new.items ≡ events_in pieces.old.items ++ one_or_none (event_of name.now words.entry)) }

@@ -6,7 +6,6 @@ ghost use Rattle.world.specs.State.{IsWorld};
 ghost use Rattle.world.specs.Seen.{seen};
 ghost use Rattle.mtr.specs.Events.{events_in};
 ghost use Rattle.mtr.specs.Script.{said};
-ghost use Rattle.script_text.specs.Printing.{lines_of};
 ghost use Rattle.mtr.specs.Ending.{IsCutOff, PrintsNoReply};
 ghost use Rattle.mtr.specs.Options.{AreSides, kind_for};
 ghost use Rattle.mtr.specs.Pair.{BeginsWith, GoesOn, Prints, PrintsText};
@@ -22,13 +21,12 @@ use any_tracker::AnyTracker;
 use log_device::Device;
 use rows::Row;
 use schema::{RowId, Schema, Table};
-use script_text::printing::write_replies;
 use std::alloc::Global;
 use std::io::{BufReader, Read, Write};
 use store_trait::RowStore;
 use tracker_trait::Tracker;
 use uuid::Uuid;
-use world::{Reply, World, pair_of};
+use world::{World, pair_of};
 
 /// As many bytes of a script are read at once.
 const CHUNK: usize = 65536;
@@ -124,8 +122,9 @@ fn open<S: NewStore, T: Tracker + Drop, D: Device + Drop>(
     }
 }
 
-/// Runs the events of the pieces, over a world that goes on from what was done before. At most one piece's replies are kept at
-/// a time, and nothing of a piece that was run.
+/// Runs the events of the pieces, over a world that goes on from what was done before. A piece's lines are put together before they are
+/// printed, so that no part of a line is printed where memory runs out. At most one piece's lines are kept at a time, and nothing of a
+/// piece that was run.
 fn run_pieces<S: RowStore, T: Tracker, D: Device, R: RowStore, W: Write>(
     alloc: Global,
     world: &mut World<S, T, D, R>,
@@ -137,24 +136,20 @@ fn run_pieces<S: RowStore, T: Tracker, D: Device, R: RowStore, W: Write>(
         (W.contents output.new)) }
     ensures stop { IfErr result IsCutOff }
 {
-    let mut events = Vec::new(alloc);
     let mut text = Vec::with_capacity(alloc, TEXT)?;
     for piece in pieces {
-        piece.put_into(&mut events)?;
-        let replies = world.run(alloc, &events)?;
-        print(&mut text, &replies, output)?;
+        text.clear();
+        piece.run(alloc, world, &mut text)?;
+        print(&text, output)?;
     }
     Ok(())
 }
 
-/// Prints the lines of replies. They are put together first, so that no part of a line is printed where memory
-/// runs out.
-fn print<W: Write>(text: &mut Vec<u8>, replies: &[Reply], output: &mut W) -> Result<(), Stop>
-    ensures lines { OnOk result (Appends (W.contents output.old) (W.contents output.new) (lines_of replies.now)) }
+/// Prints lines.
+fn print<W: Write>(text: &[u8], output: &mut W) -> Result<(), Stop>
+    ensures lines { OnOk result (Appends (W.contents output.old) (W.contents output.new) text.now) }
     ensures stop { IfErr result IsCutOff }
 {
-    text.clear();
-    write_replies(text, replies)?;
     output.write_all(text)?;
     output.flush()?;
     Ok(())

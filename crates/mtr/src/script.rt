@@ -14,7 +14,7 @@ use crate::ending::Stop;
 use crate::events::EventList;
 use rows::Row;
 use schema::{Memory, RowId, Table};
-use script_text::lines::{Line, base_of, read_line, table_of, text_line};
+use script_text::lines::{Line, base_of, line_of, read_line, table_of};
 use script_text::words::Words;
 use std::alloc::Global;
 use std::io::BufRead;
@@ -70,10 +70,7 @@ impl Script {
     fn add(&mut self, line: &[u8]) -> Result<bool, Memory>
         ensures said { IfOk result (λ is_good. said_with (said self.old) line.now ≡ then_some is_good (said self.new)) }
     {
-        let Ok(text) = str::from_utf8(line) else {
-            return Ok(false);
-        };
-        match text_line(text) {
+        match line_of(line) {
             None => Ok(false),
             Some(Line::Skipped) => Ok(true),
             Some(Line::Table(words)) => self.add_table(words),
@@ -114,7 +111,7 @@ impl Script {
 
     /// Takes the event of this name, where the words behind it are its parameters.
     #[tactic(auto, unfolding(crate::specs::Script::added))]
-    fn add_event(&mut self, name: &str, words: Words) -> Result<bool, Memory>
+    fn add_event(&mut self, name: &[u8], words: Words) -> Result<bool, Memory>
         ensures { IfOk result (λ is_good. added (said self.old) (event name.now words.entry) ≡ then_some is_good (said self.new)) }
     {
         self.events.push(name, words)

@@ -22,9 +22,9 @@ use relay::ReplicaFault;
 use replica_shared::ReplicaNaming;
 use schema::RowId;
 use script_text::command::alone;
-use script_text::lines::{Line, text_line};
+use script_text::lines::{Line, line_of};
 use script_text::printing::write_reply;
-use script_text::words::Words;
+use script_text::words::{Words, is_word};
 use std::alloc::{AllocError, Global};
 use std::io;
 use std::io::{BufRead, Write};
@@ -116,14 +116,27 @@ pub struct Asked<'a, K: ReplicaNaming, E: Write> {
 
 /// What the line asks for; `None` if it is bad, or a log is to be made.
 fn command_in(line: &[u8]) -> Option<Command> {
-    match text_line(str::from_utf8(line).ok()?)? {
+    match line_of(line)? {
         Line::Skipped => Some(Command::Skipped),
-        Line::Event("help", words) => words.is_empty().then_some(Command::Help),
-        Line::Event("executed", words) => words.is_empty().then_some(Command::Executed),
-        Line::Event("status", words) => words.is_empty().then_some(Command::Status),
-        Line::Event("read", words) => alone(words.row_id()).map(|row| Command::Read(row)),
-        Line::Event("wait", words) => alone(words.u64()).map(|gno| Command::Wait(gno)),
-        Line::Event(_, _) | Line::Table(_) | Line::Base(_) => None,
+        Line::Event(name, words) => command_of(name, words),
+        Line::Table(_) | Line::Base(_) => None,
+    }
+}
+
+/// What the name and the words behind it ask for; `None` if they are bad, or a log is to be made.
+fn command_of(name: &[u8], words: Words) -> Option<Command> {
+    if is_word(name, b"help") {
+        words.is_empty().then_some(Command::Help)
+    } else if is_word(name, b"executed") {
+        words.is_empty().then_some(Command::Executed)
+    } else if is_word(name, b"status") {
+        words.is_empty().then_some(Command::Status)
+    } else if is_word(name, b"read") {
+        alone(words.row_id()).map(|row| Command::Read(row))
+    } else if is_word(name, b"wait") {
+        alone(words.u64()).map(|gno| Command::Wait(gno))
+    } else {
+        None
     }
 }
 
@@ -134,11 +147,8 @@ pub fn says_nothing(line: &[u8]) -> bool {
 
 /// The log that a line asks for; `None` if it asks for something else, or is bad.
 pub fn wish_in(alloc: Global, line: &[u8]) -> Result<Option<Wish>, AllocError> {
-    let Ok(text) = str::from_utf8(line) else {
-        return Ok(None);
-    };
-    match text_line(text) {
-        Some(Line::Event("promote", words)) => wish_of(alloc, words),
+    match line_of(line) {
+        Some(Line::Event(name, words)) if is_word(name, b"promote") => wish_of(alloc, words),
         _ => Ok(None),
     }
 }
@@ -146,6 +156,9 @@ pub fn wish_in(alloc: Global, line: &[u8]) -> Result<Option<Wish>, AllocError> {
 /// The prefix of a log, and its identifier if one is said.
 fn wish_of(alloc: Global, words: Words) -> Result<Option<Wish>, AllocError> {
     let Some((prefix, words)) = words.first() else {
+        return Ok(None);
+    };
+    let Ok(prefix) = str::from_utf8(prefix) else {
         return Ok(None);
     };
     let Some(identifier) = identifier_in(words) else {
@@ -162,7 +175,7 @@ fn identifier_in(words: Words) -> Option<Option<Uuid>> {
     if words.is_empty() {
         return Some(None);
     }
-    let identifier = Uuid::try_parse(alone(words.first())?).ok()?;
+    let identifier = Uuid::try_parse_ascii(alone(words.first())?).ok()?;
     Some(Some(identifier))
 }
 

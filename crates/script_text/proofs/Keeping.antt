@@ -1,6 +1,6 @@
 -- What is kept of an event by its words.
-use Rattle.std.proofs.Common.{◌≡◌, ◌∙◌, sym, ap, subst, refl, ℕ, ℤ, Bool, true, false, cond, List, [], append-nil, length, ◌==◌, Option, Some, None, Result}
-use Rattle.std.specs.Prelude.{IfOk, IfSome}
+use Rattle.std.proofs.Common.{◌≡◌, ◌∙◌, ap, subst, refl, ℕ, ℤ, Bool, true, false, cond, List, [], length, ◌==◌, Option, Some, None, Result}
+use Rattle.std.specs.Prelude.{IfOk}
 use Rattle.std.specs.Option.{option_map}
 use Rattle.schema.specs.declared.RowId.{RowId}
 use Rattle.rows.specs.declared.Change.{Change}
@@ -11,17 +11,7 @@ use Rattle.script_text.specs.declared.kept.KeptEvent.{KeptEvent}
 use Rattle.script_text.specs.declared.kept.KeptEvent.TheVariants as kepts
 use Rattle.script_text.specs.Words.{Word, ◌>>=◌, row_in, naming_in, PutsRow, PutsNamed}
 use Rattle.script_text.specs.Command.{bare, written_of, write_of, insert_of, set_of}
-use Rattle.script_text.specs.Kept.{Keeps, IsBare, IsWhole, width_of, event_of}
-
-bare_whole : (k : KeptEvent) → IsBare k → IsWhole k × (width_of k ≡ 0)
-bare_whole (kepts.Insert session table count key) h = absurd h
-bare_whole (kepts.Update session table mask key) h = absurd h
-bare_whole _ h = (tt, refl)
-
--- an event without columns
-pub bare_keeps : (event : Option Event) (found : Option KeptEvent) (columns : List ℤ) → option_map (λ k. event_of k []) found ≡ event → IfSome found IsBare → Keeps event found columns columns
-bare_keeps event None columns e h = (sym e, refl)
-bare_keeps event (Some k) columns e h = ([], sym e, sym (append-nil columns), (bare_whole k h).0, (bare_whole k h).1)
+use Rattle.script_text.specs.Kept.{Keeps, event_of}
 
 -- what was kept is that of another event that is the same
 pub keeps_as : {E : Type 0} (r : Result (Option KeptEvent) E) (event same : Option Event) (old new : List ℤ) → event ≡ same → IfOk r (λ found. Keeps event found old new) →

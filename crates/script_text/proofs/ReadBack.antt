@@ -1,5 +1,5 @@
 -- Lines of words, and what they are read as.
-use Rattle.std.proofs.Common.{◌≡◌, ◌∙◌, sym, ap, refl, ℕ, ℤ, ◌^◌, ◌<◌, ◌≤◌, Bool, true, false, cond, leb, eqb, ◌&&◌, List, [], ◌∷◌, ◌++◌}
+use Rattle.std.proofs.Common.{◌≡◌, ◌∙◌, sym, ap, refl, ℕ, ℤ, ◌^◌, ◌<◌, ◌≤◌, Bool, true, false, leb, eqb, ◌&&◌, List, [], ◌∷◌, ◌++◌}
 use Rattle.std.proofs.Common.{append-nil, append_assoc, length, map, codes, Option, Some, None, option_map, arith, FitsSigned, pos, negsuc, suc}
 use Rattle.std.proofs.lemmas.Int.{ints}
 use Rattle.std.specs.Prelude.{IfSome}
@@ -14,16 +14,13 @@ use Rattle.std.proofs.lemmas.List.Elements.{All-head, All-tail, All-nil, All-con
 use Rattle.std.proofs.lemmas.Grind.{flat_map-append}
 use Rattle.std.proofs.lemmas.List.Folds.{flat_map-map}
 use Rattle.std.proofs.lemmas.List.Splits.{slice_split_none, slice_split_at}
-use Rattle.std.proofs.lemmas.Str.{is_utf8-from_IsUtf8, IsUtf8-from_ascii}
-use Rattle.std.proofs.lemmas.Str.Ascii.{IsAscii-from_all}
-use Rattle.std.specs.Str.{is_utf8}
 use Rattle.gtid_set.proofs.NumberTexts.{own}
 use Rattle.schema.specs.declared.RowId.{RowId}
 use Rattle.schema.specs.declared.Table.{Table}
 use Rattle.script_text.specs.Words.{Word, ◌>>=◌, words_of, number_in, integer_in, row_id_in, all_in, row_in}
 use Rattle.script_text.specs.Number.{integer}
 use Rattle.script_text.specs.Printing.{columns_text}
-use Rattle.script_text.specs.Lines.{table, base, keyed_of, link_in, reference_of, unique_in, table_of, base_of, command_of, text_line, line_of, IsLine}
+use Rattle.script_text.specs.Lines.{table, base, keyed_of, link_in, reference_of, unique_in, table_of, base_of, command_of, line_of, IsLine}
 use Rattle.script_text.specs.Heads.{behind_spaces, kind_word, unique_words, parent_words, table_words, table_text, base_words, base_text}
 use Rattle.script_text.specs.Laws.{HasRanges, TablesReadBack, BasesReadBack}
 use Rattle.script_text.proofs.NumberTexts.{number_again, integer_again}
@@ -46,18 +43,16 @@ base_parts row columns =
 
 -- ---- words without a blank
 
--- each character of a word is of ASCII, and above a space
+-- each character of a word is above a space
 abbrev is_plain : Word → Bool
-is_plain word = list_all (λ b. leb 33 b && leb b 127) word
+is_plain word = list_all (λ b. leb 33 b) word
 
 digits_plain : (ds : List ℕ) → list_all is_ascii_digit ds ≡ true → is_plain ds ≡ true
 digits_plain [] e = refl
 digits_plain (d ∷ ds) e =
     let parts = and_parts (is_ascii_digit d) (list_all is_ascii_digit ds) e in
-    let digit = and_parts (leb 48 d) (leb d 57) parts.0 in
-    let high : leb 33 d ≡ true = grind (arith, nat_tests, digit.0) in
-    let low : leb d 127 ≡ true = grind (arith, nat_tests, digit.1) in
-    and_from _ _ (and_from _ _ high low) (digits_plain ds parts.1)
+    let high : leb 33 d ≡ true = grind (arith, nat_tests, (and_parts (leb 48 d) (leb d 57) parts.0).0) in
+    and_from _ _ high (digits_plain ds parts.1)
 
 decimal_plain : (n : ℕ) → n < 2 ^ 64 → is_plain (decimal n) ≡ true
 decimal_plain n h = digits_plain (decimal n) (digits_decimal own n h)
@@ -70,15 +65,8 @@ signed_plain (negsuc m) h = decimal_plain (suc m) (omega (arith, ints))
 no_byte : (c : ℕ) → c < 33 → (word : Word) → is_plain word ≡ true → All (λ b. eqb b c ≡ false) word
 no_byte c low [] e = All-nil (λ b. eqb b c ≡ false)
 no_byte c low (b ∷ bs) e =
-    let parts = and_parts (leb 33 b && leb b 127) (is_plain bs) e in
-    All-cons (λ b. eqb b c ≡ false) b bs (grind (arith, nat_tests, (and_parts (leb 33 b) (leb b 127) parts.0).0)) (no_byte c low bs parts.1)
-
--- no byte is above 127
-no_high : (word : Word) → is_plain word ≡ true → All (λ b. b < 128) word
-no_high [] e = All-nil (λ b. b < 128)
-no_high (b ∷ bs) e =
-    let parts = and_parts (leb 33 b && leb b 127) (is_plain bs) e in
-    All-cons (λ b. b < 128) b bs (grind (arith, nat_tests, (and_parts (leb 33 b) (leb b 127) parts.0).1)) (no_high bs parts.1)
+    let parts = and_parts (leb 33 b) (is_plain bs) e in
+    All-cons (λ b. eqb b c ≡ false) b bs (grind (arith, nat_tests, parts.0)) (no_byte c low bs parts.1)
 
 -- ---- words behind one another
 
@@ -105,19 +93,6 @@ no_end (word ∷ words) all =
 
 one_line : (first : Word) (words : List Word) → is_plain first ≡ true → list_all is_plain words ≡ true → IsLine (first ++ behind_spaces words)
 one_line first words plain all = All-append (λ b. eqb b 10 ≡ false) first (behind_spaces words) (no_byte 10 (omega arith) first plain) (no_end words all)
-
-all_low : (words : List Word) → list_all is_plain words ≡ true → All (λ b. b < 128) (behind_spaces words)
-all_low [] all = All-nil (λ b. b < 128)
-all_low (word ∷ words) all =
-    let parts = and_parts (is_plain word) (list_all is_plain words) all in
-    All-cons (λ b. b < 128) 32 (word ++ behind_spaces words) (omega arith)
-    (All-append (λ b. b < 128) word (behind_spaces words) (no_high word parts.0) (all_low words parts.1))
-
--- such a line is text
-one_text : (first : Word) (words : List Word) → is_plain first ≡ true → list_all is_plain words ≡ true → is_utf8 (first ++ behind_spaces words) ≡ true
-one_text first words plain all =
-    let line = first ++ behind_spaces words in
-    is_utf8-from_IsUtf8 line (IsUtf8-from_ascii line (IsAscii-from_all line (All-append (λ b. b < 128) first (behind_spaces words) (no_high first plain) (all_low words all))))
 
 -- ---- numbers taken off the front
 
@@ -177,10 +152,8 @@ table_back t h =
     ) refl
 
 table_about : (t : Table) → HasRanges t → line_of (table_text t) ≡ Some (table (table_words t))
-unfolding line_of text_line table_text command_of
-table_about t h =
-    ap (λ b. cond b (text_line (table_text t)) None) (one_text (codes "table") (table_words t) refl (table_plain t h))
-    ∙ ap command_of (words_back (codes "table") (table_words t) refl (table_plain t h))
+unfolding line_of table_text command_of
+table_about t h = ap command_of (words_back (codes "table") (table_words t) refl (table_plain t h))
 
 table_is_line : (t : Table) → HasRanges t → IsLine (table_text t)
 unfolding table_text
@@ -220,10 +193,8 @@ unfolding base_of
 base_back row columns id key h = rw (id_back row (map signed_decimal columns) id key, h) refl
 
 base_about : (row : RowId) (columns : List ℤ) → list_all is_plain (base_words row columns) ≡ true → line_of (base_text row columns) ≡ Some (base (base_words row columns))
-unfolding line_of text_line base_text command_of
-base_about row columns plain =
-    ap (λ b. cond b (text_line (base_text row columns)) None) (one_text (codes "base") (base_words row columns) refl plain)
-    ∙ ap command_of (words_back (codes "base") (base_words row columns) refl plain)
+unfolding line_of base_text command_of
+base_about row columns plain = ap command_of (words_back (codes "base") (base_words row columns) refl plain)
 
 base_is_line : (row : RowId) (columns : List ℤ) → list_all is_plain (base_words row columns) ≡ true → IsLine (base_text row columns)
 unfolding base_text

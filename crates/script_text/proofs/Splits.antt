@@ -1,11 +1,10 @@
 -- Texts that are cut at a byte.
-use Rattle.std.proofs.Common.{◌≡◌, ◌∙◌, sym, ap, refl, ℕ, ◌+◌, ◌-◌, ◌<◌, Bool, true, false, eqb, List, [], ◌∷◌, length, Some, None, get_or, cond, arith, ltb, take, drop, ◌≤◌}
+use Rattle.std.proofs.Common.{◌≡◌, ◌∙◌, sym, ap, refl, ℕ, ◌+◌, ◌-◌, ◌<◌, Bool, true, false, eqb, List, [], ◌∷◌, length, Some, None, cond, arith, ltb, take, drop, ◌≤◌}
 use Rattle.std.specs.List.{slice_split, slice_range, position, position_or_len}
 use Rattle.std.proofs.lemmas.List.Splits.{slice_split_none, slice_split_first}
 use Rattle.std.proofs.lemmas.Option.{cond_some}
 use Rattle.std.proofs.lemmas.List.Sums.{fails_before_first}
-use Rattle.std.proofs.lemmas.List.Quantifiers.{position-Some}
-use Rattle.std.proofs.lemmas.Bool.{ltb-true, eqb-true}
+use Rattle.std.proofs.lemmas.Bool.{ltb-true}
 use Rattle.std.proofs.lemmas.List.Elements.{All-from_get_or}
 use Rattle.std.proofs.lemmas.Bool.Decides.{nat_tests}
 
@@ -32,10 +31,6 @@ refused false x e = refl
 
 no_place : {X : Type 0} (n k : ℕ) (x : X) → cond (ltb n k) (Some x) None ≡ None → k ≤ n
 no_place n k x e = let past : ltb n k ≡ false = refused (ltb n k) x e in grind (arith, nat_tests)
-
--- the byte there
-pub byte_there : (c : ℕ) (text : List ℕ) (at : ℕ) → position (is_byte c) text ≡ Some at → (at < length text) × (get_or text at 0 ≡ c)
-byte_there c text at e = let found = position-Some (is_byte c) text at 0 e in (found.0, eqb-true _ _ found.1)
 
 -- where there is none
 pub cut_nowhere : (c : ℕ) (text : List ℕ) → position (is_byte c) text ≡ None → slice_split (is_byte c) text ≡ text ∷ []

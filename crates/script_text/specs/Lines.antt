@@ -81,13 +81,9 @@ abbrev pub is_skipped : List ℕ → Bool
 is_skipped [] = true
 is_skipped (c ∷ cs) = c == 35
 
--- what a line of text is about
-unfoldable pub text_line : List ℕ → Option About
-text_line line = if is_skipped line then Some skipped else command_of (words_of line)
-
--- the same of a line of bytes: they have to be text
+-- What a line is about. A comment has to be UTF-8. Any other line that says something is ASCII, since no other byte is in a name or a number.
 unfoldable pub line_of : List ℕ → Option About
-line_of line = if is_utf8 line then text_line line else None
+line_of line = if is_skipped line then (if is_utf8 line then Some skipped else None) else command_of (words_of line)
 
 -- ---- lines of a text that is read
 

@@ -13,6 +13,10 @@ abbrev pub is_number : List ℕ → Bool
 is_number [] = false
 is_number (c ∷ cs) = if c == 48 then length cs == 0 else list_all is_ascii_digit (c ∷ cs)
 
+-- the number below this bound that digits write
+abbrev pub digits_below : ℕ → List ℕ → Option ℕ
+digits_below bound digits = if list_all is_ascii_digit digits && nat_lt (digits_value 10 digits) bound then Some (digits_value 10 digits) else None
+
 -- the number below this bound that a text is
 unfoldable pub number : ℕ → List ℕ → Option ℕ
 number bound text = if is_number text && nat_lt (digits_value 10 text) bound then Some (digits_value 10 text) else None

@@ -1,24 +1,16 @@
 //! The event that a line's words are, as it is kept.
 
-ghost use Rattle.std.specs.Prelude.{◌≡◌, ◌≢◌, ◌^◌, ◌==◌, [], if◌then◌else◌, length, option_map, slice_get, IfOk, IfSome, OnErr, Some, None};
+ghost use Rattle.std.specs.Prelude.{◌≡◌, ◌^◌, ◌==◌, [], false, if◌then◌else◌, codes, length, option_map, IfOk, IfSome, OnErr, Some, None};
 ghost use Rattle.std.specs.Str.{bytes_eq};
 ghost use Rattle.script_text.specs.Words.{alone, number_in, row_id_in};
 ghost use Rattle.script_text.specs.Command.{at_row, written_of, insert_of, set_of, event_of};
 ghost use Rattle.script_text.specs.Kept.{IsBare, Keeps, event_of as whole};
 
 use crate::kept::KeptEvent;
-use crate::words::Words;
+use crate::words::{Words, is_word};
 use schema::{Memory, RowId};
 use std::alloc::Global;
 use world::Event;
-
-/// The first letter of a name; `None` where it has none.
-#[inline(always)]
-fn letter(name: &str) -> Option<u8>
-    ensures { result ≡ slice_get name.now 0 }
-{
-    name.as_bytes().first().copied()
-}
 
 /// What was read, where no word stands behind it.
 pub fn alone<T: Drop>(found: Option<(T, Words)>) -> Option<T>
@@ -29,34 +21,23 @@ pub fn alone<T: Drop>(found: Option<(T, Words)>) -> Option<T>
 }
 
 /// What is kept of the event of this name and the words behind it; its columns go behind others. `None`, and none of these, where
-/// no event has the name, or the words are not its parameters. The name is compared with those alone that begin with its first letter.
-pub fn keep(name: &str, words: Words, columns: &mut Vec<i64>) -> Result<Option<KeptEvent>, Memory>
+/// no event has the name, or the words are not its parameters.
+pub fn keep(name: &[u8], words: Words, columns: &mut Vec<i64>) -> Result<Option<KeptEvent>, Memory>
     ensures kept { IfOk result (λ found. Keeps (event_of name.now words.entry) found columns.old.items columns.new.items) }
     ensures err { OnErr result (columns.new.items ≡ columns.old.items) }
 {
-    match letter(name) {
-        None => Ok(None),
-        Some(b'i') => match name {
-            "insert" => insert_of(words, columns),
-            _ => Ok(None),
-        },
-        Some(b's') => match name {
-            "set" => set_of(words, columns),
-            "see" => Ok(at_row(words).map(|(session, RowId { table, key })| KeptEvent::See {
-                session,
-                table,
-                key,
-            })),
-            "sync" => Ok(bare(KeptEvent::Sync, words)),
-            _ => Ok(None),
-        },
-        Some(letter) => Ok(bare_of(letter, name, words)),
+    if is_word(name, b"insert") {
+        insert_of(words, columns)
+    } else if is_word(name, b"set") {
+        set_of(words, columns)
+    } else {
+        Ok(bare_of(name, words))
     }
 }
 
 /// The event of this name and the words behind it; `None` where no event has the name, or the words are not its parameters. It takes
 /// no memory but for columns, and gives that back.
-pub fn event_of(alloc: Global, name: &str, words: Words) -> Result<Option<Event>, Memory>
+pub fn event_of(alloc: Global, name: &[u8], words: Words) -> Result<Option<Event>, Memory>
     ensures { IfOk result (λ found. found ≡ event_of name.now words.entry) }
 {
     let mut columns = Vec::new(alloc);
@@ -66,69 +47,60 @@ pub fn event_of(alloc: Global, name: &str, words: Words) -> Result<Option<Event>
     }
 }
 
-/// What is kept of an event without columns whose name begins with this letter, which is neither i nor s.
-fn bare_of(letter: u8, name: &str, words: Words) -> Option<KeptEvent>
-    requires first { slice_get name.now 0 ≡ Some letter }
-    requires not_i { letter ≢ 105 }
-    requires not_s { letter ≢ 115 }
+/// What is kept of an event without columns. Names are tried in the order of the definition.
+fn bare_of(name: &[u8], words: Words) -> Option<KeptEvent>
+    requires no_insert { bytes_eq name.now (codes "insert") ≡ false }
+    requires no_set { bytes_eq name.now (codes "set") ≡ false }
     ensures event { option_map (λ kept. whole kept []) result ≡ event_of name.now words.entry }
     ensures bare { IfSome result IsBare }
 {
-    match letter {
-        b'a' => named(
-            name,
-            "abort",
-            session_of(words).map(|session| KeptEvent::Abort { session }),
-        ),
-        b'b' => named(
-            name,
-            "begin",
-            session_of(words).map(|session| KeptEvent::Begin { session }),
-        ),
-        b'c' => named(name, "commit", bare(KeptEvent::Commit, words)),
-        b'd' => match name {
-            "delete" => at_row(words).map(|(session, RowId { table, key })| KeptEvent::Delete {
-                session,
-                table,
-                key,
-            }),
-            "deliver" => gno_of(words).map(|gno| KeptEvent::Deliver { gno }),
-            "dispatch" => bare(KeptEvent::Dispatch, words),
-            _ => None,
-        },
-        b'e' => named(name, "executed", bare(KeptEvent::Executed, words)),
-        b'f' => match name {
-            "flush" => bare(KeptEvent::Flush, words),
-            "finish" => gno_of(words).map(|gno| KeptEvent::Finish { gno }),
-            _ => None,
-        },
-        b'l' => named(name, "log", bare(KeptEvent::Log, words)),
-        b'n' => named(name, "next", bare(KeptEvent::Next, words)),
-        b'p' => match name {
-            "prepare" => session_of(words).map(|session| KeptEvent::Prepare { session }),
-            "publish" => bare(KeptEvent::Publish, words),
-            _ => None,
-        },
-        b'q' => named(
-            name,
-            "queue",
-            session_of(words).map(|session| KeptEvent::Queue { session }),
-        ),
-        b'r' => match name {
-            "read" => row_of(words).map(|RowId { table, key }| KeptEvent::Read { table, key }),
-            "rotate" => bare(KeptEvent::Rotate, words),
-            _ => None,
-        },
-        _ => None,
+    if is_word(name, b"begin") {
+        session_of(words).map(|session| KeptEvent::Begin { session })
+    } else if is_word(name, b"delete") {
+        at_row(words).map(|(session, RowId { table, key })| KeptEvent::Delete {
+            session,
+            table,
+            key,
+        })
+    } else if is_word(name, b"see") {
+        at_row(words).map(|(session, RowId { table, key })| KeptEvent::See {
+            session,
+            table,
+            key,
+        })
+    } else if is_word(name, b"prepare") {
+        session_of(words).map(|session| KeptEvent::Prepare { session })
+    } else if is_word(name, b"queue") {
+        session_of(words).map(|session| KeptEvent::Queue { session })
+    } else if is_word(name, b"abort") {
+        session_of(words).map(|session| KeptEvent::Abort { session })
+    } else if is_word(name, b"flush") {
+        bare(KeptEvent::Flush, words)
+    } else if is_word(name, b"sync") {
+        bare(KeptEvent::Sync, words)
+    } else if is_word(name, b"commit") {
+        bare(KeptEvent::Commit, words)
+    } else if is_word(name, b"deliver") {
+        gno_of(words).map(|gno| KeptEvent::Deliver { gno })
+    } else if is_word(name, b"dispatch") {
+        bare(KeptEvent::Dispatch, words)
+    } else if is_word(name, b"finish") {
+        gno_of(words).map(|gno| KeptEvent::Finish { gno })
+    } else if is_word(name, b"next") {
+        bare(KeptEvent::Next, words)
+    } else if is_word(name, b"publish") {
+        bare(KeptEvent::Publish, words)
+    } else if is_word(name, b"executed") {
+        bare(KeptEvent::Executed, words)
+    } else if is_word(name, b"read") {
+        row_of(words).map(|RowId { table, key }| KeptEvent::Read { table, key })
+    } else if is_word(name, b"rotate") {
+        bare(KeptEvent::Rotate, words)
+    } else if is_word(name, b"log") {
+        bare(KeptEvent::Log, words)
+    } else {
+        None
     }
-}
-
-/// What was read for the one event of its letter, where the name is that event's.
-#[inline(always)]
-fn named(name: &str, own: &str, found: Option<KeptEvent>) -> Option<KeptEvent>
-    ensures { result ≡ (if bytes_eq name.now own.now then found else None) }
-{
-    if name == own { found } else { None }
 }
 
 /// A session, to the end of the line.

@@ -1,17 +1,15 @@
-//! Texts that are cut at a byte.
+//! Bytes that are cut at one of them.
 
 ghost use Rattle.std.specs.Prelude.{◌≡◌, ◌<◌, ◌==◌, ◌∷◌, [], length, IfSome, MatchOption};
 ghost use Rattle.std.specs.List.{slice_split, position};
 
-/// What stands before the first such byte of a text, and what stands behind it; `None` where it has none. The byte
-/// is ASCII, so both are text. The time is that of a walk to it.
-pub fn cut_at(text: &str, mark: u8) -> Option<(&str, &str)>
-    requires { mark < 128 }
+/// What stands before the first such byte, and what stands after it; `None` if there is none. The time is that of a walk to it.
+pub fn cut_at(text: &[u8], mark: u8) -> Option<(&[u8], &[u8])>
     ensures parts { MatchOption result (slice_split (λ b. b == mark) text.now ≡ text.now ∷ [])
         (λ x. slice_split (λ b. b == mark) text.now ≡ x.0.now ∷ slice_split (λ b. b == mark) x.1.now) }
     ensures shorter { IfSome result (λ x. length x.1.now < length text.now) }
 {
-    let at = place_of(text.as_bytes(), mark)?;
+    let at = place_of(text, mark)?;
     Some((&text[..at], &text[at + 1..]))
 }
 

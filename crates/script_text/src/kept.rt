@@ -2,8 +2,8 @@
 //!
 //! An `Event` has room for sixteen columns. Of one that waits sixteen bytes are kept, and its own columns in a list beside.
 
-ghost use Rattle.std.specs.Prelude.{◌≡◌, ◌≤◌, length, count_ones};
-ghost use Rattle.script_text.specs.Kept.{IsWhole, width_of, event_of};
+ghost use Rattle.std.specs.Prelude.{◌≡◌, ◌≤◌, List, ℤ, length, count_ones};
+ghost use Rattle.script_text.specs.Kept.{IsBare, IsWhole, width_of, event_of};
 
 use rows::{Change, Named, Row};
 use schema::RowId;
@@ -88,7 +88,6 @@ impl KeptEvent {
         ensures { result ≡ event_of self columns.now }
     {
         match self {
-            KeptEvent::Begin { session } => Event::Begin { session },
             KeptEvent::Insert {
                 session,
                 table,
@@ -101,6 +100,18 @@ impl KeptEvent {
                 mask,
                 key,
             } => updated(session, RowId { table, key }, mask, columns),
+            _ => self.bare(),
+        }
+    }
+
+    /// The event, which has no columns.
+    pub fn bare(self) -> Event
+        requires { IsBare self }
+        ensures { (columns : List ℤ) → result ≡ event_of self columns }
+    {
+        match self {
+            KeptEvent::Begin { session } => Event::Begin { session },
+            KeptEvent::Insert { .. } | KeptEvent::Update { .. } => unreachable!(),
             KeptEvent::Delete {
                 session,
                 table,

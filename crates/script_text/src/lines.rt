@@ -1,12 +1,11 @@
 //! The lines of a script: how they are read, what each is about, and the tables and the rows at the start that they say.
 
-ghost use Rattle.std.specs.Prelude.{◌≡◌, option_map, slice_get, IfOk, IfSome, Some};
-ghost use Rattle.std.specs.Str.{bytes_eq};
+ghost use Rattle.std.specs.Prelude.{◌≡◌, option_map, IfOk, IfSome};
 ghost use Rattle.script_text.specs.Lines.{about, table_of, keyed_of, link_in, reference_of, base_of, command_of, is_skipped};
-ghost use Rattle.script_text.specs.Lines.{text_line, unique_in, LeavesLines, TakesEnd};
+ghost use Rattle.script_text.specs.Lines.{line_of, unique_in, LeavesLines, TakesEnd};
 
 use crate::command::alone;
-use crate::words::Words;
+use crate::words::{Words, is_word};
 use rows::Row;
 use schema::{RowId, Table};
 use std::io;
@@ -22,7 +21,7 @@ pub enum Line<'a> {
     /// A row is there at the start.
     Base(Words<'a>),
     /// The event of this name happens, where there is one.
-    Event(&'a str, Words<'a>),
+    Event(&'a [u8], Words<'a>),
 }
 
 /// Reads a line in the place of another. `false` where it is the last, as no LF ends it.
@@ -48,24 +47,27 @@ pub fn take_end(line: &mut Vec<u8>) -> bool
     }
 }
 
-/// What a line of text is about.
-#[tactic(auto, unfolding(crate::specs::Lines::text_line))]
+/// What a line is about.
+#[tactic(auto, unfolding(crate::specs::Lines::line_of))]
 #[inline(always)]
-pub fn text_line(line: &str) -> Option<Line>
-    ensures { option_map about result ≡ text_line line.now }
+pub fn line_of(line: &[u8]) -> Option<Line>
+    ensures { option_map about result ≡ line_of line.now }
 {
     if is_skipped(line) {
-        Some(Line::Skipped)
+        match str::from_utf8(line) {
+            Ok(_) => Some(Line::Skipped),
+            Err(_) => None,
+        }
     } else {
         command_of(Words::of(line))
     }
 }
 
 /// Whether the line is empty, or begins with `#`.
-pub fn is_skipped(line: &str) -> bool
+pub fn is_skipped(line: &[u8]) -> bool
     ensures { result ≡ is_skipped line.now }
 {
-    match line.as_bytes().first() {
+    match line.first() {
         None => true,
         Some(c) => *c == b'#',
     }
@@ -77,25 +79,13 @@ pub fn command_of(words: Words) -> Option<Line>
     ensures { option_map about result ≡ command_of words.entry }
 {
     let (name, words) = words.first()?;
-    Some(if is_named(name, b't', "table") {
+    Some(if is_word(name, b"table") {
         Line::Table(words)
-    } else if is_named(name, b'b', "base") {
+    } else if is_word(name, b"base") {
         Line::Base(words)
     } else {
         Line::Event(name, words)
     })
-}
-
-/// Whether the name is this one, which begins with this letter: it is compared only where its own first letter is that.
-#[inline(always)]
-pub fn is_named(name: &str, letter: u8, own: &str) -> bool
-    requires { slice_get own.now 0 ≡ Some letter }
-    ensures { result ≡ bytes_eq name.now own.now }
-{
-    match name.as_bytes().first() {
-        Some(first) => *first == letter && name == own,
-        None => false,
-    }
 }
 
 #[tactic(auto, unfolding(crate::specs::Lines::table_of))]
@@ -116,13 +106,15 @@ pub fn table_of(words: Words) -> Option<Table>
 }
 
 /// Whether a table of this kind has keys; `None` where the word is no kind.
-pub fn is_keyed(kind: &str) -> Option<bool>
+pub fn is_keyed(kind: &[u8]) -> Option<bool>
     ensures { result ≡ keyed_of kind.now }
 {
-    match kind {
-        "keyed" => Some(true),
-        "keyless" => Some(false),
-        _ => None,
+    if is_word(kind, b"keyed") {
+        Some(true)
+    } else if is_word(kind, b"keyless") {
+        Some(false)
+    } else {
+        None
     }
 }
 
@@ -131,7 +123,7 @@ pub fn is_keyed(kind: &str) -> Option<bool>
 pub fn unique_of(words: Words) -> Option<(Option<u8>, Words)>
     ensures { result ≡ unique_in words.entry }
 {
-    let (is_named, words) = words.skip("unique");
+    let (is_named, words) = words.skip(b"unique");
     if !is_named {
         return Some((None, words));
     }
@@ -148,7 +140,7 @@ pub fn reference_of(words: Words) -> Option<Option<(u8, u16)>>
         return Some(None);
     }
     let (name, words) = words.first()?;
-    if name == "parent" {
+    if is_word(name, b"parent") {
         Some(Some(link_of(words)?))
     } else {
         None

@@ -1,13 +1,11 @@
 //! Numbers as a script writes them.
 
 ghost use Rattle.std.specs.Prelude.{◌≡◌, ◌^◌, ◌∷◌, pos, option_map};
-ghost use Rattle.std.specs.Char.{is_ascii_digit};
-ghost use Rattle.std.specs.List.{list_all};
-ghost use Rattle.script_text.specs.Number.{is_number, number, integer, ReadsNumber, ReadsInteger};
+ghost use Rattle.script_text.specs.Number.{number, integer, digits_below, ReadsNumber, ReadsInteger};
 
 /// The number that the text is: decimal digits without a leading zero. `None` for any other text, and for a
 /// number past the type.
-pub fn u8_of(text: &str) -> Option<u8>
+pub fn u8_of(text: &[u8]) -> Option<u8>
     ensures exact { result ≡ number (2 ^ 8) text.now }
     ensures reads { ReadsNumber (2 ^ 8) text.now result }
 {
@@ -15,7 +13,7 @@ pub fn u8_of(text: &str) -> Option<u8>
 }
 
 /// The same at 16 bits.
-pub fn u16_of(text: &str) -> Option<u16>
+pub fn u16_of(text: &[u8]) -> Option<u16>
     ensures exact { result ≡ number (2 ^ 16) text.now }
     ensures reads { ReadsNumber (2 ^ 16) text.now result }
 {
@@ -23,67 +21,64 @@ pub fn u16_of(text: &str) -> Option<u16>
 }
 
 /// The same at 64 bits.
-pub fn u64_of(text: &str) -> Option<u64>
+pub fn u64_of(text: &[u8]) -> Option<u64>
     ensures exact { result ≡ number (2 ^ 64) text.now }
     ensures reads { ReadsNumber (2 ^ 64) text.now result }
 {
-    if is_number(text) {
-        text.parse::<u64>().ok()
+    let (first, rest) = text.split_first()?;
+    if *first != b'0' {
+        value_of(text)
+    } else if rest.is_empty() {
+        Some(0)
     } else {
         None
     }
+}
+
+/// The number that digits write, with leading zeros or without. `None` if a byte is no digit, or the number is past the type. Each digit is
+/// tested as it is read.
+fn value_of(digits: &[u8]) -> Option<u64>
+    ensures { result ≡ digits_below (2 ^ 64) digits.now }
+{
+    let mut value: u64 = 0;
+    for digit in digits {
+        if !digit.is_ascii_digit() {
+            return None;
+        }
+        value = value.checked_mul(10)?.checked_add((*digit - b'0') as u64)?;
+    }
+    Some(value)
 }
 
 /// The number with a sign that the text is: decimal digits without a leading zero, and `-` before them where it
 /// is negative. `None` for any other text, `-0` too, and for a number past the type.
-pub fn i64_of(text: &str) -> Option<i64>
+pub fn i64_of(text: &[u8]) -> Option<i64>
     ensures exact { result ≡ integer text.now }
     ensures reads { ReadsInteger text.now result }
 {
-    match text.strip_prefix('-') {
-        Some(digits) => negative_of(text, digits),
-        None => positive_of(text),
+    let (first, digits) = text.split_first()?;
+    if *first == b'-' {
+        negative_of(digits)
+    } else {
+        positive_of(text)
     }
 }
 
-/// The same of a text that is these digits behind a `-`.
-fn negative_of(text: &str, digits: &str) -> Option<i64>
-    requires { text.now ≡ 45 ∷ digits.now }
-    ensures { result ≡ integer text.now }
+/// The same of the text that is these digits after a `-`.
+fn negative_of(digits: &[u8]) -> Option<i64>
+    ensures { result ≡ integer (45 ∷ digits.now) }
 {
-    if digits == "0" {
+    let size = u64_of(digits)?;
+    if size == 0 {
         None
-    } else if is_number(digits) {
-        text.parse().ok()
     } else {
-        None
+        0i64.checked_sub_unsigned(size)
     }
 }
 
 /// The same of a text without a sign.
-fn positive_of(text: &str) -> Option<i64>
+fn positive_of(text: &[u8]) -> Option<i64>
     ensures { result ≡ option_map pos (number (2 ^ 63) text.now) }
 {
-    if is_number(text) {
-        text.parse().ok()
-    } else {
-        None
-    }
-}
-
-/// Whether the text is decimal digits without a leading zero.
-fn is_number(text: &str) -> bool
-    ensures { result ≡ is_number text.now }
-{
-    match text.as_bytes().split_first() {
-        None => false,
-        Some((b'0', rest)) => rest.is_empty(),
-        Some(_) => all_digits(text.as_bytes()),
-    }
-}
-
-fn all_digits(text: &[u8]) -> bool
-    ensures { result ≡ list_all is_ascii_digit text.now }
-{
-    text.iter().all(|c| c.is_ascii_digit())
+    i64::try_from(u64_of(text)?).ok()
 }

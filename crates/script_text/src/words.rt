@@ -3,7 +3,8 @@
 //! Words are what stands between single spaces. So a space at either end of a line, or one behind another,
 //! makes a word without a character, which is no number and no name.
 
-ghost use Rattle.std.specs.Prelude.{◌≡◌, ◌^◌, ◌==◌, option_map, count_by, length, vec_len, vec_capacity, IfOk, OnOk, OnErr};
+ghost use Rattle.std.specs.Prelude.{◌≡◌, ◌^◌, ◌==◌, min, option_map, count_by, length, vec_len, vec_capacity, IfOk, OnOk, OnErr};
+ghost use Rattle.std.specs.Str.{bytes_eq};
 ghost use Rattle.script_text.specs.Words.{words_of, first_word, behind_name, number_in, integer_in, row_id_in, row_in, naming_in, sides_of};
 ghost use Rattle.script_text.specs.Words.{assignment, AreAll, HasRoom, PutsNumbers, PutsValues, PutsRow, PutsNamed};
 ghost use Rattle.script_text.specs.Number.{integer};
@@ -20,7 +21,7 @@ const MOST: usize = 16;
 /// The words of a line that are left.
 #[derive(Drop)]
 pub struct Words<'a> {
-    rest: Option<&'a str>,
+    rest: Option<&'a [u8]>,
 }
 
 impl<'a> Model for Words<'a> {
@@ -34,7 +35,7 @@ impl<'a> Model for Words<'a> {
 
 impl<'a> Words<'a> {
     /// The words of a line.
-    pub fn of(line: &'a str) -> Words<'a>
+    pub fn of(line: &'a [u8]) -> Words<'a>
         ensures { result ≡ words_of line.now }
     {
         Words { rest: Some(line) }
@@ -48,7 +49,7 @@ impl<'a> Words<'a> {
     }
 
     /// The first word and those behind it.
-    pub fn first(self) -> Option<(&'a str, Words<'a>)>
+    pub fn first(self) -> Option<(&'a [u8], Words<'a>)>
         ensures { option_map (λ x. (x.0.now, x.1)) result ≡ first_word self.entry }
     {
         let text = self.rest?;
@@ -59,12 +60,12 @@ impl<'a> Words<'a> {
     }
 
     /// Whether the first word is this one, and the words behind it; where it is not, all of them.
-    pub fn skip(self, name: &str) -> (bool, Words<'a>)
+    pub fn skip(self, name: &[u8]) -> (bool, Words<'a>)
         ensures { result ≡ behind_name name.now self.entry }
     {
         let Words { rest } = self;
         match (Words { rest }).first() {
-            Some((word, behind)) if word == name => (true, behind),
+            Some((word, behind)) if is_word(word, name) => (true, behind),
             _ => (false, Words { rest }),
         }
     }
@@ -163,20 +164,36 @@ impl<'a> Words<'a> {
         ensures room { OnOk result (HasRoom self.now (vec_len columns.new) (vec_capacity columns.new)) }
     {
         if columns.capacity() - columns.len() < MOST {
-            columns.reserve(self.count().min(MOST))?;
+            columns.reserve(self.at_most_16())?;
         }
         Ok(())
     }
 
-    /// How many words are left. The time is that of a walk over them.
-    fn count(&self) -> usize
-        ensures { result ≡ length self.now }
+    /// How many words are left, and 16 if there are more. The time is that of a walk over them.
+    fn at_most_16(&self) -> usize
+        ensures { result ≡ min 16 (length self.now) }
     {
         match self.rest {
             None => 0,
-            Some(text) => spaces_in(text.as_bytes()) + 1,
+            Some(text) => spaces_in(text).min(MOST - 1) + 1,
         }
     }
+}
+
+/// Whether the word is this one. Words are short, and compared byte by byte.
+#[inline(always)]
+pub fn is_word(word: &[u8], own: &[u8]) -> bool
+    ensures { result ≡ bytes_eq word.now own.now }
+{
+    if word.len() != own.len() {
+        return false;
+    }
+    for i in 0..word.len() {
+        if word[i] != own[i] {
+            return false;
+        }
+    }
+    true
 }
 
 /// How many of these bytes are spaces.
@@ -247,7 +264,7 @@ fn put_values(words: Words, columns: &mut Vec<i64>) -> Option<u16>
 
 /// A column and its value.
 #[tactic(auto, unfolding(crate::specs::Words::assignment))]
-fn assignment_of(word: &str) -> Option<(u8, i64)>
+fn assignment_of(word: &[u8]) -> Option<(u8, i64)>
     ensures { result ≡ assignment word.now }
 {
     let (column, value) = sides_of(word)?;
@@ -255,7 +272,7 @@ fn assignment_of(word: &str) -> Option<(u8, i64)>
 }
 
 /// What stands on either side of the one `=` of a word.
-fn sides_of(word: &str) -> Option<(&str, &str)>
+fn sides_of(word: &[u8]) -> Option<(&[u8], &[u8])>
     ensures { option_map (λ x. (x.0.now, x.1.now)) result ≡ sides_of word.now }
 {
     let (left, right) = cut_at(word, b'=')?;

@@ -12,7 +12,7 @@ use Rattle.world.specs.Run.{HasRun}
 use Rattle.world.specs.Fresh.{IsFirstFile}
 use Rattle.world.specs.Seen.{seen}
 use Rattle.world.specs.Legal.{Setup}
-use Rattle.mtr.specs.Pair.{source as own, present}
+use Rattle.mtr.specs.Pair.{present}
 use Rattle.mtr.proofs.run.open.Goals as goal
 
 -- a new source over these rows is the new one of its own tables, limit and kind

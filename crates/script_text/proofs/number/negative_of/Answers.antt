@@ -1,13 +1,12 @@
-use Rattle.std.proofs.Common.{◌∙◌, sym}
-use Rattle.script_text.proofs.NumberTexts.{negative_parsed, no_negative, minus_zero}
+use Rattle.std.proofs.Common.{◌∙◌}
+use Rattle.script_text.proofs.NumberTexts.{no_negative, minus_zero, negative_read}
 use Rattle.script_text.proofs.number.negative_of.Goals as goal
 
-pub returns-then-eq : goal.returns-then-eq
-returns-then-eq c = rw c.requires (minus_zero _ (sym c.eq.ensures ∙ c.if-eq.true))
+pub returns-in_err-size : goal.returns-in_err-size
+returns-in_err-size c = c.from_residual.ensures ∙ no_negative c.args.digits.now c.in_err-size.ensures.exact
 
-pub returns-then-is_number : goal.returns-then-is_number
-returns-then-is_number c = rw c.requires (c.ok.ensures.value ∙ negative_parsed _ c.parse.result (rw c.requires at c.parse.ensures.value.0) (sym c.eq.ensures ∙ c.if-eq.false)
-    (sym c.is_number.ensures ∙ c.if-is_number.true))
+pub returns-then-size-eq0 : goal.returns-then-size-eq0
+returns-then-size-eq0 c = minus_zero c.args.digits.now c.in_ok-size.size c.in_ok-size.ensures.exact c.if-size-eq0.true
 
-pub returns-else-is_number : goal.returns-else-is_number
-returns-else-is_number c = rw c.requires (no_negative _ (sym c.is_number.ensures ∙ c.if-is_number.false))
+pub returns-else-size-eq0 : goal.returns-else-size-eq0
+returns-else-size-eq0 c = negative_read c.args.digits.now c.in_ok-size.size c.checked_sub_unsigned.result c.in_ok-size.ensures.exact c.if-size-eq0.false c.checked_sub_unsigned.ensures

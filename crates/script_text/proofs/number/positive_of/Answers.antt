@@ -1,9 +1,9 @@
-use Rattle.std.proofs.Common.{◌∙◌, sym}
-use Rattle.script_text.proofs.NumberTexts.{positive_parsed, no_positive}
+use Rattle.std.proofs.Common.{◌∙◌}
+use Rattle.script_text.proofs.NumberTexts.{no_positive, positive_read}
 use Rattle.script_text.proofs.number.positive_of.Goals as goal
 
-pub returns-then-is_number : goal.returns-then-is_number
-returns-then-is_number c = c.ok.ensures.value ∙ positive_parsed _ c.parse.result c.parse.ensures.value.0 (sym c.is_number.ensures ∙ c.if-is_number.true)
+pub returns-in_err-u64_of : goal.returns-in_err-u64_of
+returns-in_err-u64_of c = c.from_residual.ensures ∙ no_positive c.args.text.now c.in_err-u64_of.ensures.exact
 
-pub returns-else-is_number : goal.returns-else-is_number
-returns-else-is_number c = no_positive _ (sym c.is_number.ensures ∙ c.if-is_number.false)
+pub returns : goal.returns
+returns c = c.ok.ensures.value ∙ positive_read c.args.text.now c.in_ok-u64_of.field-0 c.try_from.result c.in_ok-u64_of.ensures.exact c.try_from.ensures
