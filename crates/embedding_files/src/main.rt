@@ -122,7 +122,7 @@ fn live<R: Files<File = File> + RandomSource + Threads + Wait + Clock + Sync, W:
     out: &mut W,
 ) -> Result<(), Trouble> {
     let opened = open_or_make(rt, alloc, &asked.prefix)?;
-    let next = opened.log.records().len().saturating_add(1);
+    let next = opened.log.count().saturating_add(1);
     writeln!(out, "life {life} goes on at {next}")?;
     run::<Brand, R, W>(rt, alloc, asked, life, opened, Beginning::new(), out)
 }

@@ -50,7 +50,7 @@ pub fn open_or_make<R: Files<File = File> + RandomSource>(
     let new = Uuid::try_new_v4(rt).map_err(|error| Trouble::NoIdentifier(error))?;
     let log = stored_log::open_or_make(rt, alloc, prefix, new)?;
     refuse_old(&log)?;
-    let core = core_at(alloc, log.records())?;
+    let core = core_at(alloc, &log.records(alloc)?)?;
     Ok(Opened { core, log })
 }
 

@@ -31,7 +31,7 @@ pub fn show<R: Files<File = File> + RandomSource, W: Write>(
 
 /// Shows what a log holds, and what a replica makes of it.
 fn show_log<W: Write>(alloc: Global, opened: &Opened, out: &mut W) -> Result<(), Trouble> {
-    let (records, files) = (opened.log.records().len(), opened.log.firsts().len());
+    let (records, files) = (opened.log.count(), opened.log.firsts().len());
     writeln!(out, "{records} records in {files} files")?;
     let mut replica = new_replica(alloc, opened.log.source())?;
     let shown = show_replica(alloc, opened, &mut replica, out);
@@ -46,7 +46,12 @@ fn show_replica<W: Write>(
     replica: &mut ReplicaCore<BTreeStore>,
     out: &mut W,
 ) -> Result<(), Trouble> {
-    feed(alloc, opened.log.source(), opened.log.records(), replica)?;
+    feed(
+        alloc,
+        opened.log.source(),
+        &opened.log.records(alloc)?,
+        replica,
+    )?;
     let is_beginning = begins(&opened.core, replica);
     writeln!(out, "{} commits at the replica", replica.committed())?;
     writeln!(out, "a beginning of the source's log: {is_beginning}")?;

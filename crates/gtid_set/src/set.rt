@@ -3,7 +3,7 @@
 ghost use Rattle.std.specs.Prelude.{◌≡◌, ◌≢◌, ◌⊎◌, ◌<◌, ◌^◌, not, is_none, length, ◌==◌, [], OnErr, IfOk, IfErr, IfSome, MatchOption, Some};
 ghost use Rattle.std.specs.Prelude.{None, Ok, Err};
 ghost use Rattle.gtid_set.specs.Ids.{Ids, IsSet, no_ids, first_ids, takes_source, has_id, add_fault, Adds, IsSetOf};
-ghost use Rattle.gtid_set.specs.Numbers.{IsGreatest};
+ghost use Rattle.gtid_set.specs.Numbers.{IsGreatest, has_number};
 ghost use Rattle.gtid_set.specs.Reading.{Reads, ids_at, head_at, Lists};
 ghost use Rattle.gtid_set.specs.Text.{text_of};
 ghost use Rattle.gtid_set.specs.declared.fault.GtidFault.{GtidFault as AFault};
@@ -100,7 +100,15 @@ impl GtidSet {
     pub fn contains(&self, id: Gtid) -> bool
         ensures { result ≡ has_id self.now id }
     {
-        self.takes(id.source) && holds(&self.intervals, id.gno)
+        self.takes(id.source) && self.has_number(id.gno)
+    }
+
+    /// Whether it has the id of this number of its source, as `contains` does for one whose source is known to be that. It takes no
+    /// memory, and logarithmic time in the intervals.
+    pub fn has_number(&self, gno: u64) -> bool
+        ensures { result ≡ has_number self.now.numbers gno }
+    {
+        holds(&self.intervals, gno)
     }
 
     /// Puts an id in, and tells whether it is new. Refused with `G2` where its number is not 1 to 2^63 - 1, and then

@@ -63,6 +63,6 @@ compared_logs alike upto mine theirs my_set their_set count my_records their_rec
     }
 
 -- as many as were asked for, or as both have
-pub counted : (upto : Option ℕ) (count both : ℕ) (my_records their_records mine theirs : List Record) → count ≡ unwrap_or upto both →
-    both ≡ min (length my_records) (length their_records) → my_records ≡ mine → their_records ≡ theirs → count ≡ unwrap_or upto (min (length mine) (length theirs))
-counted upto count both my_records their_records mine theirs is both_is my_are their_are = cc
+pub counted : (upto : Option ℕ) (count both mine theirs : ℕ) (my_records their_records : List Record) → count ≡ unwrap_or upto both →
+    both ≡ min mine theirs → mine ≡ length my_records → theirs ≡ length their_records → count ≡ unwrap_or upto (min (length my_records) (length their_records))
+counted upto count both mine theirs my_records their_records is both_is my_are their_are = cc

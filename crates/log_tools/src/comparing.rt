@@ -68,12 +68,12 @@ fn compare_read<'a, W: Write>(
     ensures different { IfErr result (λ stop. stop.stop ≡ Stop.Different
         → ComparesLogs false upto (W.contents out.old) (W.contents out.new)) }
 {
-    let both = mine.set.records().len().min(theirs.set.records().len());
+    let both = mine.set.count().min(theirs.set.count()) as usize;
     let upto = upto.unwrap_or(both);
-    let my_records = records(one, mine, upto)?;
-    let their_records = records(other, theirs, upto)?;
-    let left = replayed(alloc, one, mine, my_records)?;
-    let right = replayed(alloc, other, theirs, their_records)?;
+    let my_records = records(alloc, one, mine, upto)?;
+    let left = replayed(alloc, one, mine, &my_records)?;
+    let their_records = records(alloc, other, theirs, upto)?;
+    let right = replayed(alloc, other, theirs, &their_records)?;
     compare_found(alloc, one, mine, &left, theirs, &right, out)
 }
 
@@ -89,16 +89,17 @@ fn read<'a, H: Files<File = File>>(
 }
 
 /// This many of the log's records.
-fn records<'a, 'b>(
+fn records<'a>(
+    alloc: Global,
     prefix: &'a str,
-    log: &'b Copied,
+    log: &Copied,
     upto: usize,
-) -> Result<&'b [Record], StopAt<'a>>
-    ensures records { IfOk result (λ records. records.now ≡ take upto log.now.set.log.records) }
-    ensures count { IfOk result (λ records. length records.now ≡ upto) }
+) -> Result<Vec<Record>, StopAt<'a>>
+    ensures records { IfOk result (λ records. records.items ≡ take upto log.now.set.log.records) }
+    ensures count { IfOk result (λ records. length records.items ≡ upto) }
     ensures other { IfErr result (λ stop. stop.stop ≢ Stop.Different) }
 {
-    match log.records(Some(upto)) {
+    match log.records(alloc, Some(upto)) {
         Ok(records) => Ok(records),
         Err(stop) => Err(stop.at(prefix)),
     }

@@ -44,8 +44,8 @@ fn show_rows<W: Write>(
     ensures { OnOk result (PrintsRows log.now.described.head.schema log.now.described.head.base log.now.set.log.records upto
         (W.contents out.old) (W.contents out.new)) }
 {
-    let records = log.records(upto)?;
-    let found = log.replayed(alloc, records)?;
+    let records = log.records(alloc, upto)?;
+    let found = log.replayed(alloc, &records)?;
     write_rows(alloc, &log.described.head.schema, found.store(), out)
 }
 

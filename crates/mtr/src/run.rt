@@ -1,4 +1,4 @@
-//! A script's events, run piece by piece: each piece's replies are printed before the next is run.
+//! A script's events, run one after another. The lines of their replies are put together, and printed piece by piece.
 
 ghost use Rattle.std.specs.Prelude.{◌≡◌, ◌≤◌, ◌++◌, [], length, IfOk, IfErr, IfSome, OnOk};
 ghost use Rattle.std.specs.Io.KnownBytes.{Appends};

@@ -52,7 +52,7 @@ fn serve_lines<H: Files<File = File>, R: Read + IsTerminal, W: Write, E: Write>(
     output: &mut W,
     errors: &mut E,
 ) -> Result<End, Stop> {
-    writeln!(output, "open {}", source.records().len())?;
+    writeln!(output, "open {}", source.count())?;
     output.flush()?;
     let terminal = input.is_terminal();
     let mut input = BufReader::new(alloc, input)?;

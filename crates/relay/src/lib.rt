@@ -23,7 +23,7 @@ use gtid_set::GtidSet;
 use ids::add_next;
 use judging::is_malformed;
 use record_codec::Record;
-use schema::{Gtid, Memory, Schema};
+use schema::{Memory, Schema};
 use std::alloc::{AllocFailed, Global};
 use std::error::Error;
 use std::fmt;
@@ -230,7 +230,7 @@ impl Relay {
         if is_malformed(&self.schema, new) {
             return Err(ReplicaFault::Malformed);
         }
-        if self.has_received(from, new) {
+        if self.has_received(new) {
             return Ok(Received::Skipped);
         }
         if new.gno != self.accepted.len() as u64 + 1 {
@@ -243,15 +243,11 @@ impl Relay {
     }
 
     /// Whether a record of its id was accepted before.
-    fn has_received(&self, from: Uuid, new: &Record) -> bool
-        requires source { from ≡ self.now.source }
+    fn has_received(&self, new: &Record) -> bool
         requires formed { malformed self.now.tables new.now ≡ false }
         ensures { result ≡ nat_le new.now.gno (length self.now.accepted) }
     {
-        self.ids.contains(Gtid {
-            source: from,
-            gno: new.gno,
-        })
+        self.ids.has_number(new.gno)
     }
 
     /// The records accepted, in order, the record of number 1 first.

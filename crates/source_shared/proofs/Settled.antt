@@ -56,8 +56,8 @@ use Rattle.log_file.specs.Head.{Head, next_of, records_of}
 use Rattle.log_file.specs.declared.form.Form.TheVariants.{Three}
 use Rattle.log_file.specs.Log.{Log, Kept, AreKept, Tail, waiting_of, log_of}
 use Rattle.log_set.specs.Set.{AreSetHalves}
-use Rattle.log_file.specs.Flushed.{IsFlushedOf, StandsIn, kept_of}
-use Rattle.log_file.proofs.Unsynced.{Oldest, oldest_of, oldest_next, oldest_stands, first_of, flushed_more, flushed_landed}
+use Rattle.log_file.specs.Flushed.{IsFlushedOf, kept_of}
+use Rattle.log_file.proofs.Unsynced.{Oldest, oldest_of, oldest_next, first_of, flushed_more, flushed_landed}
 use Rattle.source_core.specs.declared.transaction.Receipt.{Receipt}
 use Rattle.source_core.specs.Source.{Source, Open, IsSound}
 use Rattle.source_core.specs.AtLog.{source_at, owners_of, nobody}
@@ -104,13 +104,6 @@ next_waits base tables s h = of s.unsynced refl where
   of : (groups : List GroupValue) → s.unsynced ≡ groups → IfSome (slice_get groups 0) (λ group. group.first ≡ next_of s.kept.head s.kept.records)
   of [] is = tt
   of (group ∷ groups) is = oldest_next s.core.log s.core.synced s.core.group_sizes s.kept s.unsynced group groups h.flushed (oldest base tables s group groups is h)
-
--- and its records stand in the log
-pub waits_in_log : (base : List Entry) (tables : List Table) (s : State) → IsSettled base tables s → IfSome (slice_get s.unsynced 0) (StandsIn s.core.log)
-waits_in_log base tables s h = of s.unsynced refl where
-  of : (groups : List GroupValue) → s.unsynced ≡ groups → IfSome (slice_get groups 0) (StandsIn s.core.log)
-  of [] is = tt
-  of (group ∷ groups) is = oldest_stands s.core.log s.core.synced s.core.group_sizes group groups (oldest base tables s group groups is h)
 
 -- ---- steps
 

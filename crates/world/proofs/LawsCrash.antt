@@ -1,7 +1,7 @@
 -- What is told as synced outlives each crash.
 use mathlib.Core.List.{IsPrefix}
 use base.Growing.{prefix_refl, prefix_trans}
-use Rattle.std.proofs.Common.{◌≡◌, ◌∙◌, sym, ap, subst, ℕ, List, [], ◌∷◌, ◌++◌, take, arith}
+use Rattle.std.proofs.Common.{◌≡◌, ◌∙◌, sym, ap, subst, ℕ, List, [], ◌∷◌, take, arith}
 use Rattle.rows.specs.Database.{Database}
 use Rattle.record_codec.specs.declared.records.Record.{Record}
 use Rattle.source_core.specs.Source.{Source}

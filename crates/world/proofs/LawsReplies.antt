@@ -25,8 +25,8 @@ use Rattle.world.specs.declared.events.Event.TheVariants as events
 use Rattle.world.specs.declared.events.Reply.{Reply}
 use Rattle.world.specs.declared.events.Reply.TheVariants as replies
 use Rattle.world.specs.Replies.{prepared_reply}
-use Rattle.world.specs.Past.{Past, flushed, unsynced, synced, halted, source_committed, queue, accepted, dispatched, commits, replica_committed}
-use Rattle.world.specs.Past.{low_water, out, published, published_gnos, firsts, busy}
+use Rattle.world.specs.Past.{Past, flushed, unsynced, synced, halted, source_committed, queue, accepted, dispatched, replica_committed}
+use Rattle.world.specs.Past.{low_water, published, published_gnos, firsts, busy}
 use Rattle.world.proofs.Next.{IsNext, is_next, next_at}
 use Rattle.world.specs.Legal.{Setup, rows_after, source_at, replica_at, refused_or, stamp_of, next_records, FlushAnswers, SyncAnswers, RotateAnswers, is_full}
 use Rattle.world.specs.Legal.{commit_reply, log_text, is_due, may_dispatch, is_out, next_reply}

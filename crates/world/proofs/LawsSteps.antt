@@ -1,5 +1,5 @@
 -- The numbers of a run stay in order.
-use Rattle.std.proofs.Common.{◌≡◌, sym, ap, subst, refl, ℕ, ◌+◌, ◌-◌, ◌≤◌, List, [], ◌∷◌, ◌++◌, length, length-append, map, drop, arith}
+use Rattle.std.proofs.Common.{◌≡◌, sym, ap, subst, refl, ℕ, ◌+◌, ◌≤◌, List, [], ◌∷◌, ◌++◌, length, length-append, map, drop, arith}
 use Rattle.std.proofs.lemmas.List.{length-take, length-drop, length-map}
 use Rattle.record_codec.specs.declared.records.Record.{Record}
 use Rattle.scheduler.specs.Gnos.{without}

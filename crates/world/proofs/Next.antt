@@ -22,7 +22,7 @@ use Rattle.replica_core.specs.Sound.{IsSound}
 use Rattle.replica_core.specs.Calls.{next_commit, with_commit}
 use Rattle.world.specs.declared.events.Event.TheVariants as events
 use Rattle.world.specs.declared.events.Reply.TheVariants as replies
-use Rattle.world.specs.Past.{Past, commits, replica_committed, finished}
+use Rattle.world.specs.Past.{Past, replica_committed, finished}
 use Rattle.world.specs.Legal.{Setup, replica_at, is_commit, next_reply}
 use Rattle.world.specs.State.{World, IsShown, IsWorld, Stands, Goes}
 use Rattle.world.proofs.Parts.{replica_is, stays, with_replica, untold, source_untold}

@@ -35,7 +35,7 @@ use Rattle.replica_core.specs.Calls.{stop_fault, unless_stopped, is_eligible, ne
 use Rattle.world.specs.declared.events.Event.{Event}
 use Rattle.world.specs.declared.events.Event.TheVariants as events
 use Rattle.world.specs.declared.events.Reply.TheVariants as replies
-use Rattle.world.specs.Past.{Past, published, published_gnos, accepted, dispatched, commits, replica_committed, low_water}
+use Rattle.world.specs.Past.{Past, published, published_gnos, accepted, dispatched, replica_committed, low_water}
 use Rattle.world.specs.Legal.{Setup, replica_at, rows_after, is_due, may_dispatch, dispatch_reply, ExecutedAnswers, read_reply, asks_memory, tells_memory}
 use Rattle.world.specs.State.{World, IsWorld, Stands, Goes}
 use Rattle.world.specs.Run.{ShowsOperations}

@@ -1,14 +1,12 @@
 -- The event by which the log goes on in a next file.
 use base.Growing.{prefix_refl}
-use Rattle.std.proofs.Common.{◌≡◌, ◌∙◌, sym, ap, subst, refl, ℕ, ◌+◌, ◌≤◌, ◌<◌, Bool, true, false, not, ◌&&◌, nat_le, List, [], ◌∷◌}
+use Rattle.std.proofs.Common.{◌≡◌, ◌∙◌, sym, ap, subst, refl, ℕ, ◌+◌, ◌<◌, Bool, true, false, not, nat_le, List, [], ◌∷◌}
 use Rattle.std.proofs.Common.{◌++◌, length, length-append, map, Option, append_assoc, inl, inr, arith, ◌⊎◌}
 use Rattle.std.specs.Prelude.{nat_lt}
 use Rattle.std.proofs.lemmas.Bool.Decides.{nat_tests}
 use Rattle.std.proofs.lemmas.Bool.{false≢true, and_from}
 use Rattle.std.proofs.lemmas.List.{length-map, map-append}
 use Rattle.rows.specs.Database.{Database}
-use Rattle.record_codec.specs.declared.records.Record.{Record}
-use Rattle.record_codec.specs.Group.{GroupValue}
 use Rattle.source_core.specs.declared.fault.SourceFault.TheVariants as faults_of
 use Rattle.source_core.specs.Source.{Source, Open}
 use Rattle.source_core.specs.Calls.{is_busy, halted as halted_source}
@@ -18,11 +16,11 @@ use Rattle.log_file.specs.Head.{Head, next_of}
 use Rattle.log_file.specs.Log.{Log, Kept}
 use Rattle.log_file.specs.Flushed.{IsFlushedOf, kept_of}
 use Rattle.log_file.specs.Calls.{ends as ends_of}
-use Rattle.log_set.specs.Set.{SetOn, HasSameFiles, IsRotated}
+use Rattle.log_set.specs.Set.{SetOn, IsRotated}
 use Rattle.world.specs.declared.events.Event.TheVariants as events
 use Rattle.world.specs.declared.events.Reply.{Reply}
 use Rattle.world.specs.declared.events.Reply.TheVariants as replies
-use Rattle.world.specs.Past.{Past, unsynced, synced, synced_groups, halted, busy, firsts, starts, flushed, source_committed}
+use Rattle.world.specs.Past.{Past, synced, halted, busy, firsts}
 use Rattle.world.specs.Legal.{Setup, source_at, RotateAnswers, is_full}
 use Rattle.world.specs.Put.{IsNotRotated, FailsToRotate, OneFailed}
 use Rattle.world.specs.State.{World, IsWorld, Stands, Goes, set_of, TellsFailure}

@@ -7,7 +7,7 @@ use Rattle.record_codec.specs.declared.records.Record.{Record}
 use Rattle.record_codec.specs.Group.{AreNumbered}
 use Rattle.record_codec.specs.Log.{after}
 use Rattle.store_trait.specs.Operation.{loaded}
-use Rattle.scheduler.specs.Gnos.{has_gno, low_of, first_gnos}
+use Rattle.scheduler.specs.Gnos.{low_of, first_gnos}
 use Rattle.scheduler.proofs.Gnos.{low_of_first, take-first_gnos, has_gno-take}
 use Rattle.gapped.specs.Gapped.{gapped, chosen, records_at}
 use Rattle.gapped.proofs.Choosing.{AreWithin, commits_are_within, longer_log, records_at_joined, records_at_take, records_of_first}
@@ -15,7 +15,7 @@ use Rattle.replica_core.specs.Replica.{Replica, ran}
 use Rattle.replica_core.specs.Sound.{IsSound}
 use Rattle.replica_core.proofs.Showing.{sound_stands, numbered_of, state_at}
 use Rattle.published.specs.Plain.{Shown}
-use Rattle.world.specs.Past.{Past, published, published_gnos, commits}
+use Rattle.world.specs.Past.{Past, published, published_gnos}
 use Rattle.world.specs.Legal.{Setup, replica_at, rows_after}
 use Rattle.world.specs.State.{World, IsWorld, Stands}
 use Rattle.world.proofs.Parts.{take_longer}

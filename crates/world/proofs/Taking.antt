@@ -1,5 +1,5 @@
 -- Where the first job of a number stands.
-use Rattle.std.proofs.Common.{◌≡◌, ◌∙◌, sym, ap, refl, ℕ, zero, suc, ◌+◌, ◌==◌, Bool, true, false, ◌||◌, cond, get_or, List, [], ◌∷◌, ◌++◌, length, Option, Some, None, IfNone, arith}
+use Rattle.std.proofs.Common.{◌≡◌, ◌∙◌, sym, ap, refl, ℕ, suc, ◌+◌, ◌==◌, Bool, true, false, ◌||◌, cond, get_or, List, [], ◌∷◌, ◌++◌, length, Option, Some, None, IfNone, arith}
 use Rattle.std.specs.List.{position, position_from, remove}
 use Rattle.std.proofs.Math.Seq.{get_or-append_seam}
 use Rattle.std.proofs.lemmas.Bool.{eqb-true}

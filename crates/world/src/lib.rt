@@ -1,8 +1,8 @@
 //! One source and one replica, run event by event on one thread.
 //!
 //! A `World` holds a source, its log, the groups that wait for it, a replica, the jobs that it handed out, and the rows
-//! that the replica published. `run` answers each event with one reply. Whatever the events are, the replies are legal: there is one
-//! legal log over the rows at the start, and each reply is one that the pairs of event and reply before it and
+//! that the replica published. `step` answers an event with one reply, and `run` a list of events. Whatever the events are, the replies
+//! are legal: there is one legal log over the rows at the start, and each reply is one that the pairs of event and reply before it and
 //! that log allow (`specs/Legal.antt`). So where the replica commits in the order of the log, each read answers as the source's
 //! database after one beginning of it, and the ids that the replica tells as executed are those of a beginning. In any order a read shows
 //! what the published commits leave in log order, and with each of them each earlier record is among them that conflicts with it. Where

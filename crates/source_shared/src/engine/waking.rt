@@ -71,7 +71,7 @@ impl<S: RowStore, T: Tracker, D: Device + Drop, J: SourceNaming> Engine<S, T, D,
         ensures { result ≡ true → IsTold self.now }
     {
         !self.stirred
-            && (self.flushed.synced().records().len(), self.is_over()) == self.told
+            && (self.synced_records().len(), self.is_over()) == self.told
             && !self.calls_rotator()
     }
 
@@ -175,7 +175,7 @@ impl<S: RowStore, T: Tracker, D: Device + Drop, J: SourceNaming> Engine<S, T, D,
         ensures known { has_news self.new ≡ false }
         ensures ended { NoneSleepsWithEnd self.old → NoneSleepsWithEnd self.new }
     {
-        let (synced, over) = (self.flushed.synced().records().len(), self.is_over());
+        let (synced, over) = (self.synced_records().len(), self.is_over());
         let news = synced != self.told.0 || over && !self.told.1;
         self.told = (synced, over);
         news

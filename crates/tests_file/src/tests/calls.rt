@@ -145,9 +145,9 @@ fn finds_synced(
 ) -> Result<(), Fail> {
     match LogFile::open(rt.alloc(), content) {
         Ok(log) => {
-            let found = log.records().len() as u64;
+            let found = log.count();
             assert!(rt;
-                found >= synced && found - synced <= 1,
+                found >= synced as u128 && found - synced as u128 <= 1,
                 "{found} where {synced} were synced"
             );
             Ok(())

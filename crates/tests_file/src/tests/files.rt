@@ -70,8 +70,8 @@ fn put_next<R: Files<File = File> + AllocGlobal + Abort>(
     before: usize,
 ) -> Result<(), Fail> {
     let mut log = log_on(rt, path)?;
-    assert_eq!(rt; log.records().len(), before);
-    put_again(rt.alloc(), &mut log, before as u64 + 1)?;
+    assert_eq!(rt; log.count(), before as u128);
+    put_again(rt.alloc(), &mut log, (before as u64).saturating_add(1))?;
     Ok(())
 }
 
@@ -88,10 +88,10 @@ fn goes_on<R: Files<File = File> + AllocGlobal + Abort>(rt: &R, path: &str) -> R
     }
     let len = fs::metadata(rt, path)?.len();
     tear(rt, path)?;
-    assert_eq!(rt; log_on(rt, path)?.records().len(), 3);
+    assert_eq!(rt; log_on(rt, path)?.count(), 3);
     assert_eq!(rt; fs::metadata(rt, path)?.len(), len);
     put_next(rt, path, 3)?;
-    assert_eq!(rt; log_on(rt, path)?.records().len(), 4);
+    assert_eq!(rt; log_on(rt, path)?.count(), 4);
     Ok(())
 }
 

@@ -67,7 +67,7 @@ fn new_set<D: Device + Drop>(alloc: Global, device: D) -> Result<Box<LogSet<D>>,
 
 /// Has the group of the next record written and synced.
 fn put_next<D: Device>(alloc: Global, set: &mut LogSet<D>) -> Result<(), LogFault> {
-    let group = group(alloc, set.version(), set.records().len() as u64 + 1)?;
+    let group = group(alloc, set.version(), set.count().saturating_add(1))?;
     again!(LogFault::Memory => set.append(&group))?;
     again!(LogFault::Memory => set.sync())
 }
@@ -135,7 +135,7 @@ fn has_texts(
 fn each_file_has_its_groups_again(rt: HostRuntime) -> Result<(), Fail> {
     let set = set_of(rt.alloc(), &[1, 2])?;
     assert_eq!(rt; set.firsts(), [1, 2].as_slice());
-    assert_eq!(rt; (set.records().len(), set.groups().len()), (3, 3));
+    assert_eq!(rt; (set.count(), set.groups().len()), (3, 3));
     has_texts(&rt, set, &[&FIRST, &SECOND])
 }
 
@@ -167,7 +167,7 @@ fn a_group_that_waits_keeps_its_file_again(rt: HostRuntime) -> Result<(), Fail> 
         Ok(()) => return Err(Memory)?,
     }
     assert_eq!(rt; set.sync(), Ok(()));
-    assert_eq!(rt; (set.records().len(), set.firsts()), (2, [1].as_slice()));
+    assert_eq!(rt; (set.count(), set.firsts()), (2, [1].as_slice()));
     Ok(())
 }
 
@@ -222,7 +222,7 @@ fn is_left(
 ) -> Result<(), Fail> {
     let mut set = set;
     assert_eq!(rt; put_next(rt.alloc(), &mut set), Err(LogFault::Device));
-    assert_eq!(rt; (set.records().len(), set.firsts()), (1, [1].as_slice()));
+    assert_eq!(rt; (set.count(), set.firsts()), (1, [1].as_slice()));
     let (_, last) = Box::into_inner(set).into_devices();
     let mut devices = [last.into_inner(), back.into_inner()];
     assert_eq!(rt; found_on(rt.alloc(), &mut devices)?, (files, 2));
@@ -278,7 +278,7 @@ fn open(
 fn files_are_opened_in_order_again(rt: HostRuntime) -> Result<(), Fail> {
     let alloc = rt.alloc();
     let set = open_on(alloc, &[&FIRST, &SECOND])?;
-    assert_eq!(rt; (set.records().len(), set.firsts()), (3, [1, 2].as_slice()));
+    assert_eq!(rt; (set.count(), set.firsts()), (3, [1, 2].as_slice()));
     let (mut other, mut older, mut later) = (SECOND, SECOND, SECOND);
     other[23] = 2;
     older[7] = 0x32;
@@ -338,7 +338,7 @@ fn a_file_behind_an_unfinished_one_is_dropped_again(rt: HostRuntime) -> Result<(
     let mut open_end = FIRST;
     open_end[100] = 0;
     let mut set = open_on(alloc, &[&open_end, &SECOND[..33]])?;
-    assert_eq!(rt; (set.records().len(), set.firsts()), (1, [1].as_slice()));
+    assert_eq!(rt; (set.count(), set.firsts()), (1, [1].as_slice()));
     put_next(alloc, &mut set)?;
     let (past, last) = Box::into_inner(set).into_devices();
     assert_eq!(rt; (past.len(), last.bytes().len()), (0, 101 + 4 + 56 + 1));

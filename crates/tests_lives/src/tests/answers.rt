@@ -139,7 +139,7 @@ fn a_queued_transaction_is_put_again(rt: HostRuntime) -> Result<(), Fail> {
     assert_eq!(rt; try_put(alloc, &mut life, 1), ("receipt", 1, 0));
     life.begin(1)?;
     assert_eq!(rt; try_put(alloc, &mut life, 1), ("empty", 0, 0));
-    assert_eq!(rt; life.records().len(), 2);
+    assert_eq!(rt; life.count(), 2);
     Ok(())
 }
 
@@ -157,7 +157,7 @@ fn a_failed_device_is_told(rt: HostRuntime) -> Result<(), Fail> {
         }
         assert_eq!(rt; told, ("L1 Device", 0, 0));
         assert_eq!(rt; try_put(alloc, &mut life, 1), ("S12 Halted", 0, 0));
-        assert_eq!(rt; life.records().len(), 0);
+        assert_eq!(rt; life.count(), 0);
     }
     Ok(())
 }

@@ -160,7 +160,7 @@ impl Course {
         rt: &impl Abort,
         life: &Life<T, D>,
     ) -> Result<usize, Fail> {
-        let found = life.records().len();
+        let found = life.count() as usize;
         let (value, count) = *self.states.get(found).ok_or(Memory)?;
         let rows = life.source().rows();
         assert_eq!(rt; rows.len(), count);

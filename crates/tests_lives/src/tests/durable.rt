@@ -106,7 +106,7 @@ fn lives_go_on(rt: HostRuntime) -> Result<(), Fail> {
     let Ok(mut next) = next_life(alloc, 256, source(), ended(life)?)? else {
         return Err(Memory)?;
     };
-    assert!(rt; next.records().len() == 3);
+    assert!(rt; next.count() == 3);
     assert!(rt; commit(&mut next, 13)? == (4, 3));
     Ok(())
 }
@@ -128,6 +128,9 @@ fn other_logs_are_refused(rt: HostRuntime) -> Result<(), Fail> {
     let Err((OpenFault::OfRecovery(fault), _)) = next_life(alloc, 1, source(), devices)? else {
         return Err(Memory)?;
     };
+    if fault == RecoveryFault::Memory {
+        return Err(Memory)?;
+    }
     assert!(rt; fault == RecoveryFault::Exhausted);
     Ok(())
 }
@@ -145,13 +148,13 @@ fn a_log_is_not_made_over_another(rt: HostRuntime) -> Result<(), Fail> {
 }
 
 /// The next life after a kill that left this in its files: how many records it has, and the gno of its first transaction.
-fn after_kill(alloc: Global, files: Vec<MemoryDevice>) -> Result<(usize, u64), Fail>
+fn after_kill(alloc: Global, files: Vec<MemoryDevice>) -> Result<(u64, u64), Fail>
     requires { 1 ≤ length files.items }
 {
     let Ok(mut life) = next_life(alloc, 256, source(), files)? else {
         return Err(Memory)?;
     };
-    let found = life.records().len();
+    let found = life.count();
     let (gno, _) = commit(&mut life, 20)?;
     Ok((found, gno))
 }
@@ -166,12 +169,12 @@ fn killed_at_each_moment(rt: HostRuntime) -> Result<(), Fail> {
     }
     let (_, device) = Box::into_inner(life).into_devices();
     for moment in MADE..device.moments() {
-        let told = (moment - MADE) / GROUP;
+        let told = ((moment - MADE) / GROUP) as u64;
         for image in device.images(moment)? {
             let files = vec![in alloc; MemoryDevice::of(image)]?;
             let (found, gno) = after_kill(alloc, files)?;
             assert!(rt; found >= told && found - told <= 1);
-            assert!(rt; gno > found as u64 && gno - found as u64 == 1);
+            assert!(rt; gno > found && gno - found == 1);
         }
     }
     Ok(())

@@ -42,7 +42,7 @@ fn open_each_image(
         for image in device.images(moment)? {
             let found = records_in(rt.alloc(), MemoryDevice::of(image))?;
             assert!(rt;
-                found == Some(least) || !is_sure && found == Some(least + 1),
+                found == Some(least as u128) || !is_sure && found == Some(least as u128 + 1),
                 "moment {moment}: {found:?} records, where {least} were synced"
             );
         }
@@ -55,10 +55,10 @@ fn open_once(
     alloc: Global,
     device: CrashDevice,
     nth: u64,
-) -> Result<(Option<usize>, CrashDevice), LogFault> {
+) -> Result<(Option<u128>, CrashDevice), LogFault> {
     match LogFile::open(alloc, FaultyDevice::new(device, nth)) {
         Ok(log) => {
-            let found = log.records().len();
+            let found = log.count();
             Ok((Some(found), log.into_device().into_inner()))
         }
         Err((LogFault::Device, device)) => Ok((None, device.into_inner())),
@@ -79,7 +79,7 @@ fn open_at_last(
         let (found, back) = open_once(rt.alloc(), device, nth)?;
         device = back;
         if let Some(found) = found {
-            assert!(rt; found >= synced && found - synced <= 1);
+            assert!(rt; found >= synced as u128 && found - synced as u128 <= 1);
             return open_each_image(rt, &device, synced);
         }
     }

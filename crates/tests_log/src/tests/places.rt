@@ -133,7 +133,7 @@ fn joined(alloc: Global, first: &[u8], second: &[u8]) -> Result<Synced, LogFault
     }
     let place = Place::Behind {
         source: all.source(),
-        next: all.first() as u128 + all.records().len() as u128,
+        next: all.next(),
     };
     let next = synced_at(alloc, second, place)?;
     all.join(next)?;
@@ -159,7 +159,7 @@ fn two_files_are_one_log_again(rt: HostRuntime) -> Result<(), Fail> {
         alloc,
         again!(LogFault::Memory => joined(alloc, &first, &second))?,
     )?;
-    assert_eq!(rt; (all.first(), all.records().len()), (1, 2));
+    assert_eq!(rt; (all.first(), all.count()), (1, 2));
     assert_eq!(rt; all.groups().len(), 2);
     let text = again!(all.file_text(alloc, 1, 0, 1, true))?;
     assert_eq!(rt; text.as_slice(), first.as_slice());
@@ -175,11 +175,11 @@ fn opened_at(
     alloc: Global,
     bytes: &[u8],
     place: &Place,
-) -> Result<(u64, usize, bool, u64), LogFault> {
+) -> Result<(u64, u128, bool, u64), LogFault> {
     let mut device = MemoryDevice::of(bytes.to_vec(alloc)?);
     let found = find(alloc, &mut device, *place)?;
     let log = LogFile::of_found(alloc, device, found);
-    let told = (log.first(), log.records().len(), log.finished());
+    let told = (log.first(), log.count(), log.finished());
     Ok((told.0, told.1, told.2, log.into_device().len()))
 }
 

@@ -151,11 +151,11 @@ fn opened_on(alloc: Global, bytes: Vec<u8>) -> Result<Box<LogFile<MemoryDevice>>
 fn open_both(rt: &(impl Abort + AllocGlobal), old: Vec<u8>, next: &[u8]) -> Result<(), Fail> {
     let alloc = rt.alloc();
     let file = opened_on(alloc, old)?;
-    assert_eq!(rt; (file.first(), file.records().len()), (1, 1));
+    assert_eq!(rt; (file.first(), file.count()), (1, 1));
     if file.finished() {
         let file = opened_on(alloc, next.to_vec(alloc)?)?;
         assert_eq!(rt;
-            (file.first(), file.finished(), file.records().len()),
+            (file.first(), file.finished(), file.count()),
             (2, false, 0)
         );
     }
@@ -228,8 +228,8 @@ fn a_log_goes_on_in_a_next_file(rt: HostRuntime) -> Result<(), Fail> {
     let mut file = LogFile::open(rt.alloc(), rotated.next).map_err(|e| lacking(e.0))?;
     append_again(rt.alloc(), &mut file, 2).map_err(lacking)?;
     file.sync().map_err(lacking)?;
-    assert_eq!(rt; (file.first(), file.records().len()), (2, 1));
+    assert_eq!(rt; (file.first(), file.count()), (2, 1));
     let old = LogFile::open(rt.alloc(), rotated.old).map_err(|e| lacking(e.0))?;
-    assert_eq!(rt; (old.finished(), old.records().len()), (true, 1));
+    assert_eq!(rt; (old.finished(), old.count()), (true, 1));
     Ok(())
 }

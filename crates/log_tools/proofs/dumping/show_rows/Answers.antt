@@ -10,5 +10,5 @@ write_rows-requires g c = subst (λ ts. AreOfTables ts c.store.result.now) c.in_
 pub returns : goal.returns
 returns g c =
     prints_rows c.write_rows.result c.args.log.now.described.head.schema c.args.log.now.described.head.base c.args.log.now.set.log.records c.args.upto _ _ c.store.result.now
-    (rw (c.in_ok-found.ensures.tables, c.in_ok-found.ensures.base, c.in_ok-found.ensures.log, c.in_ok-records.ensures.records) at c.store.ensures.leaves)
+    (rw (c.in_ok-found.ensures.tables, c.in_ok-found.ensures.base, c.in_ok-found.ensures.log, c.deref.ensures.value, c.in_ok-records.ensures.records) at c.store.ensures.leaves)
     c.write_rows.ensures
