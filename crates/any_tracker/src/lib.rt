@@ -1,7 +1,7 @@
-//! A tracker of any kind: the one that is asked for.
+//! A tracker of any kind, chosen by its mode.
 //!
-//! One type for all, so that all that stands on it is compiled once. A call looks which one it is, and asks that. The crate stands on
-//! `commit_order_tracker` and `writeset_trackers`.
+//! It is one type for all of them, so that the code that uses it is compiled once. A call goes to the tracker that it
+//! holds, from `commit_order_tracker` or `writeset_trackers`.
 #![tactic(auto)]
 
 ghost use Rattle.std.specs.Prelude.{◌≡◌, IfOk};
@@ -27,8 +27,8 @@ pub enum AnyTracker {
 }
 
 impl AnyTracker {
-    /// The tracker of a mode, which has seen no transaction. One of write sets takes all its memory here: it keeps this many
-    /// digests of written rows at most.
+    /// The tracker of a mode, which has seen no transaction. A tracker of write sets takes all its memory here; it
+    /// keeps at most `limit` digests of written rows and marks.
     pub fn of(alloc: Global, mode: Tracking, limit: u32) -> Result<AnyTracker, Memory>
         ensures kind { IfOk result (λ tracker. kind_of tracker ≡ kind_for mode limit) }
         ensures new { IfOk result (IsNewTracker agrees) }
@@ -80,7 +80,7 @@ impl Resumable for AnyTracker {
     }
 }
 
-/// The mode of this name, as options have it; `None` if there is none.
+/// The mode with this name, as options have it; `None` if there is none.
 pub fn mode_named(name: &str) -> Option<Tracking>
     ensures { result ≡ mode_named name.now }
 {

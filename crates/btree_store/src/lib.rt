@@ -1,8 +1,8 @@
-//! A store of rows in std's ordered map.
+//! A store of rows in the standard library's ordered map.
 //!
-//! A `BTreeStore` contains what its map has, row by row (`specs/Contents.antt`); the keys are numbers of 64 bits,
-//! which the type keeps. It stands on `store_trait`, whose contract it meets, and on std's `BTreeMap`. Rows are kept as
-//! wide as their table (`packed`). A batch is put whole or not at all, also where memory ends in the middle of it (`put`).
+//! A `BTreeStore` contains the rows of its map (`specs/Contents.antt`). Its type ensures that the keys are numbers of
+//! 64 bits. It meets the contract of `store_trait` with the standard library's `BTreeMap`. Rows are kept as wide as
+//! their table (`packed`). A batch is put whole or not at all, even if memory runs out in the middle of it (`put`).
 #![tactic(auto)]
 
 ghost use Rattle.std.specs.Prelude.{◌≡◌};
@@ -26,9 +26,10 @@ use store_trait::{Batch, RowStore};
 /// Rows by their ids, in order, each as wide as its table.
 type Rows = BTreeMap<RowId, Packed>;
 
-/// Rows in an ordered map. No call copies the map. A batch takes the time of a look-up for each of its rows, and the memory
-/// of a list of what it replaces, which is given back, and of the rows that are new. A batch of one row takes no list. A row of one or two
-/// columns takes 48 bytes with its id, and no memory of its own; a wider one asks for that of its columns.
+/// Rows in an ordered map. No call copies the map. A batch takes the time of a look-up for each of its rows. It takes
+/// memory for rows that are new, for the columns of wide rows that it sets, and for a list of what it replaces, which
+/// is given back. A batch of one row needs no list. A row of one or two columns takes 48 bytes with its id; a wider one
+/// also asks for memory for its columns.
 #[derive(Debug, Drop)]
 pub struct BTreeStore {
     alloc: Global,
@@ -84,7 +85,7 @@ impl RowStore for BTreeStore {
     }
 }
 
-/// Of a table's rows above the key, or of all of them, the one with the least key.
+/// The row with the least key, of the table's rows above the given key, or of all of them without one.
 fn next_row(rows: &Rows, table: u16, above: Option<i64>) -> Option<(i64, Row)>
     requires { KeysFit (contents_of rows.now) }
     ensures { IsNextInTable (contents_of rows.now) table above result }

@@ -8,7 +8,7 @@ use smallvec::SmallVec;
 use std::alloc::Global;
 use std::marker::Model;
 
-/// The columns of a row: up to two in the value itself, more in memory of their own. A `Row` has room for sixteen.
+/// The columns of a row: up to two in the value itself, more in separate memory. A `Row` always has room for sixteen.
 #[derive(Debug, Drop)]
 pub(crate) struct Packed {
     columns: SmallVec<i64, 2>,

@@ -1,8 +1,8 @@
-//! A batch is put whole or not at all, also where memory ends in the middle of it.
+//! A batch is put whole or not at all, even if memory runs out in the middle of it.
 //!
-//! Rows that are set come first, since only they take memory: each is put by one look-up. What it replaces is kept, in a list
-//! that has its room before the first of them. Where one is refused, all that was kept is put back, which takes none. Then rows
-//! are removed. A batch of one row needs no list: the map takes it or not.
+//! Rows that are set come first, since only they take memory; each is put by one look-up. What it replaces is kept in a
+//! list, which has its room before the first of them. If one is refused, all that was kept is put back, which takes no
+//! memory. Then rows are removed. A batch of one row needs no list: the map takes it or does not.
 
 ghost use Rattle.std.specs.Prelude.{◌≡◌, ◌<◌, ◌++◌, ◌∷◌, [], length, vec_capacity, Some, IfSome, OnOk, OnErr, FitsSigned};
 ghost use Rattle.std.specs.List.{AllByRecursion};
@@ -18,13 +18,13 @@ use rows::Row;
 use schema::{Memory, RowId};
 use std::alloc::Global;
 
-/// A row by its id, or that there is none.
+/// A row with its id, or that the row is absent.
 type Entry = (RowId, Option<Row>);
 
-/// What stood at a row.
+/// What was at a row before.
 type Replaced = (RowId, Option<Packed>);
 
-/// Puts all of these entries, or, where memory runs out, none.
+/// Puts all of these entries, or none if memory runs out.
 pub(crate) fn put_whole(alloc: Global, rows: &mut Rows, entries: &[Entry]) -> Result<(), Memory>
     requires { IsRising entries.now }
     ensures ok { OnOk result (contents_of rows.new ≡ put_batch entries.now (contents_of rows.old)) }
@@ -37,7 +37,7 @@ pub(crate) fn put_whole(alloc: Global, rows: &mut Rows, entries: &[Entry]) -> Re
     }
 }
 
-/// Puts these entries, or, where memory runs out, none.
+/// Puts these entries, or none if memory runs out.
 fn put_several(alloc: Global, rows: &mut Rows, entries: &[Entry]) -> Result<(), Memory>
     requires { IsRising entries.now }
     ensures ok { OnOk result (contents_of rows.new ≡ put_batch entries.now (contents_of rows.old)) }
@@ -53,7 +53,7 @@ fn put_several(alloc: Global, rows: &mut Rows, entries: &[Entry]) -> Result<(), 
     Ok(())
 }
 
-/// Puts one row, or removes it, with one look-up: where that is refused nothing is changed.
+/// Puts one row, or removes it, with one look-up. If that is refused, nothing changes.
 fn put_one(alloc: Global, rows: &mut Rows, id: RowId, row: Option<Row>) -> Result<(), Memory>
     ensures ok { OnOk result (contents_of rows.new ≡ put_row (contents_of rows.old) id row) }
     ensures err { OnErr result (contents_of rows.new ≡ contents_of rows.old) }
@@ -69,8 +69,8 @@ fn put_one(alloc: Global, rows: &mut Rows, id: RowId, row: Option<Row>) -> Resul
     Ok(())
 }
 
-/// Sets the rows that the entries set, in order, and adds what stood there to the list. Where it is refused, the list has
-/// what those replaced that were set.
+/// Sets the rows that the entries set, in order, and adds what was there to the list. If it is refused, the list has
+/// what was replaced so far.
 fn set_rows(
     alloc: Global,
     rows: &mut Rows,
@@ -91,7 +91,7 @@ fn set_rows(
     Ok(())
 }
 
-/// Sets the row, and adds what stood there to the list. Where that is refused neither is changed.
+/// Sets the row, and adds what was there to the list. If that is refused, neither is changed.
 fn replace_row(
     rows: &mut Rows,
     id: RowId,
@@ -107,7 +107,7 @@ fn replace_row(
     Ok(())
 }
 
-/// Adds what stood at a row, where there is room for it.
+/// Adds what was at a row; there is room for it.
 fn note(before: &mut Vec<Replaced>, id: RowId, row: Option<Packed>)
     requires { length before.old.items < vec_capacity before.old }
     ensures { before.new.items ≡ before.old.items ++ (id, row) ∷ [] }
@@ -124,7 +124,7 @@ fn put_back(rows: &mut Rows, mut before: Vec<Replaced>)
     }
 }
 
-/// Removes the rows that the entries remove; those that they set are set. It takes no memory.
+/// Removes the rows that the entries remove; those that they set are there already. It takes no memory.
 fn remove_rows(rows: &mut Rows, entries: &[Entry])
     requires rising { IsRising entries.now }
     requires set { AreSet (contents_of rows.old) entries.now }
@@ -136,7 +136,7 @@ fn remove_rows(rows: &mut Rows, entries: &[Entry])
     }
 }
 
-/// Removes the row where the entry does; else it is set.
+/// Removes the row if the entry does; otherwise it is set already.
 fn remove_row(rows: &mut Rows, id: RowId, row: Option<Row>)
     requires { IfSome row (λ columns. row_of (contents_of rows.old) id ≡ Some columns) }
     ensures put { contents_of rows.new ≡ put_row (contents_of rows.old) id row }
@@ -148,7 +148,7 @@ fn remove_row(rows: &mut Rows, id: RowId, row: Option<Row>)
     }
 }
 
-/// Overwrites a row that is there, or removes one. It takes no memory.
+/// Overwrites a row that is there, or removes a row. It takes no memory.
 fn reset_row(rows: &mut Rows, id: RowId, row: Option<Packed>)
     ensures reset { contents_of rows.new ≡ reset (contents_of rows.old) id row }
     ensures key { FitsSigned w64 id.key }

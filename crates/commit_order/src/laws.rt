@@ -1,8 +1,8 @@
-//! What follows from the definitions alone. Each function states a law by its contract, and does nothing.
+//! What follows from the definitions only. Each function states a law by its contract, and does nothing.
 
 ghost use Rattle.commit_order.specs.Turns.{TurnIsNext};
 
-/// Where the order of the log is kept, the turn is that of the record behind those that left.
+/// If the order of the log is kept, the turn is that of the record after those that left.
 pub fn in_turn()
     ensures { TurnIsNext }
 {}

@@ -1,8 +1,8 @@
-//! Turns: results are given in the order of their records, whatever the order in which they came; or in the order in which they came.
+//! Turns: results leave in the order of their records, or in the order in which they came.
 //!
-//! A record enters as it is dispatched. Where the order of the log is kept, its result waits until those of all that entered before it
-//! were taken; else it is given as soon as those that came before it were. There are 64 places, made with the object, so that no call
-//! takes memory. It stands on `executor`, for results, and on `scheduler`, for sets of numbers.
+//! A record enters as it is dispatched. If the order of the log is kept, its result waits until those of all that entered
+//! before it were taken. Else it leaves once those that came before it have left. The 64 places are made with the object,
+//! so no later call takes memory. The crate uses `executor` for results, and `scheduler` for sets of numbers.
 #![tactic(auto)]
 
 ghost use Rattle.std.specs.Prelude.{◌≡◌, ℕ, ◌+◌, ◌-◌, ◌<◌, ◌≤◌, ◌==◌, true, length, take, IfOk, IfSome, option_copied, is_some};
@@ -18,16 +18,16 @@ use std::marker::Model;
 
 pub mod laws;
 
-/// How many records there is a place for.
+/// The number of places for records.
 pub const PLACES: usize = 64;
 
-/// The records that wait for their turn, each with its result where it has one. `new` makes it.
+/// The records that wait for their turn, each with its result if it has one. `new` makes it.
 #[derive(Debug, Drop)]
 pub struct Turns {
     preserve: bool,
-    /// Where the order of the log is kept: the record that left last; 0 where none did.
+    /// The record that left last, if the order of the log is kept; 0 if none did.
     last: u64,
-    /// The gnos of the records that have no result, the first so many.
+    /// The gnos of the records that have no result: the first `count` of these.
     out: [u64; 64],
     count: usize,
     /// The results of the others, in the order in which they came.
@@ -47,7 +47,8 @@ impl Model for Turns {
 }
 
 impl Turns {
-    /// No record entered; where the order of the log is kept, the first whose turn comes is the one of gno 1. It takes the 64 places.
+    /// No record has entered. If the order of the log is kept, the first turn is that of gno 1. It takes the memory of
+    /// the 64 places.
     pub fn new(alloc: Global, preserve: bool) -> Result<Turns, Memory>
         ensures { IfOk result (λ turns. turns ≡ no_turns preserve) }
     {
@@ -69,8 +70,8 @@ impl Turns {
         self.count += 1;
     }
 
-    /// Keeps the result of a record that entered and has none. It takes no memory. The time is that of a look at each record that has
-    /// no result.
+    /// Keeps the result of a record that entered and has none. It takes no memory. The time is that of a look at each
+    /// record without a result.
     pub fn finish(&mut self, done: JobResult)
         requires out { has_gno self.old.out done.job.gno ≡ true }
         ensures { self.new ≡ with_result self.old done }
@@ -87,7 +88,7 @@ impl Turns {
         self.out[..self.count].contains(&gno)
     }
 
-    /// How many records entered and did not leave.
+    /// How many records have entered and not left.
     pub fn len(&self) -> usize
         ensures value { result ≡ length self.now.out + length self.now.done }
         ensures few { result ≤ 64 }
@@ -102,8 +103,8 @@ impl Turns {
         self.preserve
     }
 
-    /// The result whose turn has come: in the order of the log that of the next record, else the one that came first. It takes no
-    /// memory.
+    /// The result whose turn has come: in the order of the log that of the next record, else the one that came first. It
+    /// takes no memory.
     pub fn ready(&self) -> Option<&JobResult>
         ensures value { option_copied result ≡ turn self.now }
         ensures in_turn { IfSome result (λ done. self.now.preserve ≡ true → done.now.job.gno ≡ self.now.next) }
@@ -111,7 +112,7 @@ impl Turns {
         self.shown()
     }
 
-    /// Takes what `ready` shows; the record leaves. It takes no memory.
+    /// Takes the result that `ready` shows; its record leaves. It takes no memory.
     pub fn next(&mut self) -> Option<JobResult>
         ensures value { result ≡ turn self.old }
         ensures in_turn { IfSome result (λ done. self.old.preserve ≡ true → done.job.gno ≡ self.old.next) }
@@ -133,7 +134,7 @@ impl Turns {
         self.done.get(self.place())
     }
 
-    /// The place of the result whose turn has come, or past all of them.
+    /// The place of the result whose turn has come, or the length if there is none.
     fn place(&self) -> usize
         ensures { result ≡ place_of self.now }
     {
@@ -145,14 +146,14 @@ impl Turns {
     }
 }
 
-/// The record that left last, where the order of the log is kept.
+/// What to keep as the record that left last: this one if the order of the log is kept, else the old value.
 fn last_left(preserve: bool, gno: u64, last: u64) -> u64
     ensures { result ≡ (if preserve then gno else last) }
 {
     if preserve { gno } else { last }
 }
 
-/// The place of the first result of the record behind this one, or past all of them.
+/// The place of the first result of the record after this one, or the length if there is none.
 fn first_behind(done: &[JobResult], last: u64) -> usize
     ensures { result ≡ first_of done.now (last + 1) }
 {
@@ -161,14 +162,14 @@ fn first_behind(done: &[JobResult], last: u64) -> usize
         .unwrap_or(done.len())
 }
 
-/// Whether a record is the one behind another.
+/// Whether a record is the next one after another.
 fn is_behind(gno: u64, last: u64) -> bool
     ensures { result ≡ (gno == last + 1) }
 {
     gno > last && gno - last == 1
 }
 
-/// Takes this number out: those behind it come to the front by one, and it stands last.
+/// Takes this number out: those after it move to the front by one, and it becomes the last.
 fn take_out(out: &mut [u64], gno: u64)
     requires { has_gno out.old gno ≡ true }
     ensures front { take (length out.old - 1) out.new ≡ without gno out.old }
@@ -178,7 +179,7 @@ fn take_out(out: &mut [u64], gno: u64)
     out[place..].rotate_left(1);
 }
 
-/// The place of this number, the first of it.
+/// The first place of this number.
 fn place_of(gnos: &[u64], gno: u64) -> usize
     requires { has_gno gnos.now gno ≡ true }
     ensures value { result ≡ position_or_len (λ (n : ℕ). n == gno) gnos.now }

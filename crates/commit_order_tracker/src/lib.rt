@@ -1,8 +1,8 @@
 //! The tracker of the commit order, MySQL's default.
 //!
-//! A transaction's parent is its order parent: what was committed when it was prepared. Since rows and marks stay locked
-//! until their transaction commits, all that conflicts with it was committed by then; so the parent covers it in the
-//! whole log, and the tracker need not remember anything. It stands on `tracker_trait`.
+//! A transaction's parent is its order parent: the number of transactions committed when it was prepared. Rows and
+//! marks stay locked until their transaction commits, so all that conflicts with it was committed by then. The parent
+//! therefore covers it in the whole log, and the tracker remembers nothing.
 #![tactic(auto)]
 
 ghost use Rattle.std.specs.Prelude.{◌≡◌};
@@ -11,7 +11,7 @@ use log_index::{Footprint, Log};
 use tracker_trait::{Resumable, Tracker};
 use write_set::WriteSet;
 
-/// It answers order parents. It has no state.
+/// Gives order parents. It has no state.
 #[derive(Clone, Copy, Debug, Drop, PartialEq, Eq)]
 pub struct CommitOrder;
 

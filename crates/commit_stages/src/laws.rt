@@ -1,4 +1,4 @@
-//! What follows from the definitions alone. The function states a law by its contract, and does nothing.
+//! What follows from the definitions only. The function states a law by its contract, and does nothing.
 
 ghost use Rattle.commit_stages.specs.Laws.{KeepsLine};
 

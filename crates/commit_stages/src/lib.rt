@@ -1,11 +1,13 @@
 //! The queues of group commit: a session's transaction waits for its flush, then for its sync, then for its commit.
 //!
-//! A `Stages` has three queues of the sessions 1 to 256, which callers see as three lists (`specs/Queues.antt`). A session
-//! enters at the end of the flush queue. All that are in it go on together, as a group: the group goes as a whole to the
-//! end of the next queue, in the order in which the groups came, and leaves at the front of the commit queue. A session
-//! stands in at most one queue, and once: the type keeps that. So no step between changes the line of all that wait, the
-//! furthest first (`specs/Laws.antt`), and the queues are three parts of one list of at most 256 places: a group goes on by
-//! moving the bound between two parts. All room is taken when the queues are made. The crate stands on no other.
+//! A `Stages` has three queues of the sessions 1 to 256, which callers see as three lists (`specs/Queues.antt`). A
+//! session enters at the end of the flush queue. All that are in it move on together, as a group. The group moves as a
+//! whole to the end of the next queue, in the order in which groups came, and leaves at the front of the commit queue.
+//! The type keeps each session in at most one queue, and there only once.
+//!
+//! So no step in between changes the line of all that wait, the furthest first (`specs/Laws.antt`). The queues are three
+//! parts of one list of at most 256 places, and a group moves on as the bound between two parts moves. All room is taken
+//! when the queues are made. The crate uses no other.
 #![tactic(auto)]
 
 ghost use Rattle.std.specs.Prelude.{◌≡◌, ◌≤◌, ◌<◌, ◌++◌, ◌∷◌, [], nat_lt, if◌then◌else◌, false, length, IfOk};
@@ -30,7 +32,7 @@ pub enum Stage {
     Commit,
 }
 
-/// The number of sessions, and the greatest number of one; the least is 1.
+/// The number of sessions, which have the numbers 1 to this.
 pub const MAX_SESSIONS: u16 = 256;
 
 /// The sessions that wait, each in the queue of its stage.
@@ -38,9 +40,9 @@ pub const MAX_SESSIONS: u16 = 256;
 pub struct Stages {
     /// All that wait, the furthest first: the commit queue, the sync queue, the flush queue. There is room for all.
     line: Vec<u16>,
-    /// Where the sync queue begins.
+    /// Where in `line` the sync queue begins.
     sync_from: usize,
-    /// Where the flush queue begins.
+    /// Where in `line` the flush queue begins.
     flush_from: usize,
     /// How many sessions each group of the sync queue has, the oldest group first. There is room for all.
     sizes: VecDeque<usize>,
@@ -62,7 +64,7 @@ impl Model for Stages {
 }
 
 impl Stages {
-    /// Queues in which no session waits. Room for all of them is taken here, and no other call takes memory.
+    /// Queues in which no session waits. Room for all sessions is taken here, and no other call takes memory.
     pub fn new(alloc: Global) -> Result<Stages, AllocError>
         ensures { IfOk result (λ stages. stages ≡ no_queues) }
     {
@@ -86,7 +88,7 @@ impl Stages {
         }
     }
 
-    /// Whether the session stands in a queue. The time is that of a look at each session that does.
+    /// Whether the session is in a queue. The time grows with the number of sessions in the queues.
     pub fn contains(&self, session: u16) -> bool
         ensures { result ≡ is_waiting self.now session }
     {
@@ -103,8 +105,8 @@ impl Stages {
         self.line.push(session).unwrap();
     }
 
-    /// Moves the whole flush queue behind the sync queue, in its order, as one group, and answers how many sessions that
-    /// are. Where none is in it nothing changes. It takes constant time, and no memory.
+    /// Moves the whole flush queue to the end of the sync queue, in its order, as one group, and returns the number of
+    /// its sessions. If it is empty, nothing changes. It takes constant time, and no memory.
     pub fn take_flush(&mut self) -> usize
         ensures queues { self.new ≡ flush_taken self.old }
         ensures count { result ≡ length self.old.flush }
@@ -115,8 +117,8 @@ impl Stages {
         count
     }
 
-    /// Moves the oldest group of the sync queue behind the commit queue, in its order, and answers how many sessions that
-    /// are. Where none is in it nothing changes. It takes constant time, and no memory.
+    /// Moves the oldest group of the sync queue to the end of the commit queue, in its order, and returns the number of
+    /// its sessions. If there is no group, nothing changes. It takes constant time, and no memory.
     pub fn take_sync(&mut self) -> usize
         ensures queues { self.new ≡ sync_taken self.old }
         ensures count { result ≡ oldest_size self.old }
@@ -126,7 +128,7 @@ impl Stages {
         count
     }
 
-    /// Empties the commit queue. The time is that of a move of each session that waits, 256 at most.
+    /// Empties the commit queue. It moves each session that still waits, 256 at most.
     pub fn take_commit(&mut self)
         ensures { self.new ≡ commit_taken self.old }
     {
@@ -136,7 +138,7 @@ impl Stages {
     }
 }
 
-/// Keeps the size of a group for which there is room. No session makes no group.
+/// Keeps the size of a group, for which there is room. Without sessions there is no group.
 fn keep_size(sizes: &mut VecDeque<usize>, size: usize)
     requires { 0 < size → deque_len sizes.old < deque_capacity sizes.old }
     ensures sizes { sizes.new.items ≡ sizes.old.items ++ (if nat_lt 0 size then size ∷ [] else []) }

@@ -20,7 +20,7 @@ pub enum DurableFault {
 /// Why no durable source was made.
 #[derive(Clone, Copy, Debug, PartialEq, Eq, Error)]
 pub enum MakeFault {
-    /// The device holds 33 bytes or more: a log may stand there.
+    /// The device holds 33 bytes or more, which may be a log.
     #[error("L8 Exists")]
     Exists,
     /// The log was not made: the device failed, or memory ran out.
@@ -40,19 +40,19 @@ impl From<Memory> for MakeFault {
     }
 }
 
-/// Why a log in files does not go on.
+/// Why a source can't continue from a log in files.
 #[derive(Clone, Copy, Debug, PartialEq, Eq, Error)]
 pub enum OpenFault {
-    /// It was not opened: a device failed, memory ran out, or the files are no log.
+    /// It was not opened: a device failed, memory ran out, or the files are not a log.
     #[error("{0}")]
     OfLog(LogFault),
     /// The files are of an older form, which no source writes.
     #[error("L6 OldForm")]
     OldForm,
-    /// It is the log of another identifier.
+    /// The log has another identifier.
     #[error("L7 OtherSource")]
     OtherSource,
-    /// Its records can't go on over these rows, or memory ran out.
+    /// A source can't continue from its records over these rows, or memory ran out.
     #[error("{0}")]
     OfRecovery(RecoveryFault),
 }

@@ -1,4 +1,4 @@
-//! The replica's opening, and the way of the log to it.
+//! Opens the replica, and carries the log to it.
 
 ghost use Rattle.std.specs.Prelude.{◌≡◌, None};
 ghost use Rattle.replica_shared.specs.Names.{OpensReplica};
@@ -19,7 +19,7 @@ use std::thread::sleep;
 use std::time::{Clock, Duration};
 use uuid::Uuid;
 
-/// So often a call for which memory lacks is made again, a millisecond later each time.
+/// How many times a call is made again if memory runs out, a millisecond later each time.
 pub const TRIES: usize = 100;
 
 /// The source, with its log in memory.
@@ -51,7 +51,8 @@ pub fn new_replica<K: ReplicaNaming>(
     Ok(SharedReplica::new(rt, alloc, core, publisher, seats)?)
 }
 
-/// Sends all that is synced and that the replica has not, as bytes. The source was closed, so this ends.
+/// Sends, as bytes, everything that is synced and that the replica does not have. This ends because the source is
+/// closed.
 pub fn send<J: SourceNaming, K: ReplicaNaming>(
     rt: &(impl Wait + Clock),
     alloc: Global,
@@ -76,8 +77,8 @@ pub fn send<J: SourceNaming, K: ReplicaNaming>(
     Ok(())
 }
 
-/// Hands the bytes over, and calls again where memory lacks: with the same bytes where none of them was taken, else with none, for the
-/// records that wait.
+/// Hands the bytes over. If memory runs out, it calls again: with the same bytes if none of them was taken, otherwise
+/// with none, for the records that wait.
 fn feed<K: ReplicaNaming>(
     rt: &(impl Wait + Clock),
     replica: &Replica<K>,
@@ -101,7 +102,7 @@ fn feed<K: ReplicaNaming>(
     Ok(())
 }
 
-/// Waits for a millisecond, in which memory may come back.
+/// Waits for a millisecond, in which memory may become free.
 pub fn pause(rt: &impl Clock) {
     sleep(rt, Duration::from_millis(1));
 }

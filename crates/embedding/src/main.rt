@@ -1,6 +1,8 @@
-//! A program of one's own over the pair. Two threads commit at the source; its log goes to the replica as bytes; each commit is
-//! waited for there, and read. Then both sides end, and are compared. Where memory lacks, what leaves something under way is called again,
-//! up to a bound; behind that, and where anything else is refused, both sides end, and the program says why.
+//! An example of a program that embeds the pair. Two threads commit at the source, and its log goes to the replica as
+//! bytes. The program waits for each commit there, and reads it. Then both sides end, and are compared.
+//!
+//! If memory runs out in a call that leaves something under way, it makes the call again, up to a bound. After that,
+//! and after any other refusal, both sides end, and it prints why.
 //!
 //! `docs/EMBEDDING.md` goes through it.
 #![tactic(auto)]
@@ -39,13 +41,13 @@ use trouble::Trouble;
 use uuid::Uuid;
 use world::{Pair, PairParts, begins, pair_of};
 
-/// The owners, each with a number that no other one has.
+/// The table of the owners, each with a number that no other one has.
 const OWNERS: u16 = 1;
 
-/// The accounts, each with the key of its owner, and a balance.
+/// The table of the accounts, each with the key of its owner, and a balance.
 const ACCOUNTS: u16 = 2;
 
-/// What is told at the end.
+/// What is printed at the end.
 #[derive(Clone, Copy)]
 struct Told {
     commits: u64,
@@ -65,7 +67,7 @@ fn main(rt: HostRuntime) -> ExitCode {
     }
 }
 
-/// Says why the program stops, in a line. Where that can't be written either the status alone says that it did.
+/// Prints why the program stops, as one line. If that can't be written either, only the exit status shows it.
 fn fail<D: Display>(rt: &impl Eprint, why: &D) -> ExitCode {
     let _ = eprintln!(rt; "{why}");
     ExitCode::FAILURE
@@ -78,7 +80,7 @@ fn tell(rt: &impl Print, told: &Told) -> io::Result<()> {
     println!(rt; "a beginning of the source's log: {}", told.is_beginning)
 }
 
-/// The balance of an account, -1 where there is none.
+/// The balance of an account, or -1 if there is none.
 fn balance(row: &Option<Row>) -> i64 {
     match row {
         Some(row) => row.columns().get(1).copied().unwrap_or(-1),
@@ -116,7 +118,7 @@ fn open<R: RandomSource + Threads + Wait + Clock + Sync>(
     )
 }
 
-/// The rows of the start.
+/// The rows at the start.
 fn two_owners(alloc: Global) -> Result<Batch, Trouble> {
     let (first, second) = (owner(1), owner(2));
     let one = Row::new(&[3001]).ok_or(Trouble::Misfit)?;
@@ -125,7 +127,7 @@ fn two_owners(alloc: Global) -> Result<Batch, Trouble> {
     Batch::from_entries(entries).ok_or(Trouble::Misfit)
 }
 
-/// Runs both sides, each under a name of its own, up to their end.
+/// Runs both sides to their end, with `J` naming the source and `K` the replica.
 fn run<
     J: SourceNaming + Send + Sync,
     K: ReplicaNaming + Send + Sync,
@@ -143,7 +145,7 @@ fn run<
     requires source_tables { pair.source.tables ≡ J.tables }
     requires receipts { receipts ≡ J.book }
     requires replica { OpensReplica K.names K.preserve K.book K.known pair.replica publication }
-    // Nothing is known of its log before.
+    // The replica's log is not known in advance.
     requires free { K.names.log ≡ None }
 {
     let Pair {
@@ -155,7 +157,7 @@ fn run<
     let source: Source<J> = SharedSource::new(alloc, source, log, receipts)?;
     let replica: Replica<K> = new_replica(rt, alloc, replica, publication)?;
     let met = meet(rt, alloc, from, &source, &replica);
-    // No thread is left, whatever they came to. A publisher has to be closed; a source may be dropped.
+    // No thread is left, however they ended. A publisher must be closed; a source may be dropped.
     let (replica, publisher) = replica.end();
     drop(publisher.close(rt));
     let told = compare(source, &replica, met);
@@ -163,7 +165,7 @@ fn run<
     told
 }
 
-/// What is told once no thread is left. A source that ends wants the receipts that it gave.
+/// What is printed once no thread is left. To end, the source needs the receipts that it gave.
 fn compare<J: SourceNaming>(
     source: Source<J>,
     replica: &ReplicaCore<BTreeStore>,
@@ -195,19 +197,19 @@ fn meet<
         || commit(rt, source, 1, 10, 500),
         || commit(rt, source, 2, 20, 700),
     );
-    // However these end, each side is told that no more comes.
+    // However these end, each side is closed, so that it expects no more.
     source.close(rt);
     let sent = send(rt, alloc, from, source, replica);
     replica.close(rt);
     sent?;
     let (first, second) = (first?, second?);
-    // Nobody waits at the replica meanwhile: for what a worker that gives up leaves he would wait for ever.
+    // No thread waits at the replica meanwhile. If a worker gave up, that thread would wait forever.
     work(rt, alloc, replica)?;
     let told = read_both(rt, replica, &first, &second)?;
     Ok((vec![in alloc; first, second]?, told))
 }
 
-/// One session's transaction: an account, with its balance.
+/// One session's transaction: it opens an account with this balance.
 fn commit<J: SourceNaming>(
     rt: &(impl Wait + Clock),
     source: &Source<J>,
@@ -230,7 +232,8 @@ fn commit<J: SourceNaming>(
     Ok(commit_prepared(rt, source, &mut seat)?)
 }
 
-/// Commits the seat's transaction. Where memory lacks it stays where it is in the stages, and the same call takes it up there.
+/// Commits the seat's transaction. If memory runs out, the transaction stays in its stage, and the same call continues
+/// from there.
 fn commit_prepared<J: SourceNaming>(
     rt: &(impl Wait + Clock),
     source: &Source<J>,
@@ -259,8 +262,8 @@ fn row(account: i64) -> RowId {
     }
 }
 
-/// Works until all is committed, since the replica was told that no more comes. A worker that lacks memory ends, and what it left is kept:
-/// so it is called again.
+/// Works until everything is committed, and then ends, since the replica is closed. A worker ends if memory runs out.
+/// What it left is kept, so it is called again.
 fn work<K: ReplicaNaming>(
     rt: &(impl Wait + Clock),
     alloc: Global,
@@ -294,8 +297,8 @@ fn read_both<J: SourceNaming, K: ReplicaNaming>(
     })
 }
 
-/// Reads at the replica what was written at the source: waits until the commit of the receipt is published there, and answers the row as
-/// that commit or a later one leaves it.
+/// Reads at the replica what was written at the source. It waits until the commit of the receipt is published there,
+/// and returns the row as that commit or a later one leaves it.
 fn read_own<J: SourceNaming, K: ReplicaNaming>(
     rt: &impl Wait,
     replica: &Replica<K>,
@@ -308,7 +311,7 @@ fn read_own<J: SourceNaming, K: ReplicaNaming>(
     reader.read(row).ok_or(Trouble::Misfit)
 }
 
-/// The sum of all balances: a walk over the rows of a table, in the order of their keys.
+/// The sum of all balances, by a walk over the table's rows in the order of their keys.
 fn sum<S: RowStore>(store: &S) -> Result<i64, Trouble> {
     let (mut sum, mut last) = (0i64, None);
     for _ in 0..store.len() {

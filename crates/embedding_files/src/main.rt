@@ -1,8 +1,11 @@
-//! A third program of one's own over the pair, whose log is in files and outlives its source: `embedding_files PREFIX SESSIONS COUNT`.
-//! Three sources live one after another over the log PREFIX.1, PREFIX.2 and so on. Each opens the files, or makes the log where there
-//! is none, and goes on where it ends: so many sessions commit so many transactions each. The first one goes on in a next file, and
-//! commits as many more; the last one is let go of in the middle, as a kill leaves it. Then the files are opened once more, and their
-//! records are handed to a replica. A fourth word says that fewer sources live, 1 or 2. What an earlier run left is gone on from too.
+//! An example of a program that embeds the pair and keeps its log in files, which outlive the source. Its words are
+//! `embedding_files PREFIX SESSIONS COUNT`.
+//!
+//! Three sources live one after another over the log PREFIX.1, PREFIX.2 and so on. Each opens the files, or makes the
+//! log if there is none, and continues at its end. In each life SESSIONS sessions commit COUNT transactions each. The
+//! first source then continues the log in a next file, and its sessions commit COUNT more. The last source is dropped
+//! in the middle, as a kill leaves it. Then the files are opened once more, and their records are handed to a replica.
+//! A fourth word says that fewer sources live, 1 or 2. A log that an earlier run left is continued too.
 //!
 //! `docs/EMBEDDING.md` goes through it.
 #![tactic(auto)]
@@ -36,13 +39,13 @@ use std::{env, io};
 use stored_log::next_file;
 use trouble::Trouble;
 
-/// So many sessions there may be.
+/// The most sessions.
 const SESSIONS: u32 = 16;
 
-/// So many transactions each of them may commit at a time.
+/// The most transactions that each session commits at a time.
 const COUNT: u32 = 1000000;
 
-/// So many sources live one after another, unless a word says fewer.
+/// How many sources live one after another, unless a word says fewer.
 const LIVES: u32 = 3;
 
 /// What the words ask for.
@@ -62,7 +65,7 @@ fn main(rt: HostRuntime) -> ExitCode {
     }
 }
 
-/// Says why the program stops, in a line. Where that can't be written either the status alone says that it did.
+/// Prints why the program stops, as one line. If that can't be written either, only the exit status shows it.
 fn fail<D: Display>(rt: &impl Eprint, why: &D) -> ExitCode {
     let _ = eprintln!(rt; "{why}");
     ExitCode::FAILURE
@@ -82,7 +85,7 @@ fn serve<R: Files<File = File> + RandomSource + Threads + Wait + Clock + Sync, W
     show(rt, alloc, &asked.prefix, out)
 }
 
-/// What the words ask for, of which the first is the program's name.
+/// What the words ask for. The first word is the program's name.
 fn read_words(words: Args) -> Result<Asked, Trouble> {
     let mut words = words.skip(1);
     let prefix = words.next().ok_or(Trouble::Usage)?;
@@ -104,7 +107,7 @@ fn read_words(words: Args) -> Result<Asked, Trouble> {
     }
 }
 
-/// A word that is a number from 1 to so many.
+/// A word that is a number from 1 to `most`.
 fn number(word: Option<String>, most: u32) -> Result<u32, Trouble> {
     let word = word.ok_or(Trouble::Usage)?;
     match word.parse::<u32>() {
@@ -127,7 +130,8 @@ fn live<R: Files<File = File> + RandomSource + Threads + Wait + Clock + Sync, W:
     run::<Brand, R, W>(rt, alloc, asked, life, opened, Beginning::new(), out)
 }
 
-/// Runs the source, under a name of its own, up to its end. What is told of it outlives it, also where it is let go of.
+/// Runs the source to its end, with `J` as its name. What the source reported outlives it, even if the source is
+/// dropped.
 fn run<
     J: SourceNaming + Send + Sync,
     R: Files<File = File> + Threads + Wait + Clock + Sync,
@@ -154,7 +158,7 @@ fn run<
     end(rt, life, source, receipts)
 }
 
-/// Commits what one life does, and tells how many commits are in its log's files then.
+/// Commits what one life does, and prints how many commits the log's files have then.
 fn commit_and_tell<
     J: SourceNaming + Send + Sync,
     R: Files<File = File> + Threads + Wait + Clock + Sync,
@@ -174,7 +178,7 @@ fn commit_and_tell<
     Ok(receipts)
 }
 
-/// Ends one life. The last one is let go of as it is, as a kill leaves it, and so is one that had trouble.
+/// Ends one life. The last source is dropped as it is, as a kill leaves it, and so is one that had trouble.
 fn end<J: SourceNaming + Send + Sync, R: Wait>(
     rt: &R,
     life: u32,
@@ -185,14 +189,15 @@ fn end<J: SourceNaming + Send + Sync, R: Wait>(
     if life < LIVES {
         source.close(rt);
         let (core, log) = source.end_with_log(&receipts);
-        // The devices are in the log: with it the files are closed, and may be opened again.
+        // The log has the devices, so dropping it closes the files, and they can be opened again.
         drop(log);
         drop(core);
     }
     Ok(())
 }
 
-/// What the sessions do in this life, over a log that has so many files. It answers the last receipt of each session in each file.
+/// What the sessions do in this life, over a log of this number of files. Returns the last receipt of each session in
+/// each file.
 fn commit_in_life<
     J: SourceNaming + Send + Sync,
     R: Files<File = File> + Threads + Wait + Clock + Sync,

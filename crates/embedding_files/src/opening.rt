@@ -1,4 +1,4 @@
-//! A source over the log's files, which goes on where the log ends.
+//! A source over the log's files, which continues at the end of the log.
 
 ghost use Rattle.std.specs.Prelude.{◌≡◌, IfOk, OnOk};
 ghost use Rattle.log_file.specs.declared.form.Form.TheVariants.{Three};
@@ -21,24 +21,24 @@ use std::rt::Files;
 use stored_log::OnFile;
 use uuid::Uuid;
 
-/// The rows, each with its session and its number.
+/// The table of the rows, each with its session and its number.
 pub const ROWS: u16 = 1;
 
-/// So many records the log may have.
+/// The most records of the log.
 const RECORDS: u64 = 1000000000;
 
 /// The source, for one thread.
 pub type Core = SourceCore<BTreeStore, CommitOrder>;
 
-/// A source, and the log's files, which have just its records.
+/// A source, and the log's files, which have exactly its records.
 #[derive(Drop)]
 pub struct Opened {
     pub core: Core,
     pub log: LogSet<OnFile>,
 }
 
-/// Opens the log, or makes one where there is none, under a new identifier; and a source that goes on from it, which is new where it has
-/// no records.
+/// Opens the log, or makes one with a new identifier if there is none. Returns it with a source that continues from it.
+/// If the log has no records, that is a new source.
 pub fn open_or_make<R: Files<File = File> + RandomSource>(
     rt: &R,
     alloc: Global,
@@ -54,7 +54,7 @@ pub fn open_or_make<R: Files<File = File> + RandomSource>(
     Ok(Opened { core, log })
 }
 
-/// Refuses a log of an earlier form, in which no source goes on.
+/// Refuses a log of an earlier form, in which no source continues.
 fn refuse_old(log: &LogSet<OnFile>) -> Result<(), Trouble>
     ensures { OnOk result (log.now.log.head.form ≡ Three) }
 {
@@ -65,7 +65,7 @@ fn refuse_old(log: &LogSet<OnFile>) -> Result<(), Trouble>
     }
 }
 
-/// A source that goes on from these records, all of which are committed. The rows before the first of them are none.
+/// A source that continues from these records, all of which are committed. There are no rows before the first record.
 fn core_at(alloc: Global, records: &[Record]) -> Result<Core, Trouble>
     ensures at { IfOk result (λ core. core ≡ source_at core.tables core.base core.limit core.kind core.log) }
     ensures log { IfOk result (λ core. core.log ≡ records.now) }

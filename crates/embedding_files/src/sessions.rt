@@ -14,19 +14,20 @@ use std::thread::{Threads, map_indices, sleep};
 use std::time::{Clock, Duration};
 use stored_log::OnFile;
 
-/// So often a call for which memory lacks is made again.
+/// How many times a call is made again if memory runs out.
 const TRIES: usize = 100;
 
-/// The keys of two sessions are so far apart.
+/// The distance between the keys of two sessions.
 const APART: i64 = 4294967296;
 
 /// The source, with its log in files.
 pub type Source<J> = SharedSource<BTreeStore, CommitOrder, OnFile, J>;
 
-/// The seats of the sessions, each of which a thread has for some transactions.
+/// The seats of the sessions. A thread holds one while it commits some transactions.
 pub type Seats<J> = Vec<Mutex<SessionSeat<J>>>;
 
-/// The seats of the sessions from 1 to so many. A seat is given once for the life of a source, so they are kept from file to file.
+/// The seats of the sessions from 1 to `sessions`. A source gives each seat once in its life, so they are kept from
+/// file to file.
 pub fn seats<J: SourceNaming>(
     rt: &impl Wait,
     alloc: Global,
@@ -41,8 +42,8 @@ pub fn seats<J: SourceNaming>(
     Ok(seats)
 }
 
-/// Each session commits so many transactions, in a thread of its own. The first of these has the number of records that are there: so no
-/// session takes a number again, of whichever life. It answers the last receipt of each.
+/// Each session commits `count` transactions, in a separate thread. Their numbers begin at the number of records in the
+/// log, so no session uses a number twice, in any life. Returns the last receipt of each session.
 pub fn commit_all<J: SourceNaming + Send + Sync, R: Threads + Wait + Clock + Sync>(
     rt: &R,
     alloc: Global,
@@ -64,13 +65,13 @@ pub fn commit_all<J: SourceNaming + Send + Sync, R: Threads + Wait + Clock + Syn
     Ok(receipts)
 }
 
-/// How many records the log has, all of them flushed.
+/// How many records the log has, all of which are flushed.
 fn flushed<J: SourceNaming>(rt: &impl Wait, source: &Source<J>) -> Result<u32, Trouble> {
     let flushed = source.flushed(rt)?;
     u32::try_from(flushed).map_err(|_| Trouble::Misfit)
 }
 
-/// The transactions of one session. Of their receipts it answers the last: a source that runs for long keeps none of the others.
+/// Commits the transactions of one session, and returns the last receipt. A source that runs for long keeps no others.
 fn commit_some<J: SourceNaming>(
     rt: &(impl Wait + Clock),
     source: &Source<J>,
@@ -88,7 +89,7 @@ fn commit_some<J: SourceNaming>(
     last.ok_or(Trouble::Misfit)
 }
 
-/// A transaction that is not committed, of the first session.
+/// Begins a transaction of the first session that is never committed.
 pub fn leave_open<J: SourceNaming>(
     rt: &impl Wait,
     source: &Source<J>,
@@ -99,7 +100,7 @@ pub fn leave_open<J: SourceNaming>(
     write(rt, source, &mut seat.lock(rt), number)
 }
 
-/// Begins a transaction, which writes a row with its session and its number.
+/// Begins a transaction and writes a row with its session and its number.
 fn write<J: SourceNaming>(
     rt: &impl Wait,
     source: &Source<J>,
@@ -116,8 +117,8 @@ fn write<J: SourceNaming>(
     Ok(source.write(rt, seat, Change::Insert { row, values })?)
 }
 
-/// Commits the seat's transaction. Where memory lacks it stays where it is in the stages, and the same call takes it up there, a
-/// millisecond later: the last of them tells the refusal.
+/// Commits the seat's transaction. If memory runs out, the transaction stays in its stage, and the same call continues
+/// from there a millisecond later. After the last try it returns the refusal.
 fn commit_prepared<J: SourceNaming>(
     rt: &(impl Wait + Clock),
     source: &Source<J>,

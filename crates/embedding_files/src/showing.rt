@@ -1,4 +1,4 @@
-//! What the log's files hold, at a replica.
+//! Shows at a replica what the log's files hold.
 
 use crate::opening::{Opened, open_or_make, schema};
 use crate::trouble::Trouble;
@@ -39,7 +39,7 @@ fn show_log<W: Write>(alloc: Global, opened: &Opened, out: &mut W) -> Result<(),
     shown
 }
 
-/// Hands a log to a replica, and shows where it stands after that.
+/// Hands a log to a replica, and shows how far the replica is then.
 fn show_replica<W: Write>(
     alloc: Global,
     opened: &Opened,
@@ -67,7 +67,7 @@ fn new_replica(alloc: Global, source: Uuid) -> Result<ReplicaCore<BTreeStore>, T
     Ok(ReplicaCore::new(alloc, schema, source, rows, 1, true)?)
 }
 
-/// Hands the records of a source to a replica, and each is committed there before the next one comes.
+/// Hands the records of a source to a replica. Each is committed there before the next one comes.
 fn feed(
     alloc: Global,
     source: Uuid,

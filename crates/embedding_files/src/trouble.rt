@@ -9,7 +9,7 @@ use std::io;
 use stored_log::StoreFault;
 use thiserror::Error;
 
-/// Why the program stops: each crate's own fault, and what does not happen over the schema and the rows of this program.
+/// Why the program stops: a fault of one of the crates, or something that this program's schema and rows never cause.
 #[derive(Clone, Copy, Debug, Error)]
 pub enum Trouble {
     #[error("usage: embedding_files PREFIX SESSIONS COUNT [LIVES]")]

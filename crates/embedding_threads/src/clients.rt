@@ -14,13 +14,14 @@ use std::sync::{Mutex, OnceLock, Wait};
 use std::thread::{Threads, map_indices};
 use std::time::Clock;
 
-/// The accounts, each with the session that wrote it last, and a balance.
+/// The table of the accounts, each with the session that wrote it last, and a balance.
 pub const ACCOUNTS: u16 = 1;
 
 /// The account to which each session gives 10.
 pub const JOINT: i64 = 9;
 
-/// A client: its session, whose number its account has too, and the number of its last commit, once it was told; 0 where it has none.
+/// A client: its session, whose number is also that of its account, and the gno of its last commit once it is known.
+/// That is 0 if no commit came.
 #[derive(Drop)]
 pub struct Client {
     session: u16,
@@ -36,10 +37,11 @@ impl Client {
     }
 }
 
-/// Why a session was refused at first, and all receipts.
+/// The refusal that a session first got, and all receipts.
 pub type Served<J> = Result<(Trouble, Vec<Receipt<J>>), Trouble>;
 
-/// Serves all clients, each in a thread of its own. However that ends, nobody waits on: each client was told, and no more comes.
+/// Serves all clients, each in a separate thread. However that ends, it sets the commit of each client and closes the
+/// source, so nobody waits on.
 pub fn serve<J: SourceNaming + Send + Sync, R: Threads + Wait + Clock + Sync>(
     rt: &R,
     alloc: Global,
@@ -74,8 +76,8 @@ fn serve_all<J: SourceNaming + Send + Sync, R: Threads + Wait + Clock + Sync>(
     Ok((refusal, receipts))
 }
 
-/// Two sessions in one thread. The first deletes the joint account, and so holds its row; the second is refused; the first takes its
-/// transaction back, which leaves no trace, and the second tries again.
+/// Two sessions in one thread. The first deletes the joint account, which locks its row, so the second is refused. Then
+/// the first aborts its transaction, which leaves no trace, and the second tries again.
 fn try_again<J: SourceNaming>(
     rt: &(impl Wait + Clock),
     source: &Source<J>,
@@ -93,7 +95,7 @@ fn try_again<J: SourceNaming>(
     Ok((refusal, give(rt, source, &mut second)?))
 }
 
-/// A client's session: it opens an account, and gives to the joint one. Then its reader is told.
+/// A client's session: it opens an account, and gives to the joint one. Then its reader learns the commit.
 fn visit<J: SourceNaming>(
     rt: &(impl Wait + Clock),
     alloc: Global,
@@ -112,7 +114,7 @@ fn visit<J: SourceNaming>(
     Ok(vec![in alloc; opened, given]?)
 }
 
-/// Gives, and tries again while another session holds the joint account. It holds nothing while it waits.
+/// Gives, and tries again while another session holds the joint account. While it waits, it holds nothing.
 fn give_at_last<J: SourceNaming>(
     rt: &(impl Wait + Clock),
     source: &Source<J>,
@@ -127,8 +129,8 @@ fn give_at_last<J: SourceNaming>(
     unreachable!()
 }
 
-/// Gives to the joint account. Where that is refused the transaction is taken back, so that the row is free for others, who may try for it
-/// without an end. One that is queued already is not: `abort` is refused then.
+/// Gives to the joint account. If that is refused, it aborts the transaction, so that the row is free for others, which
+/// may retry forever. A transaction that is queued already stays, since `abort` is refused then.
 fn give<J: SourceNaming>(
     rt: &(impl Wait + Clock),
     source: &Source<J>,
@@ -151,7 +153,7 @@ fn add_and_commit<J: SourceNaming>(
     commit(rt, source, seat)
 }
 
-/// Adds 10 to the joint account. It writes the row before it reads it: behind its own write nobody else commits there.
+/// Adds 10 to the joint account. It writes the row before it reads it: after its own write nobody else commits there.
 fn add<J: SourceNaming>(
     rt: &impl Wait,
     source: &Source<J>,
@@ -165,14 +167,15 @@ fn add<J: SourceNaming>(
     Ok(source.write(rt, seat, sum)?)
 }
 
-/// This column of the joint account has this value.
+/// The change that gives this column of the joint account this value.
 fn set(column: u8, value: i64) -> Result<Change, Trouble> {
     let columns = Named::of(&[(column, value)]).ok_or(Trouble::Misfit)?;
     let row = row(JOINT);
     Ok(Change::Update { row, columns })
 }
 
-/// Commits what the seat wrote. Where memory lacks it stays where it is in the stages, and the same call takes it up there.
+/// Commits what the seat wrote. If memory runs out, the transaction stays in its stage, and the same call continues
+/// from there.
 fn commit<J: SourceNaming>(
     rt: &(impl Wait + Clock),
     source: &Source<J>,
@@ -205,7 +208,7 @@ pub fn pool<K: ReplicaNaming>(
     Ok(pool)
 }
 
-/// The clients' accounts, each as a reader of its own sees it.
+/// The clients' accounts, each read by a separate reader.
 pub fn read_all<K: ReplicaNaming + Send + Sync, R: Threads + Wait + Sync>(
     rt: &R,
     alloc: Global,
@@ -226,7 +229,7 @@ pub fn read_all<K: ReplicaNaming + Send + Sync, R: Threads + Wait + Sync>(
     Ok(answers)
 }
 
-/// A client's account, once it was told of its commit.
+/// A client's account, after its last commit is known.
 fn read_own<K: ReplicaNaming>(
     rt: &impl Wait,
     replica: &Replica<K>,
@@ -238,7 +241,8 @@ fn read_own<K: ReplicaNaming>(
     read(rt, replica, pool, place, gno, i64::from(client.session))
 }
 
-/// An account behind the commit of this number. Who waits for the commit has no seat yet: one is lent for the reading alone.
+/// An account after the commit of this number. While it waits for the commit it has no seat: it takes one only for the
+/// read.
 pub fn read<K: ReplicaNaming>(
     rt: &impl Wait,
     replica: &Replica<K>,
@@ -262,7 +266,7 @@ pub fn row(account: i64) -> RowId {
     }
 }
 
-/// The balance of an account, -1 where there is none.
+/// The balance of an account, or -1 if there is none.
 pub fn balance(row: &Option<Row>) -> i64 {
     match row {
         Some(row) => row.columns().get(1).copied().unwrap_or(-1),

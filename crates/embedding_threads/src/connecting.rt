@@ -1,4 +1,4 @@
-//! The replica's opening, and what carries the log to it and executes it while sessions commit.
+//! Opens the replica, and carries the log to it and executes it while sessions commit.
 
 ghost use Rattle.std.specs.Prelude.{◌≡◌, None};
 ghost use Rattle.replica_shared.specs.Names.{OpensReplica};
@@ -20,7 +20,7 @@ use std::thread::sleep;
 use std::time::{Clock, Duration};
 use uuid::Uuid;
 
-/// So many seats all readers share.
+/// How many seats the readers share.
 pub const SEATS: usize = 2;
 
 /// The source, with its log in memory.
@@ -52,8 +52,9 @@ pub fn new_replica<K: ReplicaNaming>(
     Ok(SharedReplica::new(rt, alloc, core, publisher, seats)?)
 }
 
-/// The wire: sends what is synced, as soon as it is, until the source was closed and all is sent; then tells the replica that no more
-/// comes. For want of memory it never gives up, since readers wait for what it sends: it tries again each millisecond.
+/// The wire: sends what is synced, at once, until the source is closed and everything is sent. Then it closes the
+/// replica, since no more comes. It never gives up if memory runs out, since readers wait for what it sends: it tries
+/// again each millisecond.
 pub fn carry<J: SourceNaming, K: ReplicaNaming>(
     rt: &(impl Wait + Clock),
     alloc: Global,
@@ -68,7 +69,8 @@ pub fn carry<J: SourceNaming, K: ReplicaNaming>(
     sent
 }
 
-/// Without room in the vector the bytes are those of one record at a time, for which the source asks for memory.
+/// The vector begins without room. The source asks for memory only if the next record does not fit, so few records are
+/// sent at a time.
 fn send<J: SourceNaming, K: ReplicaNaming>(
     rt: &(impl Wait + Clock),
     alloc: Global,
@@ -96,8 +98,8 @@ fn send<J: SourceNaming, K: ReplicaNaming>(
     unreachable!()
 }
 
-/// Hands the bytes over, and calls again where memory lacks: with the same bytes where none of them was taken, else with none, for the
-/// records that wait.
+/// Hands the bytes over. If memory runs out, it calls again: with the same bytes if none of them was taken, otherwise
+/// with none, for the records that wait.
 fn feed<K: ReplicaNaming>(
     rt: &(impl Wait + Clock),
     replica: &Replica<K>,
@@ -120,8 +122,8 @@ fn feed<K: ReplicaNaming>(
     unreachable!()
 }
 
-/// A worker: executes what comes until all is committed behind the replica's `close`. One that lacks memory is called again, each
-/// millisecond, since readers wait for what it left.
+/// A worker: executes what comes, until the replica is closed and everything is committed. If memory runs out, it is
+/// called again, each millisecond, since readers wait for what it left.
 pub fn work<K: ReplicaNaming>(
     rt: &(impl Wait + Clock),
     alloc: Global,
@@ -136,7 +138,7 @@ pub fn work<K: ReplicaNaming>(
     unreachable!()
 }
 
-/// Waits for a millisecond, in which memory may come back, or a row be let go.
+/// Waits for a millisecond, in which memory may become free or a session may release a row.
 pub fn pause(rt: &impl Clock) {
     sleep(rt, Duration::from_millis(1));
 }

@@ -1,6 +1,7 @@
-//! A second program of one's own over the pair, which lives longer than `embedding`: while sessions commit, a wire sends what is synced,
-//! two workers execute it, and readers wait for what a client was told of, and read it through seats that they share. Each of them is a
-//! thread of its own. It prints the same in whatever order these take their steps.
+//! An example of a program that embeds the pair with both sides at work at once. While sessions commit, a wire sends
+//! what is synced, and two workers execute it. Readers wait for the commit that a client reported, and read it through
+//! seats that they share. Each of these has a separate thread. The output is the same, whatever the order of their
+//! steps.
 //!
 //! `docs/EMBEDDING.md` goes through it.
 #![tactic(auto)]
@@ -39,7 +40,7 @@ use trouble::Trouble;
 use uuid::Uuid;
 use world::{Pair, PairParts, begins, pair_of};
 
-/// What is told at the end.
+/// What is printed at the end.
 #[derive(Drop)]
 struct Told {
     refusal: Trouble,
@@ -58,7 +59,7 @@ fn main(rt: HostRuntime) -> ExitCode {
     }
 }
 
-/// Says why the program stops, in a line. Where that can't be written either the status alone says that it did.
+/// Prints why the program stops, as one line. If that can't be written either, only the exit status shows it.
 fn fail<D: Display>(rt: &impl Eprint, why: &D) -> ExitCode {
     let _ = eprintln!(rt; "{why}");
     ExitCode::FAILURE
@@ -104,7 +105,7 @@ fn open<R: RandomSource + Threads + Wait + Clock + Sync>(
     )
 }
 
-/// Runs both sides, each under a name of its own, up to their end.
+/// Runs both sides to their end, with `J` naming the source and `K` the replica.
 fn run<
     J: SourceNaming + Send + Sync,
     K: ReplicaNaming + Send + Sync,
@@ -122,7 +123,7 @@ fn run<
     requires source_tables { pair.source.tables ≡ J.tables }
     requires receipts { receipts ≡ J.book }
     requires replica { OpensReplica K.names K.preserve K.book K.known pair.replica publication }
-    // Nothing is known of its log before.
+    // The replica's log is not known in advance.
     requires free { K.names.log ≡ None }
 {
     let Pair {
@@ -134,7 +135,7 @@ fn run<
     let source: Source<J> = SharedSource::new(alloc, source, log, receipts)?;
     let replica: Replica<K> = new_replica(rt, alloc, replica, publication)?;
     let met = meet(rt, alloc, from, &source, &replica);
-    // No thread is left, whatever they came to. A publisher has to be closed; a source may be dropped.
+    // No thread is left, however they ended. A publisher must be closed; a source may be dropped.
     let (replica, publisher) = replica.end();
     drop(publisher.close(rt));
     let told = compare(source, &replica, met);
@@ -142,7 +143,7 @@ fn run<
     told
 }
 
-/// What is told once no thread is left. A source that ends wants the receipts that it gave.
+/// What is printed once no thread is left. To end, the source needs the receipts that it gave.
 fn compare<J: SourceNaming>(
     source: Source<J>,
     replica: &ReplicaCore<BTreeStore>,
@@ -154,8 +155,8 @@ fn compare<J: SourceNaming>(
     Ok(told)
 }
 
-/// What both sides do between their opening and their end. Of two closures the one that waits for the other is the first: readers wait for
-/// workers, these for the wire, the wire for the sessions, and these for nobody.
+/// What both sides do between their opening and their end. Of two closures the first is the one that waits for the
+/// other: readers wait for workers, workers for the wire, the wire for the sessions, and sessions for nobody.
 fn meet<
     J: SourceNaming + Send + Sync,
     K: ReplicaNaming + Send + Sync,

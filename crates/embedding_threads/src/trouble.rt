@@ -10,7 +10,7 @@ use std::alloc::{AllocError, AllocFailed};
 use std::io;
 use thiserror::Error;
 
-/// Why the program stops: each crate's own fault, and what does not happen over the schema and the rows of this program.
+/// Why the program stops: a fault of one of the crates, or something that this program's schema and rows never cause.
 #[derive(Clone, Copy, Debug, Error)]
 pub enum Trouble {
     #[error("no identifier: {0}")]

@@ -1,4 +1,4 @@
-//! Changes run over rows.
+//! Runs changes over rows.
 
 ghost use Rattle.std.specs.Prelude.{◌≡◌, ◌&&◌, Some, None, if◌then◌else◌, option_and_then, IfOk};
 ghost use Rattle.std.specs.Option.{option_map};
@@ -15,10 +15,10 @@ use rows::{Change, Step};
 use schema::{Mark, Memory, Schema};
 use store_trait::RowStore;
 
-/// Runs these changes over the store and these holders, in the room of those that were run before; tells whether each of them
-/// applies behind those before it. The store stays as it is. The time is that of at most two look-ups a change, and for each change
-/// that gives its row a value of a unique column that of a search for its holder and of a walk over the rows that were changed
-/// before it.
+/// Runs these changes over the store and these holders, in the room of changes that were run before, and returns
+/// whether each of them applies after those before it. The store stays as it is. The time is that of at most two
+/// look-ups for each change. A change that gives its row a value of a unique column also costs a search for its holder,
+/// and a walk over the rows that were changed before it.
 pub(crate) fn run_changes<S: RowStore>(
     pending: &mut Pending,
     schema: &Schema,
@@ -40,7 +40,7 @@ pub(crate) fn run_changes<S: RowStore>(
     Ok(true)
 }
 
-/// What the change does to its row, where it applies behind those before it. It takes no memory.
+/// What the change does to its row, if it applies after those before it. It takes no memory.
 fn step_that_applies<S: RowStore>(
     pending: &Pending,
     schema: &Schema,
@@ -55,8 +55,8 @@ fn step_that_applies<S: RowStore>(
     stands(pending, schema, holders, store, change, &step).then_some(step)
 }
 
-/// Whether the parent that the change gives its row, if it gives one, is there, and no other row has the value that it gives it, if
-/// it gives one.
+/// Whether the change may give its row what it gives: if that is a parent, the parent is there; if it is a value, no
+/// other row has it.
 fn stands<S: RowStore>(
     pending: &Pending,
     schema: &Schema,
@@ -78,7 +78,7 @@ fn stands<S: RowStore>(
         )
 }
 
-/// The key of the row that has the mark, where there is a mark, and a row that has it.
+/// The key of the row that has the mark, if there is a mark and a row has it.
 fn holder_of(holders: &Holders, mark: Option<Mark>) -> Option<i64>
     ensures { result ≡ option_and_then (held holders.now) mark }
 {

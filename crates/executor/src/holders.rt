@@ -7,7 +7,7 @@ use schema::{Mark, Memory, copied};
 use std::alloc::Global;
 use std::marker::Model;
 
-/// Marks, strictly rising, each with the key of the row of its table that has it, or `None` where no row has.
+/// Marks, strictly rising, each with the key of the row of its table that has it, or `None` if no row has it.
 #[derive(Debug, Drop)]
 pub struct Holders {
     list: Vec<(Mark, Option<i64>)>,
@@ -50,8 +50,8 @@ impl Holders {
         &self.list
     }
 
-    /// The key of the row that has the mark; `None` where no row has it, and for a mark that is not among these. It takes no
-    /// memory. The time is that of a search by halves.
+    /// The key of the row that has the mark; `None` if no row has it, or if the mark is not among these. It takes no
+    /// memory, and the time of a binary search.
     pub fn holder(&self, mark: Mark) -> Option<i64>
         ensures { result ≡ held self.now mark }
     {
@@ -61,7 +61,7 @@ impl Holders {
         }
     }
 
-    /// Equal holders, in memory of their own.
+    /// Equal holders, in separate memory.
     pub fn copy(&self) -> Result<Holders, Memory>
         ensures { IfOk result (λ holders. holders ≡ self.now) }
     {

@@ -1,13 +1,15 @@
-//! Jobs: a record with the rows that it looks at, and its execution.
+//! Jobs, each a record with the rows that it looks at, and their execution.
 //!
-//! A `Job` has all that the execution of one record needs: the record, copies of the rows that it writes and refers
-//! to, the holders of its marks, and the schema. `execute` looks at nothing else, so it needs no lock, and any thread may run
-//! it; `execute_in` does the same in a `Room` that is kept from job to job. A `JobResult` keeps its job, and its type keeps that
-//! its outcome is what comes of that job over each database that the job may be of: the rows that the record writes, as its
-//! changes leave them; or that they do not apply; or that they apply and look at other parent rows, or have other marks, than the
-//! record states. A job may be of the database that its rows and holders are of, where its record states what its changes give
-//! (`laws`); of a job that is of none nothing is promised. It stands on `overlay` for running the changes, and on `vector_store`
-//! for the rows that they run over.
+//! A `Job` has all that the execution of one record needs: the record, copies of the rows that it writes and refers to,
+//! the holders of its marks, and the schema. `execute` looks at nothing else. So it needs no lock, and any thread may
+//! run it. `execute_in` does the same in a `Room` that is kept from job to job.
+//!
+//! A `JobResult` keeps its job. Its type ensures that its outcome is right for each database that the job may be of.
+//! The outcome is the rows that the record writes, as its changes leave them; or that the changes do not apply; or that
+//! they apply, but look at other parent rows, or have other marks, than the record states. It may also be that memory
+//! ran out. A job may be of the database that its rows and holders are from, if its record states what its changes give
+//! (`laws`). Nothing is promised for a job that is of no database. `overlay` runs the changes, and `vector_store` has
+//! the rows that they run over.
 #![tactic(auto)]
 
 ghost use Rattle.std.specs.Prelude.{◌≡◌, ◌⊎◌, ◌↔◌, IsTrue, IfOk};
@@ -32,29 +34,29 @@ use std::marker::Model;
 use store_trait::{Batch, RowStore};
 use vector_store::VectorStore;
 
-/// What a worker needs for executing one record.
+/// What a worker needs to execute one record.
 #[derive(Debug, Drop)]
 pub struct Job {
     /// The record's number at its source.
     pub gno: u64,
     pub rec: Record,
-    /// The rows that the record writes and refers to, absent ones as removed.
+    /// The rows that the record writes and refers to; an absent one is there as removed.
     pub input: Batch,
     /// The record's marks, each with the row that has it.
     pub holders: Holders,
     pub schema: Schema,
 }
 
-/// What came of a job.
+/// The outcome of a job.
 #[derive(Debug, Drop)]
 pub enum Outcome {
     /// Each row that the record writes, as its changes leave it.
     Output(Batch),
-    /// One of the changes does not apply to the rows, or gives its row a value of a unique column that another row has.
+    /// One of the changes does not apply to the rows, or gives its row a value that another row has in a unique column.
     Undefined,
-    /// The changes apply, and the record's refs are not exactly the parent rows, before and after each change, of the changed
-    /// child rows, or its marks are not exactly the old and the new values, in unique columns, of the changed rows: one is
-    /// missing, or one is no such row or value.
+    /// The changes apply, but the record's refs or marks are wrong: one is missing, or one does not belong there. Its
+    /// refs must be exactly the parent rows, before and after each change, of the changed child rows. Its marks must be
+    /// exactly the old and new values, in unique columns, of the changed rows.
     WrongRefs,
     /// Memory ran out. The job may be executed again.
     Memory,
@@ -71,7 +73,7 @@ impl From<Memory> for Outcome {
     }
 }
 
-/// A job with what came of it. `execute` makes it.
+/// A job with its outcome, made by `execute`.
 #[derive(Debug, Drop)]
 pub struct JobResult {
     job: Job,
@@ -102,7 +104,7 @@ impl Job {
         }
     }
 
-    /// An equal job, in memory of its own.
+    /// An equal job, in separate memory.
     pub fn copy(&self) -> Result<Job, Memory>
         ensures { IfOk result (λ job. job ≡ self.now) }
     {
@@ -115,8 +117,8 @@ impl Job {
         })
     }
 
-    /// Whether the job has this record, these rows, these holders and this schema. It takes no memory. The time is that of a walk
-    /// over them.
+    /// Whether the job has this record, these rows, these holders and this schema. It takes no memory, and the time of
+    /// a walk over them.
     pub fn is_of(&self, rec: &Record, input: &Batch, holders: &Holders, schema: &Schema) -> bool
         ensures { IsTrue result ↔ ((self.now.rec ≡ rec.now) × (self.now.input ≡ input.now) × (self.now.holders ≡ holders.now)
             × (self.now.schema ≡ schema.now)) }
@@ -136,7 +138,7 @@ impl JobResult {
         &self.job
     }
 
-    /// What came of it.
+    /// The job's outcome.
     pub fn outcome(&self) -> &Outcome
         ensures value { result.now ≡ self.now.outcome }
         ensures valid { IsResult self.now }
@@ -151,8 +153,8 @@ impl JobResult {
         self.job.gno
     }
 
-    /// The rows that came of it, without the job: `None` where its record does not apply or states other refs or marks, or memory
-    /// ran out. It takes no memory.
+    /// The output rows, without the job; `None` if its record does not apply or states other refs or marks, or if
+    /// memory ran out. It takes no memory.
     pub fn into_output(self) -> Option<Batch>
         ensures { result ≡ output_of self.outcome }
     {
@@ -163,7 +165,7 @@ impl JobResult {
         }
     }
 
-    /// The job, without what came of it. It takes no memory.
+    /// The job, without its outcome. It takes no memory.
     pub fn into_job(self) -> Job
         ensures { result ≡ self.job }
     {
@@ -175,13 +177,15 @@ impl JobResult {
     }
 }
 
-/// Executes a job: runs its record's changes over its input and its holders, and compares the record's refs with the parent rows
-/// that the changes look at there, and its marks with the values that they give up and take. `Undefined` comes exactly where the
-/// changes do not apply, `WrongRefs` exactly where they apply and the refs or the marks are not these, and else the output; but
-/// where memory runs out the answer tells of that. With b changes, r rows in the input and h holders the time is that of putting
-/// the rows into a store of their own, of 2b look-ups there at most, of sorting b rows and up to 2b parent rows and 2b marks, and of
-/// as many searches; each change that gives its row a value of a unique column costs a search in the h holders and a walk over up to
-/// b rows more.
+/// Executes a job: runs its record's changes over its input and its holders. It compares the record's refs with the
+/// parent rows that the changes look at there, and its marks with the values that they give up and take. The outcome is
+/// `Undefined` if the changes do not apply, `WrongRefs` if they apply and the refs or marks differ, and otherwise the
+/// output. If memory runs out, it is `Memory` instead.
+///
+/// Take b changes, r rows in the input and h holders. The time is that of putting the r rows into a separate store, at
+/// most 2b look-ups there, sorting b rows and up to 2b parent rows and 2b marks, and one search for each of these. A
+/// change that gives its row a value of a unique column costs one more search in the h holders, and a walk over up to b
+/// rows.
 pub fn execute(alloc: Global, job: Job) -> JobResult
     ensures job { result.job ≡ job }
     ensures outcome { (result.outcome ≡ Outcome.Memory) ⊎
@@ -191,10 +195,10 @@ pub fn execute(alloc: Global, job: Job) -> JobResult
     execute_in(&mut room, job)
 }
 
-/// Executes a job as `execute` does, in a room that is kept from job to job, whatever the job before left there. A job of at most 16
-/// changes, with at most 48 rows in its input, takes memory only for its output, once the room had jobs as great. Behind a job of more
-/// changes or rows the room's memory is given back, and the next job takes it anew. The time is that of `execute`, and of a walk over
-/// the room that the jobs before left, which is constant.
+/// Like `execute`, but in a room that is kept from job to job; what an earlier job left there does not matter. A job of
+/// at most 16 changes, with at most 48 rows in its input, takes memory only for its output, once the room had jobs of
+/// that size. After a job of more changes or rows the room's memory is given back, and the next job takes it anew. The
+/// time is that of `execute`, and of a walk over the room that earlier jobs left, which is bounded by a constant.
 pub fn execute_in(room: &mut Room, job: Job) -> JobResult
     ensures job { result.job ≡ job }
     ensures outcome { (result.outcome ≡ Outcome.Memory) ⊎
@@ -208,7 +212,7 @@ pub fn execute_in(room: &mut Room, job: Job) -> JobResult
     JobResult { job, outcome }
 }
 
-/// What comes of the job.
+/// The job's outcome.
 fn run(room: &mut Room, job: &Job) -> Result<Outcome, Memory>
     ensures { IfOk result (λ outcome. (db : Database) → Agrees job.now db → outcome ≡ outcome_over job.now.schema job.now.rec db) }
 {
@@ -228,8 +232,8 @@ fn run(room: &mut Room, job: &Job) -> Result<Outcome, Memory>
     outcome_of(&job.rec, &mut room.pending, room.alloc)
 }
 
-/// What comes of a record whose changes were run: the rows that they leave, where it states their kin and their marks, which are sorted
-/// here.
+/// The outcome of a record whose changes were run: the rows that they leave, if the record states their kin and their
+/// marks. Both are sorted here.
 fn outcome_of(rec: &Record, pending: &mut Pending, alloc: Global) -> Result<Outcome, Memory>
     ensures { IfOk result (λ outcome. outcome ≡ outcome_of rec.now pending.old.kin pending.old.marks pending.old.left) }
 {

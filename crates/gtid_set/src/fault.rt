@@ -1,4 +1,4 @@
-//! Why an id cannot go into a set, or a text lists none.
+//! Why an id can't be added to a set, or why a text does not list a set.
 
 ghost use Rattle.std.specs.Prelude.{◌≡◌};
 ghost use Rattle.gtid_set.specs.declared.fault.GtidFault.TheVariants.{Memory};
@@ -18,7 +18,7 @@ pub enum GtidFault {
     /// No interval follows the identifier, or one ends before it begins.
     #[error("G3 BadInterval")]
     BadInterval,
-    /// The id is of another source than those of the set.
+    /// The id is of another source than the ids of the set.
     #[error("G4 ForeignSource")]
     ForeignSource,
     /// Memory ran out.

@@ -13,15 +13,15 @@ use std::fmt;
 /// The greatest number of a transaction.
 pub(crate) const MAX_GNO: u64 = 9_223_372_036_854_775_807;
 
-/// The numbers from a first to a last one.
+/// The numbers from a first to a last one, both included.
 #[derive(Clone, Copy, Debug, PartialEq, Eq)]
 pub struct Interval {
-    /// At most the last.
+    /// At most `last`.
     pub first: u64,
     pub last: u64,
 }
 
-/// Whether a set has a number. The time is logarithmic in the intervals.
+/// Whether a set has a number. The time is logarithmic in the number of intervals.
 pub(crate) fn holds(intervals: &[Interval], number: u64) -> bool
     requires { AreNumbers intervals.now }
     ensures { result ≡ has_number intervals.now number }
@@ -30,7 +30,7 @@ pub(crate) fn holds(intervals: &[Interval], number: u64) -> bool
     at < intervals.len() && intervals[at].first <= number
 }
 
-/// How many intervals end below a number: the place of the first that does not.
+/// How many intervals end below a number. This is also the place of the first one that does not.
 fn place_of(intervals: &[Interval], low: u64) -> usize
     requires { AreNumbers intervals.now }
     ensures { IsPlace intervals.now low result }
@@ -38,7 +38,7 @@ fn place_of(intervals: &[Interval], low: u64) -> usize
     intervals.partition_point(|i| i.last < low)
 }
 
-/// Puts a number into a set, and tells whether it is new. What stands behind it is moved by a place at most.
+/// Puts a number into a set, and returns whether it is new. The intervals after it move by at most one place.
 pub(crate) fn put(intervals: &mut Vec<Interval>, number: u64) -> Result<bool, GtidFault>
     requires are { AreNumbers intervals.old.items }
     requires number { (1 ≤ number) × (number < 2 ^ 63) }
@@ -81,7 +81,7 @@ fn widen(intervals: &mut Vec<Interval>, at: usize, number: u64) -> bool
     }
 }
 
-/// Puts the number behind an interval into it, and joins the interval to the next one where the two touch then.
+/// Puts the number after an interval into it. If the interval touches the next one then, the two are joined.
 fn lengthen(intervals: &mut Vec<Interval>, at: usize, number: u64)
     requires are { AreNumbers intervals.old.items }
     requires number { number < 2 ^ 63 }
@@ -97,8 +97,8 @@ fn lengthen(intervals: &mut Vec<Interval>, at: usize, number: u64)
     }
 }
 
-/// Makes a set of intervals that may lie in any way. Of intervals that rise already and do not touch none is moved,
-/// and the time is linear; else it is n log n.
+/// Makes a set of intervals in any order, which may overlap. If they rise already and do not touch, none is moved and
+/// the time is linear; otherwise it is n log n.
 pub(crate) fn settle(intervals: &mut Vec<Interval>)
     requires { AllByRecursion IsInterval intervals.old.items }
     ensures { AreThoseOf intervals.old.items intervals.new.items }
@@ -108,7 +108,7 @@ pub(crate) fn settle(intervals: &mut Vec<Interval>)
     intervals.truncate(kept);
 }
 
-/// Joins those that overlap or touch, and tells how many there are then, at the front.
+/// Joins those that overlap or touch, and returns how many there are now, at the front.
 fn join(intervals: &mut [Interval]) -> usize
     requires each { AllByRecursion IsInterval intervals.old }
     requires sorted { IsNonDecreasingBy (λ i. i.first) intervals.old }
@@ -122,7 +122,7 @@ fn join(intervals: &mut [Interval]) -> usize
     kept
 }
 
-/// Joins the next one to those at the front, and tells how many there are then.
+/// Joins the next interval to those at the front, and returns how many there are now.
 fn join_next(intervals: &mut [Interval], kept: usize, next: Interval) -> usize
     requires within { kept < length intervals.old }
     requires is { IsInterval next }

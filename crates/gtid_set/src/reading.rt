@@ -15,12 +15,12 @@ use crate::intervals::{Interval, MAX_GNO, settle};
 use std::alloc::Global;
 use uuid::Uuid;
 
-/// The length of an identifier's text, and with the colon behind it.
+/// The length of an identifier's text. `HEAD_LEN` is that with the colon after it.
 const NAME_LEN: usize = 36;
 
 pub(crate) const HEAD_LEN: usize = 37;
 
-/// The source that a text begins with, where a colon follows. It takes no memory.
+/// The source that a text begins with; a colon must follow it. It takes no memory.
 pub(crate) fn head_of(text: &str) -> Result<Uuid, GtidFault>
     ensures value { MatchResult result (λ source. head_at text.now ≡ Ok (source, drop 37 text.now))
         (λ fault. head_at text.now ≡ Err fault) }
@@ -37,7 +37,7 @@ pub(crate) fn head_of(text: &str) -> Result<Uuid, GtidFault>
     Ok(source)
 }
 
-/// The source that a name of this length is.
+/// The source with this name, which has the length of an identifier.
 fn source_of(name: &[u8]) -> Result<Uuid, GtidFault>
     requires { length name.now ≡ 36 }
     ensures { result ≡ source_at (parsed_hyphenated name.now) }
@@ -59,7 +59,7 @@ pub(crate) fn numbers_of(alloc: Global, list: &str) -> Result<Vec<Interval>, Gti
     Ok(intervals)
 }
 
-/// The intervals that stand between colons, as they are listed.
+/// The intervals between the colons, as they are listed.
 fn intervals_of(alloc: Global, list: &str) -> Result<Vec<Interval>, GtidFault>
     ensures { Gives (λ intervals. intervals.items) result (intervals_at (slice_split is_colon list.now)) }
 {
@@ -84,7 +84,7 @@ fn interval_of(text: &str) -> Result<Interval, GtidFault>
     }
 }
 
-/// The numbers from one to another.
+/// The numbers from `first` to `last`, both included.
 fn between(first: u64, last: u64) -> Result<Interval, GtidFault>
     ensures { result ≡ interval_of first last }
 {
@@ -118,7 +118,7 @@ fn up_to_max(number: u64) -> Result<u64, GtidFault>
     }
 }
 
-/// Whether the text is digits, of which the first is not 0.
+/// Whether the text is digits, and the first is not 0.
 fn is_number(text: &str) -> bool
     ensures { result ≡ is_number text.now }
 {

@@ -17,8 +17,8 @@ use std::fmt;
 use std::marker::Model;
 use uuid::Uuid;
 
-/// A set of ids of one source. It has the source of the first id that was put into it; the empty set has none.
-/// Memory grows with the intervals of its numbers, not with the numbers.
+/// A set of ids of one source. It has the source of the first id that was put into it; the empty set has none. Memory
+/// grows with the intervals of its numbers, not with the numbers.
 #[derive(Debug, Drop)]
 pub struct GtidSet {
     source: Option<Uuid>,
@@ -46,7 +46,7 @@ impl GtidSet {
         }
     }
 
-    /// The ids of a source from 1 to the last one, which may be 0: then it is the empty set, and takes no memory. The time is
+    /// The ids of a source from 1 to `last`. If `last` is 0, this is the empty set, and takes no memory. The time is
     /// constant.
     pub fn first(alloc: Global, source: Uuid, last: u64) -> Result<GtidSet, Memory>
         requires { last < 2 ^ 63 }
@@ -64,7 +64,7 @@ impl GtidSet {
         })
     }
 
-    /// The source of its ids; `None` of the empty set.
+    /// The source of its ids; `None` for the empty set.
     pub fn source(&self) -> Option<Uuid>
         ensures { result ≡ self.now.source }
     {
@@ -79,7 +79,7 @@ impl GtidSet {
         &self.intervals
     }
 
-    /// Whether it has no id.
+    /// Whether it has no ids.
     pub fn is_empty(&self) -> bool
         ensures value { result ≡ (length self.now.numbers == 0) }
         ensures no_source { result ≡ is_none self.now.source }
@@ -87,7 +87,7 @@ impl GtidSet {
         self.intervals.is_empty()
     }
 
-    /// The greatest number of its ids; `None` of the empty set. The time is constant.
+    /// The greatest number of its ids; `None` for the empty set. The time is constant.
     pub fn greatest(&self) -> Option<u64>
         ensures { MatchOption result (self.now ≡ no_ids) (IsGreatest self.now.numbers) }
     {
@@ -95,28 +95,28 @@ impl GtidSet {
         Some(interval.last)
     }
 
-    /// Whether it has an id: never one of another source, or one whose number is not 1 to 2^63 - 1. It takes no
-    /// memory, and logarithmic time in the intervals.
+    /// Whether it has an id. It never has one of another source, or one whose number is not 1 to 2^63 - 1. It takes no
+    /// memory, and time logarithmic in the number of intervals.
     pub fn contains(&self, id: Gtid) -> bool
         ensures { result ≡ has_id self.now id }
     {
         self.takes(id.source) && self.has_number(id.gno)
     }
 
-    /// Whether it has the id of this number of its source, as `contains` does for one whose source is known to be that. It takes no
-    /// memory, and logarithmic time in the intervals.
+    /// Whether it has the id of its source with this number. Like `contains`, but for an id that is known to be of the
+    /// set's source. It takes no memory, and time logarithmic in the number of intervals.
     pub fn has_number(&self, gno: u64) -> bool
         ensures { result ≡ has_number self.now.numbers gno }
     {
         holds(&self.intervals, gno)
     }
 
-    /// Puts an id in, and tells whether it is new. Refused with `G2` where its number is not 1 to 2^63 - 1, and then
-    /// with `G4` where it is of another source. It takes memory only where the id is in no interval and next to none;
-    /// an id next to an interval makes that longer, one between two joins them. The place is found by halves, and the
-    /// intervals behind it are moved by a place at most.
+    /// Puts an id in, and returns whether it is new. It is refused with `G2` if its number is not 1 to 2^63 - 1, and
+    /// otherwise with `G4` if it is of another source. It takes memory only if the id is in no interval and next to
+    /// none. An id next to an interval makes that longer, and one between two joins them. The place is found by binary
+    /// search, and the intervals after it move by at most one place.
     pub fn add(&mut self, id: Gtid) -> Result<bool, GtidFault>
-        // The first cause is told, whether there is memory or not.
+        // The first cause is reported, whether there is memory or not.
         ensures fault { IfSome (add_fault self.old id) (λ fault. result ≡ Err fault) }
         ensures only { IfErr result (λ fault. (fault ≡ GtidFault.Memory) ⊎ (add_fault self.old id ≡ Some fault)) }
         ensures err { OnErr result (self.new ≡ self.old) }
@@ -135,18 +135,21 @@ impl GtidSet {
         Ok(new)
     }
 
-    /// The set that a text lists: an identifier of 36 characters, in either case, and intervals `:A` or `:A-B` of numbers
-    /// from 1 to 2^63 - 1 without leading zeros, in any order, also overlapping; the empty text is the empty set. Else the
-    /// first fault from the left: `G1` where the text begins with no identifier; `G3` where no colon follows; then, interval by
-    /// interval, `G2` for a number that is none, with a space, a further hyphen or any other character too, and `G3` for one
-    /// whose last number is below its first. The time is that of the text where its intervals rise, and of sorting them
-    /// where they do not; the text is not copied.
+    /// The set that a text lists: an identifier of 36 characters, in either case, and intervals `:A` or `:A-B` of
+    /// numbers from 1 to 2^63 - 1 without leading zeros. They may be in any order and overlap. The empty text is the
+    /// empty set.
+    ///
+    /// Otherwise the first fault from the left is returned. It is `G1` if the text does not begin with an identifier,
+    /// and `G3` if no colon follows. Then, interval by interval, `G2` is for anything that is not such a number, also
+    /// with a space, a further hyphen or any other character. `G3` is for an interval whose last number is below its
+    /// first. The time is that of the text if its intervals rise, and that of sorting them if they do not. The text is
+    /// not copied.
     pub fn parse(alloc: Global, text: &str) -> Result<GtidSet, GtidFault>
-        // What is answered is the set of what the text lists.
+        // The result is the set of what the text lists.
         ensures found { IfOk result (λ set. (listed : Ids) × Lists text.now listed × IsSetOf listed set) }
-        // What a text lists is answered, unless memory ran out.
+        // If the text lists a set, the result is that set, unless memory runs out.
         ensures only { (listed : Ids) → Lists text.now listed → IfErr result (λ fault. fault ≡ GtidFault.Memory) }
-        // Which fault it is. One that stands before the first interval is told whether there is memory or not.
+        // Which fault it is. One before the first interval is reported whether there is memory or not.
         ensures exact { Reads result (ids_at text.now) }
         ensures head_first { (fault : AFault) → text.now ≢ [] → head_at text.now ≡ Err fault → result ≡ Err fault }
     {
@@ -181,7 +184,7 @@ fn read(alloc: Global, text: &str) -> Result<GtidSet, GtidFault>
 }
 
 impl fmt::Display for GtidSet {
-    /// The identifier in lower case, with hyphens, and `:A` or `:A-B` for each interval, rising; nothing of the empty
+    /// The identifier in lower case, with hyphens, and `:A` or `:A-B` for each interval, rising; nothing for the empty
     /// set. The time is that of the text.
     ghost output = { λ ids. Some (text_of ids) };
 

@@ -1,8 +1,8 @@
-//! What follows from the definitions alone. Each function states a law by its contract, and does nothing.
+//! What follows from the definitions. Each function states a law by its contract, and does nothing.
 
 ghost use Rattle.log_index.specs.Laws.{LengthCovers};
 
-/// A parent from the log's length on covers all rows.
+/// A parent that is at least the log's length covers all rows.
 pub fn next_entry()
     ensures { LengthCovers }
 {}

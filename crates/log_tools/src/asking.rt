@@ -17,18 +17,18 @@ use std::io::{BufRead, Write};
 #[derive(Drop)]
 pub struct Lines {
     line: Vec<u8>,
-    /// How many were read.
+    /// The number of lines that were read.
     number: usize,
-    /// Whether more come after the last one that was read.
+    /// Whether more lines come after the last one that was read.
     is_more: bool,
-    /// Whether they come from a terminal, where a prompt is written before each.
+    /// Whether the lines come from a terminal; if so, a prompt is written before each.
     terminal: bool,
-    /// Whether none was bad.
+    /// Whether no line was bad.
     is_good: bool,
 }
 
 impl Lines {
-    /// None was read yet.
+    /// Lines before the first one is read.
     pub fn new(alloc: Global, terminal: bool) -> Lines
         ensures { AreUnread terminal result }
     {
@@ -52,7 +52,7 @@ impl Lines {
         errors.flush()
     }
 
-    /// The next line; `None` after the last.
+    /// The next line; `None` after the last one.
     pub fn next<R: BufRead>(&mut self, input: &mut R) -> Result<Option<&[u8]>, Stop>
         ensures none { IfOk result (λ line. IfNone line (input.new ≡ input.old)) }
         ensures* after { sem 𝓛 (Rests the_row self.entry (λ lines. MatchResult result
@@ -67,7 +67,7 @@ impl Lines {
         Ok(Some(&self.line))
     }
 
-    /// Reads a line, in the place of the last one.
+    /// Reads a line, which replaces the last one.
     fn read<R: BufRead>(&mut self, input: &mut R) -> Result<(), Stop>
         requires { self.old.is_more ≡ true }
         ensures ok { OnOk result (HaveRead self.old self.new self.new.line.items (R.remaining input.old) (R.remaining input.new)) }
@@ -78,7 +78,7 @@ impl Lines {
         Ok(())
     }
 
-    /// Tells that the line is bad.
+    /// Reports that the line is bad.
     pub fn refuse<E: Write>(&mut self, errors: &mut E) -> io::Result<()>
         ensures text { OnOk result (Appends (E.contents errors.old) (E.contents errors.new) (bad_line self.old.number)) }
         ensures bad { self.new ≡ record self.old { is_good = false } }
@@ -87,7 +87,7 @@ impl Lines {
         writeln!(errors, "line {}: bad command", self.number)
     }
 
-    /// Whether none was bad.
+    /// Whether no line was bad.
     pub fn is_good(&self) -> bool
         ensures { result ≡ self.now.is_good }
     {

@@ -1,4 +1,4 @@
-//! `diff`: whether two logs leave the same.
+//! `diff`: prints what differs between two logs.
 
 ghost use Rattle.std.specs.Prelude.{◌≡◌, ◌≢◌, ◌↔◌, ◌++◌, true, false, length, take, IsTrue, IfOk, IfErr, IfSome, IfNone, OnOk};
 ghost use Rattle.std.specs.List.{flat_map};
@@ -25,7 +25,8 @@ use std::io::Write;
 use std::rt::Files;
 use store_trait::{Batch, RowStore, snapshot};
 
-/// One of two logs that are compared: its tables, the records that are compared, and a store of the rows that these leave.
+/// One of two logs that are compared: its tables, its records up to the number compared, and a store of the rows that
+/// these leave.
 #[derive(Drop)]
 pub struct Side<'a, S: RowStore> {
     schema: &'a Schema,
@@ -33,8 +34,9 @@ pub struct Side<'a, S: RowStore> {
     store: &'a S,
 }
 
-/// Prints what differs between two logs after this many records, or after as many as both have: that their tables do, the first record that
-/// does, and each row that does. It ends with `Stop::Different` if anything does.
+/// Prints what differs between two logs after `upto` records, or after as many as both have. It prints that the tables
+/// differ, if they do, the first record that differs, and each row that differs. It ends with `Stop::Different` if
+/// anything differs.
 pub fn diff<'a, H: Files<File = File>, W: Write>(
     rt: &H,
     alloc: Global,
@@ -52,7 +54,7 @@ pub fn diff<'a, H: Files<File = File>, W: Write>(
     compare_read(alloc, one, &mine, other, &theirs, upto, out)
 }
 
-/// The same of two logs that were read.
+/// Like `diff`, but for two logs that were read.
 fn compare_read<'a, W: Write>(
     alloc: Global,
     one: &'a str,
@@ -88,7 +90,7 @@ fn read<'a, H: Files<File = File>>(
     Copied::read(rt, alloc, prefix).map_err(|stop| stop.at(prefix))
 }
 
-/// This many of the log's records.
+/// The first `upto` records of the log.
 fn records<'a>(
     alloc: Global,
     prefix: &'a str,
@@ -105,7 +107,7 @@ fn records<'a>(
     }
 }
 
-/// The log of these records, replayed.
+/// Replays these records of the log.
 fn replayed<'a>(
     alloc: Global,
     prefix: &'a str,
@@ -123,7 +125,7 @@ fn replayed<'a>(
     }
 }
 
-/// Compares two logs by what they were replayed to.
+/// Compares two logs by the results of their replays.
 fn compare_found<'a, W: Write>(
     alloc: Global,
     one: &'a str,
@@ -160,7 +162,8 @@ fn compare_found<'a, W: Write>(
     }
 }
 
-/// Compares both: each row of one that the other has otherwise or has not is told, and then each that only the other has.
+/// Compares both. It prints each row of one that the other does not have, or has with other values, and then each row
+/// that only the other has.
 fn compare<S: RowStore, W: Write>(
     alloc: Global,
     mine: &Side<S>,
@@ -192,7 +195,7 @@ fn compare<S: RowStore, W: Write>(
     Err(Stop::Different)
 }
 
-/// Writes a line for each row that is not the same in both stores, of which these are the rows.
+/// Writes a line for each row that is not the same in both stores. The two batches are their rows.
 fn write_rows<S: RowStore, W: Write>(
     out: &mut W,
     my_rows: &Batch,
@@ -226,7 +229,7 @@ fn same_row(one: &Option<Row>, other: &Option<Row>) -> bool
     one == other
 }
 
-/// The place of the first record that is not the same in both lists, counted from 0.
+/// The place, counted from 0, of the first record that is not the same in both lists.
 fn first_difference(one: &[Record], other: &[Record]) -> Option<usize>
     requires { length one.now ≡ length other.now }
     ensures some { IfSome result (DiffersAt one.now other.now) }
@@ -240,7 +243,7 @@ fn first_difference(one: &[Record], other: &[Record]) -> Option<usize>
     None
 }
 
-/// Writes that the tables differ, if they do, and which record does first, if one does.
+/// Writes that the tables differ, if they do, and which record is the first that differs, if one does.
 fn write_beginning<W: Write>(out: &mut W, tables: bool, first: Option<usize>) -> io::Result<()>
     ensures { OnOk result (Appends (W.contents out.old) (W.contents out.new) (tables_line tables ++ record_line first)) }
 {
@@ -267,7 +270,7 @@ fn write_record_differs<W: Write>(out: &mut W, first: Option<usize>) -> io::Resu
     }
 }
 
-/// Writes a line for each row that the store has otherwise, or has not.
+/// Writes a line for each row that the store does not have, or has with other values.
 fn write_changed<S: RowStore, W: Write>(
     out: &mut W,
     entries: &[(RowId, Option<Row>)],
@@ -296,7 +299,7 @@ fn write_if_changed<S: RowStore, W: Write>(
     }
 }
 
-/// Writes a line for each row that the store has not.
+/// Writes a line for each row that the store does not have.
 fn write_added<S: RowStore, W: Write>(
     out: &mut W,
     entries: &[(RowId, Option<Row>)],
@@ -323,7 +326,7 @@ fn write_if_added<S: RowStore, W: Write>(
     }
 }
 
-/// Writes the line of a row that is not the same.
+/// Writes the line of a row that differs.
 fn write_difference<W: Write>(
     out: &mut W,
     id: RowId,
@@ -339,7 +342,7 @@ fn write_difference<W: Write>(
     writeln!(out)
 }
 
-/// Writes a row's columns, each after a space; or that there is none.
+/// Writes a row's columns, each after a space, or that there is no row.
 fn write_row<W: Write>(out: &mut W, row: &Option<Row>) -> io::Result<()>
     ensures { OnOk result (Appends (W.contents out.old) (W.contents out.new) (row_words row.now)) }
 {

@@ -26,16 +26,17 @@ use store_trait::{Batch, RowStore, rows_stand};
 use thiserror::Error;
 use uuid::Uuid;
 
-/// Why lines are not what a log is written over.
+/// Why lines do not say what a log is written over.
 #[derive(Clone, Copy, Debug, Error)]
 pub enum HeadFault {
-    /// The line of this number, counted from 1, says no table and no row, or is a table after a row.
+    /// The line with this number, counted from 1, says neither a table nor a row, or is a table after a row. Or it is
+    /// the first line of PREFIX.schema, and does not say an identifier.
     #[error("line {0}: bad command")]
     Line(usize),
-    /// The tables are no schema.
+    /// The tables are not a schema.
     #[error("{0}")]
     Schema(SchemaFault),
-    /// The rows do not fit the tables, or one comes twice.
+    /// The rows do not fit the tables, or a row comes twice.
     #[error("bad base")]
     Base,
     /// Memory ran out.
@@ -104,7 +105,7 @@ pub struct Described {
 }
 
 impl Described {
-    /// What the text says: its first line is the identifier, and the others are a head. The time is that of `Head::of`.
+    /// Reads a text: its first line is the identifier, and the others are a head. The time is that of `Head::of`.
     pub fn of(alloc: Global, text: &[u8]) -> Result<Described, HeadFault>
         ensures { IfOk result (λ d. SaysLog text.now d.source d.head.schema d.head.base) }
     {
@@ -122,7 +123,7 @@ impl Described {
     }
 }
 
-/// The first line of a text, without its LF, and what comes after that; `None` if no LF ends it.
+/// The first line of a text, without its LF, and the text after it; `None` if no LF ends the line.
 fn cut(text: &[u8]) -> (&[u8], Option<&[u8]>)
     ensures last { IfNone result.1 (lines_of text.now ≡ result.0.now ∷ []) }
     ensures more { IfSome result.1 (λ more. lines_of text.now ≡ result.0.now ∷ lines_of more.now) }
@@ -145,7 +146,7 @@ fn source_of(line: &[u8]) -> Option<Uuid>
     }
 }
 
-/// What lines said.
+/// What the lines said.
 #[derive(Drop)]
 struct Said {
     tables: Vec<Table>,
@@ -153,9 +154,11 @@ struct Said {
 }
 
 impl Head {
-    /// What the lines of a text say: all tables come before all rows; a line that is empty or begins with `#` says nothing. It is refused
-    /// for the first bad line, then for the tables, and then for the rows. The time is that of a walk over the text and of n log n for n
-    /// rows, and the memory that of what it answers, of the rows twice more and of their values in unique columns.
+    /// Reads the lines of a text. All tables come before all rows; a line that is empty or begins with `#` says
+    /// nothing. The first bad line is refused first, then the tables, and then the rows.
+    ///
+    /// The time is that of a walk over the text, and of n log n for n rows. The memory is that of the result, of the
+    /// rows twice more, and of their values in unique columns.
     pub fn of(alloc: Global, text: &[u8]) -> Result<Head, HeadFault>
         ensures ok { IfOk result (λ head. SaysHead text.now head.schema head.base) }
         ensures fits { IfOk result (λ head. Fits head.schema (loaded head.base)) }
@@ -173,7 +176,7 @@ impl Head {
         }
     }
 
-    /// Writes the lines: of the tables, and of the rows.
+    /// Writes the lines of the tables, and then those of the rows.
     pub fn write<W: Write>(&self, out: &mut W) -> io::Result<()>
         ensures { OnOk result (Appends (W.contents out.old) (W.contents out.new)
             (tables_text self.now.schema ++ entries_text self.now.base)) }
@@ -182,8 +185,8 @@ impl Head {
         write_entries(out, self.base.entries())
     }
 
-    /// A store of the rows. The time is n log n for n rows, and the memory that of the store, and of the rows' values in unique columns for
-    /// the time of the call.
+    /// A store of the rows. The time is n log n for n rows. The memory is that of the store and, during the call, of
+    /// the rows' values in unique columns.
     pub fn store(&self, alloc: Global) -> Result<BTreeStore, HeadFault>
         ensures fits { IfOk result (λ store. Fits self.now.schema store) }
         ensures rows { IfOk result (λ store. store ≡ loaded self.now.base) }
@@ -217,7 +220,7 @@ fn rows_fit(
 }
 
 impl Said {
-    /// What the lines of a text say, up to the first bad one, which is told by its number, counted from 1.
+    /// Reads the lines of a text. It refuses the first bad line, with its number, counted from 1.
     fn of(alloc: Global, text: &[u8]) -> Result<Said, HeadFault>
         ensures { Reads text.now result }
     {
@@ -239,7 +242,7 @@ impl Said {
         Err(HeadFault::Memory)
     }
 
-    /// Takes what a line says. `false`, and nothing is taken, if the line is bad or comes too late.
+    /// Takes what a line says. If the line is bad or comes too late, it returns `false` and takes nothing.
     fn add(&mut self, line: &[u8]) -> Result<bool, Memory>
         ensures said { IfOk result (λ is_good. said_with (said self.old) line.now ≡ then_some is_good (said self.new)) }
     {
@@ -252,7 +255,7 @@ impl Said {
         }
     }
 
-    /// Takes the table that the words are.
+    /// Takes the table that the words describe.
     #[tactic(auto, unfolding(crate::specs::Head::added))]
     fn add_table(&mut self, words: Words) -> Result<bool, Memory>
         ensures { IfOk result (λ is_good. added (said self.old) (table words.entry) ≡ then_some is_good (said self.new)) }
@@ -267,7 +270,7 @@ impl Said {
         Ok(true)
     }
 
-    /// Takes the row that the words are.
+    /// Takes the row that the words describe.
     #[tactic(auto, unfolding(crate::specs::Head::added))]
     fn add_row(&mut self, words: Words) -> Result<bool, Memory>
         ensures { IfOk result (λ is_good. added (said self.old) (base words.entry) ≡ then_some is_good (said self.new)) }
@@ -280,7 +283,7 @@ impl Said {
     }
 }
 
-/// The batch of these rows, in any order; `None` exactly if one comes twice. The time is n log n.
+/// The batch of these n rows, in any order; `None` exactly if one comes twice. The time is n log n.
 fn batch_of(alloc: Global, rows: &[(RowId, Row)]) -> Result<Option<Batch>, AllocError>
     ensures rows { IfOk result (λ made. IfSome made (λ batch. IsPermutation (map present rows.now) batch)) }
     ensures twice { IfOk result (λ made. IfNone made (HasRowTwice rows.now)) }
@@ -313,7 +316,7 @@ pub fn write_tables<W: Write>(out: &mut W, tables: &[Table]) -> io::Result<()>
     Ok(())
 }
 
-/// Writes a line for each of these rows that is there.
+/// Writes a line for each entry that has a row.
 pub fn write_entries<W: Write>(out: &mut W, entries: &[(RowId, Option<Row>)]) -> io::Result<()>
     ensures { OnOk result (Appends (W.contents out.old) (W.contents out.new) (entries_text entries.now)) }
 {
@@ -323,7 +326,7 @@ pub fn write_entries<W: Write>(out: &mut W, entries: &[(RowId, Option<Row>)]) ->
     Ok(())
 }
 
-/// Writes a line for a row, if it is there.
+/// Writes the line of a row, if there is one.
 fn write_entry<W: Write>(out: &mut W, entry: &(RowId, Option<Row>)) -> io::Result<()>
     ensures { OnOk result (Appends (W.contents out.old) (W.contents out.new) (entry_line entry.now)) }
 {

@@ -1,4 +1,4 @@
-//! `rows`: the tables and the rows that a log leaves.
+//! `rows`: prints the tables and the rows that a log leaves.
 
 ghost use Rattle.std.specs.Prelude.{◌≡◌, ◌++◌, OnOk};
 ghost use Rattle.std.specs.Io.KnownBytes.{Appends};
@@ -18,8 +18,8 @@ use std::io::Write;
 use std::rt::Files;
 use store_trait::{RowStore, snapshot};
 
-/// Prints the tables, and the rows after this many records, or after all, as lines that a new log is made of. A log with fewer records is
-/// refused. The time and the memory are those of a start of a source.
+/// Prints the tables, and the rows after `upto` records, or after all, as lines from which `make` makes a new log. A
+/// log with fewer records is refused. The time and the memory are those of starting a source.
 pub fn rows<H: Files<File = File>, W: Write>(
     rt: &H,
     alloc: Global,
@@ -33,14 +33,14 @@ pub fn rows<H: Files<File = File>, W: Write>(
     show_rows(alloc, &log, upto, out)
 }
 
-/// The same of a log that was read.
+/// Like `rows`, but for a log that was read.
 fn show_rows<W: Write>(
     alloc: Global,
     log: &Copied,
     upto: Option<usize>,
     out: &mut W,
 ) -> Result<(), Stop>
-    // What is printed are the tables, and the rows that these records leave of the rows before them.
+    // It prints the tables, and the rows that these records leave of the initial rows.
     ensures { OnOk result (PrintsRows log.now.described.head.schema log.now.described.head.base log.now.set.log.records upto
         (W.contents out.old) (W.contents out.new)) }
 {
@@ -49,8 +49,8 @@ fn show_rows<W: Write>(
     write_rows(alloc, &log.described.head.schema, found.store(), out)
 }
 
-/// Writes a line for each table and for each row of the store, in order. The time is that of a look-up a row, and the memory that of the
-/// rows.
+/// Writes a line for each table and for each row of the store, in order. The time is that of a look-up for each row,
+/// and the memory that of the rows.
 fn write_rows<S: RowStore, W: Write>(
     alloc: Global,
     schema: &Schema,

@@ -1,4 +1,4 @@
-//! How the program ends, and what it tells then.
+//! How the program ends, and what it prints then.
 
 ghost use Rattle.std.specs.Prelude.{◌≡◌, ◌⊎◌, IsTrue};
 ghost use Rattle.std.specs.IoError.{error_kind};
@@ -21,7 +21,7 @@ use stored_log::{FileFault, StoreFault};
 pub enum Ending {
     /// All was done.
     Done,
-    /// The command line is none.
+    /// The command line is not one of the program's.
     CommandLine,
     /// A line, a schema or a log is refused.
     Refused,
@@ -52,23 +52,23 @@ impl Ending {
 /// Why the work on a path stopped.
 #[derive(Clone, Copy)]
 pub enum Stop {
-    /// The system gave no random bytes for an identifier. This is what it said.
+    /// The system gave no random bytes for an identifier. This is its error.
     NoIdentifier(io::Error),
-    /// What standard input says is not what a log is written over.
+    /// Standard input does not say what a log is written over.
     Head(HeadFault),
-    /// What PREFIX.schema says is not.
+    /// PREFIX.schema does not say what a log is written over.
     SchemaFile(HeadFault),
-    /// PREFIX.schema could not be opened, read or made. This is what the system said.
+    /// PREFIX.schema could not be opened, read or made. This is the system's error.
     NoSchemaFile(io::Error),
-    /// The file could not be opened or read. This is what the system said.
+    /// The file could not be opened or read. This is the system's error.
     NoFile(io::Error),
-    /// The file, or the log, is refused. It is never want of memory.
+    /// The file, or the log, is refused. The fault is never that memory ran out.
     Log(LogFault),
-    /// A file stands where a log was to be made.
+    /// A log was asked for, but its prefix has a file already.
     Exists,
     /// A file of the log was refused or failed, or memory ran out.
     Store(StoreFault),
-    /// Bytes of a file of the log changed: of the record of this number, which stands at this byte, counted from 1.
+    /// Bytes of the log's file `number` changed, in record `gno`, which begins at byte `byte`, counted from 1.
     Changed {
         number: usize,
         fault: LogFault,
@@ -77,21 +77,21 @@ pub enum Stop {
     },
     /// The log is of an earlier form, which no source writes.
     OldForm,
-    /// The log is not of the identifier that PREFIX.schema says.
+    /// The log does not have the identifier that PREFIX.schema says.
     OtherSource,
-    /// A wire has no whole head. This is the fault's text.
+    /// A wire does not have a whole head. This is the fault's text.
     Wire(&'static str),
-    /// What a wire's head says is refused. It is never want of memory.
+    /// What a wire's head says is refused. The fault is never that memory ran out.
     WireHead(HeadFault),
-    /// Bytes of a wire are no record. It is never want of memory.
+    /// Bytes of a wire are not a record. The fault is never that memory ran out.
     Codec(CodecFault),
     /// A wire is refused as a replica refuses records: it is of another source, or begins after the first record.
     Record(ReplicaFault),
-    /// The replica is not made a source. It is never want of memory.
+    /// The replica can't become a source. The fault is never that memory ran out.
     Promotion(PromotionFault),
-    /// The records can't go on over these rows. It is never want of memory.
+    /// A source can't continue from the records over these rows. The fault is never that memory ran out.
     Records(RecoveryFault),
-    /// The log has fewer records than were asked for: this many.
+    /// The log has only `records` records, and `upto` were asked for.
     PastEnd {
         upto: usize,
         records: usize,
@@ -100,13 +100,13 @@ pub enum Stop {
     Gone(u64),
     /// The log has this many records, and later ones were asked for.
     Ahead(u64),
-    /// Another file stands in the place of the log's file of this number.
+    /// Another file has the path of the log's file with this number.
     Replaced(usize),
-    /// The replica gave no reader, or that one no answer.
+    /// The replica gave no reader, or the reader no reply.
     NoReader,
-    /// Lines were bad, which was told of each.
+    /// Lines were bad, and each was reported.
     BadLines,
-    /// Two logs differ, which was told.
+    /// Two logs differ, and the differences were printed.
     Different,
     /// Memory ran out.
     Memory,
@@ -205,7 +205,7 @@ impl From<RecoveryFault> for Stop {
 }
 
 impl Stop {
-    /// A file that could not be opened or read, for what the system said.
+    /// A file could not be opened or read: what to report for the system's error.
     pub fn of_file(error: io::Error) -> Stop
         ensures { result ≡ stop_of_error error (Stop.NoFile error) }
     {
@@ -215,7 +215,7 @@ impl Stop {
         }
     }
 
-    /// What a wire's head says is refused.
+    /// A wire's head is refused: what to report for its fault.
     pub fn of_wire_head(fault: HeadFault) -> Stop
         ensures { result ≡ stop_of_wire_head fault }
     {
@@ -225,7 +225,7 @@ impl Stop {
         }
     }
 
-    /// The same of PREFIX.schema.
+    /// Like `of_file`, but for PREFIX.schema.
     pub fn of_schema_file(error: io::Error) -> Stop
         ensures { result ≡ stop_of_error error (Stop.NoSchemaFile error) }
     {
@@ -235,7 +235,7 @@ impl Stop {
         }
     }
 
-    /// It happened at the work on this path.
+    /// Adds the path whose work stopped.
     pub fn at(self, path: &str) -> StopAt
         ensures stop { result.stop ≡ self }
         ensures path { result.path.now ≡ path.now }
@@ -243,7 +243,7 @@ impl Stop {
         StopAt { stop: self, path }
     }
 
-    /// How the program ends then.
+    /// How the program ends for this cause.
     fn ending(self) -> Ending
         ensures { result ≡ ending_of self }
     {
@@ -292,7 +292,8 @@ pub struct StopAt<'a> {
 }
 
 impl<'a> StopAt<'a> {
-    /// Tells it, in a line; bad lines and two logs that differ were told before, and a stream that fails has no text.
+    /// Prints the cause in a line, and returns how the program ends. It prints nothing for bad lines and for two logs
+    /// that differ, since these were reported before. A stream that failed has no text either.
     pub fn tell<E: Write>(self, errors: &mut E) -> Ending
         ensures ending { (result ≡ ending_of self.entry.stop) ⊎ (result ≡ Ending.Stream) }
         ensures silent { IsTrue (was_told self.entry.stop) → (result ≡ ending_of self.entry.stop) × (errors.new ≡ errors.old) }

@@ -1,9 +1,9 @@
-//! What follows from the definitions alone. Each function states a law by its contract, and does nothing.
+//! What follows from the definitions. Each function states a law by its contract, and does nothing.
 
 ghost use Rattle.log_tools.specs.Laws.{HeadsReadBack};
 
-/// What `Head::write` writes of tables and rows, of one to sixteen columns, says just these: so a log, what is fed of it and a replica of
-/// that are over the same tables and rows.
+/// What `Head::write` writes for tables and rows, of one to sixteen columns, says exactly these. So a log, what is fed
+/// from it, and a replica of that feed are over the same tables and rows.
 pub fn head_reads_back()
     ensures { HeadsReadBack }
 {}

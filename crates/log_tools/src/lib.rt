@@ -1,14 +1,20 @@
-//! Tools over a log in files and what it is written over: making both, and looking at them without a change.
+//! Tools for a log in files and the tables and rows that it is written over: they make both, and read both without
+//! changing them.
 //!
-//! PREFIX.schema says what a log is written over: its identifier, its tables, and the rows before its first record (`describing`); `make`
-//! makes it and an empty log (`making`), or a log with all records that a wire says (`restoring`). The others read copies of the files
-//! (`logs`), lock none and change none, so they may run beside a process that writes them: `check` says what the files hold and whether a
-//! source would go on from them (`checking`, and `changed` for where bytes changed), `decode` prints records, `rows` the rows that they
-//! leave (`dumping`), and `diff` what differs between two logs (`comparing`). Why the work on a path stopped, and how a program ends then,
-//! stands in `ending`; who is told lines reads them by `asking`. `laws` states that a head that was written is read back.
+//! PREFIX.schema says what a log is written over: its identifier, its tables, and the rows before its first record
+//! (`describing`). `make` makes this file and an empty log (`making`), or a log with all records of a wire
+//! (`restoring`).
 //!
-//! It stands on `stored_log` for the files, on `recovery` for what a log leaves, on `script_text` for the lines, and on `log_feed` for
-//! wires.
+//! The others read copies of the files (`logs`). They lock no file and change none, so they may run beside a process
+//! that writes the log. `check` prints what the files hold and whether a source would continue from them (`checking`;
+//! `changed` finds the bytes that changed). `decode` prints records, `rows` the rows that they leave (`dumping`), and
+//! `diff` what differs between two logs (`comparing`).
+//!
+//! `ending` has the causes that stop the work on a path, and how a program ends then. `asking` reads the lines of an
+//! input. `laws` states that a head that was written is read back.
+//!
+//! It uses `stored_log` for the files, `recovery` for what a log leaves, `script_text` for the lines, and `log_feed`
+//! for wires.
 #![tactic(auto)]
 
 mod asking;

@@ -1,6 +1,7 @@
-//! The store in which both sides keep their rows: the one that is asked for.
+//! The store in which both sides keep their rows, of the kind that the command line asks for.
 //!
-//! One type for both, so that all that stands on it is compiled once. A call looks which one it is, and asks that.
+//! One type holds either kind, so all generic code over it is compiled once. Each call looks up the kind and passes it
+//! on.
 
 use crate::options::Store;
 use crate::pair::NewStore;
@@ -11,7 +12,7 @@ use std::alloc::Global;
 use store_trait::{Batch, RowStore};
 use vector_store::VectorStore;
 
-/// Rows in a store of one kind or of the other.
+/// Rows in a store of either kind.
 #[derive(Debug, Drop)]
 pub enum AnyStore {
     /// In an ordered map.

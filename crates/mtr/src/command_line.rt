@@ -16,13 +16,13 @@ use std::alloc::{AllocError, Global};
 use std::env::Args;
 use tracker_trait::Tracking;
 
-/// What `--version` prints behind the program's name.
+/// What `--version` prints after the program's name.
 const VERSION: &str = "1.0.0";
 
-/// The greatest number of a call of the log's device.
+/// The greatest value of `--fail`, the number of a call of the log's device.
 const MOST_CALLS: usize = 9223372036854775807;
 
-/// What is told of a word that is not UTF-8.
+/// The message for a word that is not UTF-8.
 pub const NOT_UTF8: &str = "\
 error: invalid UTF-8 was detected in one or more arguments
 
@@ -31,7 +31,7 @@ Usage: mtr <COMMAND>
 For more information, try '--help'.
 ";
 
-/// What help says behind the subcommands, and behind the options of each.
+/// The end of each help text, after the subcommands or the options.
 const MORE: &str = "\
 Begin with 'mtr run < SCRIPT': a script is a text file, and 'mtr run --help' has a first one to paste.
 Answers go to standard output, faults to standard error, each in a line.
@@ -98,7 +98,7 @@ pub struct Names<'a> {
     pub orders: &'a [&'a str],
 }
 
-/// What the words of a command line ask for, of which the first is the program's name.
+/// What the words of a command line ask for. The first word is the program's name.
 pub fn asked(alloc: Global, words: Args) -> Result<Options, LineFault>
     ensures ranges { IfOk result IsInRange }
 {
@@ -107,15 +107,14 @@ pub fn asked(alloc: Global, words: Args) -> Result<Options, LineFault>
     options(alloc, &texts)
 }
 
-/// What the words behind the program's name ask for.
+/// What the words after the program's name ask for.
 pub fn options<'a>(alloc: Global, words: &'a [&'a str]) -> Result<Options, LineFault>
-    // The subcommand is the one that the words name, and each of its options has the store or the number that they give it,
-    // or its default.
+    // The words name the subcommand. Each of its options has the store or the number that they give, or its default.
     ensures named { IfOk result (AsksFor (map (λ w. w.now) words.entry.now)) }
     ensures ranges { IfOk result IsInRange }
-    // Help and the version are told where the words ask for them, and faults of the command line where they don't.
+    // Help and the version are given if the words ask for them, and faults of the command line if not.
     ensures told { TellsFaults (map (λ w. w.now) words.entry.now) result }
-    // The name of a subcommand alone asks for its defaults, and is refused for want of memory only.
+    // If a subcommand's name is the only word, it asks for the defaults, and the only refusal is out of memory.
     ensures alone { (name : Text) (asked : Options) → IsByDefault name asked → map (λ w. w.now) words.entry.now ≡ name ∷ []
         → MatchResult result (λ given. given ≡ asked) (λ fault. fault ≡ LineFault.Memory) }
 {
@@ -129,7 +128,7 @@ pub fn options<'a>(alloc: Global, words: &'a [&'a str]) -> Result<Options, LineF
     }
 }
 
-/// What the subcommand that was found asks for.
+/// What the given subcommand asks for.
 fn options_in(matches: &ArgMatches) -> Option<Options>
     ensures named { result ≡ option_and_then options_for (subcommand_rows_of matches.now) }
     ensures ranges { IfSome result IsInRange }
@@ -181,7 +180,7 @@ fn sides(found: &ArgMatches) -> Option<Sides>
     })
 }
 
-/// How parents are found.
+/// How the source finds parents.
 fn tracker(found: &ArgMatches) -> Option<Tracking>
     ensures { result ≡ mode_of (rows_of (found_of found.now)) }
 {
@@ -202,7 +201,7 @@ fn preserve(found: &ArgMatches) -> Option<bool>
     preserve_named(found.get_str("commit-order")?)
 }
 
-/// The number of an option.
+/// The number that the option of this name gives, if it is in this range.
 fn number(found: &ArgMatches, name: &str, least: usize, greatest: usize) -> Option<usize>
     ensures value { result ≡ number_of name.now least greatest (rows_of (found_of found.now)) }
     ensures range { IfSome result (IsWithin least greatest) }
@@ -226,7 +225,7 @@ fn choices() -> Names<'static>
     }
 }
 
-/// The command line as `clap` has it, with these names of trackers, stores and orders.
+/// The command line as `clap` takes it, with these names of trackers, stores and orders.
 fn command<'a>(alloc: Global, names: Names<'a>) -> Result<Command<'a>, AllocError>
     ensures { IfOk result (λ command. app_of command ≡ program names.entry) }
 {
@@ -294,8 +293,8 @@ fn threads_command<'a>(alloc: Global, names: Names<'a>) -> Result<Command<'a>, A
     ))
 }
 
-/// A subcommand over both sides, with the options that say what these are made of; each option's help has its range, and clap
-/// adds its default.
+/// A subcommand over both sides, with the options that say what these are made of. The help of each option gives its
+/// range, and clap adds its default.
 fn sides_command<'a>(
     alloc: Global,
     name: &'a str,
@@ -323,7 +322,7 @@ fn sides_command<'a>(
         ))
 }
 
-/// The same with the options of the source's parents and of the stores alone.
+/// Like `sides_command`, but with only the options of the source's parents and of the stores.
 fn source_command<'a>(
     alloc: Global,
     name: &'a str,
@@ -371,7 +370,7 @@ fn decode_command<'a>(alloc: Global) -> Command<'a>
         .after_help(MORE_OF_DECODE)
 }
 
-/// The option `--NAME WORD`, of one of these words.
+/// The option `--NAME WORD`. Its word is one of these choices.
 fn choice_option<'a>(
     alloc: Global,
     name: &'a str,
@@ -391,7 +390,7 @@ fn choice_option<'a>(
         .value_parser(choices)
 }
 
-/// The option `--NAME N` of a number from 1 to the greatest.
+/// The option `--NAME N`. Its number is from 1 to the greatest.
 fn number_option<'a>(
     alloc: Global,
     name: &'a str,
@@ -423,7 +422,7 @@ fn fail_option<'a>(alloc: Global) -> Arg<'a>
         .value_parser(value_parser!(usize).range(0..=i64::MAX))
 }
 
-/// The fault that `clap` tells.
+/// The fault that `clap` reports.
 fn fault_of(alloc: Global, error: &clap::Error) -> LineFault
     ensures memory { kind_of error.now ≡ ErrorKind.OutOfMemory → result ≡ LineFault.Memory }
     ensures stream { IsOfKind (kind_of error.now) result }

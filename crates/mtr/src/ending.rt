@@ -1,4 +1,4 @@
-//! How the program ends, and what it tells then.
+//! How the program ends, and what it prints then.
 
 ghost use Rattle.std.specs.Prelude.{◌≡◌, ◌≢◌, ◌∷◌, [], ◌++◌, codes, OnOk};
 ghost use Rattle.std.specs.Io.KnownBytes.{Appends};
@@ -14,17 +14,17 @@ use std::io::{ErrorKind, Write};
 /// How the program ends.
 #[derive(Clone, Copy)]
 pub enum Ending {
-    /// All was done.
+    /// Everything was done.
     Done,
-    /// The command line is none.
+    /// The words are not a command line of the program.
     CommandLine,
-    /// The script, its schema or its base rows are bad, or hexadecimal text is.
+    /// The script, its schema or its base rows are bad, or the hexadecimal text is.
     BadScript,
-    /// A log could not be opened.
+    /// A log could not be opened or made.
     BadLog,
     /// Memory ran out outside an event.
     NoMemory,
-    /// The two sides did not come to the same.
+    /// The two sides differ at the end.
     Different,
     /// A stream could not be read or written.
     Stream,
@@ -47,19 +47,19 @@ impl Ending {
     }
 }
 
-/// Why the program's work stopped.
+/// Why the program stopped.
 #[derive(Clone, Copy)]
 pub enum Stop {
-    /// The first line of the script, counted from 1, that says nothing known, or that stands behind one that it
-    /// has to precede.
+    /// The number, from 1, of the script's first bad line: it says nothing known, or it comes after a line that it has
+    /// to precede.
     BadCommand { line: usize },
-    /// The tables are no schema. It is never `SchemaFault::Memory`.
+    /// The tables do not form a schema. It is never `SchemaFault::Memory`.
     Schema(SchemaFault),
     /// The base rows do not fit the schema, or one comes twice.
     BadBase,
-    /// A text is not whole bytes as hexadecimal digits.
+    /// A text is not whole bytes in hexadecimal digits.
     BadHexadecimal,
-    /// The log could not be opened. It is never `LogFault::Memory`, and never want of memory for a record.
+    /// The log could not be opened or made. It is never `LogFault::Memory`, nor `CodecFault::Memory` for a record.
     Log(LogFault),
     /// Memory ran out.
     Memory,
@@ -127,7 +127,7 @@ impl From<LogFault> for Stop {
 }
 
 impl Stop {
-    /// How the program ends then.
+    /// How the program ends for this reason.
     pub fn ending(self) -> Ending
         ensures { result ≡ ending_of self }
     {
@@ -140,7 +140,7 @@ impl Stop {
         }
     }
 
-    /// Tells it, in a line. A stream that fails has no text.
+    /// Prints the reason as one line. There is no text for a stream that fails.
     pub fn tell<E: Write>(self, errors: &mut E) -> Ending
         ensures ending { result ≢ Ending.Stream → result ≡ ending_of self }
         ensures text { result ≢ Ending.Stream → Appends (E.contents errors.old) (E.contents errors.new) (stop_text self ++ 10 ∷ []) }

@@ -1,4 +1,4 @@
-//! The events of a script, kept short (`kept`) and in pieces until they are run, one after another.
+//! The events of a script. Until they run, one after another, they are kept in a short form (`kept`) and in pieces.
 
 ghost use Rattle.std.specs.Prelude.{◌≡◌, ◌≤◌, ◌++◌, [], ◌∷◌, ◌==◌, length, is_some, IfOk, OnOk, OnErr, Some};
 ghost use Rattle.world.specs.Seen.{seen};
@@ -21,14 +21,14 @@ use store_trait::RowStore;
 use tracker_trait::Tracker;
 use world::{Event, World};
 
-/// The replies of as many events are printed at once.
+/// The most events whose replies are printed at once.
 const PIECE: usize = 1000;
 
 /// Events, in order.
 #[derive(Drop)]
 pub struct Piece {
     kept: Vec<KeptEvent>,
-    /// The columns of all of them, in order.
+    /// The columns of all these events, in order.
     columns: Vec<i64>,
 }
 
@@ -45,7 +45,7 @@ impl Model for Piece {
 }
 
 impl Piece {
-    /// No event. It takes no memory.
+    /// No events. It takes no memory.
     fn new(alloc: Global) -> Piece
         ensures { result ≡ [] }
     {
@@ -55,7 +55,7 @@ impl Piece {
         }
     }
 
-    /// Keeps the event of this name and the words behind it behind the others. `false` where there is none.
+    /// Adds the event of this name with the words after it. Returns `false` if they are not an event.
     fn push(&mut self, name: &[u8], words: Words) -> Result<bool, Memory>
         ensures good { IfOk result (λ is_good. is_good ≡ is_some (event_of name.now words.entry)) }
         ensures ok { OnOk result (self.new ≡ self.old ++ one_or_none (event_of name.now words.entry)) }
@@ -69,7 +69,7 @@ impl Piece {
         Ok(true)
     }
 
-    /// Runs the events in order, and puts the lines of their replies behind a text.
+    /// Runs the events in order, and appends the lines of their replies to a text.
     pub fn run<S: RowStore, T: Tracker, D: Device, R: RowStore>(
         &self,
         alloc: Global,
@@ -85,7 +85,7 @@ impl Piece {
     }
 }
 
-/// Runs events in order, each with the next of the columns, and puts the lines of their replies behind a text.
+/// Runs events in order, and appends the lines of their replies to a text. Each event takes the next of the columns.
 fn run_all<S: RowStore, T: Tracker, D: Device, R: RowStore>(
     alloc: Global,
     world: &mut World<S, T, D, R>,
@@ -108,7 +108,7 @@ fn run_all<S: RowStore, T: Tracker, D: Device, R: RowStore>(
     Ok(())
 }
 
-/// Runs the event that is kept so, with its columns, and puts the line of its reply behind a text. An event without columns is made
+/// Runs one kept event with its columns, and appends the line of its reply to a text. An event without columns is made
 /// without room for them.
 fn run_kept<S: RowStore, T: Tracker, D: Device, R: RowStore>(
     alloc: Global,
@@ -132,7 +132,7 @@ fn run_kept<S: RowStore, T: Tracker, D: Device, R: RowStore>(
     }
 }
 
-/// Runs an event, and puts the line of its reply behind a text.
+/// Runs an event, and appends the line of its reply to a text.
 #[inline(never)]
 fn run_event<S: RowStore, T: Tracker, D: Device, R: RowStore>(
     alloc: Global,
@@ -148,7 +148,7 @@ fn run_event<S: RowStore, T: Tracker, D: Device, R: RowStore>(
     write_reply(text, &world.step(alloc, event))
 }
 
-/// The events, in order, in pieces: so that each piece's memory is given back once its events were run.
+/// All events, in order, in pieces. The memory of a piece is freed once its events have run.
 #[derive(Drop)]
 pub struct EventList {
     pieces: Vec<Piece>,
@@ -168,7 +168,7 @@ impl Model for EventList {
 }
 
 impl EventList {
-    /// No event.
+    /// No events.
     pub fn new(alloc: Global) -> EventList
         ensures { result ≡ [] }
     {
@@ -178,15 +178,15 @@ impl EventList {
         }
     }
 
-    /// Whether there is none.
+    /// Whether there are no events.
     pub fn is_empty(&self) -> bool
         ensures { result ≡ (length self.now == 0) }
     {
         self.is_empty
     }
 
-    /// Keeps the event of this name and the words behind it behind the others. `false` where there is none, since no event has the name or
-    /// the words are not its parameters.
+    /// Adds the event of this name with the words after it. Returns `false` if they are not an event: no event has the
+    /// name, or the words are not its parameters.
     pub fn push(&mut self, name: &[u8], words: Words) -> Result<bool, Memory>
         ensures good { IfOk result (λ is_good. is_good ≡ is_some (event_of name.now words.entry)) }
         ensures ok { OnOk result (self.new ≡ self.old ++ one_or_none (event_of name.now words.entry)) }
@@ -198,7 +198,7 @@ impl EventList {
         Ok(is_good)
     }
 
-    /// The pieces, of which all events together are these.
+    /// The pieces. Together they hold all the events.
     pub fn into_pieces(self) -> Vec<Piece>
         ensures { events_in result.items ≡ self }
     {
@@ -207,7 +207,7 @@ impl EventList {
     }
 }
 
-/// Adds a piece where the last is full, or there is none.
+/// Adds a piece if the last one is full or there is none.
 fn make_room(pieces: &mut Vec<Piece>) -> Result<(), Memory>
     ensures same { events_in pieces.new.items ≡ events_in pieces.old.items }
     ensures some { OnOk result (1 ≤ length pieces.new.items) }
@@ -223,7 +223,7 @@ fn make_room(pieces: &mut Vec<Piece>) -> Result<(), Memory>
     Ok(())
 }
 
-/// Keeps an event in the last piece.
+/// Adds an event to the last piece.
 fn push_last(pieces: &mut Vec<Piece>, name: &[u8], words: Words) -> Result<bool, Memory>
     requires { 1 ≤ length pieces.old.items }
     ensures good { IfOk result (λ is_good. is_good ≡ is_some (event_of name.now words.entry)) }

@@ -1,12 +1,14 @@
-//! The program `mtr`: it runs a script over one source and one replica, and prints what each event answers; it runs a
-//! source and a replica in many threads, and compares them; or it prints the records of a log file.
+//! The program `mtr` runs a script over one source and one replica, and prints the reply to each event. It also runs a
+//! source and a replica in many threads and compares them, or prints the records of a log file.
 //!
-//! `command_line` reads what the words ask for. To run a script, `script` reads the whole of it, by the lines of `script_text`, and
-//! `pair` makes the two sides, with the store and the tracker that are asked for (`any_store`, and the crate `any_tracker`); so nothing
-//! is done before all is read and checked. `run` runs the events, which are kept short, piece by piece (`events`), and prints their
-//! replies by `script_text`. `threads` runs both sides in many threads. To print a log file, `decode` reads it by `hex` and
-//! prints its lines by `script_text`. Each fault and its exit status stand in `ending`; `serve` does it all over any reader and
-//! two writers.
+//! - `command_line` reads what the words ask for. `serve` does it, over any reader and two writers.
+//! - To run a script, `script` reads all of it, by the lines of `script_text`. `pair` makes the two sides, with the
+//!   chosen store and tracker (`any_store`, and the crate `any_tracker`). So nothing is done before everything is read
+//!   and checked.
+//! - `run` then runs the events piece by piece (`events`) and prints their replies by `script_text`.
+//! - `threads` runs both sides in many threads.
+//! - To print a log file, `decode` reads it by `hex` and prints its lines by `script_text`.
+//! - `ending` has each fault with its exit status.
 #![tactic(auto)]
 
 mod any_store;

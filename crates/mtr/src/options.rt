@@ -7,16 +7,16 @@ use std::alloc::AllocError;
 use thiserror::Error;
 use tracker_trait::Tracking;
 
-/// What the words behind the program's name ask for.
+/// What the words after the program's name ask for.
 #[derive(Clone, Copy)]
 pub enum Options {
     /// `run`: a script is read on standard input and run over both sides.
     Run {
         sides: Sides,
-        /// The call of the log's device that fails, of all its calls counted from 1; none where it is 0.
+        /// The call of the first log file's device that fails, counted from 1; 0 for none.
         fail: usize,
     },
-    /// `threads`: sessions, workers and readers run in threads of their own.
+    /// `threads`: sessions, workers and readers run, each in a separate thread.
     Threads(Plan),
     /// `decode`: a log file is read on standard input as hexadecimal text, and its records are printed.
     Decode,
@@ -38,7 +38,7 @@ pub struct Sides {
     pub preserve: bool,
 }
 
-/// Whether the replica commits in the order of the log, by the word for it.
+/// Whether the replica commits in the order of the log, from the word for it.
 pub fn preserve_named(name: &str) -> Option<bool>
     ensures { result ≡ preserve_named name.now }
 {
@@ -49,7 +49,7 @@ pub fn preserve_named(name: &str) -> Option<bool>
     }
 }
 
-/// In which store both sides keep their rows. What they answer is the same in each.
+/// The kind of store in which both sides keep their rows. Replies are the same for each.
 #[derive(Clone, Copy, Debug, PartialEq, Eq)]
 pub enum Store {
     /// `btree`: an ordered map.
@@ -74,7 +74,7 @@ impl Store {
     }
 }
 
-/// How many threads there are of each kind, and how much they do.
+/// How many threads of each kind there are, and how much they do.
 #[derive(Clone, Copy)]
 pub struct Plan {
     /// What both sides are made of.
@@ -100,10 +100,10 @@ impl Plan {
     }
 }
 
-/// Why the words ask for nothing.
+/// Why the words do not ask for any work.
 #[derive(Debug, Drop, Error)]
 pub enum LineFault {
-    /// The words are no command line of the program. This is the text for the user, which ends with LF.
+    /// The words are not a command line of the program. This is the text for the user, which ends with LF.
     #[error("{0}")]
     Line(String),
     /// The words ask for help or for the version. This is the text, which ends with LF.

@@ -25,19 +25,19 @@ pub const SOURCE: [u8; 16] = [
 /// The greatest number of records of a log.
 pub const MAX_RECORDS: u64 = 9223372036854775807;
 
-/// So many files may follow the log's first one.
+/// How many files may follow the log's first one.
 const SPARE: usize = 15;
 
 /// The devices of the log's files.
 #[derive(Drop)]
 pub struct Devices<D: Device> {
-    /// That of the first file.
+    /// The device of the first file.
     pub first: D,
-    /// Those of the next ones, in order.
+    /// The devices of the next files, in order.
     pub spare: VecDeque<D>,
 }
 
-/// Devices in memory. Of the first the call of this number fails, none where it is 0; the others do not fail.
+/// Devices in memory. On the first one the call of this number fails, or none if it is 0. The others do not fail.
 pub fn devices_in_memory(
     alloc: Global,
     fail: u64,
@@ -54,7 +54,8 @@ pub fn devices_in_memory(
     })
 }
 
-/// The batch of these rows, in any order; `None` exactly where one comes twice. The time is n log n.
+/// These rows, which may come in any order, as a batch; `None` exactly if a row comes twice. The time is n log n for n
+/// rows.
 pub fn base_of(alloc: Global, rows: &[(RowId, Row)]) -> Result<Option<Batch>, Memory>
     ensures rows { IfOk result (λ made. IfSome made (λ batch. IsPermutation (map present rows.now) batch)) }
     ensures once { IfOk result (λ made. IfSome made (λ _. IsDistinct same_row (keys_of (map present rows.now)))) }
@@ -71,15 +72,15 @@ fn entries_of(alloc: Global, rows: &[(RowId, Row)]) -> Result<Vec<(RowId, Option
     rows.iter().map(|row| (row.0, Some(row.1))).collect(alloc)
 }
 
-/// A store of which both sides can have as many as they need.
+/// A kind of store that can be made as often as both sides need.
 pub trait NewStore: RowStore + Drop + Send + Sync {
-    /// One of this kind, without rows. It takes no memory.
+    /// A store of this kind, without rows. It takes no memory.
     fn without_rows(alloc: Global, store: Store) -> Self
         ensures { Self.contents result ≡ empty };
 }
 
-/// The parts of a pair over no rows, in stores of this kind, whose records get their parents by this tracker and whose log is on
-/// this device. It takes no memory.
+/// The parts of a pair without rows: stores of this kind, this tracker for the parents of records, and this device for
+/// the log. It takes no memory.
 pub fn parts_over<S: NewStore, T: Tracker, D: Device>(
     alloc: Global,
     store: Store,

@@ -1,4 +1,4 @@
-//! A script's events, run one after another. The lines of their replies are put together, and printed piece by piece.
+//! Runs a script's events one after another. The lines of their replies are gathered, and printed piece by piece.
 
 ghost use Rattle.std.specs.Prelude.{◌≡◌, ◌≤◌, ◌++◌, [], length, IfOk, IfErr, IfSome, OnOk};
 ghost use Rattle.std.specs.Io.KnownBytes.{Appends};
@@ -28,15 +28,15 @@ use tracker_trait::Tracker;
 use uuid::Uuid;
 use world::{World, pair_of};
 
-/// As many bytes of a script are read at once.
+/// The most bytes of a script that are read at once.
 const CHUNK: usize = 65536;
 
-/// There is room for so many bytes of lines at first.
+/// The room for the lines of replies at first, in bytes.
 const TEXT: usize = 1024;
 
-/// Reads a script, and runs it over a new pair that is made of these parts, with its log on these devices. The whole of it is read
-/// and checked before the first event: the first bad line, then the tables, then the rows at the start. Each event's reply is a
-/// line of the output; where the work stops after a beginning of the events, so does the output, after a whole line.
+/// Reads a script, and runs it over a new pair that is made of these parts, with its log on these devices. The whole
+/// script is read and checked before the first event: its first bad line, then the tables, then the base rows. Each
+/// event's reply is a line of the output. If memory runs out after some events, the output ends after a whole line.
 pub fn run_text<D: Device + Drop, R: Read, W: Write>(
     alloc: Global,
     sides: Sides,
@@ -84,8 +84,8 @@ fn run_script<S: NewStore, T: Tracker + Drop, D: Device + Drop, W: Write>(
     done
 }
 
-/// A new world over a script's tables and rows at the start, with as many workers as the sides have, in stores and in an order of
-/// commits as theirs.
+/// A new world over a script's tables and base rows. `sides` gives the number of workers, the kind of the stores and
+/// the order of commits.
 fn open<S: NewStore, T: Tracker + Drop, D: Device + Drop>(
     alloc: Global,
     sides: Sides,
@@ -122,9 +122,9 @@ fn open<S: NewStore, T: Tracker + Drop, D: Device + Drop>(
     }
 }
 
-/// Runs the events of the pieces, over a world that goes on from what was done before. A piece's lines are put together before they are
-/// printed, so that no part of a line is printed where memory runs out. At most one piece's lines are kept at a time, and nothing of a
-/// piece that was run.
+/// Runs the events of the pieces, over a world that continues from what was done before. The lines of a piece are
+/// gathered before they are printed, so if memory runs out, no part of a line is printed. At most one piece's lines are
+/// kept at a time, and a piece that has run is freed.
 fn run_pieces<S: RowStore, T: Tracker, D: Device, R: RowStore, W: Write>(
     alloc: Global,
     world: &mut World<S, T, D, R>,

@@ -1,9 +1,9 @@
-//! Scripts: the tables, the rows at the start, and the events that happen.
+//! Scripts: the tables, the rows at the start, and the events.
 //!
-//! A script is read and checked as a whole before anything is done, line by line as it comes. Its lines end with
-//! LF; an empty line and one that begins with `#` say nothing. All tables come first, then the rows of the base,
-//! then the events. Any other line is bad; the first bad line ends the reading, and what is behind it is not kept.
-//! The events are kept short (`events`).
+//! A script is read line by line, and checked as a whole before anything is done. Its lines end with LF. An empty line
+//! says nothing, nor does one that begins with `#`. All tables come first, then the rows of the base, then the events.
+//! Any other line is bad. The first bad line ends the reading, and nothing after it is kept. The events are kept in a
+//! short form (`events`).
 
 ghost use Rattle.std.specs.Prelude.{◌≡◌, IfOk, IfSome};
 ghost use Rattle.std.specs.Bool.{then_some};
@@ -19,7 +19,7 @@ use script_text::words::Words;
 use std::alloc::Global;
 use std::io::BufRead;
 
-/// There is room for a line of so many bytes at first.
+/// The room for a line at first, in bytes.
 const LINE: usize = 64;
 
 /// What a script says.
@@ -27,15 +27,15 @@ const LINE: usize = 64;
 pub struct Script {
     /// The tables, in the order of their lines.
     pub tables: Vec<Table>,
-    /// The rows that source and replica hold at the start, in the order of their lines.
+    /// The rows with which source and replica begin, in the order of their lines.
     pub base: Vec<(RowId, Row)>,
-    /// What happens, in order.
+    /// The events, in order.
     pub events: EventList,
 }
 
 impl Script {
-    /// What the text of a reader says: the whole of it is read before anything is done, and no more than its
-    /// first bad line. The time is that of a walk over the text; sixteen bytes are kept of an event, and its columns.
+    /// What the text of a reader says. All of it is read before anything is done, but nothing past the first bad line.
+    /// The time grows with the length of the text. Each event takes 16 bytes and its columns.
     pub fn read<R: BufRead>(alloc: Global, input: &mut R) -> Result<Script, Stop>
         ensures { IfSome (R.remaining input.old) (λ text. Says text result) }
     {
@@ -48,7 +48,7 @@ impl Script {
         Ok(script)
     }
 
-    /// Takes what the lines of the reader say, where nothing was said yet.
+    /// Takes what the lines of the reader say. Nothing was taken before.
     fn fill<R: BufRead>(&mut self, alloc: Global, input: &mut R) -> Result<(), Stop>
         requires { said self.old ≡ nothing }
         ensures { IfSome (R.remaining input.old) (λ text. SaysIn text self.new result) }
@@ -66,7 +66,7 @@ impl Script {
         Err(Stop::Memory)
     }
 
-    /// Takes what a line says. `false`, and nothing is taken, where the line is bad or comes too late.
+    /// Takes what a line says. If the line is bad or comes too late, nothing is taken and the result is `false`.
     fn add(&mut self, line: &[u8]) -> Result<bool, Memory>
         ensures said { IfOk result (λ is_good. said_with (said self.old) line.now ≡ then_some is_good (said self.new)) }
     {
@@ -79,7 +79,7 @@ impl Script {
         }
     }
 
-    /// Takes the table that the words are.
+    /// Takes the table that the words describe.
     #[tactic(auto, unfolding(crate::specs::Script::added))]
     fn add_table(&mut self, words: Words) -> Result<bool, Memory>
         ensures { IfOk result (λ is_good. added (said self.old) (table words.entry) ≡ then_some is_good (said self.new)) }
@@ -94,7 +94,7 @@ impl Script {
         Ok(true)
     }
 
-    /// Takes the row at the start that the words are.
+    /// Takes the base row that the words describe.
     #[tactic(auto, unfolding(crate::specs::Script::added))]
     fn add_base(&mut self, words: Words) -> Result<bool, Memory>
         ensures { IfOk result (λ is_good. added (said self.old) (base words.entry) ≡ then_some is_good (said self.new)) }
@@ -109,7 +109,7 @@ impl Script {
         Ok(true)
     }
 
-    /// Takes the event of this name, where the words behind it are its parameters.
+    /// Takes the event of this name, if the words after it are its parameters.
     #[tactic(auto, unfolding(crate::specs::Script::added))]
     fn add_event(&mut self, name: &[u8], words: Words) -> Result<bool, Memory>
         ensures { IfOk result (λ is_good. added (said self.old) (event name.now words.entry) ≡ then_some is_good (said self.new)) }

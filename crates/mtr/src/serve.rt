@@ -1,4 +1,4 @@
-//! The program's work, over any reader and two writers. Only `threads` uses the handle.
+//! The program's work, over any reader and two writers. Only `threads` uses the handle `rt`.
 
 ghost use Rattle.std.specs.Prelude.{◌≡◌, ◌≢◌, ◌≤◌, ◌⊎◌, ◌∷◌, [], ◌++◌, IfOk, IfErr, IfSome, OnOk};
 ghost use Rattle.std.specs.Io.KnownBytes.{Appends, Keeps};
@@ -22,11 +22,11 @@ use std::io::{ErrorKind, IsTerminal, Read, Write};
 use std::sync::Wait;
 use std::thread::Threads;
 
-/// What is said at a terminal.
+/// The line that is shown at a terminal.
 const NOTICE: &str = "mtr run reads a script from standard input\n";
 
-/// Does what the words of a command line ask for, of which the first is the program's name, and answers the exit
-/// status. Help and the version go to the output, and faults of the command line to `errors`.
+/// Does what the words of a command line ask for, and returns the exit status. The first word is the program's name.
+/// Help and the version go to the output, and faults of the command line to `errors`.
 pub fn run_program<H: Threads + Wait + Sync, R: Read + IsTerminal, W: Write, E: Write>(
     rt: &H,
     alloc: Global,
@@ -68,8 +68,8 @@ fn write_text<W: Write>(text: &str, out: &mut W) -> io::Result<()>
     out.flush()
 }
 
-/// Does what the options ask for. A fault is one line on `errors`, and nothing is written to the output then,
-/// but where memory or a stream fails after a beginning of what is printed; a stream that fails has no line.
+/// Does what the options ask for. A fault is one line on `errors`, except that a stream that fails has no line. After a
+/// fault nothing is on the output, unless memory ran out or a stream failed when part of it was printed.
 fn serve<H: Threads + Wait + Sync, R: Read + IsTerminal, W: Write, E: Write>(
     rt: &H,
     alloc: Global,
@@ -95,7 +95,8 @@ fn serve<H: Threads + Wait + Sync, R: Read + IsTerminal, W: Write, E: Write>(
     }
 }
 
-/// Runs a script over a new pair whose log is in memory, where the call of this number fails, of the calls of its first file's device.
+/// Runs a script over a new pair with its log in memory. Of the device of the log's first file, the call of this number
+/// fails, or none if it is 0.
 fn run_in_memory<R: Read, W: Write>(
     alloc: Global,
     sides: Sides,
@@ -111,7 +112,7 @@ fn run_in_memory<R: Read, W: Write>(
     run_text(alloc, sides, devices_in_memory(alloc, fail)?, input, output)
 }
 
-/// Says at a terminal that the script is read from there. On a pipe or a file nothing is said.
+/// At a terminal, says that the script is read from there. For a pipe or a file it says nothing.
 fn announce<R: IsTerminal, E: Write>(input: &R, errors: &mut E) -> io::Result<()>
     ensures { OnOk result (Keeps (E.contents errors.old) (E.contents errors.new)
         ⊎ Appends (E.contents errors.old) (E.contents errors.new) notice) }
@@ -123,7 +124,7 @@ fn announce<R: IsTerminal, E: Write>(input: &R, errors: &mut E) -> io::Result<()
     }
 }
 
-/// Runs both sides in many threads, where there is memory for the tracker.
+/// Runs both sides in many threads, if there is memory for the tracker.
 fn threads<H: Threads + Wait + Sync, W: Write, E: Write>(
     rt: &H,
     alloc: Global,
@@ -142,7 +143,7 @@ fn threads<H: Threads + Wait + Sync, W: Write, E: Write>(
     }
 }
 
-/// How the work ended that came to these sides; where it stopped that is told.
+/// How the work over both sides ended. If it stopped, this prints why.
 fn tell_ending<S: Drop, E: Write>(came: Result<(Ending, S), Stop>, errors: &mut E) -> Ending
     ensures ended { IfOk came (λ came. result ≡ came.0) }
     ensures stopped { IfErr came (λ stop. result ≢ Ending.Stream → result ≡ ending_of stop) }
@@ -155,7 +156,7 @@ fn tell_ending<S: Drop, E: Write>(came: Result<(Ending, S), Stop>, errors: &mut 
     }
 }
 
-/// How the work ended; where it stopped that is told.
+/// How the work ended. If it stopped, this prints why.
 fn tell<E: Write>(done: Result<(), Stop>, errors: &mut E) -> Ending
     ensures done { OnOk done (result ≡ Ending.Done) }
     ensures stopped { IfErr done (λ stop. result ≢ Ending.Stream → result ≡ ending_of stop) }

@@ -1,16 +1,20 @@
 //! A source and a replica in many threads.
 //!
-//! Each session, each worker and each reader has a thread of its own, and so has the wire that sends the source's log to the
-//! replica, as bytes in pieces. `lifecycle` opens both sides and ends them; in between they are `Shared`, with the plan, and all work over
-//! them is a method of that: what the workers and the readers do, and the comparison of each row once all threads have ended. `feeding` has
-//! the work of the sessions and of the wire. `changes` is what a session writes and what its rows are in the end.
-//! `reading` keeps what a reader saw, and `ended` judges what came of both sides.
+//! Each session, worker and reader has a separate thread. So has the wire, which sends the source's log to the replica
+//! as bytes in pieces.
 //!
-//! No thread waits for one that may never come: the wire is told when the sessions have ended, whatever they came to, and
-//! the workers when the wire has. Where no thread can be made the work is done one after another, in that order.
+//! - `lifecycle` opens both sides and ends them.
+//! - `shared` has both sides in between, with the plan, as `Shared`. Its methods are all work over them: what the
+//!   workers and readers do, and the comparison of each row once all threads have ended.
+//! - `feeding` has the work of the sessions and of the wire.
+//! - `changes` has what a session writes and what its rows are in the end.
+//! - `reading` keeps what a reader saw, and `ended` compares both sides at the end.
 //!
-//! The replica commits in the order of the log, or with `--commit-order off` as jobs are finished: then a reader may see commits behind
-//! one that it does not see. Once the last of all commits is published both are the same.
+//! No thread waits for one that may never come. The wire learns that the sessions have ended, however they did, and the
+//! workers that the wire has. If no thread can be made, the work is done one after another, in that order.
+//!
+//! The replica commits in the order of the log, or with `--commit-order off` as jobs finish. Then a reader may see a
+//! commit before it sees an earlier one of the log. Once all commits are published, both orders show the same.
 
 mod changes;
 mod ended;
@@ -40,17 +44,17 @@ use store_trait::RowStore;
 use tracker_trait::Tracker;
 use trouble::Trouble;
 
-/// What both sides came to.
+/// How both sides compare at the end.
 #[derive(Clone, Copy)]
 pub enum Verdict {
-    /// The same: the greatest gno of the receipts, and the number of commits that the replica has published.
+    /// They agree. The numbers are the greatest gno of the receipts, and the commits that the replica has published.
     Equal { log: u64, published: u64 },
-    /// Something else than what the sessions wrote, or a call was refused for another cause than want of memory.
+    /// Something differs from what the sessions wrote, or a call was refused for another cause than out of memory.
     Different,
 }
 
-/// Runs both sides as the plan says, over stores of this type, and prints what they came to. It answers that, and the two sides.
-/// With t transactions in all the time is t log t, and more for a store whose batches cost more.
+/// Runs both sides as the plan says, over stores of this type, and prints the verdict. Returns how the program ends,
+/// with both sides. For t transactions in all the time is t log t, and more for a store whose batches cost more.
 pub fn run_threads<
     S: NewStore,
     T: Tracker + Drop + Send + Sync,
@@ -78,7 +82,7 @@ pub fn run_threads<
     Ok((verdict.ending(), ended))
 }
 
-/// The verdict of two sides; different where a call was refused before they ended.
+/// The verdict on two sides. They are different if a call was refused before they ended.
 fn verdict_of<S: RowStore, T: Tracker>(plan: &Plan, ended: &Option<Ended<S, T>>) -> Verdict
     requires plan { IsInRange (Options.Threads plan.now) }
     requires ended { IfSome ended.now (IsEnded plan.now) }
@@ -91,7 +95,7 @@ fn verdict_of<S: RowStore, T: Tracker>(plan: &Plan, ended: &Option<Ended<S, T>>)
 }
 
 impl Verdict {
-    /// How the program ends then.
+    /// How the program ends with this verdict.
     fn ending(self) -> Ending
         ensures { result ≡ ending_for self }
     {

@@ -14,10 +14,11 @@ use rows::{Row, parent_of};
 use schema::{RowId, Schema};
 use store_trait::RowStore;
 
-/// Whether a row that the transaction sees names this one as its parent: one that its changes leave, or one of the store that they are
-/// not of. `count` is how many rows of the store do, whatever the transaction changed. It takes no memory. The time is that of a walk
-/// over the rows that the transaction changed, and, unless `count` is 0 or one that they leave does, of a look-up in the store for each
-/// of them whose table's parent is the row's table. For each of these rows the schema's tables are walked.
+/// Whether a row that the transaction sees names this one as its parent: a row that its changes leave, or one of the
+/// store that they do not write. `count` is how many rows of the store name it, whatever the transaction changed. It
+/// takes no memory. The time is that of a walk over the rows that the transaction changed, and over the schema's tables
+/// for each of them. If none of these names the row as it is left, and `count` is not 0, each of them whose table has
+/// the row's table as its parent also costs a look-up in the store.
 pub fn has_child<S: RowStore>(
     pending: &Pending,
     schema: &Schema,
@@ -40,7 +41,7 @@ fn any_left_names(schema: &Schema, left: &IndexMap<RowId, Option<Row>>, row: Row
         .any(|(id, left)| left_names(schema, *id, left, row))
 }
 
-/// Whether what is left of the row of this id names the row as its parent.
+/// Whether what is left of the row with this id names `row` as its parent.
 fn left_names(schema: &Schema, id: RowId, left: &Option<Row>, row: RowId) -> bool
     ensures { result ≡ left_names schema.now row (id, left.now) }
 {
@@ -50,7 +51,7 @@ fn left_names(schema: &Schema, id: RowId, left: &Option<Row>, row: RowId) -> boo
     }
 }
 
-/// Whether `count` is more than how many of these rows name the row as their parent in the store.
+/// Whether fewer than `count` of these rows name `row` as their parent in the store.
 fn has_more<S: RowStore>(
     schema: &Schema,
     store: &S,
@@ -64,7 +65,7 @@ fn has_more<S: RowStore>(
     count != 0 && changed_children(schema, store, left, row) < count
 }
 
-/// How many of these rows name the row as their parent in the store.
+/// How many of these rows name `row` as their parent in the store.
 fn changed_children<S: RowStore>(
     schema: &Schema,
     store: &S,
@@ -79,8 +80,8 @@ fn changed_children<S: RowStore>(
         .count()
 }
 
-/// Whether the row of this id names the row as its parent in the store. The store is asked only where the parent of the row's table is
-/// that table.
+/// Whether the row with this id names `row` as its parent in the store. The store is asked only if that id's table has
+/// the table of `row` as its parent.
 fn stored_names<S: RowStore>(schema: &Schema, store: &S, id: RowId, row: RowId) -> bool
     ensures { result ≡ left_names schema.now row (id, row_of (S.contents store.now) id) }
 {
@@ -90,7 +91,7 @@ fn stored_names<S: RowStore>(schema: &Schema, store: &S, id: RowId, row: RowId) 
     }
 }
 
-/// Whether these columns of a row of the table name the row as its parent.
+/// Whether these columns of a row of the table name `row` as its parent.
 fn names_row(schema: &Schema, table: u16, columns: &Row, row: RowId) -> bool
     ensures { result ≡ names_row schema.now row table columns.now }
 {

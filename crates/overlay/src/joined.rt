@@ -17,7 +17,7 @@ use std::alloc::Global;
 use std::marker::Model;
 use store_trait::Batch;
 
-/// What several transactions leave of the rows that they change, for one batch.
+/// What several transactions leave of the rows that they change, as one batch.
 #[derive(Debug, Drop)]
 pub struct Joined {
     entries: Vec<(RowId, Option<Row>)>,
@@ -47,8 +47,8 @@ impl Joined {
         }
     }
 
-    /// Adds what a transaction leaves of each row that its changes are of, where none of these rows is there yet.
-    /// Where memory runs out nothing changes. The time is that of a walk over the rows added.
+    /// Adds what a transaction leaves of each row that its changes write; none of these rows may be there yet. If
+    /// memory runs out, nothing changes. The time is that of a walk over the rows added.
     pub fn add(&mut self, pending: &Pending) -> Result<(), Memory>
         requires apart { (q : RowId) → IsSome (left_at pending.now q) → find row_cmp q self.old ≡ None }
         ensures ok { OnOk result (self.new ≡ joined self.old pending.now) }
@@ -70,7 +70,7 @@ impl Joined {
     }
 }
 
-/// Puts these rows behind the others, or none of them where there is no room for all.
+/// Adds these rows after the others, or none of them if there is no room for all.
 fn append(
     entries: &mut Vec<(RowId, Option<Row>)>,
     left: &IndexMap<RowId, Option<Row>>,

@@ -1,12 +1,12 @@
-//! Whether two lists are one set of keys: row ids, or marks. None of it takes memory.
+//! Whether two lists are one set of keys: row ids, or marks. Nothing here takes memory.
 
 ghost use Rattle.std.specs.Prelude.{◌≡◌};
 ghost use Rattle.std.specs.List.{list_all};
 ghost use Rattle.std.specs.List.Sorted.{IsSorted};
 ghost use Rattle.overlay.specs.Keys.{has_key, same_keys};
 
-/// Whether the keys stated are exactly the others, which may come in any order and more than once, and are sorted here. With s keys
-/// stated and k others the time is that of sorting the others, and of a search for each of both.
+/// Whether the stated keys are exactly the others. The others may be in any order and come more than once; they are
+/// sorted here. With s keys stated and k others the time is that of sorting the others, and of s + k searches.
 pub(crate) fn are_exactly<K: Ord + Copy>(stated: &[K], keys: &mut [K]) -> bool
     requires { IsSorted K.cmp stated.now }
     ensures { result ≡ same_keys K.cmp stated.now keys.old }
@@ -15,7 +15,7 @@ pub(crate) fn are_exactly<K: Ord + Copy>(stated: &[K], keys: &mut [K]) -> bool
     are_same(stated, keys)
 }
 
-/// Whether two lists, neither of which falls, are one set of keys.
+/// Whether two lists that do not fall are one set of keys.
 fn are_same<K: Ord>(one: &[K], other: &[K]) -> bool
     requires one { IsSorted K.cmp one.now }
     requires other { IsSorted K.cmp other.now }

@@ -1,4 +1,4 @@
-//! What follows from the definitions alone. Each function states a law by its contract, and does nothing.
+//! What follows from the definitions. Each function states laws by its contract, and does nothing.
 
 ghost use Rattle.overlay.specs.Follows.{NoneFollows, StepFollows, PushedFollows, ShowsRows, SeesAfter, MovesOver};
 ghost use Rattle.overlay.specs.Children.{TellsChildren, TellsByCount};
@@ -6,8 +6,8 @@ ghost use Rattle.overlay.specs.Values.{ValueOver};
 ghost use Rattle.overlay.specs.Joining.{ApartGoesOn, ApartWithoutConflict, JoinedGoesOn, JoinedHasRows, JoinedRises, NotYetJoined};
 ghost use Rattle.overlay.specs.Joining.{JoinedIsAfter, BatchIsAfter};
 
-/// What is pending of changes that apply one after another, with their kin and marks: from no changes, by a change that applies, and over
-/// another database to which the changes do the same.
+/// What is pending after changes that apply one after another, with their kin and marks: after no changes, after one
+/// more change that applies, and over another database to which the changes do the same.
 pub fn follows()
     ensures none { NoneFollows }
     ensures step { StepFollows }
@@ -15,8 +15,8 @@ pub fn follows()
     ensures moved { MovesOver }
 {}
 
-/// What is pending of changes that apply one after another shows: the rows that the changes leave, and nothing
-/// else. So its batch leaves the database that the changes leave.
+/// What is pending after changes that apply one after another shows the rows that the changes leave, and nothing else.
+/// So its batch leaves the database that the changes leave.
 pub fn shows()
     ensures rows { ShowsRows }
     ensures after { SeesAfter }
@@ -28,8 +28,8 @@ pub fn apart()
     ensures no_conflict { ApartWithoutConflict }
 {}
 
-/// What is joined of several transactions, one after another: the rows of each, in the order of row ids. No row of
-/// one that is apart from those before it is there before it is added.
+/// What several transactions leave, joined one after another: the rows of each, in the order of row ids. If a
+/// transaction is apart from those before it, none of its rows is there before it is added.
 pub fn joined()
     ensures goes_on { JoinedGoesOn }
     ensures rows { JoinedHasRows }
@@ -37,22 +37,22 @@ pub fn joined()
     ensures not_yet { NotYetJoined }
 {}
 
-/// Transactions that are each over one database, and apart from one another there, apply one after another, and one
-/// batch of what each of them leaves over that database carries it to what they all leave.
+/// Transactions that are each over one database, and apart from one another there, apply one after another. One batch
+/// of what each of them leaves over that database carries it to what they all leave.
 pub fn joined_is_after()
     ensures joined { JoinedIsAfter }
     ensures batch { BatchIsAfter }
 {}
 
-/// What a transaction sees of children: whether a row has a child tells whether some row names it as its parent; and `has_child` tells it
-/// from the number of the rows below that do.
+/// What a transaction sees of children: a row has a child exactly if some row names it as its parent. `has_child` finds
+/// this out from the number of rows below that do.
 pub fn sees()
     ensures children { TellsChildren }
     ensures by_count { TellsByCount }
 {}
 
-/// Where no two rows below have one value of a unique column, `value_holds` tells, from the row that has the change's value there,
-/// whether no other row has it as the transaction sees them.
+/// If no two rows below have one value of a unique column, `value_holds` says whether no other row has the change's
+/// value, as the transaction sees the rows. It needs only the row that has the value below.
 pub fn values()
     ensures { ValueOver }
 {}

@@ -1,11 +1,12 @@
 //! A transaction's pending changes and their effect.
 //!
-//! A `Pending` has the changes of a transaction in the order in which they were made, what they leave of each row that they are of,
-//! their kin and their marks. Laid over the committed rows it shows what the transaction sees; its batch, put into them, commits it.
-//! `Joined` makes one batch of what several transactions leave. `row_seen`, `step_seen`, `parent_holds` and `has_child` look through
-//! it into a store. `value_holds` tells whether no other row has the value that a step takes: by what is pending, and by the row that has
-//! it in the store, which its caller knows. `laws` states what is pending of changes that apply one after another, what it shows, and
-//! what the joined batch of transactions leaves that do not touch each other's rows and values.
+//! A `Pending` has the changes of a transaction in the order in which they were made, what they leave of each row that
+//! they write, their kin and their marks. Laid over the committed rows it shows what the transaction sees; putting its
+//! batch into them commits it. `Joined` makes one batch of what several transactions leave. `row_seen`, `step_seen`,
+//! `parent_holds` and `has_child` look through the pending changes into a store. `value_holds` says whether no other
+//! row has the value that a step takes. It uses what is pending, and the row that has the value in the store, which its
+//! caller knows. `laws` states what is pending after changes that apply one after another, what it shows, and what a
+//! joined batch leaves if its transactions do not touch each other's rows and values.
 #![tactic(auto)]
 
 ghost use Rattle.std.specs.Prelude.{◌≡◌, ◌↔◌, ◌&&◌, [], length, IsTrue, IfOk, IfErr, OnOk, OnErr, unwrap_or, option_copied};
@@ -37,8 +38,8 @@ use std::mem::replace;
 use store_trait::{Batch, RowStore};
 pub use values::value_holds;
 
-/// The changes of a transaction, what they leave of each row that they are of, the parent rows that these rows name before each change and
-/// after it, and the values of unique columns that each change takes from its row and gives it.
+/// The changes of a transaction, what they leave of each row that they write, the parent rows that these rows name
+/// before and after each change, and the values of unique columns that each change takes from its row and gives it.
 #[derive(Debug, Drop)]
 pub struct Pending {
     lists: Lists,
@@ -71,8 +72,8 @@ impl Pending {
         replace(self, Pending::new(alloc))
     }
 
-    /// Lets go of all changes, and keeps their room for others. It takes no memory. The time is that of a walk over
-    /// the room that it ever had.
+    /// Removes all changes, and keeps their room for others. It takes no memory, and the time of a walk over the most
+    /// room that there ever was.
     pub fn clear(&mut self)
         ensures { self.new ≡ none_pending }
     {
@@ -82,21 +83,21 @@ impl Pending {
         self.lists.marks.clear();
     }
 
-    /// What the changes leave of the row: its columns, or `None` where they remove it. No answer where no
-    /// change is of the row. It takes no memory, and expected constant time.
+    /// What the changes leave of the row: its columns, or `Some(None)` if they remove it; `None` if no change writes
+    /// the row. It takes no memory, and expected constant time.
     pub fn see(&self, id: RowId) -> Option<Option<Row>>
         ensures value { result ≡ left_at self.now id }
         ensures rising { IsRising self.now.left }
     {
         if self.lists.left.is_empty() {
-            // Where there are no changes, the row is not even hashed.
+            // Without changes the row is not even hashed.
             return None;
         }
         self.lists.left.get(&id).copied()
     }
 
-    /// The same changes, with room for one more that has this step. Where memory runs out they come back as they are. No memory is
-    /// asked for kin or marks where the step has none.
+    /// The same changes, with room for one more that has this step. If memory runs out, they come back unchanged. No
+    /// memory is asked for kin or marks if the step has none.
     pub fn reserve(self, step: &Step) -> Result<Roomy, (Memory, Pending)>
         ensures ok { IfOk result (λ roomy. roomy.pending ≡ self) }
         ensures room { IfOk result (λ roomy. HasRoom roomy step.now) }
@@ -109,7 +110,7 @@ impl Pending {
         }
     }
 
-    /// Adds a change behind the others, with its step. Where memory runs out nothing changes.
+    /// Adds a change after the others, with its step. If memory runs out, nothing changes.
     pub fn push(&mut self, change: Change, step: &Step) -> Result<(), Memory>
         ensures ok { OnOk result (self.new ≡ pushed self.old change step.now) }
         ensures err { OnErr result (self.new ≡ self.old) }
@@ -141,7 +142,7 @@ impl Pending {
         self.lists.changes.is_empty()
     }
 
-    /// The parent rows, before and after each change, of the child rows changed, in the order of the changes.
+    /// The parent rows, before and after each change, of the changed child rows, in the order of the changes.
     pub fn kin(&self) -> &[RowId]
         ensures { result.now ≡ self.now.kin }
     {
@@ -155,9 +156,9 @@ impl Pending {
         &self.lists.marks
     }
 
-    /// Whether the kin are exactly the rows of the first list, and the marks exactly those of the second: neither list falls, and each
-    /// of the kin and the marks may come in any place and more than once. Both are sorted here. It takes no memory. With s rows and marks
-    /// stated, and k kin and marks, the time is that of sorting k, and of s + k searches.
+    /// Whether the kin are exactly the rows of `refs`, and the marks exactly those of `marks`. Neither list falls; the
+    /// kin and the marks may be in any order, and come more than once. Both are sorted here. It takes no memory. With s
+    /// rows and marks stated, and k kin and marks, the time is that of sorting k items, and of s + k searches.
     pub fn touches_exactly(&mut self, refs: &[RowId], marks: &[Mark]) -> bool
         requires refs { IsSorted row_cmp refs.now }
         requires marks { IsSorted row_cmp marks.now }
@@ -167,8 +168,8 @@ impl Pending {
         are_exactly(refs, &mut self.lists.kin) && are_exactly(marks, &mut self.lists.marks)
     }
 
-    /// Each row that the changes are of with what they leave of it; a row inserted and deleted again is there as
-    /// removed. With b such rows the time is b log b.
+    /// Each row that the changes write, with what they leave of it. A row that was inserted and then deleted is there
+    /// as removed. With b such rows the time is b log b.
     pub fn batch(&self, alloc: Global) -> Result<Batch, Memory>
         ensures { IfOk result (λ batch. batch ≡ self.now.left) }
     {
@@ -178,8 +179,8 @@ impl Pending {
     }
 }
 
-/// The row as the transaction sees it: as its changes leave it, and else the store's. It takes no memory. The
-/// time is that of one look-up in the store.
+/// The row as the transaction sees it: as its changes leave it, or else as it is in the store. It takes no memory, and
+/// the time of at most one look-up in the store.
 pub fn row_seen<S: RowStore>(pending: &Pending, store: &S, id: RowId) -> Option<Row>
     ensures first { result ≡ unwrap_or (left_at pending.now id) (row_of (S.contents store.now) id) }
     ensures value { result ≡ row_of (seen pending.now (S.contents store.now)) id }
@@ -190,9 +191,9 @@ pub fn row_seen<S: RowStore>(pending: &Pending, store: &S, id: RowId) -> Option<
     }
 }
 
-/// What the change does to its row as the transaction sees it, or why it does not fit that row. Whether a parent is there, and
-/// whether another row has the value that the row takes, is not looked at: `parent_holds` and `value_holds` tell it. It takes no
-/// memory. The time is that of at most one look-up in the store.
+/// What the change does to its row as the transaction sees it, or why it does not fit that row. It does not check
+/// whether a parent is there, or whether another row has the value that the row takes: `parent_holds` and `value_holds`
+/// do. It takes no memory, and the time of at most one look-up in the store.
 pub fn step_seen<S: RowStore>(
     pending: &Pending,
     schema: &Schema,
@@ -206,8 +207,8 @@ pub fn step_seen<S: RowStore>(
     Ok(step_from(schema, change, before.as_ref(), left))
 }
 
-/// Whether a row of the table may have these columns, as the transaction sees the rows: the table has no
-/// parent, or they name a parent row that is there. It takes no memory.
+/// Whether a row of the table may have these columns, as the transaction sees the rows: the table has no parent, or the
+/// columns name a parent row that is there. It takes no memory.
 fn parent_seen<S: RowStore>(
     pending: &Pending,
     schema: &Schema,
@@ -226,8 +227,8 @@ fn parent_seen<S: RowStore>(
     }
 }
 
-/// Whether the parent that the change gives its row, which it leaves so, is there, if it gives one. It takes no memory.
-/// The time is that of at most one look-up in the store.
+/// Whether the parent that the change gives its row, if it gives one, is there; `left` is what the change leaves of the
+/// row. It takes no memory, and the time of at most one look-up in the store.
 pub fn parent_holds<S: RowStore>(
     pending: &Pending,
     schema: &Schema,

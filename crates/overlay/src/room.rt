@@ -1,4 +1,4 @@
-//! The lists of what a transaction has pending, and room for one more change.
+//! The lists of a transaction's pending changes, and room for one more change.
 
 ghost use Rattle.std.specs.Prelude.{◌≡◌, ◌<◌, ◌≤◌, ◌+◌, ◌++◌, ◌∷◌, [], length, option_to_list, vec_capacity, OnOk};
 ghost use Rattle.indexmap.specs.IndexMap.{spare};
@@ -25,8 +25,8 @@ pub(crate) struct Lists {
     pub(crate) marks: Vec<Mark>,
 }
 
-/// What a transaction has pending, with room for one more change: the push of it can't be refused. So a caller that has more to take
-/// for the change takes the room for it first.
+/// A transaction's pending changes, with room for one more: its push can't be refused. So a caller that needs more
+/// memory for the change takes this room first.
 #[derive(Debug, Drop)]
 pub struct Roomy {
     pub(crate) lists: Lists,
@@ -43,7 +43,7 @@ impl Model for Roomy {
 }
 
 impl Roomy {
-    /// What is pending, with the change behind the others, and with its step. It takes no memory.
+    /// What is pending, with the change and its step after the others. It takes no memory.
     pub fn push(self, change: Change, step: &Step) -> Pending
         requires { HasRoom self step.now }
         ensures { result ≡ pushed self.pending change step.now }
@@ -54,7 +54,7 @@ impl Roomy {
         Pending { lists }
     }
 
-    /// What is pending, without more changes. It takes no memory.
+    /// What is pending, without another change. It takes no memory.
     pub fn into_pending(self) -> Pending
         ensures { result ≡ self.pending }
     {
@@ -87,7 +87,7 @@ impl Lists {
         make_places(&mut self.marks, step.gives_up, step.takes)
     }
 
-    /// Like `make_room`, but for the change's row too.
+    /// Like `make_room`, but also for the change's row.
     pub(crate) fn make_all_room(&mut self, step: &Step) -> Result<(), Memory>
         ensures same { pending_in self.new ≡ pending_in self.old }
         ensures change { OnOk result (TakesChange self.new) }
@@ -99,7 +99,7 @@ impl Lists {
         Ok(())
     }
 
-    /// Puts the change, its kin and its marks behind the others, where there is room for them.
+    /// Adds the change, its kin and its marks after the others; there is room for them.
     pub(crate) fn put_last(&mut self, change: Change, step: &Step)
         requires change { TakesChange self.old }
         requires step { HasRoom (room_in self.old) step.now }
@@ -114,7 +114,7 @@ impl Lists {
     }
 }
 
-/// Makes room for these items, where there are any.
+/// Makes room for these items, if there are any.
 fn make_places<T: Drop>(items: &mut Vec<T>, one: Option<T>, other: Option<T>) -> Result<(), Memory>
     ensures items { items.new.items ≡ items.old.items }
     ensures ok { OnOk result (length items.new.items + length (option_to_list one ++ option_to_list other) ≤ vec_capacity items.new) }
@@ -126,7 +126,7 @@ fn make_places<T: Drop>(items: &mut Vec<T>, one: Option<T>, other: Option<T>) ->
     Ok(())
 }
 
-/// Puts these items behind the others, where there are any, and room for them.
+/// Adds these items, if there are any, after the others; there is room for them.
 fn put_both<T: Debug>(items: &mut Vec<T>, one: Option<T>, other: Option<T>)
     requires { length items.old.items + length (option_to_list one ++ option_to_list other) ≤ vec_capacity items.old }
     ensures { items.new.items ≡ items.old.items ++ (option_to_list one ++ option_to_list other) }
@@ -139,7 +139,7 @@ fn put_both<T: Debug>(items: &mut Vec<T>, one: Option<T>, other: Option<T>)
     }
 }
 
-/// Sets what is left of a row, where there is room for one more.
+/// Sets what is left of a row; there is room for one more.
 fn set_row(rows: &mut IndexMap<RowId, Option<Row>>, row: RowId, left: Option<Row>)
     requires { 0 < spare rows.old }
     ensures { in_order rows.new.entries ≡ put row_cmp row left (in_order rows.old.entries) }

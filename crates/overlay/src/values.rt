@@ -15,10 +15,10 @@ use indexmap::IndexMap;
 use rows::{Change, Row, mark_of};
 use schema::{Mark, RowId, Schema};
 
-/// Whether no other row has the value that the change gives its row, `takes`, as the transaction sees the rows; true where it gives
-/// none. `holder` is the key of the row that has the mark in the rows below, `None` where none has: so there is nothing to look up
-/// there. It takes no memory. The time is that of a walk over the rows that the transaction changed, and of one over the
-/// schema's tables for each of these; none where the change gives no value.
+/// Whether no other row has the value that the change gives its row, `takes`, as the transaction sees the rows; true if
+/// the change gives none. `holder` is the key of the row in the store that has the mark, `None` if no row there has it,
+/// so the store is not asked. It takes no memory. The time is that of a walk over the rows that the transaction
+/// changed, with a walk over the schema's tables for each of them; if the change gives no value, it is constant.
 pub fn value_holds(
     pending: &Pending,
     schema: &Schema,
@@ -37,7 +37,7 @@ pub fn value_holds(
     !any_other_has(schema, left, row, mark) && holder_gives_way(pending, row, mark, holder)
 }
 
-/// Whether one of these rows is another than this one, and what is left of it has the mark.
+/// Whether one of these rows, other than `row`, is left with the mark.
 fn any_other_has(
     schema: &Schema,
     left: &IndexMap<RowId, Option<Row>>,
@@ -51,7 +51,7 @@ fn any_other_has(
         .any(|(id, left)| other_has(schema, row, mark, *id, left))
 }
 
-/// Whether the row of this id is another than that one, and what is left of it has the mark.
+/// Whether the row with this id is not `row`, and is left with the mark.
 fn other_has(schema: &Schema, row: RowId, mark: Mark, id: RowId, left: &Option<Row>) -> bool
     ensures { result ≡ other_has schema.now row mark (id, left.now) }
 {
@@ -61,14 +61,14 @@ fn other_has(schema: &Schema, row: RowId, mark: Mark, id: RowId, left: &Option<R
     }
 }
 
-/// Whether a row of the table that has these columns has the mark.
+/// Whether a row of the table with these columns has the mark.
 fn has_mark(schema: &Schema, mark: Mark, table: u16, columns: &Row) -> bool
     ensures { (key : ℤ) → result ≡ has_mark schema.now mark (row_at table key, columns.now) }
 {
     mark_of(schema, table, columns.columns()).is_some_and(|own| own == mark)
 }
 
-/// Whether the holder of the mark, if any, is this row, or one that the transaction changed.
+/// Whether the holder of the mark, if any, is `row`, or a row that the transaction changed.
 fn holder_gives_way(pending: &Pending, row: RowId, mark: Mark, holder: Option<i64>) -> bool
     ensures { result ≡ option_map_or (λ key. gives_way pending.now row (row_at mark.table key)) holder true }
 {
@@ -85,7 +85,7 @@ fn row_of(mark: Mark, key: i64) -> RowId
     }
 }
 
-/// Whether the holder is this row, or one that the transaction changed.
+/// Whether the holder is `row`, or a row that the transaction changed.
 fn gives_way(pending: &Pending, row: RowId, holder: RowId) -> bool
     ensures { result ≡ gives_way pending.now row holder }
 {

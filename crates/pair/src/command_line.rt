@@ -14,7 +14,7 @@ use uuid::Uuid;
 /// What `--version` prints after the program's name.
 const VERSION: &str = "1.0.0";
 
-/// What is told of a word that is not UTF-8.
+/// The message for a word that is not UTF-8.
 pub const NOT_UTF8: &str = "\
 error: invalid UTF-8 was detected in one or more arguments
 
@@ -23,7 +23,7 @@ Usage: pair <COMMAND>
 For more information, try '--help'.
 ";
 
-/// What help says after the subcommands.
+/// The end of the help, after the subcommands.
 const MORE: &str = "\
 A log is in the files PREFIX.1, PREFIX.2, .., and PREFIX.schema says what it is written over: its identifier, the
 tables, and the rows before the first record. 'pair make' makes both, 'pair source' writes the log, and 'pair replica'
@@ -127,7 +127,7 @@ read, or no memory, 6 a difference, 7 a stream failed (no text).";
 /// What the words after the program's name ask for.
 #[derive(Debug, Drop)]
 pub enum Work<'a> {
-    /// `make`: a new log, of this identifier, or one at random.
+    /// `make`: a new log, with this identifier or a random one.
     Make {
         prefix: &'a str,
         source: Option<Uuid>,
@@ -147,7 +147,7 @@ pub enum Work<'a> {
         wire: &'a str,
         crew: Crew,
     },
-    /// `check`: whether a source would go on from the log.
+    /// `check`: whether a source would continue from the log.
     Check {
         prefix: &'a str,
     },
@@ -155,12 +155,13 @@ pub enum Work<'a> {
     Decode {
         files: Vec<&'a str>,
     },
-    /// `rows`: the rows after so many records, or after all.
+    /// `rows`: the rows after the first `upto` records, or after all.
     Rows {
         prefix: &'a str,
         upto: Option<usize>,
     },
-    /// `diff`: whether two logs leave the same after so many records, or after as many as both have.
+    /// `diff`: how two logs differ in their first `upto` records, or in the first records that both have, and in the
+    /// rows after these.
     Diff {
         one: &'a str,
         other: &'a str,
@@ -168,10 +169,10 @@ pub enum Work<'a> {
     },
 }
 
-/// Why the words ask for nothing.
+/// Why the words do not ask for any work.
 #[derive(Debug, Drop, Error)]
 pub enum LineFault {
-    /// The words are no command line of the program. This is the text for the user, which ends with LF.
+    /// The words are not a command line of the program. This is the text for the user, which ends with LF.
     #[error("{0}")]
     Line(String),
     /// The words ask for help or for the version. This is the text, which ends with LF.
@@ -205,7 +206,7 @@ pub fn asked<'a>(alloc: Global, words: &'a [&'a str]) -> Result<Work<'a>, LineFa
     }
 }
 
-/// What the subcommand that was found asks for.
+/// What the given subcommand asks for.
 fn asked_in<'a>(alloc: Global, matches: &ArgMatches<'a>) -> Result<Option<Work<'a>>, LineFault> {
     let Some((name, found)) = matches.subcommand() else {
         return Ok(None);
@@ -244,7 +245,7 @@ fn replica_work<'a>(alloc: Global, found: &ArgMatches<'a>) -> Result<Option<Work
     Ok(Some(Work::Replica { wire, crew }))
 }
 
-/// The identifier that `--source` says, if it stands there.
+/// The identifier that `--source` gives, if the option is there.
 fn source_of(alloc: Global, found: &ArgMatches) -> Result<Option<Uuid>, LineFault> {
     match found.get_str("source") {
         Some(word) => Ok(Some(identifier_of(alloc, word)?)),
@@ -252,7 +253,7 @@ fn source_of(alloc: Global, found: &ArgMatches) -> Result<Option<Uuid>, LineFaul
     }
 }
 
-/// The identifier that the word says.
+/// The identifier that the word gives.
 fn identifier_of(alloc: Global, word: &str) -> Result<Uuid, LineFault> {
     match Uuid::try_parse(word) {
         Ok(source) => Ok(source),
@@ -320,7 +321,7 @@ fn plan_of(found: &ArgMatches) -> Option<Plan> {
     })
 }
 
-/// The command line as `clap` has it.
+/// The command line as `clap` takes it.
 fn command<'a>(alloc: Global) -> Result<Command<'a>, AllocError> {
     let command = program(alloc)?;
     let command = with_sources(alloc, command)?;
@@ -400,7 +401,7 @@ fn source_command<'a>(alloc: Global) -> Result<Command<'a>, AllocError> {
         ))
 }
 
-/// `source`, with its log and its tracker alone.
+/// `source`, with only its log and its tracker.
 fn source_of_tracker<'a>(alloc: Global) -> Result<Command<'a>, AllocError> {
     Command::new(alloc, "source")
         .about("A source over a log, which goes on where that ends and answers each line at once")
@@ -466,7 +467,7 @@ fn tracker_option<'a>(alloc: Global, names: &'a [&'a str]) -> Arg<'a> {
         .value_parser(names)
 }
 
-/// The option of a number from 1 to the greatest.
+/// An option whose number is from 1 to the greatest.
 fn number_option<'a>(
     alloc: Global,
     name: &'a str,
@@ -554,7 +555,7 @@ fn upto_option<'a>(alloc: Global, help: &'a str) -> Arg<'a> {
         .value_parser(value_parser!(usize))
 }
 
-/// The fault that `clap` tells.
+/// The fault that `clap` reports.
 fn fault_of(alloc: Global, error: &clap::Error) -> LineFault {
     if error.kind() == ErrorKind::OutOfMemory {
         return LineFault::Memory;

@@ -1,9 +1,11 @@
-//! The program `pair`: a source and a replica in processes of their own, over a log in files that outlives both; and tools that look at
-//! such a log and change nothing.
+//! The program `pair` runs a source and a replica in separate processes, over a log in files that outlives both. It
+//! also has tools that look at such a log and change nothing.
 //!
-//! `command_line` reads what the words ask for. `sourcing` has a source over a log, which is told lines (`conversing`); `feeding` hands a
-//! log to other processes, as a wire. The replica that follows one stands in the crate `replica_answers`, and the tools that make a log,
-//! and that look at one, in `log_tools`, with each fault and its exit status. `serve` does it all over a reader and two writers.
+//! - `command_line` reads what the words ask for. `serve` does it, over a reader and two writers.
+//! - `sourcing` runs a source over a log, and `conversing` its lines.
+//! - `feeding` hands a log to other processes, as a wire.
+//! - The crate `replica_answers` has the replica that follows a wire.
+//! - The crate `log_tools` has the tools that make a log or look at one, and each fault with its exit status.
 #![tactic(auto)]
 
 mod command_line;

@@ -16,8 +16,8 @@ use std::thread::Threads;
 use std::time::Clock;
 use uuid::Uuid;
 
-/// Does what the words of a command line ask for, of which the first is the program's name, and answers the exit
-/// status. A new log gets the identifier `new`. Help and the version go to the output, and faults to `errors`, each in a line.
+/// Does what the words of a command line ask for, and returns the exit status. The first word is the program's name. A
+/// new log gets the identifier `new`. Help and the version go to the output, and faults to `errors`, each as one line.
 pub fn run_program<
     H: Files<File = File> + Alloc<A = Global> + Threads + Wait + Clock + Clone + Drop + Sync,
     R: Read + IsTerminal + Send,

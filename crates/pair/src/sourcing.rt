@@ -1,4 +1,4 @@
-//! `source`: a source over a log in files, which goes on where the log ends.
+//! `source`: a source over a log in files, which continues at the end of the log.
 
 ghost use Rattle.std.specs.Prelude.{List, ℕ, IfOk};
 ghost use Rattle.stored_log.specs.Begun.{IsFound};
@@ -15,8 +15,9 @@ use std::io::{BufReader, IsTerminal, Read, Write};
 use std::rt::Files;
 use stored_log::{OnFile, StoreFault, open};
 
-/// Opens the log and tells how many records it has; then each line of the input is answered at once. A bad line is told, with its number,
-/// and the next one is read: then it ends by `Stop::BadLines`. It ends if a file of the log failed, since nothing more is kept then.
+/// Opens the log and prints how many records it has. Then it replies to each line of the input at once. A bad line is
+/// reported with its number, and the next line is read; then the result is `Stop::BadLines`. If a file of the log
+/// fails, it ends, since nothing more is kept.
 pub fn source<H: Files<File = File>, R: Read + IsTerminal, W: Write, E: Write>(
     rt: &H,
     alloc: Global,
@@ -41,7 +42,7 @@ pub fn source<H: Files<File = File>, R: Read + IsTerminal, W: Write, E: Write>(
     }
 }
 
-/// Tells how many records there are, and answers the lines.
+/// Prints how many records there are, and replies to the lines.
 fn serve_lines<H: Files<File = File>, R: Read + IsTerminal, W: Write, E: Write>(
     rt: &H,
     alloc: Global,
@@ -61,7 +62,7 @@ fn serve_lines<H: Files<File = File>, R: Read + IsTerminal, W: Write, E: Write>(
     )
 }
 
-/// The source that goes on from the log.
+/// The source that continues from the log.
 fn opened<H: Files<File = File>>(
     rt: &H,
     alloc: Global,
@@ -83,7 +84,7 @@ fn opened<H: Files<File = File>>(
     }
 }
 
-/// The log of this prefix. One of which nothing was told is refused: it was not made whole.
+/// The log of this prefix. If its making was cut short, it is refused.
 fn log_of<H: Files<File = File>>(
     rt: &H,
     alloc: Global,
@@ -97,7 +98,7 @@ fn log_of<H: Files<File = File>>(
     }
 }
 
-/// Why a source does not go on from a log that was opened.
+/// Why a source does not continue from a log that was opened.
 fn refused(fault: OpenFault) -> Stop {
     match fault {
         OpenFault::OldForm => Stop::OldForm,
@@ -107,7 +108,7 @@ fn refused(fault: OpenFault) -> Stop {
     }
 }
 
-/// The file that failed, and what the system said of it: the last one, since a next one that failed was told at once.
+/// The file that failed, with what the system said. It is the last one: a next file that fails is reported at once.
 fn failed(source: Source) -> Stop {
     let (past, last) = source.into_devices();
     StoreFault::of_log(past.len().saturating_add(1), LogFault::Device, &last).into()

@@ -12,11 +12,11 @@ pub enum PromotionFault {
     /// The identifier is that of the source whose records the replica took. An identifier names one log, and is never used again.
     #[error("N1 OwnName")]
     OwnName,
-    /// A record is committed and one before it is not: the order of the log is not kept. Commit those in front of it first.
+    /// A record is committed and one before it is not: log order is not kept. Commit those before it first.
     #[error("N2 Gaps")]
     Gaps,
-    /// The rows do not fit the schema: a child lacks its parent, or a row has other columns than its table. No source writes a log
-    /// that leaves such rows.
+    /// The rows do not fit the schema: a child has no parent, or a row has other columns than its table. No source
+    /// writes a log that leaves such rows.
     #[error("N3 Misfit")]
     Misfit,
     /// Memory ran out.

@@ -1,11 +1,12 @@
-//! A replica becomes a source: over the rows behind its commits, under a new identifier, and from record 1.
+//! Makes a replica a source: over the rows after its commits, under a new identifier, and from record 1.
 //!
-//! The records that the replica committed leave just the rows with which the new source begins, whatever was received, so what its
-//! readers saw leads to them. What it accepted and did not commit is dropped, and so are jobs that are out: these have copies, and touch no
-//! row. A stopped replica is taken like any other. All that may be refused is made by a look at the replica, which comes back whole
-//! with each refusal. Why one is refused, in order, is defined in `specs/Promotion.antt`. `laws` states what readers of both may count
-//! on. It stands on `replica_core` and `source_core`. Nothing here knows whether the old source lives, or whether another replica
-//! committed more.
+//! The records that the replica committed leave exactly the rows with which the new source begins, whatever was
+//! received. So what its readers saw leads to these rows. What it accepted and did not commit is dropped. So are jobs
+//! that are out: they have copies, and touch no row. A stopped replica is taken like any other.
+//!
+//! All that may be refused only looks at the replica, which comes back whole with each refusal. `specs/Promotion.antt`
+//! defines the refusals and their order. `laws` states what readers of both may rely on. It uses `replica_core` and
+//! `source_core`. Nothing here knows whether the old source lives, or whether another replica committed more.
 #![tactic(auto)]
 
 ghost use Rattle.std.specs.Prelude.{◌≡◌, ◌≤◌, ◌<◌, ◌^◌, [], length, IfOk, OnOk, IfErr, Some};
@@ -30,17 +31,17 @@ use uuid::Uuid;
 pub struct Promoted<S: RowStore, T: Tracker> {
     /// The new source. Its log has no record.
     pub source: SourceCore<S, T>,
-    /// The name under which its log is to be written.
+    /// The identifier under which its log will be written.
     pub identifier: Uuid,
-    /// How many records of the old log stand before its own: what the old source's receipts and the replica's readers counted goes on with
-    /// `behind` and the new gno.
+    /// The number of records of the old log before the first of the new one. The counts of the old source's receipts
+    /// and of the replica's readers continue with `behind` plus the new gno.
     pub behind: u64,
 }
 
-/// Makes the replica a source, over the rows behind its commits, whose log is to be written under this identifier, as MySQL's promoted
-/// server writes under its own `server_uuid`. The tracker is new, and the log has at most `max_records` records. With n rows the time is
-/// n log n, and the memory that of `SourceCore::new` and of a copy of the tables; the store itself is not copied. Where it is refused the
-/// replica comes back as it was, and may go on.
+/// Makes the replica a source over the rows after its commits. Its log will be written under this identifier, as
+/// MySQL's promoted server writes under its own `server_uuid`. The tracker is new, and the log has at most
+/// `max_records` records. With n rows the time is n log n, and the memory that of `SourceCore::new` and of a copy of
+/// the tables; the store itself is not copied. If it is refused, the replica comes back as it was, and may go on.
 pub fn promote<S: RowStore, T: Tracker>(
     alloc: Global,
     replica: ReplicaCore<S>,
@@ -78,9 +79,10 @@ where
     })
 }
 
-/// What a source begins with that the replica becomes under this identifier: its tables, and its rows after its commits. It only looks at
-/// the replica, which may go on, and refuses what `promote` refuses. Who writes the new log in another process takes its tables and rows
-/// from here. With n rows the time is n log n, and the memory that of a copy of the rows and of `SourceCore::new`.
+/// What the source begins with that the replica would become under this identifier: its tables, and its rows after its
+/// commits. It only looks at the replica, which may go on, and refuses what `promote` refuses. A caller that writes the
+/// new log in another process takes the tables and rows from here. With n rows the time is n log n, and the memory that
+/// of a copy of the rows and of `SourceCore::new`.
 pub fn opening_of<S: RowStore>(
     alloc: Global,
     replica: &ReplicaCore<S>,
@@ -97,7 +99,7 @@ pub fn opening_of<S: RowStore>(
     Ok(Opening::of(alloc, schema, replica.store())?)
 }
 
-/// The first cause that refuses the replica, but for want of memory.
+/// The first cause that refuses the replica, except for out of memory.
 fn refuse<S: RowStore>(replica: &ReplicaCore<S>, identifier: Uuid) -> Result<(), PromotionFault>
     ensures exact { IfErr result (λ fault. IsRefused replica.now identifier fault) }
     ensures ok { OnOk result (IsPromotable replica.now identifier) }

@@ -1,6 +1,6 @@
-//! The history of operations, which exists in proofs alone: all that seats see and are told is a beginning of
-//! it. What is shared at run time is one word, the number of its commits. It grows where commits are published,
-//! by all that wait at once, and nowhere else.
+//! The history of operations, which exists only in proofs: all that seats see and learn is a prefix of it. At run time
+//! only one word is shared, the number of its commits. It grows only when commits are published, by all that wait at
+//! once.
 ghost use Rattle.std.specs.Prelude.{◌≡◌, ◌≢◌, ◌+◌, ◌≤◌, true, false, ◌++◌, ◌∷◌, [], MatchBool, IfSome};
 ghost use mathlib.Core.List.{IsPrefix};
 ghost use Rattle.scheduler.specs.Gnos.{low_of};
@@ -37,7 +37,7 @@ impl Rule<Part, u64> for Law {
     ghost moves = { λ ask before after answer. Unit {0} };
 }
 
-/// Nobody keeps anything beside the history.
+/// Nothing is kept beside the history.
 pub struct Nothing;
 
 impl Gain<Part, u64> for Nothing {
@@ -65,11 +65,11 @@ impl Play<Part, u64> for Add {
     ghost then = { Adds };
 }
 
-/// Which publication a publisher, a seat and a notice are of: a type stands for it, so that those of two
-/// publications can't be mixed. Write a function over `J: Naming` that takes a `Beginning` and whether the order of the log is
-/// kept, and requires `beginning.book ≡ J.book` and `preserve ≡ J.preserve`. Its caller passes the marker `Brand` for `J`, and
-/// says in its `Invariants.antt` that both are those of the arguments, and that `known` is `None`. If it is known before what the
-/// publication may ever publish, `known` is that, the load first.
+/// A type that stands for one publication, with its publisher, seats and notices. So those of two publications can't be
+/// mixed. Write a function over `J: Naming` that takes a `Beginning` and whether the order of the log is kept, and
+/// requires `beginning.book ≡ J.book` and `preserve ≡ J.preserve`. Its caller passes the marker `Brand` for `J`. It says
+/// in its `Invariants.antt` that both are those of the arguments, and that `known` is `None`. If all that the publication
+/// may ever publish is known before, `known` is that, the load first.
 pub trait Naming {
     ghost use Rattle.std.specs.Prelude.{Bool, Option, List};
     ghost use Rattle.logbook.specs.Pages.{Book};
@@ -102,8 +102,8 @@ pub struct Head<J: Naming> {
     ghost word_is: { word ≡ head_of J.book },
 }
 
-/// The rows that are there at first, and the history that begins with their load. `open` takes it. Contracts see
-/// it as those rows, and which publication it is.
+/// The first rows, and the history that begins with their load. `open` takes it. Contracts see it as those rows, and
+/// which publication it is.
 #[derive(Drop)]
 pub struct Beginning {
     base: Batch,
@@ -156,8 +156,8 @@ impl Beginning {
     }
 }
 
-/// Operations that were published, the load first: a beginning of the history. Contracts see it as that list;
-/// at run time it is the number of its commits, and up to which gno these leave no gap. It may go to any thread.
+/// Operations that were published, the load first: a prefix of the history. Contracts see it as that list. At run time it
+/// is the number of its commits, and the gno up to which these leave no gap. It may go to any thread.
 #[derive(Drop)]
 pub struct Notice<J: Naming> {
     count: u64,
@@ -182,7 +182,7 @@ impl<J: Naming> Model for Notice<J> {
 }
 
 impl<J: Naming> Notice<J> {
-    /// It has all commits of the gnos 1 to this one, and not the next; 0 where it has not the first.
+    /// It has all commits of the gnos 1 to this one, and not the next; 0 if it does not have the first.
     pub fn upto(&self) -> u64
         ensures mark { result ≡ low_of (gnos_of self.now) }
         // In the order of the log it is the gno of its last commit.
@@ -195,7 +195,7 @@ impl<J: Naming> Notice<J> {
         self.upto
     }
 
-    /// How many commits it has, 0 where it has the load alone.
+    /// How many commits it has, 0 if it has only the load.
     pub fn count(&self) -> u64
         ensures { result ≡ commits_in self.now }
     {
@@ -224,8 +224,8 @@ impl<J: Naming> Notice<J> {
         other.count >= self.count
     }
 
-    // It and the commits that `M` names behind it: so many then, with no gap up to this gno. `None` where the history went on
-    // without them.
+    // This notice with the commits that `M` names after it. It then has `count` commits, with no gap up to `upto`. `None`
+    // if the history went on without them.
     pub(crate) fn and<X, M: Plain<X, Part, u64>>(
         &self,
         head: &Head<J>,

@@ -1,4 +1,4 @@
-//! The numbers of the commits that are appended, where these may leave gaps.
+//! The numbers of the appended commits, which may leave gaps.
 ghost use Rattle.std.specs.Prelude.{◌≡◌, ℕ, ◌+◌, ◌-◌, ◌<◌, ◌≤◌, ◌||◌, ◌==◌, false, [], ◌++◌, length, drop, vec_len, vec_capacity, OnOk};
 ghost use Rattle.scheduler.specs.Gnos.{has_gno, low_of, first_gnos};
 ghost use Rattle.published.specs.Gaps.{HasRoom, RiseBetween};
@@ -8,12 +8,13 @@ use schema::Memory;
 use std::alloc::Global;
 use std::marker::Model;
 
-/// Numbers from 1 on, each at most once. It keeps the mark, up to which it has all of them, and those ahead of it: with no gap it
-/// has nothing but the mark. Contracts see it as these numbers in rising order, and the room for more of them ahead.
+/// Numbers from 1 on, each at most once. It keeps the mark, up to which it has all of them, and the numbers ahead of it.
+/// Without a gap it has only the mark. Contracts see it as these numbers in rising order, and the room for more of them
+/// ahead.
 #[derive(Drop)]
 pub(crate) struct Gaps {
     upto: u64,
-    /// Those above the mark, in rising order. The one behind the mark is not among them.
+    /// The numbers above the mark, in rising order. The first one after the mark is not among them.
     ahead: Vec<u64>,
 }
 
@@ -31,7 +32,7 @@ impl Model for Gaps {
 }
 
 impl Gaps {
-    /// No number. It takes no memory.
+    /// No number yet. It takes no memory.
     pub(crate) fn new(alloc: Global) -> Gaps
         ensures { result.gnos ≡ [] }
     {
@@ -41,7 +42,7 @@ impl Gaps {
         }
     }
 
-    /// Up to which number it has all from 1 on.
+    /// The number up to which it has all from 1 on.
     pub(crate) fn upto(&self) -> u64
         ensures mark { result ≡ low_of self.now.gnos }
         ensures within { result ≤ length self.now.gnos }
@@ -57,7 +58,7 @@ impl Gaps {
         self.upto + self.ahead.len() as u64
     }
 
-    /// Makes room for the number, where it is not the one behind the mark.
+    /// Makes room for the number, unless it is the first one after the mark.
     pub(crate) fn room_for(&mut self, gno: u64) -> Result<(), Memory>
         requires { 1 ≤ gno }
         ensures same { self.new.gnos ≡ self.old.gnos }
@@ -69,8 +70,9 @@ impl Gaps {
         Ok(self.ahead.reserve(1)?)
     }
 
-    /// Adds a number that it has not, for which there is room. It takes no memory. One ahead of a gap is put into its place, in time
-    /// linear in the numbers ahead; where the number is the one behind the mark, the mark passes all that follow without a gap.
+    /// Adds a number that it does not have, for which there is room. It takes no memory. A number ahead of a gap is put
+    /// into its place, in time linear in the numbers ahead. If it is the first one after the mark, the mark passes all
+    /// that follow without a gap.
     pub(crate) fn add(&mut self, gno: u64)
         requires some { 1 ≤ gno }
         requires new { has_gno self.old.gnos gno ≡ false }
@@ -86,7 +88,8 @@ impl Gaps {
     }
 }
 
-// Takes away those that follow the number without a gap, and answers the last of these, or the number itself. The time is linear.
+// Takes away the numbers that follow this one without a gap, and returns the last of these, or the number itself. The
+// time is linear.
 fn pass(ahead: &mut Vec<u64>, gno: u64) -> u64
     requires { RiseBetween gno u64.MAX ahead.old.items }
     ensures rise { RiseBetween (result + 1) u64.MAX ahead.new.items }
@@ -99,7 +102,7 @@ fn pass(ahead: &mut Vec<u64>, gno: u64) -> u64
     upto
 }
 
-// The last of those that follow the number without a gap, or the number itself.
+// The last of the numbers that follow this one without a gap, or the number itself.
 fn last_without_gap(ahead: &[u64], gno: u64) -> u64
     requires { RiseBetween gno u64.MAX ahead.now }
     ensures within { (gno ≤ result) × (result - gno ≤ length ahead.now) }
@@ -116,7 +119,8 @@ fn last_without_gap(ahead: &[u64], gno: u64) -> u64
     upto
 }
 
-// Puts a number that is not among them into its place, for which there is room. The time is linear: that of a move of those above it.
+// Puts a number that is not among them into its place, for which there is room. The time is linear: the numbers above it
+// move.
 fn put(ahead: &mut Vec<u64>, gno: u64)
     requires rise { RiseBetween 0 u64.MAX ahead.old.items }
     requires new { has_gno ahead.old.items gno ≡ false }

@@ -9,8 +9,8 @@ use std::alloc::Global;
 use std::collections::BTreeMap;
 use store_trait::Batch;
 
-/// One batch that leaves what these leave, put one after another. Of a row that stands in several, the last
-/// entry counts. The time is n log n, and the memory n, for n entries in all.
+/// One batch that leaves what these leave, put one after another. If a row is in several, its last entry counts. The time
+/// is n log n, and the memory n, for n entries in all.
 pub(crate) fn merged(alloc: Global, batches: &[Batch]) -> Result<Batch, Memory>
     ensures { IfOk result (λ batch. (db : Database) → put_batch batch db ≡ put_batches batches.now db) }
 {
@@ -21,7 +21,7 @@ pub(crate) fn merged(alloc: Global, batches: &[Batch]) -> Result<Batch, Memory>
     Ok(Batch::from_rising(rows.into_iter().collect(alloc)?))
 }
 
-// Puts the entries into those that are there.
+// Puts the entries over those that are there.
 fn enter(
     rows: &mut BTreeMap<RowId, Option<Row>>,
     entries: &[(RowId, Option<Row>)],

@@ -22,7 +22,7 @@ pub enum OpenError {
     /// Memory ran out.
     #[error("no memory")]
     Memory,
-    /// `left_right` gave no reader, as where all its places are taken. Memory did not run out.
+    /// `left_right` gave no reader, for example because all its places are taken. Memory did not run out.
     #[error("seat refused")]
     SeatRefused,
 }
@@ -38,17 +38,17 @@ impl From<Memory> for OpenError {
     }
 }
 
-/// What a publication is made of: memory, and readers. `open` is generic over it, so it can tell want of either only
-/// where it was told of it here. `LeftRight` is the one to pass.
+/// What a publication is made of: memory, and readers. `open` is generic over it, so it can report that one is missing
+/// only if the supply refused it. Pass `LeftRight`.
 pub trait Supply<S: RowStore + Drop, J: Naming> {
-    /// Memory was refused. What it means is the supply's own; callers learn of it by a refusal alone.
+    /// Memory was refused. The supply defines what that means; callers learn of it only by a refusal.
     ghost lacks_memory: { Type 0 } = { Unit {0} };
 
     /// A reader was refused, likewise.
     ghost lacks_readers: { Type 0 } = { Unit {0} };
 
-    /// The publisher over two empty stores, with the load of the base published, and room for the seats: all the
-    /// memory of a publication. The time is that of the base in both stores.
+    /// The publisher over two empty stores, with the load of the base published, and room for the seats: all the memory
+    /// of a publication. The time is that of the base in both stores.
     fn publisher(
         alloc: Global,
         beginning: Beginning,
@@ -74,11 +74,12 @@ pub trait Supply<S: RowStore + Drop, J: Naming> {
         ensures refused { IfNone result lacks_readers };
 }
 
-/// Memory of the system, and the readers of `left_right`.
+/// The system's memory, and the readers of `left_right`.
 pub struct LeftRight;
 
 impl<S: RowStore + Drop, J: Naming> Supply<S, J> for LeftRight {
-    // A publisher takes commits in any order. That they come in the order which `preserve` tells is asked of who appends them.
+    // A publisher takes commits in any order. The caller that appends them has to keep the order that `preserve` asks
+    // for.
     fn publisher(
         alloc: Global,
         beginning: Beginning,
@@ -98,10 +99,10 @@ impl<S: RowStore + Drop, J: Naming> Supply<S, J> for LeftRight {
     }
 }
 
-/// Opens a publication on two empty stores, with the load of the base published, and makes 1 to 32 seats. Where `preserve` is
-/// true commits are appended in the order of the log, as with MySQL's `replica_preserve_commit_order`, else in any order. Want of
-/// memory is told only where the supply refused memory, and a refused seat only where it refused a reader. The time
-/// and the memory are those of the base in both stores. It waits only where it has to give up.
+/// Opens a publication on two empty stores, with the load of the base published, and makes 1 to 32 seats. If `preserve`
+/// is true, commits are appended in the order of the log, as with MySQL's `replica_preserve_commit_order`, else in any
+/// order. It reports out of memory only if the supply refused memory, and a refused seat only if it refused a reader. The
+/// time and the memory are those of the base in both stores. It waits only if it has to give up.
 pub fn open<S: RowStore + Drop, J: Naming, R: Wait, P: Supply<S, J>>(
     rt: &R,
     alloc: Global,
@@ -162,7 +163,7 @@ fn both<S: RowStore + Drop, J: Naming>(
     Ok(StoreWriter::new(alloc, first, second, seats)?)
 }
 
-// So many seats, which have seen what is published. `None` where a reader was refused.
+// `seats` seats, which have seen what is published. `None` if a reader was refused.
 fn take_seats<S: RowStore + Drop, J: Naming, P: Supply<S, J>>(
     publisher: &Publisher<S, J>,
     mut places: Vec<ReadSeat<S, J>>,

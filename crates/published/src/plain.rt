@@ -15,9 +15,9 @@ use std::alloc::Global;
 use std::marker::Model;
 use store_trait::{Batch, Op, RowStore};
 
-/// A store that shows the commits that were published, and keeps those that wait. Contracts see it as that
-/// store, whether commits come in the order of the log, up to which gno it shows all commits and how many behind that, the gnos
-/// of all that was appended, and the batches that wait.
+/// A store that shows the commits that were published, and keeps those that wait. Contracts see it as that store, and
+/// whether commits come in the order of the log. They also see up to which gno it shows all commits and how many after
+/// that, the gnos of all that was appended, and the batches that wait.
 #[derive(Drop)]
 pub struct Plain<S: RowStore> {
     store: S,
@@ -46,8 +46,8 @@ impl<S: RowStore> Model for Plain<S> {
 }
 
 impl<S: RowStore> Plain<S> {
-    /// Puts the base into an empty store and shows it. Where `preserve` is true commits are appended in the order of the log, else
-    /// in any order. The time and the memory are those of one `put_all`.
+    /// Puts the base into an empty store and shows it. If `preserve` is true, commits are appended in the order of the
+    /// log, else in any order. The time and the memory are those of one `put_all`.
     pub fn new(alloc: Global, mut store: S, base: Batch, preserve: bool) -> Result<Plain<S>, Memory>
     where
         S: Drop,
@@ -68,9 +68,9 @@ impl<S: RowStore> Plain<S> {
         })
     }
 
-    /// Appends a commit, which nobody sees before the next `publish`. Where the order of the log is kept, it is the one of the gno
-    /// after the last appended, 1 at first; else that of any gno from 1 on that was not appended. The time and the memory are those
-    /// of a copy of the batch, and linear in the commits ahead of a gap.
+    /// Appends a commit, which nobody sees before the next `publish`. If the order of the log is kept, its gno is the one
+    /// after the last appended, 1 at first. Else it is any gno from 1 on that was not appended. The time and the memory
+    /// are those of a copy of the batch, and linear in the commits ahead of a gap.
     pub fn append(&mut self, op: &Op) -> Result<(), Memory>
         requires { MayFollow self.old.preserve self.old op.now }
         ensures ok { OnOk result (self.new ≡ record self.old { gnos = self.new.gnos; waiting = self.old.waiting ++ batch_of op.now ∷ [] }) }
@@ -87,9 +87,9 @@ impl<S: RowStore> Plain<S> {
         Ok(())
     }
 
-    /// Shows all that was appended, at once, and answers how many commits are shown then. Where memory runs
-    /// out nothing changes, and the next `publish` shows the same and what came since. Where nothing waits it takes no
-    /// memory. The time is n log(n + m), for n entries that wait and a store of m rows.
+    /// Shows all that was appended, at once, and returns how many commits are shown then. If memory runs out, nothing
+    /// changes, and the next `publish` shows the same and what came since. If nothing waits, it takes no memory. The time
+    /// is n log(n + m), for n entries that wait and a store of m rows.
     pub fn publish(&mut self) -> Result<u64, Memory>
         ensures number { IfOk result
             (λ count. (count ≡ self.new.upto + self.new.more) × (count ≡ self.old.upto + self.old.more + length self.old.waiting)) }
@@ -114,7 +114,7 @@ impl<S: RowStore> Plain<S> {
         Ok(count)
     }
 
-    /// The number of commits appended: those shown, and those that wait. It takes no memory.
+    /// The number of appended commits: those shown, and those that wait. It takes no memory.
     pub fn appended(&self) -> u64
         ensures number { result ≡ self.now.upto + self.now.more + length self.now.waiting }
         ensures gnos { result ≡ length self.now.gnos }
@@ -122,8 +122,7 @@ impl<S: RowStore> Plain<S> {
         self.appended.count()
     }
 
-    /// The row as the commits that are shown leave it. It takes no memory. The time is logarithmic in the
-    /// number of rows.
+    /// The row as the commits that are shown leave it. It takes no memory. The time is logarithmic in the number of rows.
     pub fn read(&self, id: RowId) -> Answer
         ensures row { result.row ≡ row_of (S.contents self.now.store) id }
         ensures upto { result.upto ≡ self.now.upto }

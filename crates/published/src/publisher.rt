@@ -1,4 +1,4 @@
-//! The one who publishes.
+//! The publisher.
 ghost use Rattle.std.specs.Prelude.{◌≡◌, ◌⊎◌, ◌+◌, [], ◌∷◌, ◌++◌, length, drop, OnOk, OnErr, IfOk, IfSome, fold};
 ghost use Rattle.published.specs.Copies.{after_step, Settles};
 ghost use Rattle.store_trait.specs.Operation.{left_by};
@@ -17,10 +17,10 @@ use std::marker::Model;
 use std::sync::Wait;
 use store_trait::{Op, RowStore};
 
-/// It appends commits and publishes them. Contracts see it as the operations that are published, those that wait,
-/// and the history of what readers may see, which is what they see but after a refused `publish`. It is not `Drop`: end it by `close`.
-/// A struct that has one repeats its bound. One that lies under a lock has to be `Drop`, so it keeps the handle too, and closes the
-/// publisher in its `drop`.
+/// It appends commits and publishes them. Contracts see it as the operations that are published, those that wait, and the
+/// history of what readers may see. That is what they see, except after a refused `publish`. It is not `Drop`: end it by
+/// `close`. A struct that has one repeats its bound. A struct under a lock has to be `Drop`, so it keeps the handle too,
+/// and closes the publisher in its `drop`.
 pub struct Publisher<S: RowStore + Drop, J: Naming>
 where
     Version<S, J>: Absorb<CopyStep<J>, State = Common>,
@@ -92,7 +92,7 @@ impl<S: RowStore + Drop, J: Naming> Publisher<S, J> {
         }
     }
 
-    // A new seat, which has seen what is published. `None` where `left_right` gave no reader.
+    // A new seat, which has seen what is published. `None` if `left_right` gave no reader.
     pub(crate) fn seat(&self) -> Option<ReadSeat<S, J>>
         ensures { IfSome result (λ seat. seat ≡ self.now.published) }
     {
@@ -100,12 +100,12 @@ impl<S: RowStore + Drop, J: Naming> Publisher<S, J> {
         Some(ReadSeat::taken(reader, self.tell()))
     }
 
-    /// Appends a commit, which no reader sees before the next `publish`. Where the order of the log is kept, it is the one of the
-    /// gno after the last appended, 1 at first; else that of any gno from 1 on that was not appended. The time and the memory are
-    /// those of a copy of the batch, and linear in the commits ahead of a gap.
+    /// Appends a commit, which no reader sees before the next `publish`. If the order of the log is kept, its gno is the
+    /// one after the last appended, 1 at first. Else it is any gno from 1 on that was not appended. The time and the
+    /// memory are those of a copy of the batch, and linear in the commits ahead of a gap.
     pub fn append(&mut self, op: &Op) -> Result<(), Memory>
         requires next { MayAppend J.preserve (self.old.published ++ self.old.waiting) op.now }
-        // If it is known what ever may be published, it is the next of that.
+        // If all that may ever be published is known, this is the next of that.
         requires known { IsWithin J.known (self.old.published ++ self.old.waiting ++ op.now ∷ []) }
         ensures ok { OnOk result (self.new ≡ record self.old { waiting = self.old.waiting ++ op.now ∷ [] }) }
         ensures err { OnErr result (self.new ≡ self.old) }
@@ -123,14 +123,17 @@ impl<S: RowStore + Drop, J: Naming> Publisher<S, J> {
         Ok(())
     }
 
-    /// Publishes all that was appended, at once, and answers how many commits are published then. Where memory
-    /// runs out readers see what they saw, and the next `publish` publishes the same and what came since. The
-    /// history may then have all that was to be published; the next `publish` goes on from there, and adds to it
-    /// only what came since. It waits for readers that are still in the version before the last. The time is
-    /// n log m, for the n entries that wait and those of the `publish` before, and a store of m rows; each entry
-    /// goes into both copies. The memory is what the new rows need, and the operations are kept until both copies
-    /// have them, which is at the `publish` after. (It would also answer `Memory` if another had added to the
-    /// history, which nobody but this publisher can.)
+    /// Publishes all that was appended, at once, and returns how many commits are published then. It waits for readers
+    /// that are still in the version before the last.
+    ///
+    /// If memory runs out, readers see what they saw, and the next `publish` publishes the same and what came since. The
+    /// history may then already have all that waited. In that case the next `publish` goes on from there, and adds to it
+    /// only what came since. (It would also return `Memory` if another had added to the history, but only this publisher
+    /// can.)
+    ///
+    /// The time is n log m, for the n entries that wait and those of the `publish` before, and a store of m rows; each
+    /// entry goes into both copies. The memory is what the new rows need. The operations are kept until both copies have
+    /// them, at the next `publish`.
     pub fn publish<R: Wait>(&mut self, rt: &R) -> Result<u64, Memory>
         ensures number { IfOk result
             (λ count. (count ≡ commits_in self.new.published) × (count ≡ commits_in self.old.published + length self.old.waiting)) }
@@ -151,7 +154,7 @@ impl<S: RowStore + Drop, J: Naming> Publisher<S, J> {
         Ok(self.appended.count())
     }
 
-    // The history with all that waits. `None` where it went on without that.
+    // The history with all that waits. `None` if it went on without that.
     fn extended(&self) -> Option<Notice<J>>
         ensures { IfSome result (λ all. all ≡ self.now.published ++ self.now.waiting) }
     {
@@ -173,8 +176,8 @@ impl<S: RowStore + Drop, J: Naming> Publisher<S, J>
 where
     Version<S, J>: Absorb<CopyStep<J>, State = Common>,
 {
-    /// Waits for the readers, which from then on get no answer, and gives back the store that was published
-    /// last. What waits is dropped.
+    /// Waits for the readers, which can read nothing from then on, and gives back the store that was published last. What
+    /// waits is dropped.
     pub fn close<R: Wait>(self, rt: &R) -> S
         ensures { S.contents result ≡ left_by self.published }
     {

@@ -1,4 +1,4 @@
-//! The seats of those who read.
+//! The seats of readers.
 ghost use Rattle.std.specs.Prelude.{◌≡◌, ◌+◌, ◌⊎◌, true, IfSome, IfNone};
 ghost use mathlib.Core.List.{IsPrefix};
 ghost use Rattle.std.specs.FinMap.{get as row_of};
@@ -16,7 +16,7 @@ use std::marker::Model;
 use store_trait::RowStore;
 
 /// It reads what is published, in any one thread. Contracts see it as its seen list: the longest of the lists of
-/// operations from which it answered and of the notices that it learnt.
+/// operations that it read from and of the notices that it learnt.
 #[derive(Drop)]
 pub struct ReadSeat<S: RowStore + Drop, J: Naming> {
     reader: StoreReader<S, J>,
@@ -33,18 +33,18 @@ impl<S: RowStore + Drop, J: Naming> Model for ReadSeat<S, J> {
 }
 
 impl<S: RowStore + Drop, J: Naming> ReadSeat<S, J> {
-    // A seat that has seen so much.
+    // A seat that has seen this notice.
     pub(crate) fn taken(reader: StoreReader<S, J>, seen: Notice<J>) -> ReadSeat<S, J>
         ensures { result ≡ seen }
     {
         ReadSeat { reader, seen }
     }
 
-    /// The row as one list of published operations leaves it, which begins with all that this seat saw or
-    /// learnt, and is its seen list from then on. It takes no lock and no memory, and waits for nobody; the time
-    /// is logarithmic in the number of rows. `None` where `left_right` refuses the entry, as once the publisher
-    /// is closed. It would also be `None` at a version older than what the seat knows, which `left_right` never
-    /// shows, though no clause of it says so.
+    /// The row as one list of published operations leaves it. The list begins with all that this seat saw or learnt, and
+    /// is its seen list from then on. It takes no lock and no memory, and waits for nobody. The time is logarithmic in
+    /// the number of rows. `None` if `left_right` refuses the entry, as it does once the publisher is closed. It would
+    /// also be `None` at a version older than what the seat knows; `left_right` never shows one, but none of its clauses
+    /// says so.
     pub fn read(&mut self, id: RowId) -> Option<Answer>
         ensures row { IfSome result (λ answer. answer.row ≡ row_of (left_by self.new) id) }
         ensures upto { IfSome result (λ answer. answer.upto ≡ low_of (gnos_of self.new)) }
@@ -69,7 +69,7 @@ impl<S: RowStore + Drop, J: Naming> ReadSeat<S, J> {
         })
     }
 
-    /// From now on no answer is below the notice: the seen list is the longer of the two. It takes no memory.
+    /// From now on no read shows less than the notice: the seen list is the longer of the two. It takes no memory.
     pub fn learn(&mut self, notice: Notice<J>)
         ensures one { (self.new ≡ self.old) ⊎ (self.new ≡ notice) }
         ensures kept { IsPrefix self.old self.new }

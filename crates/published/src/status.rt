@@ -1,4 +1,4 @@
-//! The status of a replica: three words, which are read and stored as one.
+//! The status of a replica: three words that are read and stored as one.
 ghost use Rattle.std.specs.Prelude.{◌≡◌, [], ◌∷◌, IfOk};
 ghost use mathlib.Core.List.{IsSuffix};
 ghost use Rattle.crossbeam_utils.specs.Seq.{cell_view};
@@ -31,7 +31,7 @@ impl Words<3> for Counts {
     }
 }
 
-/// The words are in order and never fall, and are those that the one who stores stored last.
+/// The words are in order and never fall, and are those that the storing pass stored last.
 struct Ordered;
 
 impl Protocol<Counts, Look> for Ordered {
@@ -58,7 +58,7 @@ impl Outcome<Counts, Look> for Found {
     ghost then = { Finds };
 }
 
-/// A pass that watches is cut from the one that stores.
+/// A watching pass is split from the storing one.
 struct Watching;
 
 impl Split<Look> for Watching {
@@ -71,8 +71,8 @@ impl Split<Look> for Watching {
 
 type Cell = RuledSeqCell<Counts, Look, Ordered, 3>;
 
-/// The right to store the words. Contracts see it as which words these are, and the counts that were stored, the
-/// last first.
+/// The right to store the words. Contracts see it as which words these are, and the counts that were stored, the last
+/// first.
 #[derive(Drop)]
 pub struct Status {
     cell: Arc<Cell>,
@@ -92,8 +92,8 @@ impl Model for Status {
     ghost invariant = { λ s. (s.pass.table_id ≡ (arc_value s.cell).table.shared.table_id) × ((cell_view s.pass).stores ≡ true) };
 }
 
-/// It reads the words. Contracts see it as which words these are, and the counts that were stored, the last first,
-/// up to those that it answered last; at first all that were stored by then.
+/// A reader of the words. Contracts see it as which words these are, and the counts that were stored, the last first, up
+/// to those that it returned last; at first all that were stored by then.
 #[derive(Drop)]
 pub struct Watch {
     cell: Arc<Cell>,
@@ -130,8 +130,8 @@ impl Status {
         })
     }
 
-    /// Stores the three words as one: nobody reads anything between these and those before. None of them falls.
-    /// It waits for one who is storing them.
+    /// Stores the three words as one: no reader sees anything between these and those before. None of them falls. It
+    /// waits for a thread that is storing them.
     pub fn store<R: Wait>(&mut self, rt: &R, counts: Counts)
         requires in_order { InOrder counts }
         requires rises { NoneFalls (latest self.old.stored) counts }
@@ -140,7 +140,7 @@ impl Status {
         self.cell.swap_as::<Storing, R>(rt, &mut self.pass, counts);
     }
 
-    /// Reads the three words as one: those that were stored last. It waits only where they are stored meanwhile.
+    /// Reads the three words as one: those that were stored last. It waits only while they are being stored.
     pub fn load<R: Wait>(&mut self, rt: &R) -> Counts
         ensures last { result ≡ latest self.old.stored }
         ensures in_order { InOrder result }
@@ -149,7 +149,7 @@ impl Status {
         look(rt, &self.cell, &mut self.pass)
     }
 
-    /// One who reads the words, in any thread. It has seen all that was stored.
+    /// A reader of the words, for any thread. It has seen all that was stored.
     pub fn watch(&mut self) -> Result<Watch, Memory>
         ensures watch { IfOk result (λ watch. watch ≡ self.old) }
         ensures same { self.new ≡ self.old }
@@ -161,8 +161,8 @@ impl Status {
 }
 
 impl Watch {
-    /// Reads the three words as one: those that were stored last, or later than all that it has seen. None of them
-    /// is below what it answered. It waits only where they are stored meanwhile.
+    /// Reads the three words as one: the last ones that it saw, or later ones. None of them is below what it returned
+    /// before. It waits only while they are being stored.
     pub fn load<R: Wait>(&mut self, rt: &R) -> Counts
         ensures answer { result ≡ latest self.new.stored }
         ensures in_order { InOrder result }
@@ -174,7 +174,7 @@ impl Watch {
     }
 }
 
-// The words, which the pass has then seen.
+// The words, which the pass has seen then.
 fn look<R: Wait>(rt: &R, cell: &Cell, pass: &mut Pass<Counts, Look>) -> Counts
     requires { pass.old.table_id ≡ cell.now.table.shared.table_id }
     ensures cell { pass.new.table_id ≡ pass.old.table_id }

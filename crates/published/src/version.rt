@@ -1,4 +1,4 @@
-//! What lies in the two copies: a store, and a notice of the operations that left it.
+//! What the two copies have: a store, and a notice of the operations that left it.
 ghost use Rattle.std.specs.Prelude.{◌≡◌};
 ghost use Rattle.store_trait.specs.Operation.{left_by};
 
@@ -14,9 +14,9 @@ use store_trait::{Op, RowStore};
 /// A step on a copy.
 #[derive(Drop)]
 pub enum CopyStep<J: Naming> {
-    /// The batch of the operation is put into the store.
+    /// Put the batch of the operation into the store.
     Put(Op),
-    /// It is noted that these operations left the store.
+    /// Note that these operations left the store.
     Note(Notice<J>),
 }
 
@@ -67,7 +67,7 @@ impl<S: RowStore, J: Naming> Absorb<CopyStep<J>> for Version<S, J> {
     }
 }
 
-/// What readers take is what its operations leave.
+/// The rows that readers get are what the version's operations leave.
 pub struct Consistent;
 
 impl<S: RowStore, J: Naming> Protocol<Version<S, J>, ()> for Consistent {

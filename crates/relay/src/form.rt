@@ -1,4 +1,4 @@
-//! Whether a record's flags, refs and marks are such as its source's tables give for its changes. None of it takes memory.
+//! Whether a record's flags, refs and marks fit its changes, under its source's tables. None of it takes memory.
 
 ghost use Rattle.std.specs.Prelude.{◌≡◌, ◌%◌, ◌^◌, ◌<◌, pos, count_ones, slice_index_or, if◌then◌else◌, Some, None};
 ghost use Rattle.std.specs.List.{list_all};
@@ -39,8 +39,8 @@ pub(crate) fn are_parents(schema: &Schema, refs: &Refs) -> bool
     refs.list().iter().all(|row| schema.is_parent(row.table))
 }
 
-/// Whether each parent row that the changes give their rows is among the refs. The time is that of a walk over the tables for
-/// each change, and of a search in the refs.
+/// Whether each parent row that the changes give their rows is among the refs. The time is that of a walk over the tables
+/// for each change, and of a search in the refs.
 pub(crate) fn have_refs(schema: &Schema, changes: &[Change], refs: &Refs) -> bool
     ensures { result ≡ list_all (refers schema.now refs.now) changes.now }
 {
@@ -131,7 +131,7 @@ fn named_value(columns: &Named, column: u8) -> Option<i64>
     }
 }
 
-/// The value that stands behind those of the columns of the mask below this one.
+/// The value of this column: it comes after those of the mask's columns below this one.
 fn value_behind(mask: u16, values: &[i64], column: u8) -> i64
     requires { column < 16 }
     ensures { result ≡ slice_index_or values.now (count_ones (mask % 2 ^ column)) (pos 0) }

@@ -1,4 +1,4 @@
-//! The ids of the records that were accepted.
+//! The ids of the accepted records.
 
 ghost use Rattle.std.specs.Prelude.{◌≡◌, ◌-◌, ◌^◌, ◌<◌, ◌≤◌, OnOk, OnErr};
 ghost use Rattle.gtid_set.specs.Ids.{first_ids};
@@ -7,7 +7,7 @@ use gtid_set::{GtidFault, GtidSet};
 use schema::{Gtid, Memory};
 use uuid::Uuid;
 
-/// Puts in the id of this number behind those before it.
+/// Adds the id of this number to those before it.
 pub(crate) fn add_next(ids: &mut GtidSet, source: Uuid, gno: u64) -> Result<(), Memory>
     requires number { (1 ≤ gno) × (gno < 2 ^ 63) }
     requires before { ids.old ≡ first_ids source (gno - 1) }

@@ -1,4 +1,4 @@
-//! How a record that was received is judged by its source's tables.
+//! How a received record is judged by its source's tables.
 
 ghost use Rattle.std.specs.Prelude.{◌≡◌};
 ghost use Rattle.std.specs.List.{list_all};

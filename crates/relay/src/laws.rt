@@ -1,9 +1,9 @@
-//! What follows from the definitions alone. Each function states a law by its contract, and does nothing.
+//! What follows from the definitions only. Each function states a law by its contract, and does nothing.
 
 ghost use Rattle.relay.specs.Laws.{CoveredByParent, AcceptsTheAcceptable, EmptyIsAcceptable, NextIsAcceptable, BeginningIsAcceptable};
 ghost use Rattle.relay.specs.Laws.{PlaceIsNumber, AcceptableStatesGiven, LegalIsAcceptable, ReceivesOfLog};
 
-/// The test of a parent tells whether it covers the records before.
+/// The test of a parent decides whether it covers the records before.
 pub fn covered()
     ensures { CoveredByParent }
 {}
@@ -13,8 +13,8 @@ pub fn acceptance()
     ensures { AcceptsTheAcceptable }
 {}
 
-/// Which records are acceptable: none; with acceptable ones each beginning of them; and one more behind them. They are
-/// numbered from 1.
+/// Which lists of records are acceptable: the empty one, each prefix of an acceptable one, and one with an acceptable
+/// next record at its end. The records are numbered from 1.
 pub fn accepted()
     ensures empty { EmptyIsAcceptable }
     ensures next { NextIsAcceptable }
@@ -22,12 +22,13 @@ pub fn accepted()
     ensures place { PlaceIsNumber }
 {}
 
-/// What the changes of an acceptable record give their rows is among its refs and marks.
+/// The refs and marks of an acceptable record have what its changes give their rows.
 pub fn given()
     ensures { AcceptableStatesGiven }
 {}
 
-/// A legal log of well-formed records may be accepted whole, and what a relay answers to each of its records.
+/// A legal log of well-formed records may be accepted whole. The law also has what a relay returns for each of its
+/// records.
 pub fn legal()
     ensures acceptable { LegalIsAcceptable }
     ensures receives { ReceivesOfLog }

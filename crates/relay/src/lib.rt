@@ -1,11 +1,13 @@
 //! What a replica accepts of a source's log.
 //!
-//! A `Relay` keeps the records that it accepted, in order. Nothing that is received is trusted: a record is accepted only from
-//! its source, in the form that this source's tables allow, as the next, and with a parent that covers what was
-//! accepted before. So whatever is received, the records that it keeps may be applied by many workers. What a record's changes
-//! do to the rows is not looked at. Beside the records it keeps their ids as a set, of which it asks whether a record came
-//! before, and which of them touched each row, and stated each mark, last (`touches`), so that no parent is judged by a walk over
-//! them. It stands on `record_codec` for records, on `gtid_set` for ids, and on `row_map`.
+//! A `Relay` keeps the records that it accepted, in order. Nothing that is received is trusted. A record is accepted only
+//! from its source, in the form that this source's tables allow, as the next one, and with a parent that covers what was
+//! accepted before. So whatever is received, many workers may apply the records that it keeps. It does not look at what a
+//! record's changes do to the rows.
+//!
+//! Beside the records it keeps the set of their ids, which shows whether a record came before. It also keeps which record
+//! touched each row last, and which stated each mark last (`touches`), so no parent is judged by a walk over the records.
+//! The crate uses `record_codec` for records, `gtid_set` for ids, and `row_map`.
 #![tactic(auto)]
 
 ghost use Rattle.std.specs.Prelude.{◌≡◌, ◌⊎◌, ◌+◌, ◌-◌, ◌^◌, ◌<◌, ◌≤◌, IfOk, IfErr, OnOk, OnErr, IsErrOf, [], Ok, Err, false};
@@ -31,27 +33,29 @@ use std::marker::Model;
 use touches::Touches;
 use uuid::Uuid;
 
-/// What became of a record that was received.
+/// What became of a received record.
 #[derive(Clone, Copy, Debug, PartialEq, Eq)]
 pub enum Received {
-    /// It was the next, and is accepted.
+    /// It was the next one, and is accepted.
     Accepted,
     /// A record of its number was accepted before.
     Skipped,
 }
 
-/// Why a call of the replica was refused. The text is the fault's number and name, and of `Stopped` the record's number too.
+/// Why a call of the replica was refused. The text is the fault's number and name, and for `Stopped` the record's number
+/// too.
 #[derive(Clone, Copy, Debug, PartialEq, Eq)]
 pub enum ReplicaFault {
     /// The record's number is past the next.
     Gap,
     /// The record is of another source.
     ForeignSource,
-    /// The record's numbers, or the form of its changes, are none that its source writes.
+    /// Its source writes no record with these numbers, or with changes of this form.
     Malformed,
     /// The record's parent does not cover the records before it.
     BadParent,
-    /// The record of this number could not be applied. Every call answers so from then on.
+    /// The record of this number could not be applied. From then on every call of the core that can be refused is refused
+    /// with this.
     Stopped(u64),
     /// The record of this number was never dispatched.
     Stranger,
@@ -108,13 +112,13 @@ impl<T: Drop> From<AllocFailed<T>> for ReplicaFault {
     }
 }
 
-/// The records accepted of one source, over one schema. `new` makes it.
+/// The records accepted from one source, over one schema. `new` makes it.
 #[derive(Debug, Drop)]
 pub struct Relay {
     schema: Schema,
     source: Uuid,
     accepted: Vec<Record>,
-    /// The ids of the records accepted.
+    /// The ids of the accepted records.
     ids: GtidSet,
     touches: Touches,
 }
@@ -131,7 +135,7 @@ impl Model for Relay {
 }
 
 impl Relay {
-    /// A relay that accepted nothing. It takes no memory.
+    /// A relay that has accepted nothing. It takes no memory.
     pub fn new(alloc: Global, schema: Schema, source: Uuid) -> Relay
         ensures { result ≡ record { tables = schema; source = source; accepted = [] } }
     {
@@ -144,21 +148,32 @@ impl Relay {
         }
     }
 
-    /// Accepts a copy of the record where it is the next, and skips one that was accepted before. It is refused, in this order,
-    /// with `P2` where it is not of the relay's source; with `P3` where no source of these tables writes it: a number of 0 or
-    /// from 2 to the power 63 on, a sequence number that is not the gno, a parent that is not below it, a change of no
-    /// table or of columns that its table lacks, other flags than those of the tables that it writes, a ref to a table that is
-    /// no parent, a child row's new parent that is not among the refs, a mark of a table without a unique column, or a value that
-    /// an insert or an update gives a unique column and that is not among the marks; skipped; with `P1` where its number is past
-    /// the next; with `P4` where a record that was accepted, and is numbered above its parent, conflicts with it; and with `P9`.
-    /// The time is that of some walks over the tables for each change, each ref and each mark, of a search in the refs and one in
-    /// the marks for each change, of the copy, and of at most three look-ups in a map for each change, each ref and each mark,
-    /// expected constant each: it does not grow with the records that were accepted. The copy takes memory, and so do the first id,
-    /// each row that no record touched before, and each mark that none stated.
+    /// Accepts a copy of the record if it is the next one, and skips one that was accepted before. The first of these
+    /// that is true decides:
+    /// - `P2` if it is not of the relay's source.
+    /// - `P3` if no source of these tables writes it.
+    /// - It is skipped if a record of its number was accepted before.
+    /// - `P1` if its number is past the next.
+    /// - `P4` if an accepted record conflicts with it and is numbered above its parent.
+    /// - `P9` if memory runs out.
+    ///
+    /// No source of these tables writes a record with one of these:
+    /// - A number of 0, or from 2 to the power 63 on.
+    /// - A sequence number that is not the gno, or a parent that is not below it.
+    /// - A change of no table, or of columns that its table lacks.
+    /// - Other flags than those of the tables that it writes.
+    /// - A ref to a table that is not a parent, or a mark of a table without a unique column.
+    /// - A child row's new parent that is not among the refs.
+    /// - A value that an insert or an update gives a unique column and that is not among the marks.
+    ///
+    /// The time does not grow with the number of accepted records. For each change, ref and mark it is that of some walks
+    /// over the tables, and of at most three look-ups in a map, expected constant each. For each change there is also a
+    /// search in the refs and one in the marks; then comes the copy. The copy takes memory, and so do the first id, each
+    /// row that no record touched before, and each mark that none stated.
     pub fn receive(&mut self, from: Uuid, new: &Record) -> Result<Received, ReplicaFault>
         ensures answer { IsErrOf result ReplicaFault.Memory ⊎ (result ≡ received self.old from new.now) }
 
-        // Memory runs out only in the place of an acceptance.
+        // Memory runs out only instead of an acceptance.
         ensures memory { IsErrOf result ReplicaFault.Memory
             → received self.old from new.now ≡ Ok Received.Accepted }
         ensures ok { IfOk result (λ answer. self.new ≡ left_by_receive self.old new.now answer) }
@@ -173,9 +188,9 @@ impl Relay {
         }
     }
 
-    /// As `receive`, of a record that is given to it, which is kept and not copied. One that is skipped is dropped, a refused one is
-    /// given back. It is refused as by `receive`, and a refusal changes nothing, so it may be given again. Time and memory are those of
-    /// `receive` without the copy.
+    /// Like `receive`, but keeps the record that it is given instead of a copy. A skipped record is dropped, a refused
+    /// one is given back. The refusals are those of `receive`. They change nothing, so the record may be given again.
+    /// Time and memory are those of `receive` without the copy.
     pub fn receive_own(
         &mut self,
         from: Uuid,
@@ -183,7 +198,7 @@ impl Relay {
     ) -> Result<Received, (ReplicaFault, Record)>
         ensures answer { IfOk result (λ answer. received self.old from new ≡ Ok answer) }
 
-        // Memory runs out only in the place of an acceptance.
+        // Memory runs out only instead of an acceptance.
         ensures refused { IfErr result (λ back. (received self.old from new ≡ Err back.0) ⊎ ((back.0 ≡ ReplicaFault.Memory)
             × (received self.old from new ≡ Ok Received.Accepted))) }
         ensures back { IfErr result (λ back. back.1 ≡ new) }
@@ -197,7 +212,7 @@ impl Relay {
         }
     }
 
-    /// Keeps the record, which is to be accepted. Where there is no memory for it, it is given back.
+    /// Keeps the record, which `judge` has accepted. If there is no memory for it, it is given back.
     fn accept(&mut self, from: Uuid, new: Record) -> Result<Received, (ReplicaFault, Record)>
         requires { received self.old from new ≡ Ok Received.Accepted }
         ensures answer { IfOk result (λ answer. answer ≡ Received.Accepted) }
@@ -220,7 +235,7 @@ impl Relay {
         Ok(Received::Accepted)
     }
 
-    /// What the record would be answered if there were memory enough.
+    /// What `receive` returns for the record if there is enough memory.
     fn judge(&self, from: Uuid, new: &Record) -> Result<Received, ReplicaFault>
         ensures { result ≡ received self.now from new.now }
     {
@@ -250,7 +265,7 @@ impl Relay {
         self.ids.has_number(new.gno)
     }
 
-    /// The records accepted, in order, the record of number 1 first.
+    /// The accepted records, in order, the record of number 1 first.
     pub fn accepted(&self) -> &[Record]
         ensures value { result.now ≡ self.now.accepted }
         ensures valid { AreAcceptable self.now.tables self.now.accepted }
@@ -272,8 +287,8 @@ impl Relay {
         self.source
     }
 
-    /// The tables of the source, and the records accepted, in order, without a copy. The time is that of letting go of what the relay keeps
-    /// of their rows and marks.
+    /// The tables of the source, and the accepted records in order, without a copy. The time is that of freeing what the
+    /// relay keeps of their rows and marks.
     pub fn into_parts(self) -> (Schema, Vec<Record>)
         ensures tables { result.0 ≡ self.tables }
         ensures accepted { result.1.items ≡ self.accepted }
@@ -288,7 +303,7 @@ impl Relay {
     }
 }
 
-/// Makes room for the record and for what it touches, and puts its id in. Where it can't, the ids are as they were.
+/// Makes room for the record and for what it touches, and puts its id in. If it can't, the ids are as they were.
 fn take_room(
     touches: &mut Touches,
     records: &mut Vec<Record>,
@@ -307,7 +322,7 @@ fn take_room(
     ensures ids { OnOk result (ids.new ≡ first_ids from new.now.gno) }
     ensures err { OnErr result (ids.new ≡ ids.old) }
 {
-    // The id last: behind it nothing may fail.
+    // The id comes last: after it nothing may fail.
     touches.reserve(new)?;
     records.reserve(1)?;
     add_next(ids, from, new.gno)

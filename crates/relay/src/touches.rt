@@ -11,12 +11,12 @@ use rows::Change;
 use schema::{Mark, Memory, RowId};
 use std::alloc::Global;
 
-/// The numbers of the records that touched a row last, 0 where there is none.
+/// The numbers of the records that touched a row last, 0 if there is none.
 #[derive(Clone, Copy, Debug, PartialEq, Eq)]
 pub(crate) struct Touch {
-    /// Of those that wrote it.
+    /// The last one that wrote it.
     written: u64,
-    /// Of those that wrote it or referred to it.
+    /// The last one that wrote it or referred to it.
     touched: u64,
 }
 
@@ -44,9 +44,9 @@ impl Touches {
         }
     }
 
-    /// Whether the record's parent is numbered no lower than the last that wrote a row that it writes or refers to, the last
-    /// that referred to a row that it writes, and the last that states a mark that it states. It takes no memory, and expected
-    /// constant time for each of its rows and marks.
+    /// Whether the record's parent is at least the last record that wrote a row that it writes or refers to. The parent
+    /// also has to be at least the last that referred to a row that it writes, and the last that states a mark that it
+    /// states. It takes no memory, and expected constant time for each of its rows and marks.
     pub(crate) fn are_behind(&self, new: &Record) -> bool
         ensures { result ≡ is_behind self.now.rows.map self.now.marks.map new.now }
     {
@@ -91,8 +91,8 @@ impl Touches {
         self.marks.reserve(new.marks.list().len())
     }
 
-    /// The record is the last that touched its rows, and that states its marks. It takes no memory, and expected constant time
-    /// for each of these.
+    /// Notes the record as the last that touched its rows and states its marks. It takes no memory, and expected constant
+    /// time for each of these.
     pub(crate) fn note(&mut self, new: &Record)
         requires room { length new.now.changes + length new.now.refs ≤ self.old.rows.room }
         requires places { length new.now.marks ≤ self.old.marks.room }
@@ -111,7 +111,7 @@ fn last_touch(rows: &RowMap<Touch>, row: RowId) -> Touch
     rows.get(row).unwrap_or(NONE)
 }
 
-/// The number of the last record that states the mark, 0 where none does.
+/// The number of the last record that states the mark, 0 if none does.
 fn last_stated(marks: &RowMap<u64>, mark: Mark) -> u64
     ensures { result ≡ stated_at marks.now.map mark }
 {

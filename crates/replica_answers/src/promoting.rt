@@ -1,4 +1,4 @@
-//! A replica becomes the log of a new source.
+//! Makes the log of a new source from a replica.
 
 ghost use Rattle.std.specs.Prelude.{◌≡◌, length, OnOk};
 ghost use Rattle.std.specs.Io.KnownBytes.{Appends};
@@ -17,8 +17,9 @@ use std::io::{BufRead, Write};
 use std::rt::Files;
 use uuid::Uuid;
 
-/// Makes a log over the rows that the replica's commits left, under a new identifier, as a line asked for; and prints the identifier, and
-/// after how many records of which log it begins. If that is refused the fault is told, and a next line may ask again: nothing is lost.
+/// Makes a log over the rows that the replica's commits left, under a new identifier, as a line asked for. It prints
+/// the identifier, and after how many records of which log the new one begins. If that is refused, it reports the
+/// fault, and a later line may ask again: nothing is lost.
 pub fn promote<
     H: Files<File = File> + Alloc<A = Global> + Clone + Drop,
     R: BufRead,
@@ -54,7 +55,7 @@ pub fn promote<
     Ok(Ending::Refused)
 }
 
-/// Makes the log, and answers its identifier.
+/// Makes the log, and returns its identifier.
 fn make_promoted<H: Files<File = File> + Alloc<A = Global> + Clone + Drop>(
     rt: &H,
     alloc: Global,
@@ -104,7 +105,8 @@ fn tell_promoted<W: Write>(
     out.flush()
 }
 
-/// The next log that a line asks for; each other line is bad now. `None` after the last line.
+/// The next log that a line asks for; `None` after the last line. Each other line is bad now, except for one that says
+/// nothing.
 fn next_wish<R: BufRead, E: Write>(
     alloc: Global,
     lines: &mut Lines,

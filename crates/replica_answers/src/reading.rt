@@ -1,4 +1,4 @@
-//! The lines that a replica is told, and what it answers to each.
+//! The lines that a replica gets, and its reply to each.
 
 ghost use Rattle.std.specs.Prelude.{◌≡◌, ℕ, ◌≤◌, true, OnOk};
 ghost use Rattle.std.specs.Io.KnownBytes.{Appends};
@@ -33,7 +33,7 @@ use std::time::Clock;
 use uuid::Uuid;
 use world::Reply;
 
-/// What `help` says.
+/// What `help` prints.
 const HELP: &str = "\
 read TABLE KEY          the row after the published commits, and how many these are: 'COMMITS: V ..' or 'COMMITS: none'
 executed                the ids of the published commits
@@ -45,7 +45,7 @@ promote PREFIX [ID]     makes a log over the rows, for a source, once the wire i
 /// A reader of the replica.
 pub type Seat<K> = ReadSeat<BTreeStore, K>;
 
-/// What is asked for: a log of these files, and of this identifier if one was said.
+/// What a line asks for: a log in files with this prefix, and with this identifier if the line has one.
 #[derive(Debug, Drop)]
 pub struct Wish {
     pub prefix: String,
@@ -57,7 +57,7 @@ pub struct Wish {
 pub enum End {
     /// All were read.
     Read,
-    /// A log is to be made of what the replica has.
+    /// A log has to be made from what the replica has.
     Promote(Wish),
 }
 
@@ -66,55 +66,55 @@ pub enum End {
 enum Command {
     /// Nothing.
     Skipped,
-    /// What lines there are.
+    /// The list of commands.
     Help,
     /// A row.
     Read(RowId),
     /// The ids of the published commits.
     Executed,
-    /// How far the replica is.
+    /// How many records were received, are committed, and are published.
     Status,
-    /// That the commit of this number is published.
+    /// To wait until the commit with this number is published.
     Wait(u64),
 }
 
 /// What became of a line.
 #[derive(Drop)]
 enum Answered {
-    /// It was answered, or says nothing.
+    /// It got its reply, or says nothing.
     Told,
     /// It is bad.
     Bad,
-    /// A log is to be made.
+    /// A log has to be made.
     Ends(Wish),
 }
 
-/// What waiting came to.
+/// How a wait ended.
 #[derive(Clone, Copy)]
 enum Waited {
     /// The commit is published, and a later read has it.
     Published,
     /// The wire is closed, and the record did not come.
     Never,
-    /// The replica stopped before it.
+    /// The replica stopped before the commit.
     Stopped(ReplicaFault),
 }
 
-/// What is asked, as its threads share it.
+/// What the threads share that follow the wire, execute its records and reply to lines.
 #[derive(Drop)]
 pub struct Asked<'a, K: ReplicaNaming, E: Write> {
     pub alloc: Global,
     pub replica: &'a Replica<K>,
-    /// The identifier of the source whose records it takes.
+    /// The identifier of the source whose records the replica takes.
     pub source: Uuid,
     /// Set once nothing more comes over the wire.
     pub closed: &'a OnceLock<()>,
-    /// Where faults are told.
+    /// The stream on which faults are reported.
     pub errors: &'a Mutex<E>,
     ghost of_source: { source ≡ K.names.source },
 }
 
-/// What the line asks for; `None` if it is bad, or a log is to be made.
+/// What the line asks for; `None` if it is bad, or asks for a log.
 fn command_in(line: &[u8]) -> Option<Command> {
     match line_of(line)? {
         Line::Skipped => Some(Command::Skipped),
@@ -123,7 +123,7 @@ fn command_in(line: &[u8]) -> Option<Command> {
     }
 }
 
-/// What the name and the words behind it ask for; `None` if they are bad, or a log is to be made.
+/// What the name and the words after it ask for; `None` if they are bad, or ask for a log.
 fn command_of(name: &[u8], words: Words) -> Option<Command> {
     if is_word(name, b"help") {
         words.is_empty().then_some(Command::Help)
@@ -153,7 +153,7 @@ pub fn wish_in(alloc: Global, line: &[u8]) -> Result<Option<Wish>, AllocError> {
     }
 }
 
-/// The prefix of a log, and its identifier if one is said.
+/// The prefix of a log, and its identifier if the words have one; `None` if they are bad.
 fn wish_of(alloc: Global, words: Words) -> Result<Option<Wish>, AllocError> {
     let Some((prefix, words)) = words.first() else {
         return Ok(None);
@@ -170,7 +170,7 @@ fn wish_of(alloc: Global, words: Words) -> Result<Option<Wish>, AllocError> {
     }))
 }
 
-/// The identifier that the words are, or that there are no words; `None` if they are something else.
+/// The identifier that the words are, or that there are no words; `None` if they are anything else.
 fn identifier_in(words: Words) -> Option<Option<Uuid>> {
     if words.is_empty() {
         return Some(None);
@@ -180,8 +180,8 @@ fn identifier_in(words: Words) -> Option<Option<Uuid>> {
 }
 
 impl<K: ReplicaNaming, E: Write> Asked<'_, K, E> {
-    /// Answers each line of the input, at once; a bad one is told, with its number. It ends after the last line, or once a log is to be
-    /// made.
+    /// Replies to each line of the input at once, and reports a bad one with its number. It ends after the last line,
+    /// or once a log has to be made.
     pub fn converse<H: Wait + Clock, R: BufRead, W: Write>(
         &self,
         rt: &H,
@@ -202,7 +202,7 @@ impl<K: ReplicaNaming, E: Write> Asked<'_, K, E> {
         Ok(End::Read)
     }
 
-    /// Answers the next line. How the lines ended, if there is none, or a log is to be made.
+    /// Replies to the next line. It returns how the lines ended, if there is no next line or a log has to be made.
     fn answer_next<H: Wait + Clock, R: BufRead, W: Write>(
         &self,
         rt: &H,
@@ -236,7 +236,7 @@ impl<K: ReplicaNaming, E: Write> Asked<'_, K, E> {
         lines.refuse(&mut *self.errors.lock(rt))
     }
 
-    /// Answers a line. It is bad, and nothing is done, if it asks for nothing that a replica answers.
+    /// Replies to a line. If the line asks for nothing that a replica does, it is bad, and nothing is done.
     fn answer<H: Wait + Clock, W: Write>(
         &self,
         rt: &H,
@@ -264,7 +264,7 @@ impl<K: ReplicaNaming, E: Write> Asked<'_, K, E> {
         }
     }
 
-    /// Does what a line asks for, and says what is answered.
+    /// Does what a line asks for, and writes the reply.
     fn obey<H: Wait + Clock, W: Write>(
         &self,
         rt: &H,
@@ -289,7 +289,7 @@ impl<K: ReplicaNaming, E: Write> Asked<'_, K, E> {
         }
     }
 
-    /// Says the ids of the published commits, which are the first of the source's.
+    /// Writes the ids of the published commits, which are the first of the source's.
     fn tell_executed<H: Wait, W: Write>(&self, rt: &H, out: &mut W) -> Result<(), Stop>
         ensures { UnlessLost result ((count : ℕ) × Appends (W.contents out.old) (W.contents out.new)
             (line_of (Reply.Executed (first_ids self.now.source count)))) }
@@ -300,7 +300,7 @@ impl<K: ReplicaNaming, E: Write> Asked<'_, K, E> {
         Ok(())
     }
 
-    /// Says how far the replica is.
+    /// Writes how many records were received, are committed, and are published.
     fn tell_status<H: Wait, W: Write>(&self, rt: &H, out: &mut W) -> io::Result<()>
         ensures { OnOk result ((counts : Counts) × InOrder counts
             × Appends (W.contents out.old) (W.contents out.new) (status_text counts)) }
@@ -313,8 +313,8 @@ impl<K: ReplicaNaming, E: Write> Asked<'_, K, E> {
         )
     }
 
-    /// Waits until the commit of this number is published, and lets the seat know of it; or until the wire is closed and the record did not
-    /// come.
+    /// Waits until the commit with this number is published, and lets the seat learn it. It stops waiting if the
+    /// replica stops, or if the wire is closed and the record did not come.
     fn wait<H: Wait + Clock>(&self, rt: &H, seat: &mut Seat<K>, gno: u64) -> Waited
         requires { K.preserve ≡ true }
         ensures published { result ≡ Waited.Published → gno ≤ commits_in seat.new }
@@ -327,10 +327,11 @@ impl<K: ReplicaNaming, E: Write> Asked<'_, K, E> {
         }
     }
 
-    /// Waits until the record of this number came. `false` once the wire is closed, and it did not.
+    /// Waits until the record with this number came. It returns `false` if the wire is closed and the record did not
+    /// come.
     fn comes<H: Wait + Clock>(&self, rt: &H, gno: u64) -> bool {
         for _ in rt.forever() {
-            // First this, since records may come until it is set.
+            // This comes first, since records may come until it is set.
             let is_closed = self.closed.get().is_some();
             if gno <= self.replica.status(rt).received {
                 return true;
@@ -343,7 +344,7 @@ impl<K: ReplicaNaming, E: Write> Asked<'_, K, E> {
         unreachable!()
     }
 
-    /// The same of a record that came.
+    /// Like `wait`, but for a record that came.
     fn learn<H: Wait>(&self, rt: &H, seat: &mut Seat<K>, gno: u64) -> Waited
         requires { K.preserve ≡ true }
         ensures published { result ≡ Waited.Published → gno ≤ commits_in seat.new }
@@ -359,7 +360,8 @@ impl<K: ReplicaNaming, E: Write> Asked<'_, K, E> {
     }
 }
 
-/// Says the row as the published commits leave it, and how many these are. They begin with all that the seat saw or learnt.
+/// Writes the row as the published commits leave it, and how many these are. They begin with all that the seat saw or
+/// learnt.
 fn tell_read<K: ReplicaNaming, W: Write>(
     seat: &mut Seat<K>,
     row: RowId,
@@ -382,7 +384,7 @@ fn tell_read<K: ReplicaNaming, W: Write>(
     Ok(())
 }
 
-/// Says what lines there are.
+/// Writes the list of commands.
 #[tactic(auto, unfolding(crate::specs::Conversation::help_text))]
 fn tell_help<W: Write>(out: &mut W) -> io::Result<()>
     ensures { OnOk result (Appends (W.contents out.old) (W.contents out.new) help_text) }
@@ -390,7 +392,7 @@ fn tell_help<W: Write>(out: &mut W) -> io::Result<()>
     out.write_all(HELP.as_bytes())
 }
 
-/// Says what waiting came to.
+/// Writes how a wait ended.
 fn tell_waited<W: Write>(out: &mut W, came: Waited) -> io::Result<()>
     ensures { OnOk result (Appends (W.contents out.old) (W.contents out.new) (waited_text came)) }
 {

@@ -1,4 +1,4 @@
-//! `replica`: a replica that follows a wire. Its lines are answered while workers execute what comes.
+//! `replica`: a replica that follows a wire, and replies to lines while workers execute what comes.
 
 ghost use Rattle.std.specs.Prelude.{◌≡◌, ◌≢◌, ◌⊎◌, true, false, IfOk, IfSome, OnOk};
 ghost use Rattle.replica_answers.specs.Conversation.{Converses, AnswersAs, Answers, UnlessLost};
@@ -29,16 +29,16 @@ use uuid::Uuid;
 /// How a replica works.
 #[derive(Clone, Copy, Debug)]
 pub struct Crew {
-    /// So many workers execute records, 1 to 64.
+    /// The number of workers that execute records, 1 to 64.
     pub workers: usize,
-    /// The source whose wire is to be followed alone, if one was said.
+    /// The only source whose wire is followed, if one was given.
     pub source: Option<Uuid>,
 }
 
-/// The replica, which commits in the order of the log.
+/// The replica, which commits in log order.
 pub type Replica<K> = SharedReplica<BTreeStore, K>;
 
-/// The wire after its head, the path by which its faults are told, and what follows it.
+/// The wire after its head, the path for reports of its faults, its source, and the number of workers.
 #[derive(Drop)]
 struct NamedWire<F> {
     path: String,
@@ -47,8 +47,8 @@ struct NamedWire<F> {
     workers: usize,
 }
 
-/// Follows the wire, and answers each line of the input at once, until both are at their end. That the wire is closed, and each fault, is
-/// told on `errors` when it happens.
+/// Follows the wire, and replies to each line of the input at once, until both have ended. It reports on `errors` that
+/// the wire is closed, and each fault, when it happens.
 pub fn replica<
     H: Files<File = File> + Alloc<A = Global> + Threads + Wait + Clock + Clone + Drop + Sync,
     R: Read + IsTerminal + Send,
@@ -74,7 +74,7 @@ pub fn replica<
     }
 }
 
-/// The same of a wire that was opened. If it stops, the caller tells why.
+/// Like `replica`, but for a wire that was opened. If it stops, the caller reports why.
 pub fn replica_over<
     H: Files<File = File> + Alloc<A = Global> + Threads + Wait + Clock + Clone + Drop + Sync,
     F: Read + Send + Drop,
@@ -127,7 +127,8 @@ pub fn replica_over<
     )
 }
 
-/// The same input, under the name of the replica that takes its records: these are the log's, if the bytes are known.
+/// The same input, under the name of the replica that takes its records. If the bytes are known, the log under that
+/// name has these records.
 #[derive(Drop)]
 struct Coming<K: ReplicaNaming, F: Read> {
     input: F,
@@ -157,9 +158,9 @@ impl<F> NamedWire<F> {
     }
 }
 
-/// A new replica of the wire's source, over the tables and the rows that its head says. Refused is, in this order, a wire without a whole
-/// head, one of another source than was asked for, one that does not begin with the first record, and one whose text says no tables and
-/// rows.
+/// A new replica of the wire's source, over the tables and rows in its head. It refuses, in this order, a wire without
+/// a whole head, one of another source than was asked for, one that does not begin with the first record, and one whose
+/// text says no tables and rows.
 fn core_of<R: Read>(
     alloc: Global,
     input: &mut R,
@@ -179,8 +180,8 @@ fn core_of<R: Read>(
     Ok(ReplicaCore::new(alloc, schema, source, store, workers, true)?)
 }
 
-/// Runs the replica, under the name of its history, until the wire and the lines are at their end, and makes a log of what it has if a line
-/// asked for that.
+/// Runs the replica, under the name of its history, until the wire and the lines have ended. Then it makes a log from
+/// what the replica has, if a line asked for one.
 fn run_core<
     K: ReplicaNaming + Send + Sync,
     H: Files<File = File> + Alloc<A = Global> + Threads + Wait + Clock + Clone + Drop + Sync,
@@ -249,7 +250,7 @@ fn run_core<
     }
 }
 
-/// How the program ends once the wire ended so, and all lines were good or not.
+/// How the program ends, by how the wire ended, and whether all lines were good.
 pub fn ending_of(wire: Ending, are_good: bool) -> Ending
     ensures good { are_good ≡ true → result ≡ wire }
     ensures bad { are_good ≡ false → wire ≡ Ending.Done → result ≡ Ending.Refused }
@@ -285,8 +286,8 @@ fn new_replica<K: ReplicaNaming>(
     }
 }
 
-/// Answers the lines while the wire is followed and its records are executed, until all are at their end. It answers how the lines ended,
-/// and how the wire did.
+/// Replies to the lines while the wire is followed and its records are executed, until all of this has ended. It
+/// returns how the lines ended, and how the wire did.
 fn meet<
     K: ReplicaNaming + Send + Sync,
     H: Threads + Wait + Clock + Sync,
@@ -334,7 +335,7 @@ fn meet<
     )
 }
 
-/// The same, with what the threads share.
+/// Like `meet`, but with what the threads share.
 fn meet_over<
     K: ReplicaNaming + Send + Sync,
     H: Threads + Wait + Clock + Sync,
@@ -358,7 +359,7 @@ fn meet_over<
     ensures { UnlessLost result.0 (Converses K.names (W.contents output.old) (W.contents output.new)) }
 {
     let mut coming = Some(coming);
-    // The second one goes first if no thread can be made: so nobody waits for a record of a wire that nobody reads.
+    // If no thread can be made, the second one runs first: so no line waits for a record of a wire that nobody reads.
     join_mut(
         rt,
         &mut ||
@@ -369,7 +370,7 @@ fn meet_over<
     )
 }
 
-/// Applies what comes over the wire, which is closed then.
+/// Applies what comes over the wire, up to its end.
 fn apply_once<
     K: ReplicaNaming + Send + Sync,
     H: Threads + Wait + Clock + Sync,
@@ -389,7 +390,7 @@ fn apply_once<
     }
 }
 
-/// Answers the lines by a reader of its own.
+/// Replies to the lines, reading through a separate seat.
 fn converse<K: ReplicaNaming, H: Wait + Clock, R: BufRead, W: Write, E: Write>(
     rt: &H,
     asked: &Asked<K, E>,
@@ -407,7 +408,8 @@ fn converse<K: ReplicaNaming, H: Wait + Clock, R: BufRead, W: Write, E: Write>(
     asked.converse(rt, &mut seat, lines, input, output)
 }
 
-/// Follows the wire while workers execute what comes. It answers the ending of the first of both that did not end well.
+/// Follows the wire while workers execute what comes. It returns how the workers ended or, if they ended well, how the
+/// wire did.
 fn apply<
     K: ReplicaNaming + Send + Sync,
     H: Threads + Wait + Clock + Sync,
@@ -433,7 +435,7 @@ fn apply<
     }
 }
 
-/// Runs the workers, each in a thread of its own, and tells why the replica stopped, if it did.
+/// Runs each worker in a separate thread, and reports why the replica stopped, if it did.
 fn work_all<K: ReplicaNaming + Send + Sync, H: Threads + Wait + Clock + Sync, E: Write + Send>(
     rt: &H,
     alloc: Global,
@@ -450,7 +452,7 @@ fn work_all<K: ReplicaNaming + Send + Sync, H: Threads + Wait + Clock + Sync, E:
     unreachable!()
 }
 
-/// A worker: executes what comes until all is committed. One that lacks memory is called again.
+/// A worker: executes what comes until all is committed. If it runs out of memory, it is called again.
 fn work<K: ReplicaNaming>(
     rt: &(impl Wait + Clock),
     alloc: Global,
@@ -465,7 +467,7 @@ fn work<K: ReplicaNaming>(
     unreachable!()
 }
 
-/// Tells why workers ended, if not because all was done: all for one cause.
+/// Reports why workers ended, unless all was done. All end for one cause.
 fn told<K: ReplicaNaming, H: Wait, E: Write>(
     rt: &H,
     asked: &Asked<K, E>,
@@ -482,7 +484,8 @@ fn told<K: ReplicaNaming, H: Wait, E: Write>(
     Ending::Done
 }
 
-/// Follows the wire, and tells how it ended. After that the workers end too, once all that came is committed.
+/// Follows the wire, closes the replica, and reports how the wire ended. The workers end too, once all that came is
+/// committed.
 fn follow_wire<K: ReplicaNaming, H: Wait + Clock, E: Write, F: Read + Drop>(
     rt: &H,
     alloc: Global,
@@ -499,7 +502,7 @@ fn follow_wire<K: ReplicaNaming, H: Wait + Clock, E: Write, F: Read + Drop>(
     ending
 }
 
-/// Tells how the wire ended, after so many records. That the replica stopped is told by its workers.
+/// Reports how the wire ended, and after how many records. If the replica stopped, its workers report that.
 fn tell_end<E: Write>(errors: &mut E, path: &str, end: WireEnd, received: u64) -> Ending {
     let (told, ending) = match end {
         WireEnd::Closed => (

@@ -1,4 +1,4 @@
-//! The next commit, and what is taken off behind it.
+//! The next commit, and what is then taken off.
 
 ghost use Rattle.std.specs.Prelude.{◌≡◌, ◌≤◌, length, drop, is_some, if◌then◌else◌};
 ghost use Rattle.std.specs.Option.{option_map};
@@ -11,9 +11,9 @@ use executor::Outcome;
 use schema::{Memory, Schema};
 use store_trait::{Batch, Op, RowStore};
 
-/// Puts the rows of the result whose turn has come, where there is one, keeps them as the commit of its record, and answers the
-/// record's number; where the order of the log is not kept the number goes behind those of the earlier commits. Where memory runs out
-/// nothing changes.
+/// Puts the rows of the result whose turn has come, if there is one, keeps them as the commit of its record, and returns
+/// the record's number. If the order of the log is not kept, the number follows those of the earlier commits. If memory
+/// runs out, nothing changes.
 pub fn commit_turn<S: RowStore>(
     schema: &Schema,
     stored: &mut Stored<S>,
@@ -28,7 +28,7 @@ pub fn commit_turn<S: RowStore>(
     let Some((gno, batch)) = ready_rows(turns) else {
         return Ok(None);
     };
-    // Room first: behind the put nothing may fail.
+    // Room first: after the put nothing may fail.
     waiting.reserve(1)?;
     let noted = !turns.preserve();
     if noted {
@@ -64,7 +64,7 @@ fn take_rows(turns: &mut Turns) -> Option<Batch>
     turns.next()?.into_output()
 }
 
-/// Takes the first of a list off.
+/// Takes the first `count` items off a list.
 pub fn drop_first<T: Drop>(list: &mut Vec<T>, count: usize)
     requires { count ≤ length list.old.items }
     ensures { list.new.items ≡ drop count list.old.items }

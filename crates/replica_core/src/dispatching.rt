@@ -23,7 +23,7 @@ use schema::{Mark, Memory, RowId, Schema};
 use std::alloc::Global;
 use store_trait::{Batch, RowStore};
 
-/// What is kept of a job that was handed out: its record stands among those accepted, and its schema is the relay's.
+/// What is kept of a job that was handed out. Its record is among the accepted ones, and its schema is the relay's.
 #[derive(Debug, Drop)]
 pub struct HandedOut {
     pub gno: u64,
@@ -32,7 +32,7 @@ pub struct HandedOut {
 }
 
 impl HandedOut {
-    /// Copies of what the job was given of the rows.
+    /// Copies the rows and the holders that the job was given.
     pub fn of(job: &Job) -> Result<HandedOut, Memory>
         ensures { IfOk result (λ kept. kept ≡ kept_of job.now) }
     {
@@ -44,7 +44,7 @@ impl HandedOut {
     }
 }
 
-/// Refuses where the replica is stopped.
+/// Refuses if the replica is stopped.
 pub fn refuse_stopped(stopped: Option<u64>) -> Result<(), ReplicaFault>
     ensures { result ≡ option_map_or (λ gno. Err (ReplicaFault.Stopped gno)) stopped (Ok tt) }
 {
@@ -54,7 +54,7 @@ pub fn refuse_stopped(stopped: Option<u64>) -> Result<(), ReplicaFault>
     }
 }
 
-/// Refuses a record that was not dispatched, or of which a result was taken, where so many are dispatched.
+/// Refuses a record that was not dispatched, or whose result was taken, if the first `dispatched` are dispatched.
 pub fn refuse_finish(turns: &Turns, dispatched: u64, gno: u64) -> Result<(), ReplicaFault>
     ensures { result ≡ (if not (nat_le 1 gno && nat_le gno dispatched) then Err ReplicaFault.Stranger
         else if not (has_gno turns.now.out gno) then Err ReplicaFault.Double
@@ -69,7 +69,7 @@ pub fn refuse_finish(turns: &Turns, dispatched: u64, gno: u64) -> Result<(), Rep
     Ok(())
 }
 
-/// The place of the first that is kept of this number; past all where none is.
+/// The place of the first that is kept for this number, or the length if there is none.
 pub fn place_kept(handed: &[HandedOut], gno: u64) -> usize
     ensures { result ≡ position_or_len (λ kept. kept.gno == gno) handed.now }
 {
@@ -97,7 +97,7 @@ pub fn job_over<S: RowStore>(
     Ok(Job::new(gno, rec, input, holders, schema.copy()?))
 }
 
-/// Each of these marks with the key of the row that has it, as the index tells.
+/// Each of these marks with the key of the row that has it, as in the index.
 fn each_holder(
     alloc: Global,
     marks: &[Mark],

@@ -10,8 +10,8 @@ use schema::{Gtid, Memory};
 use std::alloc::Global;
 use uuid::Uuid;
 
-/// The ids of this source whose numbers, from 1 up to the last one, are those of committed records: those up to the low-water mark at
-/// once, and each behind it that is committed.
+/// The ids of this source whose numbers, from 1 to `last`, are those of committed records: those up to the low-water mark
+/// at once, and then each committed one after it.
 pub fn committed_ids(
     alloc: Global,
     source: Uuid,
@@ -33,7 +33,7 @@ pub fn committed_ids(
     Ok(ids)
 }
 
-/// Puts an id in that may go in.
+/// Adds an id that may be added.
 fn add_id(ids: &mut GtidSet, id: Gtid) -> Result<(), Memory>
     requires { add_fault ids.old id ≡ None }
     ensures { IfOk result (λ _. Adds ids.old ids.new id) }

@@ -1,18 +1,22 @@
-//! The replica: it accepts the records of a log in order, hands them out to many workers, commits what comes back, and hands out what is
-//! to be published. Commits are in the order of the log, or in that in which the results came, as the replica was made.
+//! The replica: it accepts the records of a log in order, hands them out to many workers, commits the results, and hands
+//! out what will be published. Commits are in the order of the log or in that of the results, as chosen when the replica
+//! is made.
 //!
-//! A `ReplicaCore` is a plain machine that is stepped by calls; it has no handle and no thread. Contracts see it
-//! as the record `Replica` of `specs/Replica.antt`. It keeps true that its store contains the database after the
-//! committed records, that its index tells who has each value of a unique column there, and that its waiting operations are the
-//! commits past the published ones. So no call walks a table: a job's holders are looked up. What each call
-//! answers and leaves is defined in `specs/Calls.antt`, and what is true of every replica in `specs/Sound.antt`. Nothing
-//! that is received is trusted: the parent of each accepted record covers those before it (`relay`), and a record is handed out once
-//! all up to its parent are committed. So no two records under way conflict: the commit of one leaves the rows of the job of the other,
-//! and the holders of its marks, and the working rows are what the committed records leave in log order, whatever the order of their
-//! commits. That a record applies, and states its true refs and marks, is known once it was executed. A `Wire` takes
-//! the bytes of a log in pieces and hands on their records (`specs/Wire.antt`). It stands on `relay`, `scheduler`, `executor`
-//! and `commit_order`, on `gapped` for what commits in any order leave, on `store_trait` for the rows, on `row_index` for who has which
-//! value, on `record_codec` and `record_stream` for records, and on `gtid_set` for ids.
+//! A `ReplicaCore` is a plain machine that is stepped by calls; it has no handle and no thread. Contracts see it as the
+//! record `Replica` of `specs/Replica.antt`. Its store contains the database after the committed records. Its index has
+//! the holder of each value of a unique column there. Its waiting operations are the commits after the published ones. So
+//! no call walks a table: a job's holders are looked up. `specs/Calls.antt` defines what each call returns and leaves,
+//! and `specs/Sound.antt` what is true of every replica.
+//!
+//! Nothing that is received is trusted. The parent of each accepted record covers those before it (`relay`), and a record
+//! is handed out once all up to its parent are committed. So no two records under way conflict: the commit of one does
+//! not change the rows of the other's job, nor the holders of its marks. The working rows are what the committed records
+//! leave in log order, whatever the order of their commits. Only the execution of a record shows that it applies, and
+//! that it states its true refs and marks.
+//!
+//! A `Wire` takes the bytes of a log in pieces and hands on their records (`specs/Wire.antt`). The crate uses `relay`,
+//! `scheduler`, `executor` and `commit_order`, `gapped` for what commits in any order leave, `store_trait` for the rows,
+//! `row_index` for the holders of values, `record_codec` and `record_stream` for records, and `gtid_set` for ids.
 #![tactic(auto)]
 
 ghost use Rattle.std.specs.Prelude.{◌≡◌, ◌+◌, ◌≤◌, ◌<◌, ◌⊎◌, ◌↔◌, IsTrue, length, IfOk, IfSome, OnOk, OnErr, IfErr, IsErrOf, IsSome, None};
@@ -63,9 +67,9 @@ pub struct ReplicaCore<S: RowStore> {
     stored: Stored<S>,
     scheduler: Scheduler,
     turns: Turns,
-    /// What is kept of each job that was handed out and of which no result was taken, in log order.
+    /// What is kept of each job that was handed out and whose result was not taken, in log order.
     handed: Vec<HandedOut>,
-    /// The gnos of the commits, in their order, where the order of the log is not kept; else none.
+    /// The gnos of the commits, in their order, if the order of the log is not kept; else none.
     order: Vec<u64>,
     workers: usize,
     published: u64,
@@ -88,13 +92,19 @@ impl<S: RowStore> Model for ReplicaCore<S> {
 }
 
 impl<S: RowStore> ReplicaCore<S> {
-    /// A replica that has accepted nothing, over the rows of the store, which takes the records of this source. No two rows of a table may
-    /// have one value in its unique column, since the holder of a value is looked up; and each row is of a table of the schema, since the
-    /// base is made by a walk over the tables, which would not find it. `row_index::values_apart` and `store_trait::are_of_tables` tell
-    /// it, and `store_trait::fits` all that and more: a row may lack its parent, or have other columns than its table. Where `preserve` is
-    /// set commits are in the order of the source's log, as with MySQL's `replica_preserve_commit_order`; else a record may be committed
-    /// once its result was taken, though earlier ones are not. The time is that of a walk over the rows. The memory is that of a copy of
-    /// the rows, of the places of 64 jobs, and of who has each value of a unique column: none for that where no table has such a column.
+    /// A replica over the rows of the store, which has accepted nothing and takes the records of this source.
+    ///
+    /// No two rows of a table may have one value in its unique column, since the holder of a value is looked up. Each row
+    /// must be of a table of the schema: the base is made by a walk over the tables, which would not find it otherwise.
+    /// `row_index::values_apart` and `store_trait::are_of_tables` check this. `store_trait::fits` checks more than
+    /// needed: here a row may lack its parent, or have other columns than its table.
+    ///
+    /// If `preserve` is set, commits are in the order of the source's log, as with MySQL's
+    /// `replica_preserve_commit_order`. Else a record may be committed once its result was taken, even if earlier ones
+    /// are not.
+    ///
+    /// The time is that of a walk over the rows. The memory is that of a copy of the rows, of the places of 64 jobs, and
+    /// of the holder of each value of a unique column; none for that if no table has one.
     pub fn new(
         alloc: Global,
         schema: Schema,
@@ -131,12 +141,12 @@ impl<S: RowStore> ReplicaCore<S> {
         })
     }
 
-    /// Accepts a copy of the record where it is the next, and skips one that was accepted before, as `Relay::receive`
-    /// does. A stop comes before its refusals.
+    /// Accepts a copy of the record if it is the next one, and skips one that was accepted before, like `Relay::receive`.
+    /// A stop comes before its refusals.
     pub fn receive(&mut self, from: Uuid, new: &Record) -> Result<Received, ReplicaFault>
         ensures answer { IsErrOf result ReplicaFault.Memory ⊎ (result ≡ received self.old from new.now) }
 
-        // Memory runs out only in the place of an acceptance.
+        // Memory runs out only instead of an acceptance.
         ensures memory { IsErrOf result ReplicaFault.Memory
             → received self.old from new.now ≡ Ok Received.Accepted }
         ensures sound { IsSound self.old }
@@ -147,8 +157,8 @@ impl<S: RowStore> ReplicaCore<S> {
         self.relay.receive(from, new)
     }
 
-    /// As `receive`, of a record that is given to it, which is kept and not copied, as by `Relay::receive_own`: one that is skipped is
-    /// dropped, a refused one is given back, also where the replica is stopped.
+    /// Like `receive`, but keeps the record that it is given instead of a copy, like `Relay::receive_own`. A skipped
+    /// record is dropped. A refused one is given back, also if the replica is stopped.
     pub fn receive_own(
         &mut self,
         from: Uuid,
@@ -156,7 +166,7 @@ impl<S: RowStore> ReplicaCore<S> {
     ) -> Result<Received, (ReplicaFault, Record)>
         ensures answer { IfOk result (λ answer. received self.old from new ≡ Ok answer) }
 
-        // Memory runs out only in the place of an acceptance.
+        // Memory runs out only instead of an acceptance.
         ensures refused { IfErr result (λ back. (received self.old from new ≡ Err back.0) ⊎ ((back.0 ≡ ReplicaFault.Memory)
             × (received self.old from new ≡ Ok Received.Accepted))) }
         ensures back { IfErr result (λ back. back.1 ≡ new) }
@@ -170,16 +180,18 @@ impl<S: RowStore> ReplicaCore<S> {
         }
     }
 
-    /// Hands out the job of the next record in log order, once all up to its parent are committed (as MySQL's `LOGICAL_CLOCK` has
-    /// it) and a worker is free: fewer are dispatched and not committed than there are workers. Where the order of the log is not kept
-    /// it also waits until its number is one of the 4096 behind the low-water mark. The job has copies of the
-    /// record, of the schema and of the rows that the record writes and refers to, and the holder of each of its marks; the core
-    /// keeps one more copy of these rows and holders. Time and memory are those of the job, and of its rows and holders once more. Each
-    /// holder is looked up, in expected constant time however many rows there are.
+    /// Hands out the job of the next record in log order, once all up to its parent are committed (like MySQL's
+    /// `LOGICAL_CLOCK`) and a worker is free: fewer are dispatched and not committed than there are workers. If the order
+    /// of the log is not kept, it also waits until the record's number is one of the 4096 after the low-water mark.
+    ///
+    /// The job has copies of the record, of the schema and of the rows that the record writes and refers to, and the
+    /// holder of each of its marks. The core keeps one more copy of these rows and holders. Time and memory are those of
+    /// the job, and of its rows and holders once more. Each holder is looked up in expected constant time, however many
+    /// rows there are.
     pub fn dispatch(&mut self) -> Result<Option<Job>, ReplicaFault>
         ensures answer { IsErrOf result ReplicaFault.Memory ⊎ (result ≡ unless_stopped self.old (next_job self.old)) }
 
-        // Memory runs out only in the place of a job.
+        // Memory runs out only instead of a job.
         ensures memory { IsErrOf result ReplicaFault.Memory → (self.old.stopped ≡ None) × IsSome (next_job self.old) }
         ensures ok { IfOk result (λ job.
             self.new ≡ (if is_some job then dispatched_next self.old else self.old)) }
@@ -196,15 +208,22 @@ impl<S: RowStore> ReplicaCore<S> {
         Ok(Some(job))
     }
 
-    /// Takes the result of a job that was handed out; it waits for its turn. Each refusal hands the result back: in this
-    /// order a stop; `P6` where no record of its number was dispatched; `P7` where a result of it was taken; `P8` where its record,
-    /// its rows, its holders or its schema are not those handed out; `P5` where the changes do not apply to the rows, or look at
-    /// other parent rows than the refs, or have other marks than those stated, which stops the replica; and `P9` where the result
-    /// itself tells of memory that ran out, so that its job may be executed and finished again. It takes no memory. The time is that
-    /// of comparing the jobs, and of a look at each job that has no result; what was kept of this one is let go with an output.
+    /// Takes the result of a job that was handed out; it then waits for its turn. Each refusal hands the result back. The
+    /// refusals, in this order:
+    /// - A stop.
+    /// - `P6` if no record of its number was dispatched.
+    /// - `P7` if a result of it was taken.
+    /// - `P8` if its record, its rows, its holders or its schema are not those handed out.
+    /// - `P5` if the changes do not apply to the rows, look at other parent rows than the refs, or have other marks than
+    ///   those stated. This stops the replica.
+    /// - `P9` if the result itself is that memory ran out. Its job may be executed and finished again.
     ///
-    /// A record that states too few marks is never committed. Its own result stops the replica, or, where it comes first, that of a
-    /// later record with a mark that was left out: its job has the holder from before, so its changes may not apply.
+    /// It takes no memory. The time is that of comparing the jobs, and of a look at each job that has no result. If the
+    /// result has an output, what was kept of its job is freed.
+    ///
+    /// A record that states too few marks is never committed. Its own result stops the replica. So may the result of a
+    /// later record with a mark that was left out, if it comes first: its job has the holder from before, so its changes
+    /// may not apply.
     pub fn finish(&mut self, done: JobResult) -> Result<(), (ReplicaFault, JobResult)>
         ensures refused { IfSome (finish_fault self.old done.job.gno) (λ fault. result ≡ Err (fault, done)) }
         ensures other { finish_fault self.old done.job.gno ≡ None → ¬ IsHandedOut self.old done
@@ -222,7 +241,7 @@ impl<S: RowStore> ReplicaCore<S> {
         };
         match done.outcome() {
             Outcome::Output(_) => {
-                // From here on the result has it.
+                // From here on the result has what was kept.
                 self.handed.remove(place);
                 self.turns.finish(done);
                 Ok(())
@@ -235,18 +254,20 @@ impl<S: RowStore> ReplicaCore<S> {
         }
     }
 
-    /// Commits a record whose result was taken, and answers its number: in the order of the log the next record, as with MySQL's
-    /// `replica_preserve_commit_order`; else the one whose result was taken first. It puts what the record leaves into the store, and
-    /// keeps that as an operation that waits for `publish`. The time is that of putting the rows that the record writes; where these
-    /// have a value in a unique column it is also that of looking up each of them in the store, and the values that they had and then
-    /// have in expected constant time each. The memory is that of putting the rows, of one more operation, of eight bytes more where the
-    /// order of the log is not kept, and of these values: none for them where no table has such a column. All of it is taken before a
-    /// row changes.
+    /// Commits a record whose result was taken, and returns its number. In the order of the log that is the next record,
+    /// as with MySQL's `replica_preserve_commit_order`; else the one whose result was taken first. It puts what the
+    /// record leaves into the store, and keeps that as an operation that waits for `publish`.
+    ///
+    /// The time is that of putting the rows that the record writes. If these have a value in a unique column, each of
+    /// them is also looked up in the store, and each value that they had or then have costs expected constant time. The
+    /// memory is that of putting the rows, of one more operation, and of these values; none for them if no table has a
+    /// unique column. If the order of the log is not kept, it takes eight bytes more. All of it is taken before a row
+    /// changes.
     pub fn commit_next(&mut self) -> Result<Option<u64>, ReplicaFault>
         ensures answer { IsErrOf result ReplicaFault.Memory
             ⊎ (result ≡ unless_stopped self.old (next_commit self.old)) }
 
-        // Memory runs out only in the place of a commit.
+        // Memory runs out only instead of a commit.
         ensures memory { IsErrOf result ReplicaFault.Memory
             → (self.old.stopped ≡ None) × IsSome (next_commit self.old) }
         ensures sound { IsSound self.old }
@@ -276,8 +297,8 @@ impl<S: RowStore> ReplicaCore<S> {
         &self.waiting
     }
 
-    /// Takes the commits up to this number off the waiting ones, as published. It takes no memory. The time is
-    /// that of a walk over the waiting operations.
+    /// Takes the commits up to this number off the waiting ones, as published. It takes no memory. The time is that of a
+    /// walk over the waiting operations.
     pub fn publish(&mut self, upto: u64) -> Result<u64, ReplicaFault>
         requires later { self.old.published ≤ upto }
         requires done { upto ≤ length self.old.commits }
@@ -306,14 +327,14 @@ impl<S: RowStore> ReplicaCore<S> {
         &self.base
     }
 
-    /// The records accepted, in order, the record of number 1 first.
+    /// The accepted records, in order, the record of number 1 first.
     pub fn accepted(&self) -> &[Record]
         ensures { result.now ≡ self.now.accepted }
     {
         self.relay.accepted()
     }
 
-    /// The number of records committed. It takes no memory, and constant time.
+    /// The number of committed records. It takes no memory, and constant time.
     pub fn committed(&self) -> u64
         ensures value { result ≡ length self.now.commits }
         ensures sound { IsSound self.now }
@@ -325,8 +346,8 @@ impl<S: RowStore> ReplicaCore<S> {
         }
     }
 
-    /// The low-water mark: the greatest number such that all records from 1 up to it are committed. Where the order of the log is kept
-    /// that is the number of records committed. It takes no memory, and constant time.
+    /// The low-water mark: the greatest number up to which all records from 1 on are committed. If the order of the log
+    /// is kept, that is the number of committed records. It takes no memory, and constant time.
     pub fn low_water(&self) -> u64
         ensures value { result ≡ low_water self.now }
         ensures in_order { self.now.preserve ≡ true → result ≡ length self.now.commits }
@@ -342,8 +363,8 @@ impl<S: RowStore> ReplicaCore<S> {
         self.scheduler.is_committed(gno)
     }
 
-    /// Whether the record of this number was handed out and no result of it was taken. It takes no memory. The time is that of a look
-    /// at each such record, of which there are at most as many as workers.
+    /// Whether the record of this number was handed out and no result of it was taken. It takes no memory. The time is
+    /// that of a look at each such record. There are at most as many as workers.
     pub fn is_out(&self, gno: u64) -> bool
         ensures { result ≡ has_gno self.now.out gno }
     {
@@ -357,10 +378,10 @@ impl<S: RowStore> ReplicaCore<S> {
         self.turns.preserve()
     }
 
-    /// The ids of the committed records, as MySQL's `gtid_executed`: where the order of the log is kept those of the source from 1 to
-    /// their number, in constant time; else with the gaps that there are, in the time of a look at each record from the low-water mark
-    /// up to the last one dispatched, of which there are at most 4096. The empty set where none is committed, which takes no memory. A
-    /// stop comes before want of memory.
+    /// The ids of the committed records, like MySQL's `gtid_executed`. If the order of the log is kept, they go from 1 to
+    /// the number of committed records, in constant time. Else they may have gaps, and the time is that of a look at each
+    /// record from the low-water mark up to the last one dispatched, 4096 at most. The set is empty if none is committed,
+    /// and then takes no memory. A stop comes before running out of memory.
     pub fn executed(&self) -> Result<GtidSet, ReplicaFault>
         ensures stopped { IfSome self.now.stopped (λ gno. result ≡ Err (ReplicaFault.Stopped gno)) }
         ensures ok { IfOk result (AreExecuted self.now) }
@@ -368,7 +389,7 @@ impl<S: RowStore> ReplicaCore<S> {
         ensures in_order { self.now.preserve ≡ true
             → IsErrOf result ReplicaFault.Memory ⊎ (result ≡ unless_stopped self.now (executed_ids self.now)) }
 
-        // Memory runs out only in the place of an interval.
+        // Memory runs out only instead of an interval.
         ensures memory { IsErrOf result ReplicaFault.Memory → (self.now.stopped ≡ None) × (0 < length self.now.commits) }
         ensures err { IfErr result (λ fault. (fault ≡ ReplicaFault.Memory) ⊎ (Some fault ≡ stop_fault self.now)) }
     {
@@ -381,7 +402,7 @@ impl<S: RowStore> ReplicaCore<S> {
         Ok(committed_ids(alloc, source, &self.scheduler, self.dispatched())?)
     }
 
-    /// The number of commits published: the first so many of those committed.
+    /// The number of published commits: they are the first of the committed ones.
     pub fn published(&self) -> u64
         ensures value { result ≡ self.now.published }
         ensures sound { IsSound self.now }
@@ -389,7 +410,7 @@ impl<S: RowStore> ReplicaCore<S> {
         self.published
     }
 
-    /// The number of the record that could not be applied, once the replica is stopped.
+    /// The number of the record that could not be applied, if the replica is stopped.
     pub fn stopped(&self) -> Option<u64>
         ensures value { result ≡ self.now.stopped }
         ensures sound { IsSound self.now }
@@ -405,9 +426,9 @@ impl<S: RowStore> ReplicaCore<S> {
         &self.stored.store
     }
 
-    /// The tables, the rows before the first commit, as `base` has them, the records accepted, in order, whether they are committed or not,
-    /// and the store with the working rows: all that another core over the same rows is made of, without a copy. The time is
-    /// that of letting go of what else the replica keeps.
+    /// All that another core over the same rows is made of, without a copy. These are the tables, the rows before the
+    /// first commit, as `base` has them, the accepted records in order, committed or not, and the store with the working
+    /// rows. The time is that of freeing what else the replica keeps.
     pub fn into_parts(self) -> (Schema, Batch, Vec<Record>, S)
         ensures tables { result.0 ≡ self.tables }
         ensures base { result.1 ≡ self.base }
@@ -455,7 +476,7 @@ impl<S: RowStore> ReplicaCore<S> {
         }
     }
 
-    /// The number of records dispatched: the first so many of those accepted.
+    /// The number of dispatched records: they are the first of the accepted ones.
     fn dispatched(&self) -> u64
         ensures { result ≡ self.now.dispatched }
     {
@@ -479,8 +500,8 @@ impl<S: RowStore> ReplicaCore<S> {
         )
     }
 
-    /// The place at which the job of a result is kept; or refuses it, where it is not of a job that was handed out, or one of it
-    /// was taken.
+    /// The place at which the job of a result is kept. It refuses the result if its job was not handed out, or a result
+    /// of it was taken.
     fn judge(&self, done: &JobResult) -> Result<usize, ReplicaFault>
         ensures { IsJudged self.now done.now result }
     {
@@ -493,7 +514,7 @@ impl<S: RowStore> ReplicaCore<S> {
         }
     }
 
-    /// Whether the job is the one that was handed out of its number, which is kept at this place.
+    /// Whether the job is the one that was handed out for its number, which is kept at this place.
     fn is_handed_out(&self, job: &Job, place: usize) -> bool
         requires out { has_gno self.now.out job.now.gno ≡ true }
         requires at { place ≡ place_in self.now.out job.now.gno }
@@ -504,7 +525,7 @@ impl<S: RowStore> ReplicaCore<S> {
         job.is_of(rec, &kept.input, &kept.holders, self.relay.schema())
     }
 
-    /// Refuses the number of a result, whatever the result is.
+    /// Refuses the number of a result, whatever else the result has.
     fn refuse(&self, gno: u64) -> Result<(), ReplicaFault>
         ensures { result ≡ option_map_or (λ fault. Err fault) (finish_fault self.now gno) (Ok tt) }
     {

@@ -1,4 +1,4 @@
-//! The working rows, and who has each value.
+//! The working rows, and the holder of each value.
 
 ghost use Rattle.std.specs.Prelude.{◌≡◌, OnOk, OnErr};
 ghost use Rattle.std.specs.Map.{keys_of};
@@ -10,8 +10,8 @@ use schema::{Memory, Schema};
 use std::alloc::Global;
 use store_trait::{Batch, RowStore};
 
-/// The rows after the committed records, with who has each value in a unique column: so the holders of a job's marks are looked
-/// up, and no table is walked.
+/// The rows after the committed records, with the holder of each value in a unique column. So the holders of a job's
+/// marks are looked up, and no table is walked.
 #[derive(Drop)]
 pub struct Stored<S: RowStore> {
     pub store: S,
@@ -19,9 +19,10 @@ pub struct Stored<S: RowStore> {
 }
 
 impl<S: RowStore> Stored<S> {
-    /// Puts the batch, and the index follows it. All memory is taken before a row changes; where it runs out all stays as it was,
-    /// but for room that was made. With n rows in the store and b in the batch the time is b log n. Beside the store's it takes the
-    /// memory of the marks that the batch's rows had, and of those that they have then: none where no table has a unique column.
+    /// Puts the batch, and updates the index. All memory is taken before a row changes; if it runs out, all stays as it
+    /// was, except for room that was made. With n rows in the store and b in the batch the time is b log n. Beside the
+    /// store's memory it takes that of the marks that the batch's rows had and then have; none if no table has a unique
+    /// column.
     pub fn put(&mut self, alloc: Global, schema: &Schema, batch: &Batch) -> Result<(), Memory>
         ensures rows { OnOk result (S.contents self.new.store ≡ put_batch batch.now (S.contents self.old.store)) }
         ensures keys { OnOk result (self.new.index.map
@@ -35,7 +36,7 @@ impl<S: RowStore> Stored<S> {
         self.index.put(schema, &marks, batch);
         Ok(())
     }
-    /// The rows alone.
+    /// Only the rows.
     pub fn into_store(self) -> S
         ensures { result ≡ self.store }
     {

@@ -1,7 +1,7 @@
-//! What lies under the lock: the core, its publisher, the words of the status, the coordinator's end of the queue, and the jobs
-//! for which memory ran out. Each call of the shared replica is one call here. The calls stand by what they are about: records in
-//! `accepting`, jobs in `working`, what is done behind both in `settling` and `dispatching`, those who wait for commits in `waiting`, and
-//! who sleeps and is told in `telling`.
+//! What the lock protects: the core, its publisher, the words of the status, the coordinator's end of the queue, and the
+//! jobs for which memory ran out. Each call of the shared replica is one call here. Records are in `accepting`, jobs in
+//! `working`, what follows both in `settling` and `dispatching`, waits for commits in `waiting`, and sleepers and news in
+//! `telling`.
 ghost use Rattle.std.specs.Prelude.{◌≡◌, [], true};
 ghost use Rattle.published.specs.Status.{NoneFalls, latest};
 ghost use Rattle.replica_core.specs.Sound.{IsSound};
@@ -41,11 +41,11 @@ where
     kept: KeptJobs,
     closed: bool,
     outlet: Outlet,
-    /// How many of the jobs that were pushed were claimed by workers.
+    /// How many of the pushed jobs workers have claimed.
     claimed: u64,
     /// Something may be left to commit, to publish or to dispatch.
     behind: bool,
-    /// What those who wait were told last.
+    /// The outlook when news was last reported.
     told: Outlook,
     sleepers: Sleepers,
     looks: Looks,
@@ -109,7 +109,7 @@ impl<S: RowStore + Drop, J: ReplicaNaming> Coordinator<S, J> {
         }
     }
 
-    // Whose records the core takes.
+    // The source whose records the core takes.
     pub(crate) fn source(&self) -> Uuid
         ensures { result ≡ J.names.source }
     {
@@ -123,7 +123,7 @@ impl<S: RowStore + Drop, J: ReplicaNaming> Coordinator<S, J> {
         self.core.preserve()
     }
 
-    // Whether no more records come, and all that did are committed and published.
+    // Whether no more records come, and all that came are committed and published.
     fn is_ended(&self) -> bool
         ensures { result ≡ is_ended self.now }
     {
@@ -162,7 +162,7 @@ impl<S: RowStore + Drop, J: ReplicaNaming> Coordinator<S, J> {
     }
 }
 
-// Stores how far the core is.
+// Stores how far the core has come.
 fn store_words<S: RowStore>(rt: &impl Wait, core: &ReplicaCore<S>, status: &mut Status)
     requires { NoneFalls (latest status.old.stored) (words_of core.now) }
     ensures stored { latest status.new.stored ≡ words_of core.now }

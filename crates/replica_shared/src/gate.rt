@@ -1,12 +1,12 @@
-//! Who is told of the jobs that workers execute.
+//! Calls around each job that a worker executes.
 
-/// It is told of each job that a worker executes. Both calls are made outside the lock, by the worker's thread, which goes on
-/// once they return.
+/// A hook around each job that a worker executes. The worker's thread makes both calls outside the lock, and goes on once
+/// they return.
 pub trait WorkerGate {
-    /// The job of this gno is about to be executed.
+    /// The worker is about to execute the job of this gno.
     fn entered(&self, gno: u64);
 
-    /// What came of the job of this gno was handed in.
+    /// The worker has handed in the result of the job of this gno.
     fn left(&self, gno: u64);
 }
 

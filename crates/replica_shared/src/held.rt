@@ -1,8 +1,8 @@
-//! The lock, and who holds it.
+//! The lock, and the thread that holds it.
 //!
-//! Who has the lock has a `Held`, which is not `Drop`: neither an end of a scope nor a `?` can let it go. It ends in `let_go`, or in a
-//! wait, and both tell first whom it concerns what was done. Only this module takes it apart, and the mutex in it (`Locked`) goes free
-//! only where that was asked for.
+//! The thread that holds the lock has a `Held`, which is not `Drop`: neither the end of a scope nor a `?` can let it go.
+//! It ends in `let_go` or in a wait. Both first ask the coordinator which threads the change concerns, and wake these.
+//! Only this module takes it apart, and the mutex in it (`Locked`) can be freed only after that question.
 ghost use Rattle.std.specs.Prelude.{◌≡◌, ◌≤◌, false};
 ghost use Rattle.std.specs.List.{AllByRecursion};
 ghost use Rattle.std.specs.Sync.Mutex.{mutex_guard_value};
@@ -18,18 +18,18 @@ use published::{Common, CopyStep, Version};
 use std::sync::{Condvar, Mutex, Wait};
 use store_trait::RowStore;
 
-/// So often who brings a record looks whether the lock is free, some microseconds in all.
+/// How often a thread that brings a record looks whether the lock is free, before it sleeps: some microseconds in all.
 const LOOKS: usize = 1000;
 
-/// A coordinator under its lock, and what those sleep on who wait for something to be done to it.
+/// A coordinator under its lock, and the condition variables of the threads that wait for something to be done to it.
 pub struct Lock<S: RowStore + Drop, J: ReplicaNaming>
 where
     Version<S, J>: Absorb<CopyStep<J>, State = Common>,
 {
     coordinator: Mutex<Coordinator<S, J>>,
-    /// Where workers wait.
+    /// Workers wait here.
     work: Condvar,
-    /// Where those in `wait_for` wait.
+    /// Calls of `wait_for` and `wait_for_set` wait here.
     shown: Condvar,
 }
 
@@ -59,8 +59,8 @@ impl<S: RowStore + Drop, J: ReplicaNaming> Lock<S, J> {
         }
     }
 
-    /// Takes the lock for a record. A worker that commits holds it for a moment, as often as records come, so it looks whether it is
-    /// free before it sleeps.
+    /// Takes the lock for a record. Workers that commit hold it for a moment, about as often as records come. So this
+    /// looks whether it is free for a while before it sleeps.
     pub(crate) fn take_soon(&self, rt: &impl Wait) -> Held<'_, S, J> {
         for _look in 0..LOOKS {
             if let Some(locked) = Locked::take_if_free(&self.coordinator) {
@@ -70,7 +70,7 @@ impl<S: RowStore + Drop, J: ReplicaNaming> Lock<S, J> {
         self.take(rt)
     }
 
-    /// The coordinator, which nobody holds any more.
+    /// The coordinator, which no thread holds any more.
     pub(crate) fn into_inner(self) -> Coordinator<S, J> {
         let Lock {
             coordinator,
@@ -80,7 +80,7 @@ impl<S: RowStore + Drop, J: ReplicaNaming> Lock<S, J> {
         coordinator.into_inner()
     }
 
-    // Wakes whom it concerns.
+    // Wakes the threads that the news names.
     fn tell(&self, news: News) {
         let News { workers, readers } = news;
         workers.ring(&self.work);
@@ -89,14 +89,14 @@ impl<S: RowStore + Drop, J: ReplicaNaming> Lock<S, J> {
 }
 
 impl<'a, S: RowStore + Drop, J: ReplicaNaming> Held<'a, S, J> {
-    /// What lies under the lock.
+    /// What the lock protects.
     pub(crate) fn coordinator(&mut self) -> &mut Coordinator<S, J>
         ensures { result.now ≡ mutex_guard_value self.old.locked.guard }
     {
         self.locked.coordinator()
     }
 
-    /// Lets go of the lock, and tells what was done.
+    /// Lets go of the lock, and wakes the threads that the change concerns.
     pub(crate) fn let_go(self) {
         let Held { lock, mut locked } = self;
         let news = locked.news();
@@ -104,7 +104,7 @@ impl<'a, S: RowStore + Drop, J: ReplicaNaming> Held<'a, S, J> {
         lock.tell(news);
     }
 
-    /// Tells what was done, and lets go of the lock until there is something for a worker.
+    /// Wakes the threads that the change concerns, and lets go of the lock until there is something for a worker.
     pub(crate) fn wait_for_work(self, rt: &impl Wait) -> Held<'a, S, J>
         ensures { is_idle (mutex_guard_value result.locked.guard) ≡ false }
     {
@@ -114,7 +114,8 @@ impl<'a, S: RowStore + Drop, J: ReplicaNaming> Held<'a, S, J> {
         Held { lock, locked }
     }
 
-    /// Tells what was done, and lets go of the lock until each of these commits is published, or the replica is stopped.
+    /// Wakes the threads that the change concerns, and lets go of the lock until each of these commits is published, or
+    /// the replica is stopped.
     pub(crate) fn wait_for_commits(self, rt: &impl Wait, wanted: &[Interval]) -> Held<'a, S, J>
         requires { AllByRecursion (λ i. 1 ≤ i.first) wanted.now }
         ensures { is_awaited (mutex_guard_value result.locked.guard) wanted.now ≡ false }

@@ -9,11 +9,11 @@ use std::alloc::Global;
 use std::marker::Model;
 use store_trait::RowStore;
 
-/// How many jobs can be out, and so how many can be kept.
+/// How many jobs can be out at once, and so how many can be kept.
 const PLACES: usize = 64;
 
-/// The jobs for which memory ran out, in the order in which they were kept. There is a place for as many as can be out. Contracts see it
-/// as these jobs.
+/// The jobs for which memory ran out, in the order in which they were kept. There is a place for each job that can be
+/// out. Contracts see it as these jobs.
 #[derive(Drop)]
 pub(crate) struct KeptJobs {
     jobs: Vec<Job>,
@@ -31,7 +31,7 @@ impl Model for KeptJobs {
 }
 
 impl KeptJobs {
-    // No job is kept. It takes the memory of all places.
+    // No job is kept yet. It takes the memory of all places.
     pub(crate) fn new(alloc: Global) -> Result<KeptJobs, Memory>
         ensures { IfOk result (λ kept. kept ≡ []) }
     {
@@ -47,7 +47,7 @@ impl KeptJobs {
         self.jobs.len() as u64
     }
 
-    // Keeps those alone of which no result was taken, and which have another number.
+    // Keeps only those with another number whose result was not taken.
     pub(crate) fn keep_out_beside<S: RowStore>(&mut self, core: &ReplicaCore<S>, gno: u64)
         ensures { self.new ≡ out_beside core.now gno self.old }
     {
@@ -55,7 +55,7 @@ impl KeptJobs {
             .retain(|job| core.is_out(job.gno) && job.gno != gno);
     }
 
-    // Keeps a job, behind the others. It takes no memory.
+    // Keeps a job, after the others. It takes no memory.
     pub(crate) fn lay(&mut self, job: Job)
         requires { length self.old < 64 }
         ensures { self.new ≡ self.old ++ job ∷ [] }
@@ -66,7 +66,8 @@ impl KeptJobs {
         }
     }
 
-    // Takes out the job that was kept first, if any is. So one for which memory runs out each time keeps back none of the others.
+    // Takes out the job that was kept first, if there is one. So a job for which memory runs out each time does not hold
+    // up the others.
     pub(crate) fn take(&mut self) -> Option<Job>
         ensures { TakesOut self.old result self.new }
     {

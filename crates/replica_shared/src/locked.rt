@@ -1,7 +1,7 @@
 //! The coordinator's mutex, taken.
 //!
-//! Who has it has a `Locked`, which is not `Drop`, and only this module takes that apart. Each way out of it, for good or for a while, asks
-//! that all was told: so none is there that leaves a change untold.
+//! The thread that has it holds a `Locked`, which is not `Drop`, and only this module takes that apart. Each way out of
+//! it, for good or for a while, requires that all news was reported. So no change stays unreported.
 ghost use Rattle.std.specs.Prelude.{◌≡◌, ◌≤◌, false};
 ghost use Rattle.std.specs.List.{AllByRecursion};
 ghost use Rattle.std.specs.Sync.Mutex.{mutex_guard_value};
@@ -32,27 +32,27 @@ impl<'a, S: RowStore + Drop, J: ReplicaNaming> Locked<'a, S, J> {
         }
     }
 
-    /// Takes it where it is free.
+    /// Takes it if it is free.
     pub(crate) fn take_if_free(mutex: &'a Mutex<Coordinator<S, J>>) -> Option<Locked<'a, S, J>> {
         let guard = mutex.try_lock()?;
         Some(Locked { guard })
     }
 
-    /// What lies under it.
+    /// What the mutex protects.
     pub(crate) fn coordinator(&mut self) -> &mut Coordinator<S, J>
         ensures { result.now ≡ mutex_guard_value self.old.guard }
     {
         &mut *self.guard
     }
 
-    /// Who is to be told of what was done. They know then.
+    /// The threads to wake for what was done since the last call. All news counts as reported then.
     pub(crate) fn news(&mut self) -> News
         ensures { IsTold (mutex_guard_value self.new.guard) }
     {
         self.guard.news()
     }
 
-    /// Frees the mutex. All that there is was told.
+    /// Frees the mutex. All news was reported.
     pub(crate) fn free(self)
         requires { IsTold (mutex_guard_value self.guard) }
     {
@@ -60,7 +60,7 @@ impl<'a, S: RowStore + Drop, J: ReplicaNaming> Locked<'a, S, J> {
         MutexGuard::unlock(guard);
     }
 
-    /// Frees the mutex until there is something for a worker, who sleeps there. All that there is was told.
+    /// Frees the mutex until there is something for the worker that sleeps here. All news was reported.
     pub(crate) fn free_while_idle(self, rt: &impl Wait, bell: &Condvar) -> Locked<'a, S, J>
         requires { IsTold (mutex_guard_value self.guard) }
         ensures { is_idle (mutex_guard_value result.guard) ≡ false }
@@ -72,7 +72,7 @@ impl<'a, S: RowStore + Drop, J: ReplicaNaming> Locked<'a, S, J> {
         Locked { guard }
     }
 
-    /// Frees the mutex until each of these commits is published, or the replica is stopped. All that there is was told.
+    /// Frees the mutex until each of these commits is published, or the replica is stopped. All news was reported.
     pub(crate) fn free_while_awaited(
         self,
         rt: &impl Wait,

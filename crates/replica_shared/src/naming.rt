@@ -1,14 +1,14 @@
-//! Which replica.
+//! The name of a replica.
 
 use published::Naming;
 use std::marker::Brand;
 
-/// Which publication the publisher of a shared replica is of, over which tables and rows, and whose records it takes: a type
-/// stands for it, so that those of two replicas can't be mixed. Write a function over `J: ReplicaNaming` that takes a
-/// publication's `Beginning` and the core, and requires `OpensReplica J.names J.preserve J.book J.known core beginning`. Its caller passes
-/// the marker `Brand` for `J`, and says in its `Invariants.antt` that these are those of the arguments, and that `log` and `known` are
-/// `None`. If it is known before which record each number has, they are that log and its operations; each record that the replica is
-/// handed then has to be that of its number.
+/// A type that stands for one shared replica: its publisher's publication, its tables and rows, and the source whose
+/// records it takes. So parts of two replicas can't be mixed. Write a function over `J: ReplicaNaming` that takes a
+/// publication's `Beginning` and the core, and requires `OpensReplica J.names J.preserve J.book J.known core beginning`.
+/// Its caller passes the marker `Brand` for `J`. It says in its `Invariants.antt` that the names are those of the
+/// arguments, and that `log` and `known` are `None`. If the record of each number is known before, they are that log and
+/// its operations. Each record that the replica gets then has to be the one of its number.
 pub trait ReplicaNaming: Naming {
     ghost use Rattle.replica_shared.specs.Names.{ReplicaNames};
 

@@ -1,4 +1,4 @@
-//! What a worker finds under the lock, and who is to be told of what a call left.
+//! What a worker finds under the lock, and which threads to wake after a call.
 ghost use Rattle.std.specs.Prelude.{◌≡◌};
 ghost use Rattle.replica_shared.specs.Together.{call_of, news_between};
 
@@ -10,37 +10,37 @@ use std::sync::Condvar;
 pub enum Next {
     /// A job for which memory ran out before.
     Kept(Job),
-    /// One of the jobs in the queue: it is this worker's to steal.
+    /// One of the jobs in the queue: this worker may steal it.
     Claim(Claim),
-    /// None now.
+    /// Nothing now.
     Nothing,
-    /// None from now on: no more records come, and all that did are committed and published.
+    /// Nothing from now on: no more records come, and all that came are committed and published.
     Ended,
 }
 
-/// What those who wait look at.
+/// What waiting threads look at.
 #[derive(Clone, Copy, Debug)]
 pub struct Outlook {
-    /// How many jobs there are that no worker has.
+    /// The number of jobs that no worker has.
     pub offers: u64,
     /// Something may be left to commit, to publish or to dispatch.
     pub behind: bool,
-    /// How many commits are published.
+    /// The number of published commits.
     pub published: u64,
     /// The replica is stopped, or no more records come and all is done.
     pub over: bool,
 }
 
-/// Who is to be told. It is not `Drop`, so it can't be forgotten.
+/// The threads to wake. It is not `Drop`, so it can't be forgotten.
 #[derive(Debug)]
 pub struct News {
-    /// Those who wait for work.
+    /// The threads that wait for work.
     pub workers: Call,
-    /// Those who wait for a commit.
+    /// The threads that wait for a commit.
     pub readers: Call,
 }
 
-/// Who of those who wait for one thing is to be woken. It is not `Drop`: it ends in `ring`.
+/// The threads to wake among those that wait for one thing: none, one or all. It is not `Drop`: it ends in `ring`.
 #[derive(Debug)]
 pub enum Call {
     Nobody,
@@ -49,7 +49,7 @@ pub enum Call {
 }
 
 impl Call {
-    // To all, or to one, or to nobody.
+    // All, or one, or nobody.
     fn of(all: bool, one: bool) -> Call
         ensures { result ≡ call_of all one }
     {
@@ -72,7 +72,7 @@ impl Call {
     }
 }
 
-/// How many wait.
+/// The number of waiting calls.
 #[derive(Clone, Copy, Debug, PartialEq, Eq)]
 pub struct Sleepers {
     /// Calls of `worker` that have no job.
@@ -81,7 +81,8 @@ pub struct Sleepers {
     pub readers: u64,
 }
 
-/// How often those who wait looked whether there is what they wait for: once as they begin to wait, and once each time that they wake.
+/// How often waiting calls looked whether there is what they wait for: once as each begins to wait, and once each time it
+/// wakes.
 #[derive(Clone, Copy, Debug, PartialEq, Eq)]
 pub struct Looks {
     /// Calls of `worker`.
@@ -91,7 +92,7 @@ pub struct Looks {
 }
 
 impl Outlook {
-    /// Who is to be told of this, where this other was told last.
+    /// The threads to wake for this outlook, if `told` is the one when news was last reported.
     pub(crate) fn since(self, told: Outlook) -> News
         ensures { result ≡ news_between told self }
     {

@@ -10,8 +10,8 @@ use std::alloc::Global;
 use std::marker::Model;
 use std::sync::{Arc, Wait};
 
-/// The one pass that pushes, and the job whose push was refused. Contracts see it as the greatest gno that was pushed, and
-/// that job.
+/// The one pass that pushes, and the job whose push was refused. Contracts see it as the greatest gno that was pushed,
+/// and that job.
 #[derive(Drop)]
 pub struct Outlet {
     jobs: Arc<Jobs>,
@@ -33,7 +33,7 @@ impl Model for Outlet {
 }
 
 impl Outlet {
-    /// A new queue, for those who steal, and the end at which it is pushed.
+    /// A new queue, for the workers that steal from it, and the end that pushes into it.
     pub(crate) fn new(alloc: Global) -> Result<(Arc<Jobs>, Outlet), Memory>
         ensures { IfOk result (λ made. made.1 ≡ empty_outlet) }
     {
@@ -49,14 +49,14 @@ impl Outlet {
         Ok((theirs, outlet))
     }
 
-    /// The greatest gno that was pushed, 0 where none was.
+    /// The greatest gno that was pushed, 0 if none was.
     pub(crate) fn pushed(&self) -> u64
         ensures { result ≡ self.now.pushed }
     {
         self.pushed
     }
 
-    /// Takes the job that is to be pushed next.
+    /// Takes the job that will be pushed next.
     pub(crate) fn put(&mut self, job: Job)
         requires empty { self.old.aside ≡ None }
         requires rises { self.old.pushed < job.gno }
@@ -65,7 +65,7 @@ impl Outlet {
         self.aside = Some(job);
     }
 
-    /// Pushes the job that waits, if any does. Where memory is refused it waits on.
+    /// Pushes the job that waits, if there is one. If memory is refused, it waits on.
     pub(crate) fn push(&mut self, rt: &impl Wait) -> Result<(), Memory>
         ensures ok { OnOk result (self.new ≡ pushed_aside self.old) }
         ensures err { OnErr result (self.new ≡ self.old) }

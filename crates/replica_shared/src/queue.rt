@@ -1,8 +1,9 @@
-//! The queue through which jobs get to the workers, who take them without the lock.
+//! The queue through which jobs get to the workers. These take them without the lock.
 //!
-//! One pass pushes, and any may steal. The rule: the gnos in the queue rise, and are above every gno that any pass stole; none
-//! of either is above the greatest that was pushed. So no job is pushed twice and none is given twice, whatever the threads do.
-//! What a job has in it the core says, which keeps a copy of its rows.
+//! One pass pushes, and any pass may steal. The rule: the gnos in the queue rise, and are above every gno that any pass
+//! stole. No gno of either kind is above the greatest that was pushed. So no job is pushed twice or given out twice,
+//! whatever the threads do. The rule says nothing of a job's contents: the core compares these with the record, the
+//! schema and its own copy of the rows.
 ghost use Rattle.std.specs.Prelude.{◌≡◌, ◌<◌, IfOk, IfErr, IfSome, OnOk, OnErr, IfNone};
 ghost use Rattle.replica_shared.specs.Queue.{IsPassOf, hand_of, empty_hand, with_pushed, with_stolen, AllBelow};
 
@@ -28,7 +29,7 @@ impl Protocol<Job, Hand> for InLogOrder {
     ghost guest = { empty_hand };
 }
 
-/// A job came.
+/// A job was pushed.
 struct Pushed;
 
 impl Outcome<Job, Hand> for Pushed {
@@ -37,7 +38,7 @@ impl Outcome<Job, Hand> for Pushed {
     ghost then = { Pushes };
 }
 
-/// A job left.
+/// A job was stolen.
 struct Stolen;
 
 impl Outcome<Job, Hand> for Stolen {
@@ -49,11 +50,11 @@ impl Outcome<Job, Hand> for Stolen {
 /// What one caller knows of a queue of jobs: what it pushed and stole. It has no bytes.
 pub type Pass = InjectorPass<Job, Hand>;
 
-/// A try to steal met another thread, and is to be made again.
+/// A try to steal met another thread, and has to be made again.
 #[derive(Clone, Copy, Debug, PartialEq, Eq)]
 pub struct Again;
 
-/// A worker's claim to one of the jobs in a queue. It is not `Drop`: it ends as a job is stolen for it, and by nothing else.
+/// A worker's claim to one of the jobs in a queue. It is not `Drop`: it ends only when a job is stolen for it.
 pub struct Claim {
     of: PhantomData<Job>,
 }
@@ -79,15 +80,15 @@ impl Jobs {
         Ok((Jobs { queue }, pass))
     }
 
-    /// A pass for one who steals. It takes no memory.
+    /// A pass for a caller that steals. It takes no memory.
     pub fn pass(&self) -> Pass
         ensures { IsPassOf self.now result × (hand_of result ≡ empty_hand) }
     {
         self.queue.pass()
     }
 
-    /// Puts a job behind the others. Its gno is above every gno that was pushed before. A job for which there is no memory comes
-    /// back. The time does not grow with the queue; a job in 31 takes memory.
+    /// Puts a job after the others. Its gno is above every gno that was pushed before. If there is no memory for the job,
+    /// it comes back. The time does not grow with the queue. One job in 31 takes memory.
     pub fn push(&self, rt: &impl Wait, pass: &mut Pass, job: Job) -> Result<(), Job>
         requires queue { IsPassOf self.now pass.old }
         requires pushes { pass.old.id ≡ 0 }
@@ -99,8 +100,8 @@ impl Jobs {
         self.queue.push_as::<Pushed, _>(rt, pass, job)
     }
 
-    /// Takes the first job, which no pass stole before. `None` where there is none, or another takes one meanwhile: `try_steal` tells
-    /// which.
+    /// Takes the first job, which no pass stole before. `None` if there is none, or if another pass takes one meanwhile;
+    /// `try_steal` distinguishes these.
     pub fn steal(&self, rt: &impl Wait, pass: &mut Pass) -> Option<Job>
         requires queue { IsPassOf self.now pass.old }
         ensures same { IsPassOf self.now pass.new × (pass.new.id ≡ pass.old.id) }
@@ -114,9 +115,9 @@ impl Jobs {
         }
     }
 
-    /// One try to take the first job, which no pass stole before. `None` where the queue was empty at one moment of the call. `Again`
-    /// where another took the first job meanwhile, or goes on to the queue's next block of 31 jobs, for which the others wait: then
-    /// nothing is known.
+    /// Tries once to take the first job, which no pass stole before. `None` if the queue was empty at one moment of the
+    /// call. `Again` if another pass took the first job meanwhile, or goes on to the queue's next block of 31 jobs, for
+    /// which the others wait. Then nothing is known.
     pub fn try_steal(&self, rt: &impl Wait, pass: &mut Pass) -> Result<Option<Job>, Again>
         requires queue { IsPassOf self.now pass.old }
         ensures same { IsPassOf self.now pass.new × (pass.new.id ≡ pass.old.id) }
@@ -132,7 +133,7 @@ impl Jobs {
         }
     }
 
-    /// One try to take the first job for a claim. Where it finds none, or met another thread, the claim comes back.
+    /// Tries once to take the first job for a claim. If it finds none, or meets another thread, the claim comes back.
     pub(crate) fn try_claimed(
         &self,
         rt: &impl Wait,

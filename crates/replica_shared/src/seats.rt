@@ -7,7 +7,7 @@ use published::ReadSeat;
 use std::marker::Model;
 use store_trait::RowStore;
 
-/// Seats that have seen the load of this replica's rows alone. Contracts see them as what each has seen.
+/// Seats that have seen only the load of this replica's rows. Contracts see them as what each has seen.
 #[derive(Drop)]
 pub struct Seats<S: RowStore + Drop, J: ReplicaNaming> {
     free: Vec<ReadSeat<S, J>>,
@@ -32,7 +32,7 @@ impl<S: RowStore + Drop, J: ReplicaNaming> Seats<S, J> {
         Seats { free }
     }
 
-    /// One of them, where any is left.
+    /// One of them, if any is left.
     pub(crate) fn take(&mut self) -> Option<ReadSeat<S, J>>
         ensures seat { IfSome result (λ seat. seat ≡ Load J.names.base ∷ []) }
         ensures taken { self.old ≡ self.new ++ option_to_list result }

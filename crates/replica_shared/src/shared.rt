@@ -41,17 +41,20 @@ use std::sync::{Arc, Mutex, Wait};
 use store_trait::RowStore;
 use uuid::Uuid;
 
-/// A replica and its publisher, under one lock. Each call but `new`, `end`, `seat` and `status` takes that lock; `seat` and
-/// `status` have one each of their own. A call waits for as long as others hold its lock. Threads share it by reference.
+/// A replica and its publisher, under one lock. Each call except `new`, `end`, `seat` and `status` takes that lock;
+/// `seat` and `status` have a separate one each. A call waits as long as other threads hold its lock. Threads share it by
+/// reference.
 ///
 /// It is not `Drop`, since its publisher is not: end it by `end`.
 ///
-/// Jobs get to the workers through a queue. Whoever accepts a record or hands in a result dispatches, under the lock, all that
-/// then may be, and pushes it; workers take jobs from the queue without the lock, once they claimed one under it.
+/// Jobs get to the workers through a queue. The thread that accepts a record or hands in a result dispatches, under the
+/// lock, all that may be dispatched then, and pushes it. A worker first claims a job under the lock, and then takes it
+/// from the queue without the lock.
 ///
-/// Who waits sleeps, until there is what it waits for. For a worker that is a job, or something that another left undone for
-/// want of memory: one is woken, which wakes the next where more is left. Those in `wait_for` are woken by each publication. A
-/// stop and the end wake all. A record that may not run yet wakes nobody, nor does a result by which nothing is committed.
+/// A waiting call sleeps until there is what it waits for. For a worker that is a job, or something that another thread
+/// left undone because memory ran out. One worker is woken, which wakes the next if more is left. Each publication wakes
+/// all calls of `wait_for` and `wait_for_set`. A stop and the end wake all. A record that may not run yet wakes nobody,
+/// nor does a result after which nothing can be committed.
 pub struct SharedReplica<S: RowStore + Drop, J: ReplicaNaming>
 where
     Version<S, J>: Absorb<CopyStep<J>, State = Common>,
@@ -93,10 +96,9 @@ impl Made {
 }
 
 impl<S: RowStore + Drop, J: ReplicaNaming> SharedReplica<S, J> {
-    /// Over a new core, and a publisher that has published the load of the same rows alone, with the seats that it has. Both keep the
-    /// order of the log, or neither does.
-    /// It takes the memory of 64 places for jobs, of the queue, and of the status. Where that is refused the publisher is closed,
-    /// and it waits for the readers.
+    /// Over a new core, and a publisher that has published only the load of the same rows, with the seats that it has.
+    /// Both keep the order of the log, or neither does. It takes the memory of 64 places for jobs, of the queue, and of
+    /// the status. If that is refused, it closes the publisher, and waits for the readers.
     pub fn new(
         rt: &impl Wait,
         alloc: Global,
@@ -119,7 +121,7 @@ impl<S: RowStore + Drop, J: ReplicaNaming> SharedReplica<S, J> {
         }
     }
 
-    // The same in memory that was taken.
+    // Like `new`, in memory that was taken already.
     fn over(
         core: ReplicaCore<S>,
         publisher: Publisher<S, J>,
@@ -149,15 +151,16 @@ impl<S: RowStore + Drop, J: ReplicaNaming> SharedReplica<S, J> {
         }
     }
 
-    /// Accepts a copy of the record where it is the next, as the core's `receive` does; then what may be dispatched is. The time
-    /// and the memory are the core's. Behind `P9` the record may have been accepted: `receive` called again then skips it.
+    /// Accepts a copy of the record if it is the next one, like the core's `receive`; then dispatches what may be. The
+    /// time and the memory are the core's. After `P9` the record may have been accepted: a second `receive` then skips
+    /// it.
     pub fn receive(
         &self,
         rt: &impl Wait,
         from: Uuid,
         new: &Record,
     ) -> Result<Received, ReplicaFault>
-        // If the log is known before, it is the record of its number there.
+        // If the log is known before, this is the record of its number there.
         requires known { IsInLog J.names.log new.now }
         ensures answer { Receives J.names J.preserve from new.now result }
         ensures foreign { bytes_eq from J.names.source ≡ false
@@ -170,16 +173,17 @@ impl<S: RowStore + Drop, J: ReplicaNaming> SharedReplica<S, J> {
         answer
     }
 
-    /// Takes a piece of a log's bytes, as the wire's `take` does over the core: each record that is whole then is one `receive`, in
-    /// order, behind those that waited. Then what may be dispatched is. Answers how many records were taken, also those that
-    /// were skipped. The time and the memory are those of `take`. A piece that makes no record whole does not wait for the lock, where
-    /// none waited.
+    /// Takes a piece of a log's bytes, like the wire's `take` over the core: each record that is whole then is one
+    /// `receive`, in order, after those that waited. Then it dispatches what may be. Returns the number of records taken,
+    /// with those that were skipped. The time and the memory are those of `take`. A piece that makes no record whole does
+    /// not wait for the lock if no record waited.
     ///
-    /// A fault is `take`'s own: behind `Codec` and `Waiting` nothing of the piece is taken, and it may be sent again; behind
-    /// `Replica` it is taken, and may not. Where all records were taken and memory ran out for what comes behind them, `Replica` tells
-    /// `P9`: no record waits then, and what is left is done by the next call that accepts a record, or by a worker.
+    /// A fault is `take`'s own. After `Codec` and `Waiting` nothing of the piece is taken, and it may be sent again.
+    /// After `Replica` it is taken, and must not be sent again. If all records were taken and memory ran out for what
+    /// follows, the fault is `Replica` with `P9`. No record waits then, and the next call that accepts a record, or a
+    /// worker, does what is left.
     pub fn feed(&self, rt: &impl Wait, wire: &mut Wire, piece: &[u8]) -> Result<u64, WireFault>
-        // If the log is known before, each record that waits or is whole with the piece is that of its number there.
+        // If the log is known before, each record that waits or is whole with the piece is the one of its number there.
         requires known { AreInLog J.names.log wire.old piece.now }
         ensures { Feeds J.names J.preserve wire.old piece.now result wire.new }
     {
@@ -193,7 +197,7 @@ impl<S: RowStore + Drop, J: ReplicaNaming> SharedReplica<S, J> {
         }
     }
 
-    // The same where no record waits: the piece is gathered without the lock.
+    // Like `feed`, if no record waits: the piece is gathered without the lock.
     fn feed_first(&self, rt: &impl Wait, wire: &mut Wire, piece: &[u8]) -> Result<u64, WireFault>
         requires empty { wire.old.waiting ≡ [] }
         requires known { AreInLog J.names.log wire.old piece.now }
@@ -211,19 +215,22 @@ impl<S: RowStore + Drop, J: ReplicaNaming> SharedReplica<S, J> {
         answer
     }
 
-    /// Executes jobs until `close` was called and all accepted records are committed and published. It claims a job under the
-    /// lock, takes it from the queue and executes it without, and hands in what came of it; in the same holding it commits what it
-    /// can, in log order where that is kept and else in the order of the results, publishes that at once, and dispatches what then may
-    /// run. It ends with `P5` once the replica is stopped, also by this worker's own job, and with `P9` where memory ran out. A job for
-    /// which it ran out in its execution is kept in one of 64 places, and the next worker takes it before those of the queue; a job
-    /// whose push was refused waits in a place of its own, and is pushed first. What was committed stays, and is published by the next one.
+    /// Executes jobs until `close` was called and all accepted records are committed and published. It claims a job under
+    /// the lock, takes it from the queue and executes it without the lock, and hands in the result. In the same holding
+    /// of the lock it commits what it can: in log order if that is kept, else in the order of the results. It publishes
+    /// that at once, and dispatches what may run then.
     ///
-    /// A worker that ends with `P9` wakes one more that waits, to do what is left. That one may end so too, and in the end all of them.
-    /// Nothing is done then, and who waits in `wait_for` waits on, until `worker` is called again: it goes on where they ended. Where
-    /// memory may run out, so, call it again behind `P9`.
+    /// It ends with `P5` once the replica is stopped, also by this worker's own job, and with `P9` if memory ran out. A
+    /// job that ran out of memory when it was executed is kept in one of 64 places, and the next worker takes it before
+    /// those of the queue. A job whose push was refused waits in a separate place, and is pushed first. What was
+    /// committed stays, and the next worker or accepted record publishes it.
     ///
-    /// No more jobs are out than the core has workers: a further worker waits, as one does for which there is no job. A job
-    /// costs what `execute` does, and under the lock its copying, and the commit and the publication of what it leaves.
+    /// A worker that ends with `P9` wakes another one that waits, to do what is left. That one may end the same way, and
+    /// in the end all of them. Then nothing is done, and calls of `wait_for` wait on, until `worker` is called again: it
+    /// goes on from there. So if memory may run out, call it again after `P9`.
+    ///
+    /// No more jobs are out than the core has workers: a further worker waits, as it does if there is no job. A job costs
+    /// what `execute` does. Under the lock it costs its copying, and the commit and the publication of what it leaves.
     pub fn worker<G: WorkerGate>(
         &self,
         rt: &impl Wait,
@@ -245,7 +252,7 @@ impl<S: RowStore + Drop, J: ReplicaNaming> SharedReplica<S, J> {
         unreachable!()
     }
 
-    // A job, once there is one. `None` where no more come.
+    // A job, once there is one. `None` if no more come.
     fn next_job(&self, rt: &impl Wait, pass: &mut Pass) -> Result<Option<Job>, ReplicaFault>
         requires { IsPassOf (arc_value self.now.jobs) pass.old }
         ensures { IsPassOf (arc_value self.now.jobs) pass.new }
@@ -261,7 +268,7 @@ impl<S: RowStore + Drop, J: ReplicaNaming> SharedReplica<S, J> {
         unreachable!()
     }
 
-    // Waits until there is something for a worker, and answers what.
+    // Waits until there is something for a worker, and returns it.
     fn next(&self, rt: &impl Wait) -> Result<Next, ReplicaFault> {
         let mut held = self.lock.take(rt).wait_for_work(rt);
         let next = held.coordinator().next(rt);
@@ -269,10 +276,10 @@ impl<S: RowStore + Drop, J: ReplicaNaming> SharedReplica<S, J> {
         next
     }
 
-    // The job that was claimed. One for each claim lies in the queue: it was pushed under the lock before it was claimed, and nobody
-    // steals without a claim. So a try finds none only while that push is not to be seen yet, or where another takes the first job or
-    // goes on to the queue's next block at this moment. All of these end soon, but for a thread that has its turn taken away
-    // meanwhile: who tries looks a few times, and then yields the processor each time.
+    // The job that was claimed. For each claim one is in the queue: it was pushed under the lock before it was claimed,
+    // and nobody steals without a claim. So a try finds none only while that push can't be seen yet, or if another thread
+    // takes the first job or goes on to the queue's next block at this moment. All of these end soon, unless a thread
+    // loses the processor meanwhile. So this tries a few times, and from then on yields the processor after each try.
     fn steal(&self, rt: &impl Wait, pass: &mut Pass, claim: Claim) -> Job
         requires { IsPassOf (arc_value self.now.jobs) pass.old }
         ensures { IsPassOf (arc_value self.now.jobs) pass.new }
@@ -298,10 +305,11 @@ impl<S: RowStore + Drop, J: ReplicaNaming> SharedReplica<S, J> {
         handed
     }
 
-    /// Waits until each commit from 1 to this gno is published, and answers what is published then: where the order of the log is kept,
-    /// until the commit of this gno is. `P5` where the replica is stopped and one of these is not published, with the number of the
-    /// record that did not apply; so also where the commit of this gno itself is published behind one that is not. It waits for ever
-    /// where the record of this gno never comes, or no worker runs, also where all ended with `P9`. It takes no memory.
+    /// Waits until each commit from 1 to this gno is published, and returns what is published then. If the order of the
+    /// log is kept, it waits for the commit of this gno. `P5` if the replica is stopped and one of these commits is not
+    /// published, with the number of the record that did not apply. The commit of this gno may itself be published then,
+    /// if an earlier one is not. It waits forever if the record of this gno never comes, or if no worker runs, also if
+    /// all of them ended with `P9`. It takes no memory.
     pub fn wait_for(&self, rt: &impl Wait, gno: u64) -> Result<Notice<J>, ReplicaFault>
         ensures upto { IfOk result (λ notice. gno ≤ low_of (gnos_of notice)) }
         ensures in_order { J.preserve ≡ true → IfOk result (λ notice. gno ≤ commits_in notice) }
@@ -316,12 +324,14 @@ impl<S: RowStore + Drop, J: ReplicaNaming> SharedReplica<S, J> {
         self.wait_for_each(rt, &[all])
     }
 
-    /// Waits until the commit of each id of the set is published, as MySQL's `WAIT_FOR_EXECUTED_GTID_SET` without a timeout, and
-    /// answers what is published then. `P2` at once where the set has ids, and these are of another source than the replica's. `P5`
-    /// where the replica is stopped and the commit of one of the ids is not published. Where the order of the log is kept it is
-    /// `wait_for` of the set's greatest number, since no commit is published before those in front of it; else it waits for these
-    /// commits alone, and each time that it wakes looks at the commits that are not published, and at 4096 records at most, an interval.
-    /// The empty set waits for nothing. It takes no memory.
+    /// Waits until the commit of each id of the set is published, like MySQL's `WAIT_FOR_EXECUTED_GTID_SET` without a
+    /// timeout, and returns what is published then. `P2` at once if the set has ids of another source than the replica's.
+    /// `P5` if the replica is stopped and the commit of one of the ids is not published.
+    ///
+    /// If the order of the log is kept, it is `wait_for` of the set's greatest number, since no commit is published
+    /// before an earlier one. Else it waits for these commits only. Each time it wakes it then looks, for each interval,
+    /// at the commits that are not published, and at 4096 records at most. The empty set waits for nothing. It takes no
+    /// memory.
     pub fn wait_for_set(&self, rt: &impl Wait, set: &GtidSet) -> Result<Notice<J>, ReplicaFault>
         ensures foreign { takes_source set.now.source J.names.source ≡ false → result ≡ Err ReplicaFault.ForeignSource }
         ensures has { IfOk result (λ notice. AreAmong (gnos_of notice) set.now) }
@@ -338,7 +348,7 @@ impl<S: RowStore + Drop, J: ReplicaNaming> SharedReplica<S, J> {
         }
     }
 
-    // The same of ids of the replica's own source.
+    // Like `wait_for_set`, for ids of the replica's own source.
     fn wait_for_ids(
         &self,
         rt: &impl Wait,
@@ -359,7 +369,7 @@ impl<S: RowStore + Drop, J: ReplicaNaming> SharedReplica<S, J> {
         self.wait_for_each(rt, &[Interval { first: 1, last }])
     }
 
-    // Waits until each of these commits is published, and answers what is published then.
+    // Waits until each of these commits is published, and returns what is published then.
     fn wait_for_each(&self, rt: &impl Wait, wanted: &[Interval]) -> Result<Notice<J>, ReplicaFault>
         requires { AllByRecursion (λ i. 1 ≤ i.first) wanted.now }
         ensures all { IfOk result (λ notice. has_all (gnos_of notice) wanted.now ≡ true) }
@@ -373,7 +383,7 @@ impl<S: RowStore + Drop, J: ReplicaNaming> SharedReplica<S, J> {
         notice
     }
 
-    // Whose records it takes, and whether it commits in the order of the log.
+    // The source whose records it takes, and whether it commits in the order of the log.
     fn named(&self, rt: &impl Wait) -> (Uuid, bool)
         ensures { (result.0 ≡ J.names.source) × (result.1 ≡ J.preserve) }
     {
@@ -384,14 +394,15 @@ impl<S: RowStore + Drop, J: ReplicaNaming> SharedReplica<S, J> {
         named
     }
 
-    /// One of the seats: it has seen the rows before the first commit. `None` exactly where all are out. It takes no memory.
+    /// One of the seats: it has seen the rows before the first commit. `None` exactly if all are out. It takes no memory.
     pub fn seat(&self, rt: &impl Wait) -> Option<ReadSeat<S, J>>
         ensures { IfSome result (λ seat. seat ≡ Load J.names.base ∷ []) }
     {
         self.seats.lock(rt).take()
     }
 
-    /// How many calls wait now: those of `worker` that have no job, and those of `wait_for` and `wait_for_set`. It takes the lock.
+    /// How many calls wait now: those of `worker` that have no job, and those of `wait_for` and `wait_for_set`. It takes
+    /// the lock.
     pub fn sleepers(&self, rt: &impl Wait) -> Sleepers {
         let mut held = self.lock.take(rt);
         let sleepers = held.coordinator().sleepers();
@@ -399,8 +410,9 @@ impl<S: RowStore + Drop, J: ReplicaNaming> SharedReplica<S, J> {
         sleepers
     }
 
-    /// How often calls that wait looked whether there is what they wait for, since the replica was made: each once as it begins to wait,
-    /// and once more each time that it wakes. So it tells how many were woken between two calls of it. It takes the lock.
+    /// How often waiting calls looked whether there is what they wait for, since the replica was made: each once as it
+    /// begins to wait, and once each time it wakes. So two calls of it show how many were woken in between. It takes the
+    /// lock.
     pub fn looks(&self, rt: &impl Wait) -> Looks {
         let mut held = self.lock.take(rt);
         let looks = held.coordinator().looks();
@@ -408,8 +420,8 @@ impl<S: RowStore + Drop, J: ReplicaNaming> SharedReplica<S, J> {
         looks
     }
 
-    /// How many records were accepted, and how many of these are committed and published, in whatever order. It does not wait for a
-    /// worker that holds the coordinator's lock.
+    /// How many records were accepted, and how many of these are committed and published, in whatever order. It does not
+    /// wait for a worker that holds the coordinator's lock.
     pub fn status(&self, rt: &impl Wait) -> Counts
         ensures { InOrder result }
     {
@@ -423,10 +435,10 @@ impl<S: RowStore + Drop, J: ReplicaNaming> SharedReplica<S, J> {
         held.let_go();
     }
 
-    /// The core and the publisher, over the tables and the rows that they were made with. What is published are the operations of
-    /// the first commits of the core, in their order; where the order of the log is kept they are those of the first records that it
-    /// accepted. What was committed and not published, as behind want of memory, may wait in the publisher. The seats that are not out
-    /// are dropped. It takes no memory, and waits for nobody.
+    /// The core and the publisher, over the tables and the rows that they were made with. The operations of the core's
+    /// first commits are published, in their order. If the order of the log is kept, they are those of the first records
+    /// that it accepted. What was committed but not published, for example because memory ran out, may wait in the
+    /// publisher. The seats that are not out are dropped. It takes no memory, and waits for nobody.
     pub fn end(self) -> (ReplicaCore<S>, Publisher<S, J>)
         ensures named { IsReplicaOf J.names J.preserve result.0 }
         ensures published { result.1.published ≡ operations result.0.tables result.0.base (ran result.0) (commits_in result.1.published) }

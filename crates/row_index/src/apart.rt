@@ -13,9 +13,9 @@ use schema::{Mark, Memory, Schema};
 use std::alloc::Global;
 use store_trait::Batch;
 
-/// Whether no two of the rows that this batch loads into an empty store have one value in the unique column of their table. The time is
-/// expected to be that of a walk over the batch up to the first value that comes again, and over the schema's tables for each of its rows;
-/// the memory is that of the values.
+/// Whether no two of the rows that this batch loads into an empty store have one value in the unique column of their
+/// table. The expected time is that of a walk over the batch, up to the first value that comes again, and over the
+/// schema's tables for each of its rows. The memory is that of the values.
 pub fn values_apart(alloc: Global, schema: &Schema, batch: &Batch) -> Result<bool, Memory>
     ensures { IfOk result (λ apart. IsTrue apart ↔ NoValueTwice schema.now (put_batch batch.now empty)) }
 {
@@ -28,7 +28,7 @@ pub fn values_apart(alloc: Global, schema: &Schema, batch: &Batch) -> Result<boo
     Ok(true)
 }
 
-/// Puts the mark, if there is one, behind the others; `false` where it is among them.
+/// Adds the mark, if there is one, after the others; `false` if it is among them already.
 fn add(marks: &mut IndexSet<Mark>, mark: Option<Mark>) -> Result<bool, Memory>
     ensures added { IfOk result (λ added. added ≡ not (option_map_or (has_row marks.old.keys) mark false)) }
     ensures keys { IfOk result (λ added. IsTrue added → marks.new.keys ≡ marks.old.keys ++ option_to_list mark) }

@@ -18,7 +18,7 @@ use std::alloc::Global;
 use std::marker::Model;
 use store_trait::{Batch, RowStore};
 
-/// For each row that is a parent how many rows name it so. A row without children has no entry.
+/// For each parent row, how many rows name it. A row without children has no entry.
 #[derive(Debug, Drop)]
 pub struct Children {
     counts: RowMap<usize>,
@@ -49,8 +49,8 @@ impl Children {
         }
     }
 
-    /// The counts of the rows that this batch loads into an empty store. The time is that of a walk over the batch, and the memory that of
-    /// its rows that have a parent.
+    /// The counts for the rows that this batch loads into an empty store. The time is that of a walk over the batch,
+    /// and the memory that of its rows that have a parent.
     pub fn of(alloc: Global, schema: &Schema, batch: &Batch) -> Result<Children, Memory>
         ensures { IfOk result (λ children. CountsChildren schema.now (put_batch batch.now empty) children.map) }
     {
@@ -68,8 +68,9 @@ impl Children {
         self.counts.get(row).unwrap_or(0)
     }
 
-    /// Makes room for the parents that the batch gives its rows; where there is room for as many, as there is for none, it takes no
-    /// memory. The time is that of a walk over the batch, and over the schema's tables for each of its rows.
+    /// Makes room for the parents that the batch gives its rows. It takes no memory if there is room for all of them,
+    /// or if there are none. The time is that of a walk over the batch, and over the schema's tables for each of its
+    /// rows.
     pub fn reserve(&mut self, schema: &Schema, batch: &Batch) -> Result<(), Memory>
         ensures map { self.new.map ≡ self.old.map }
         ensures room { OnOk result (length (parents_left schema.now batch.now) ≤ self.new.room) }
@@ -79,9 +80,9 @@ impl Children {
             .reserve(parents_in(schema, child_entries(schema, batch)))
     }
 
-    /// Follows a batch whose rows had these parents before it. `rows` is how many rows there are behind it, of which no row has more
-    /// children. It takes no memory. The time is that of a look-up for each parent before it and behind it, and of a walk over the
-    /// schema's tables for each row.
+    /// Follows a batch. `old` has the parents that its rows had before, and `rows` is how many rows there are after it;
+    /// no row has more children than that. It takes no memory. The time is that of a look-up for each parent before and
+    /// after the batch, and of a walk over the schema's tables for each row.
     pub fn put(&mut self, schema: &Schema, old: &[RowId], batch: &Batch, rows: usize)
         requires room { length (parents_left schema.now batch.now) ≤ self.old.room }
         requires counted { (row : RowId) → times_in old.now row ≤ count_at self.old.map row }
@@ -115,7 +116,7 @@ impl Children {
         }
     }
 
-    /// A child fewer. The last one takes the row's entry with it.
+    /// One child fewer. With the last one the row's entry goes.
     fn give_up_one(&mut self, row: RowId)
         requires { 0 < count_at self.old.map row }
         ensures counts { Recounts (row ∷ []) [] self.old.map self.new.map }
@@ -129,7 +130,7 @@ impl Children {
         }
     }
 
-    /// A child more, of at most so many.
+    /// One child more, up to `most`.
     fn take_up_one(&mut self, row: RowId, most: usize)
         requires room { 0 < self.old.room }
         requires fits { count_at self.old.map row < most }
@@ -141,7 +142,7 @@ impl Children {
     }
 }
 
-/// The batch's entries; none where no table has a parent, so that no row has one.
+/// The batch's entries; none if no table has a parent, since then no row has one.
 fn child_entries<'a>(schema: &Schema, batch: &'a Batch) -> &'a [(RowId, Option<Row>)]
     ensures left { parents_left schema.now result.now ≡ parents_left schema.now batch.now }
     ensures before { (db : Database) → parents_at schema.now (keys_of result.now) db ≡ parents_at schema.now (keys_of batch.now) db }
@@ -170,7 +171,7 @@ fn parents_in(schema: &Schema, entries: &[(RowId, Option<Row>)]) -> usize
         .count()
 }
 
-/// The parent that an entry gives its row, where the row is there then and has one.
+/// The parent that an entry gives its row, if the row is there afterwards and has one.
 fn parent_left(schema: &Schema, entry: &(RowId, Option<Row>)) -> Option<RowId>
     ensures { result ≡ parent_at schema.now entry.now.0.table entry.now.1 }
 {
@@ -180,7 +181,7 @@ fn parent_left(schema: &Schema, entry: &(RowId, Option<Row>)) -> Option<RowId>
     }
 }
 
-/// The parent row that these columns of a row of the table name, where the table has a parent.
+/// The parent row that these columns of a row of the table name, if the table has a parent.
 fn parent_of(schema: &Schema, table: u16, columns: &[i64]) -> Option<RowId>
     ensures { result ≡ parent_of schema.now table columns.now }
 {
@@ -189,8 +190,8 @@ fn parent_of(schema: &Schema, table: u16, columns: &[i64]) -> Option<RowId>
     Some(RowId { table: parent, key })
 }
 
-/// The parents of the batch's rows in the store. The time is that of a look-up for each row of the batch whose table has a parent, and the
-/// memory that of the parents: where there are none it takes none.
+/// The parents that the batch's rows have in the store. The time is that of a look-up for each row of the batch whose
+/// table has a parent. The memory is that of the parents: without any it takes none.
 pub fn parents_before<S: RowStore>(
     alloc: Global,
     schema: &Schema,
@@ -208,7 +209,8 @@ pub fn parents_before<S: RowStore>(
     Ok(parents)
 }
 
-/// The parent of the row of this id, where it is there and has one. The store is asked only where the table has a parent.
+/// The parent of the row with this id, if the row is there and has one. The store is asked only if the table has a
+/// parent.
 fn parent_in<S: RowStore>(schema: &Schema, store: &S, id: RowId) -> Option<RowId>
     ensures { option_to_list result ≡ parent_in schema.now (S.contents store.now) id }
 {

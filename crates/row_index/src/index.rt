@@ -1,4 +1,4 @@
-//! Who has each value of the unique columns.
+//! Which row has each value of the unique columns.
 
 ghost use Rattle.std.specs.Prelude.{◌≡◌, ◌≤◌, length, is_some, option_to_list, IfOk, OnOk, IsOk};
 ghost use Rattle.std.specs.List.{list_any};
@@ -16,7 +16,7 @@ use std::alloc::Global;
 use std::marker::Model;
 use store_trait::{Batch, RowStore};
 
-/// For each value of a unique column the key of the row that has it.
+/// For each value of a unique column, the key of the row that has it.
 #[derive(Debug, Drop)]
 pub struct Index {
     keys: RowMap<i64>,
@@ -44,8 +44,8 @@ impl Index {
         }
     }
 
-    /// The index of the rows that this batch loads into an empty store. The time is that of a walk over the batch, and the memory that of
-    /// its rows that have a value in a unique column.
+    /// The index of the rows that this batch loads into an empty store. The time is that of a walk over the batch, and
+    /// the memory that of its rows that have a value in a unique column.
     pub fn of(alloc: Global, schema: &Schema, batch: &Batch) -> Result<Index, Memory>
         ensures { IfOk result (λ index. NoValueTwice schema.now (put_batch batch.now empty)
             → Indexes schema.now (put_batch batch.now empty) index.map) }
@@ -56,15 +56,15 @@ impl Index {
         Ok(index)
     }
 
-    /// The key of the row that has the mark; `None` where none has it. It takes no memory, and expected constant time.
+    /// The key of the row that has the mark; `None` if no row has it. It takes no memory, and expected constant time.
     pub fn holder(&self, mark: Mark) -> Option<i64>
         ensures { result ≡ get self.now.map mark }
     {
         self.keys.get(mark.as_row())
     }
 
-    /// Makes room for the marks that the batch gives its rows; where there is room for as many, as there is for none, it takes no
-    /// memory. The time is that of a walk over the batch, and over the schema's tables for each of its rows.
+    /// Makes room for the marks that the batch gives its rows. It takes no memory if there is room for all of them, or
+    /// if there are none. The time is that of a walk over the batch, and over the schema's tables for each of its rows.
     pub fn reserve(&mut self, schema: &Schema, batch: &Batch) -> Result<(), Memory>
         ensures map { self.new.map ≡ self.old.map }
         ensures room { OnOk result (length (marks_left schema.now batch.now) ≤ self.new.room) }
@@ -74,8 +74,9 @@ impl Index {
             .reserve(marks_in(schema, marked_entries(schema, batch)))
     }
 
-    /// Follows a batch whose rows had these marks before it: these go first, and then those come that the rows have now. It takes no
-    /// memory. The time is that of a look-up for each of both, and of a walk over the schema's tables for each row.
+    /// Follows a batch. `old` has the marks that its rows had before: these go first, and then those that the rows have
+    /// now are added. It takes no memory. The time is that of a look-up for each of these marks, and of a walk over the
+    /// schema's tables for each row.
     pub fn put(&mut self, schema: &Schema, old: &[Mark], batch: &Batch)
         requires { length (marks_left schema.now batch.now) ≤ self.old.room }
         ensures { self.new.map ≡ moved schema.now old.now batch.now self.old.map }
@@ -105,7 +106,7 @@ fn take_up(keys: &mut RowMap<i64>, schema: &Schema, entries: &[(RowId, Option<Ro
     }
 }
 
-/// The batch's entries; none where no table has a unique column, so that no row has a mark.
+/// The batch's entries; none if no table has a unique column, since then no row has a mark.
 fn marked_entries<'a>(schema: &Schema, batch: &'a Batch) -> &'a [(RowId, Option<Row>)]
     ensures left { marks_left schema.now result.now ≡ marks_left schema.now batch.now }
     ensures before { (db : Database) → marks_at schema.now (keys_of result.now) db ≡ marks_at schema.now (keys_of batch.now) db }
@@ -135,7 +136,7 @@ fn marks_in(schema: &Schema, entries: &[(RowId, Option<Row>)]) -> usize
         .count()
 }
 
-/// The mark that an entry gives its row, where the row is there then and has one.
+/// The mark that an entry gives its row, if the row is there afterwards and has one.
 pub(crate) fn mark_left(schema: &Schema, entry: &(RowId, Option<Row>)) -> Option<Mark>
     ensures { result ≡ mark_left schema.now entry.now }
 {
@@ -145,8 +146,8 @@ pub(crate) fn mark_left(schema: &Schema, entry: &(RowId, Option<Row>)) -> Option
     }
 }
 
-/// The marks that the rows of the batch have in the store. The time is that of a look-up for each row of the batch whose table has a
-/// unique column, and the memory that of the marks: where there are none it takes none.
+/// The marks that the rows of the batch have in the store. The time is that of a look-up for each row of the batch
+/// whose table has a unique column. The memory is that of the marks: without any it takes none.
 pub fn marks_before<S: RowStore>(
     alloc: Global,
     schema: &Schema,
@@ -164,7 +165,8 @@ pub fn marks_before<S: RowStore>(
     Ok(marks)
 }
 
-/// The mark of the row of this id, where it is there and has one. The store is asked only where the table has a unique column.
+/// The mark of the row with this id, if the row is there and has one. The store is asked only if the table has a unique
+/// column.
 fn mark_in<S: RowStore>(schema: &Schema, store: &S, id: RowId) -> Option<Mark>
     ensures { option_to_list result ≡ mark_in schema.now (S.contents store.now) id }
 {

@@ -2,14 +2,14 @@
 
 ghost use Rattle.row_index.specs.Laws.{NoneIndexed, NoneCounted, KeysFollow, CountsFollow, ChildrenMove, OldAreCounted, ChildrenAreRows};
 
-/// The keys say who has each mark, of no rows and behind each batch.
+/// The keys give the row that has each mark, for no rows and after each batch.
 pub fn keys()
     ensures none { NoneIndexed }
     ensures follow { KeysFollow }
 {}
 
-/// The counts say how many children each row has, of no rows and behind each batch. No row has more children than there are rows, and
-/// the rows of a batch that have it as their parent are among its children.
+/// The counts give the number of children of each row, for no rows and after each batch. No row has more children than
+/// there are rows. The rows of a batch that have it as their parent are among its children.
 pub fn counts()
     ensures none { NoneCounted }
     ensures follow { CountsFollow }

@@ -1,21 +1,21 @@
-//! What follows from the definitions alone. Each function states laws by its contract, and does nothing.
+//! What follows from the definitions. Each function states laws by its contract, and does nothing.
 
 ghost use Rattle.row_locks.specs.Laws.{NothingHeld, TakenByOne, ReleasedByOne, HeldAsListed, HoldersShare, HeldByRows, HoldsMoreRows};
 ghost use Rattle.row_locks.specs.Laws.{HoldsMoreMarks, HoldersDoNotConflict};
 
-/// In a new table there are 256 sessions, and none of them holds a row, or a mark.
+/// A new table has 256 sessions, and none of them holds a row or a mark.
 pub fn new_table()
     ensures { NothingHeld }
 {}
 
-/// To take and to release change what one session holds, and no other.
+/// Taking and releasing change what one session holds, and nothing of the others.
 pub fn one_session()
     ensures taken { TakenByOne }
     ensures released { ReleasedByOne }
 {}
 
-/// A session that takes a list of locks holds a row exclusively where it did or a lock of the list is so, and
-/// holds it at all where it did or a lock of the list is of it.
+/// After a session takes a list of locks, it holds a row exclusively if it did before or a lock of the list is
+/// exclusive. It holds a row at all if it did before or a lock of the list is of that row.
 pub fn also_held()
     ensures { HeldAsListed }
 {}
@@ -26,16 +26,15 @@ pub fn no_clash()
 {}
 
 /// A session that took rows to write, and rows that it refers to for sharing, holds the first exclusively and the
-/// others so; and one row more to write, with what it refers to, goes behind these. Marks more go behind the marks that it
-/// holds.
+/// others for sharing. One more row to write, with the rows that it refers to, is added to these. More marks are added
+/// to those that the session holds.
 pub fn held_by_rows()
     ensures rows { HeldByRows }
     ensures more { HoldsMoreRows }
     ensures marks { HoldsMoreMarks }
 {}
 
-/// Two sessions of a table write no row in common, and neither writes one that the other refers to; and they have no mark in
-/// common.
+/// No two sessions of a table write a common row, or write a row that the other refers to, or have a common mark.
 pub fn no_conflict()
     ensures { HoldersDoNotConflict }
 {}

@@ -1,16 +1,15 @@
 //! The locks of up to 256 sessions on rows and on marks.
 //!
-//! A `LockTable` says which session holds which rows, and how, and which marks (`specs/Locks.antt`); callers see it
+//! A `LockTable` says which session holds which rows, and how, and which marks (`specs/Locks.antt`). Contracts see it
 //! as two lists, one for rows and one for marks, each with a finite map for each session. Two locks of different
-//! sessions on one row clash unless both are for sharing, a mark is held by one session alone, and no two locks of a
-//! table clash: the type keeps that. A session's own locks never clash with each other. `take_all` takes its whole
-//! lists or nothing, and `release_all` frees what a session holds.
+//! sessions on one row clash unless both are for sharing, and at most one session holds a mark. No two locks of a table
+//! clash: its type ensures that. A session's own locks never clash with each other. `take_all` takes its whole lists or
+//! nothing, and `release_all` frees what a session holds.
 //!
-//! What is held of rows and what of marks stand apart, each kept in one way (`sessions`): each session has a map of
-//! its own, and beside them stands one map to how many sessions hold a row or a mark, and how many of these
-//! exclusively (`tally`). So `clashes` compares two numbers. A mark stands there under the row id that it is written
-//! as, and nothing is made for marks before one is taken. The crate stands on `schema`, which names rows
-//! and marks and orders them, and on `row_map`.
+//! The locks on rows and those on marks are kept apart, but in one way (`sessions`). Each session has a map. One more
+//! map has how many sessions hold a row or a mark, and how many of them exclusively (`tally`), so `clashes` compares
+//! two numbers. A mark is kept under the row id that it is written as, and nothing is made for marks before one is
+//! taken. `schema` names rows and marks and orders them, and `row_map` has the maps.
 #![tactic(auto)]
 
 ghost use Rattle.std.specs.Prelude.{◌≡◌, ◌≤◌, ◌↔◌, false, IsTrue, IfOk, OnOk, OnErr, Err};
@@ -32,7 +31,7 @@ use thiserror::Error;
 /// How a session holds a row.
 #[derive(Clone, Copy, Debug, PartialEq, Eq)]
 pub enum Mode {
-    /// Other sessions may hold it for sharing too.
+    /// Other sessions may also hold it for sharing.
     Share,
     /// No other session holds it.
     Exclusive,
@@ -41,7 +40,8 @@ pub enum Mode {
 /// Why locks are not taken.
 #[derive(Clone, Copy, Debug, PartialEq, Eq, Error)]
 pub enum LockFault {
-    /// Another session holds one of the rows in a way that clashes, or one of the marks; the text says that a row is locked of both.
+    /// Another session holds one of the rows in a way that clashes, or one of the marks. The text says in both cases
+    /// that a row is locked.
     #[error("a row is locked")]
     Clash,
     /// Memory ran out.
@@ -84,8 +84,8 @@ impl Model for LockTable {
 }
 
 impl LockTable {
-    /// A table in which no session holds a row or a mark. The places of the sessions for rows are made here, and those
-    /// for marks once a mark is taken.
+    /// A table in which no session holds a row or a mark. The sessions' places for rows are made here, those for marks
+    /// once a mark is taken.
     pub fn new(alloc: Global) -> Result<LockTable, Memory>
         ensures none { IfOk result (λ table. table ≡ all_free) }
         ensures clear { IfOk result (λ table. IsClear table) }
@@ -119,7 +119,7 @@ impl LockTable {
         self.marks.clashes(session, &mark)
     }
 
-    /// Takes each lock of the list for the session, as `take_all` with no marks.
+    /// Takes each lock of the list for the session. Like `take_all` without marks.
     pub fn take(&mut self, session: u16, rows: &[(RowId, Mode)]) -> Result<(), LockFault>
         requires least { 1 ≤ session }
         requires greatest { session ≤ 256 }
@@ -132,11 +132,11 @@ impl LockTable {
         self.take_all(session, rows, &[])
     }
 
-    /// Takes each lock on rows of the one list, and each mark of the other for the session alone. It is refused with
-    /// `Clash` where a row or a mark of the lists clashes with another session's, and else with `Memory` where there
-    /// is no room for both whole lists; then nothing is taken. With n rows and marks the time is that of n look-ups,
-    /// and the memory that of n rows; it stays for later locks. The first mark taken also makes a place for marks of
-    /// each session; with no marks no memory is asked for them.
+    /// Takes each lock on rows of the one list, and each mark of the other exclusively, for the session. It is refused
+    /// with `Clash` if a row or a mark of the lists clashes with another session's, and otherwise with `Memory` if
+    /// there is no room for both whole lists; then nothing is taken. With n rows and marks the time is that of n
+    /// look-ups, and the memory that of n rows; it stays for later locks. The first mark taken also makes a place for
+    /// marks in each session. Without marks no memory is asked for them.
     pub fn take_all(
         &mut self,
         session: u16,
@@ -157,8 +157,8 @@ impl LockTable {
         Ok(())
     }
 
-    /// Takes them where, as the caller knows, none of them clashes: `take_all` without the look-ups that find it out. It is
-    /// refused where there is no room for both whole lists; then nothing is taken.
+    /// Takes both lists; the caller knows that none of them clashes. Like `take_all`, but without the look-ups that
+    /// find this out. It is refused if there is no room for both whole lists; then nothing is taken.
     pub fn take_free(
         &mut self,
         session: u16,
@@ -188,8 +188,8 @@ impl LockTable {
         self.rows.any_clashes(session, rows) || self.marks.any_clashes(session, marks)
     }
 
-    /// Frees each lock of the session, on rows and on marks. It takes no memory; the time is that of a look-up for
-    /// each row and each mark that the session holds.
+    /// Frees each lock of the session, on rows and on marks. It takes no memory. The time is that of a look-up for each
+    /// row and each mark that the session holds.
     pub fn release_all(&mut self, session: u16)
         requires least { 1 ≤ session }
         requires greatest { session ≤ 256 }
@@ -201,7 +201,7 @@ impl LockTable {
     }
 }
 
-/// How the session holds a row that it held so, once it took it again.
+/// How the session holds a row after taking it in this mode, given how it held it before.
 fn stronger(held: Option<Mode>, mode: Mode) -> Mode
     ensures { result ≡ stronger held mode }
 {
@@ -211,7 +211,7 @@ fn stronger(held: Option<Mode>, mode: Mode) -> Mode
     }
 }
 
-/// 1 for a lock that clashes with another session's of this mode, and else 0.
+/// 1 for a lock that clashes with another session's in this mode, otherwise 0.
 fn weight(held: Option<Mode>, mode: Mode) -> u16
     ensures { result ≡ weight held mode }
 {

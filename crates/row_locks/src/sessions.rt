@@ -1,6 +1,6 @@
-//! What each session holds of one kind of thing, rows or marks. A mark stands here under the row id that it is written as: what is said of
-//! rows is so of marks too. The places of the sessions are made by `place`, or once room is made for a lock, so a schema without
-//! unique columns asks for no memory for marks.
+//! What each session holds of one kind of thing, rows or marks. A mark is kept here under the row id that it is written
+//! as, so what is said of rows holds for marks too. The places of the sessions are made by `place`, or once room is
+//! made for a lock. So a schema without unique columns asks for no memory for marks.
 ghost use Rattle.std.specs.Prelude.{◌≡◌, ◌+◌, ◌<◌, ◌≤◌, false, IfOk, OnOk, length, map, replicate};
 ghost use Rattle.std.specs.List.{list_any};
 ghost use Rattle.std.specs.FinMap.{empty, get, insert};
@@ -20,7 +20,7 @@ use schema::{Mark, Memory, RowId};
 use std::alloc::Global;
 use std::marker::Model;
 
-/// What a session takes: a row in some way, or a mark for itself alone.
+/// What a session takes: a row in some mode, or a mark exclusively.
 pub(crate) trait Lock {
     ghost lock: { Self → ARowId × AMode };
 
@@ -47,7 +47,7 @@ impl Lock for Mark {
 /// What sessions 1 to 256 hold of rows, or of marks.
 #[derive(Debug, Drop)]
 pub(crate) struct Sessions {
-    /// Session 1 first, or none.
+    /// One for each session, session 1 first; or none yet.
     places: Vec<RowMap<Mode>>,
     tally: Tally,
 }
@@ -76,7 +76,7 @@ impl Sessions {
         }
     }
 
-    /// Makes the places of the sessions, where there are none.
+    /// Makes the places of the sessions, if there are none.
     pub(crate) fn place(&mut self) -> Result<(), Memory>
         ensures locks { locks_in self.new ≡ locks_in self.old }
         ensures places { OnOk result (length self.new.places ≡ 256) }
@@ -96,7 +96,7 @@ impl Sessions {
         let (row, mode) = one.lock();
         let opposing = self.tally.opposing(row, mode);
         if opposing == 0 {
-            // What the session holds itself is not even looked up.
+            // What the session itself holds is not even looked up.
             return false;
         }
         let own = self.places[session as usize - 1].get(row);
@@ -172,7 +172,7 @@ fn empty_places(alloc: Global) -> Result<Vec<RowMap<Mode>>, Memory>
     Ok(places)
 }
 
-/// Takes each lock of the list for the session that holds these rows.
+/// Takes each lock of the list for the session that holds `held`.
 fn lock_all<L: Lock>(held: &mut RowMap<Mode>, tally: &mut Tally, locks: &[L])
     requires counted { IsCounted held.old.map tally.old.map }
     requires held_room { length locks.now ≤ held.old.room }
@@ -201,7 +201,7 @@ fn lock_one(held: &mut RowMap<Mode>, tally: &mut Tally, row: RowId, mode: Mode)
     held.set(row, now);
 }
 
-/// Frees each row of the session that holds these.
+/// Frees each row that the session holds.
 fn unlock_all(held: &mut RowMap<Mode>, tally: &mut Tally)
     requires { IsCounted held.old.map tally.old.map }
     ensures held { held.new.map ≡ empty }

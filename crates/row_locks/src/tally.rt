@@ -27,7 +27,7 @@ const NOBODY: Count = Count {
     exclusive: 0,
 };
 
-/// The number of sessions that hold each row that one holds.
+/// The number of sessions that hold each row that at least one holds.
 #[derive(Debug, Drop)]
 pub(crate) struct Tally {
     rows: RowMap<Count>,
@@ -78,7 +78,8 @@ impl Tally {
         self.rows.reserve(more)
     }
 
-    /// A session that held the row so, or not at all, now holds it otherwise. It takes no memory.
+    /// Follows a session that held the row as `was`, and now holds it as `now`; `None` means not at all. It takes no
+    /// memory.
     pub(crate) fn recount(&mut self, row: RowId, was: Option<Mode>, now: Option<Mode>)
         requires counted { (mode : Mode) → weight was mode ≤ count_at self.old.map row mode }
         requires fits { (mode : Mode) → count_at self.old.map row mode ≤ weight was mode + 256 }
@@ -105,7 +106,7 @@ fn opposing_of(count: Count, mode: Mode) -> u16
     }
 }
 
-/// The count without a lock that was, and with one that now is.
+/// The count without the lock `was`, and with the lock `now`.
 fn changed(count: Count, was: Option<Mode>, now: Option<Mode>) -> Count
     requires counted { (mode : Mode) → weight was mode ≤ opposing count mode }
     requires fits { (mode : Mode) → opposing count mode ≤ weight was mode + 256 }

@@ -1,9 +1,9 @@
-//! A map by row ids that knows how many more fit.
+//! A map from row ids to values that knows how many more rows fit.
 //!
-//! A `RowMap` is seen as a finite map in the order of row ids, with its room: how many more rows surely take no memory. Who changes
-//! several maps together makes room in each of them first, and after that no change can be refused. A mark stands in such a map under
-//! the row id that it is written as, so what is said of rows is so of marks. The crate stands on `schema`, which names rows and marks
-//! and orders them, and on `indexmap`.
+//! Contracts see a `RowMap` as a finite map in the order of row ids, with its room: how many more rows surely take no
+//! memory. A caller that changes several maps together makes room in each of them first; after that no change can be
+//! refused. A mark is kept in such a map under the row id that it is written as, so what is said of rows holds for
+//! marks too. `schema` names rows and marks and orders them, and `indexmap` has the map.
 #![tactic(auto)]
 
 ghost use Rattle.std.specs.Prelude.{◌≡◌, ◌+◌, ◌<◌, ◌≤◌, OnOk, IsOk, IfNone, IfSome, IsSome, Some, None};
@@ -14,7 +14,7 @@ use schema::{Memory, RowId};
 use std::alloc::Global;
 use std::marker::Model;
 
-/// What stands at each of some rows.
+/// A value for each of some rows.
 #[derive(Debug, Drop)]
 pub struct RowMap<V> {
     entries: IndexMap<RowId, V>,
@@ -43,7 +43,8 @@ impl<V: Copy> RowMap<V> {
         }
     }
 
-    /// What stands at the row. It takes no memory, and expected constant time: where the map is empty the row is not even hashed.
+    /// The row's value. It takes no memory, and expected constant time. If the map is empty, the row is not even
+    /// hashed.
     pub fn get(&self, row: RowId) -> Option<V>
         ensures { result ≡ get self.now.map row }
     {
@@ -53,7 +54,7 @@ impl<V: Copy> RowMap<V> {
         self.entries.get(&row).copied()
     }
 
-    /// Makes room for this many more rows, where there is less; else it takes no memory.
+    /// Makes room for this many more rows, if there is less; otherwise it takes no memory.
     pub fn reserve(&mut self, more: usize) -> Result<(), Memory>
         ensures map { self.new.map ≡ self.old.map }
         ensures room { OnOk result (more ≤ self.new.room) }
@@ -64,7 +65,7 @@ impl<V: Copy> RowMap<V> {
         Ok(())
     }
 
-    /// Puts this at the row, in the place of what stands there, if anything does. It takes no memory.
+    /// Gives the row this value, instead of the one that it has, if any. It takes no memory.
     pub fn set(&mut self, row: RowId, value: V)
         requires { get self.old.map row ≡ None → 0 < self.old.room }
         ensures map { self.new.map ≡ insert self.old.map row value }
@@ -73,7 +74,7 @@ impl<V: Copy> RowMap<V> {
         let _ = self.entries.insert(row, value);
     }
 
-    /// Puts this at the row, in the place of what stands there: no room is used up.
+    /// Gives the row this value instead of the one that it has: no room is used up.
     pub fn replace(&mut self, row: RowId, value: V)
         requires { IsSome (get self.old.map row) }
         ensures map { self.new.map ≡ insert self.old.map row value }
@@ -82,7 +83,7 @@ impl<V: Copy> RowMap<V> {
         *self.entries.get_mut(&row).unwrap() = value;
     }
 
-    /// Takes away what stands at the row, if anything does.
+    /// Removes the row's value, if it has one.
     pub fn remove(&mut self, row: RowId)
         ensures map { self.new.map ≡ remove self.old.map row }
         ensures room { self.old.room ≤ self.new.room }
@@ -90,7 +91,7 @@ impl<V: Copy> RowMap<V> {
         self.entries.swap_remove(&row);
     }
 
-    /// Takes away what stands at one of the rows, and says what stood there.
+    /// Removes one of the rows, and returns it with its value.
     pub fn pop(&mut self) -> Option<(RowId, V)>
         ensures none { IfNone result ((self.old.map ≡ empty) × (self.new.map ≡ empty)) }
         ensures stood { IfSome result (λ entry. get self.old.map entry.0 ≡ Some entry.1) }

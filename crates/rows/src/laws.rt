@@ -1,4 +1,4 @@
-//! What follows from the definitions alone. Each function states laws by its contract, and does nothing.
+//! What follows from the definitions. Each function states laws by its contract, and does nothing.
 
 ghost use Rattle.rows.specs.Effect.{AppliesByKind, LeavesWhereItApplies};
 ghost use Rattle.rows.specs.Effect.{HasParentWhereItApplies, AppliesWhereItFits, WritesOfJoined, EffectOfJoined, StepsOfJoined};
@@ -10,16 +10,17 @@ ghost use Rattle.rows.specs.Given.{LooksOnlyAtGiven, OneOutcome, GivenParentsAre
 ghost use Rattle.rows.specs.Holders.{HolderHasIt, HoldersAreSame, FreeByHolder, FreeByRows, MarksAreFew, MarksAreOfUnique};
 ghost use Rattle.rows.specs.Parents.{NoOrphanOfJoined, NoOrphanBehind, KinAreFew, NoKinOfOthers, NoKinUnrelated};
 
-/// The frame law: a list of changes changes only the rows that it writes and who has its marks, and looks only at these rows, at
-/// their kin, and at which rows have its marks.
+/// The frame law: a list of changes changes only the rows that it writes and which rows have its marks. It looks only
+/// at these rows, at their kin, and at which rows have its marks.
 pub fn frame()
     ensures changes_only { ChangesOnlyWrites }
     ensures only_marks { ChangesOnlyMarks }
     ensures looks_only { LooksOnlyAtItsRows }
 {}
 
-/// What changes give their rows decides their outcome: they look at no more than the rows that they write, the parents that they
-/// give, and which rows have the values that they give. Where they apply, these parents are their kin, and these values their marks.
+/// What changes give their rows decides their outcome. They look only at the rows that they write, the parents that
+/// they give, and which rows have the values that they give. If they apply, these parents are among their kin, and
+/// these values among their marks.
 pub fn given()
     ensures looks_only { LooksOnlyAtGiven }
     ensures one_outcome { OneOutcome }
@@ -27,8 +28,9 @@ pub fn given()
     ensures marks { GivenMarksAreMarks }
 {}
 
-/// Transactions that each apply to one database and do not clash apply to it one behind the other, by the frame
-/// law: where the first writes nothing that the second looks at, and has none of its marks, the second does there what it does alone.
+/// If transactions each apply to one database and do not clash, they apply one after another, by the frame law. If the
+/// first writes nothing that the second looks at, and has none of its marks, the second does there what it does without
+/// the first.
 pub fn behind()
     ensures { AppliesBehind }
 {}
@@ -41,8 +43,8 @@ pub fn columns()
     ensures named { NamedTakeTheirs }
 {}
 
-/// When a change applies to a database: where it fits its row, the parent that it gives the row is there, and no other row has the
-/// value that it gives it.
+/// When a change applies to a database: it fits its row, the parent that it gives the row is there, and no other row
+/// has the value that it gives it.
 pub fn one_change()
     ensures by_kind { AppliesByKind }
     ensures leaves { LeavesWhereItApplies }
@@ -50,7 +52,7 @@ pub fn one_change()
     ensures applies { AppliesWhereItFits }
 {}
 
-/// What two lists of changes do one behind the other.
+/// What two lists of changes do one after the other.
 pub fn joined()
     ensures writes { WritesOfJoined }
     ensures effect { EffectOfJoined }
@@ -60,26 +62,25 @@ pub fn joined()
     ensures row { RowAfterJoined }
 {}
 
-/// The effect of a list of changes, row by row: what it leaves at each row, and that these rows
-/// determine it.
+/// The effect of a list of changes, row by row: what it leaves of each row. These rows determine the effect.
 pub fn row_by_row()
     ensures each { EachRowIsLeft }
     ensures determined { EffectIsItsRows }
 {}
 
-/// Changes leave a child row without its parent only where one of them deletes the parent of a row.
+/// Changes leave a child row without its parent only if one of them deletes the parent of a row.
 pub fn parents()
     ensures { ChildrenKeepParents }
 {}
 
-/// Which changes leave no orphan behind others: of one list, where each part leaves none in its place; of two transactions
-/// that do not conflict, where each leaves none alone.
+/// Which changes leave no orphan after others: one list, if each part leaves none when its turn comes; two transactions
+/// that do not conflict, if neither leaves one without the other.
 pub fn one_after_another()
     ensures joined { NoOrphanOfJoined }
     ensures behind { NoOrphanBehind }
 {}
 
-/// How many kin changes have: at most two each, and none where they write no child table, as those of a transaction that
+/// How many kin changes have: at most two each. They have none if they write no child table, as in a transaction that
 /// is not foreign-key related.
 pub fn kin()
     ensures few { KinAreFew }
@@ -87,8 +88,8 @@ pub fn kin()
     ensures unrelated { NoKinUnrelated }
 {}
 
-/// Where no two rows of a table have one value in its unique column, none have after changes, a value has one row at most, and
-/// columns are free for a row where no other row has their value.
+/// If no two rows of a table have one value in its unique column, none do after changes. Then a value has at most one
+/// row, and columns are free for a row if no other row has their value.
 pub fn values()
     ensures apart { ValuesStayApart }
     ensures holder { HolderHasIt }
@@ -97,7 +98,7 @@ pub fn values()
     ensures free_by_rows { FreeByRows }
 {}
 
-/// How many marks changes have: at most two each, and of which tables.
+/// How many marks changes have, at most two each, and the tables that these are of.
 pub fn marks()
     ensures few { MarksAreFew }
     ensures of_unique { MarksAreOfUnique }

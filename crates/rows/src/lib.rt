@@ -1,13 +1,15 @@
 //! Rows, changes, and what a change does to a database.
 //!
-//! A `Row` has 1 to 16 columns in a fixed array, so that copying one takes no memory. A `Change` is what a
-//! session writes: an insert of a row, an update of its `Named` columns, or a delete. `apply_one` is what it does to the one row
-//! that it is of, `parent_of` the parent that a row names, and `mark_of` the value of a row in the unique column of its table. A `Step`
-//! is what a change does to its row: what it leaves of it, the parents that the row names before and after it, and the values that it
-//! takes from it and gives it. What a list of changes does to a whole database, which rows it writes, which parent rows it refers to and
-//! which values of unique columns it gives up or takes is defined in `specs/Database.antt`, by the steps of the changes, and the layers
-//! above speak of it; what it gives its rows, whatever they are, in `specs/Given.antt`, and which row has a value in
-//! `specs/Holders.antt`. `laws` states what follows from the definitions.
+//! A `Row` has 1 to 16 columns in a fixed array, so copying one takes no memory. A `Change` is what a session writes:
+//! an insert of a row, an update of its `Named` columns, or a delete. `apply_one` gives what a change leaves of its
+//! row. `parent_of` is the parent that a row names, and `mark_of` its value in the unique column of its table. A `Step`
+//! is what a change does to its row: the row that it leaves, the parents that the row names before and after it, and
+//! the values that the change takes from the row and gives it.
+//!
+//! `specs/Database.antt` says, by the steps of the changes, what a list of changes does to a whole database. It defines
+//! which rows they write, which parent rows they refer to, and which values of unique columns they give up or take; the
+//! layers above use these words. `specs/Given.antt` has what changes give their rows, whatever the rows are, and
+//! `specs/Holders.antt` which row has a value. `laws` states what follows from the definitions.
 #![tactic(auto)]
 
 ghost use Rattle.std.specs.Prelude.{◌≡◌, ◌≤◌, length, SomeIff, option_copied};
@@ -50,7 +52,7 @@ impl Model for Row {
 }
 
 impl Row {
-    /// A row of these columns; `None` where there are none or more than 16. It takes no memory.
+    /// A row of these columns; `None` if there are none or more than 16. It takes no memory.
     pub fn new(columns: &[i64]) -> Option<Row>
         ensures { SomeIff result ((1 ≤ length columns.now) × (length columns.now ≤ 16)) columns.now }
     {
@@ -78,16 +80,16 @@ impl Row {
 /// What a session writes to one row. A row's key never changes.
 #[derive(Clone, Copy, Debug, PartialEq, Eq)]
 pub enum Change {
-    /// A row that was absent is there, with these columns.
+    /// The row was absent. Now it is there, with these columns.
     Insert { row: RowId, values: Row },
-    /// A row that was there has other values in these columns. The others stay.
+    /// The row was there. It gets other values in these columns, and keeps the others.
     Update { row: RowId, columns: Named },
-    /// A row that was there is there no more.
+    /// The row was there. Now it is absent.
     Delete { row: RowId },
 }
 
 impl Change {
-    /// The row that the change is of.
+    /// The row that the change writes.
     pub fn target(&self) -> RowId
         ensures { result ≡ target self.now }
     {
@@ -98,7 +100,7 @@ impl Change {
     }
 }
 
-/// Why a change does not fit the one row that it is of. The text is the fault's number and name.
+/// Why a change does not fit the row that it writes. The text is the fault's number and name.
 #[derive(Clone, Copy, Debug, PartialEq, Eq, Error)]
 pub enum ChangeFault {
     /// An insert of a row that is there.
@@ -112,8 +114,8 @@ pub enum ChangeFault {
     Columns,
 }
 
-/// The mark of a row of the table that has these columns: its value in the unique column, where the table has one. It takes no memory.
-/// The time is that of a walk over the tables.
+/// The mark of a row of the table that has these columns: its value in the unique column, if the table has one. It
+/// takes no memory, and the time of a walk over the tables.
 pub fn mark_of(schema: &Schema, table: u16, columns: &[i64]) -> Option<Mark>
     ensures { result ≡ mark_of schema.now table columns.now }
 {
@@ -122,8 +124,8 @@ pub fn mark_of(schema: &Schema, table: u16, columns: &[i64]) -> Option<Mark>
     Some(Mark::new(table, value))
 }
 
-/// The row after the change, given the row before it, `None` where there is none. An update answers
-/// `Columns` where it names a column that the row lacks. It takes no memory and at most one pass over the columns.
+/// The row after the change, given the row before it; `None` means that the row is not there. An update of a column
+/// that the row does not have is refused with `Columns`. It takes no memory and at most one pass over the columns.
 pub fn apply_one(change: &Change, before: Option<&Row>) -> Result<Option<Row>, ChangeFault>
     ensures { result ≡ changed change.now (option_copied before.entry) }
 {

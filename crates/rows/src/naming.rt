@@ -1,4 +1,4 @@
-//! Named columns with their values: what an update writes.
+//! Named columns and their values: what an update writes.
 
 ghost use Rattle.std.specs.Prelude.{◌≡◌, ◌≤◌, count_ones, length, IsTrue, SomeIff, if◌then◌else◌};
 ghost use Rattle.rows.specs.Naming.{names_column, rise_from, naming_from, assigned, assigned_from};
@@ -6,8 +6,7 @@ ghost use Rattle.rows.specs.Naming.{names_column, rise_from, naming_from, assign
 use crate::Row;
 use std::marker::Model;
 
-/// The columns that an update names, as the bits of a mask, with a value for each: at least one of the columns 0
-/// to 15.
+/// The columns that an update names, as the bits of a mask, with a value for each: at least one of the columns 0 to 15.
 #[derive(Clone, Copy, Debug, PartialEq, Eq)]
 pub struct Named {
     mask: u16,
@@ -32,8 +31,8 @@ impl Model for Named {
 }
 
 impl Named {
-    /// These columns, bit c of the mask naming column c, with these values, that of the lowest column first;
-    /// `None` where no column is named or there are fewer or more values than columns. It takes no memory.
+    /// These columns with these values. Bit c of the mask names column c, and the value of the lowest column comes
+    /// first. `None` if no column is named, or if there is not one value for each named column. It takes no memory.
     pub fn new(mask: u16, values: &[i64]) -> Option<Named>
         ensures { SomeIff result ((1 ≤ mask) × (length values.now ≡ count_ones mask)) (record { mask = mask; values = values.now }) }
     {
@@ -45,7 +44,7 @@ impl Named {
         Some(Named { mask, values: all })
     }
 
-    /// These columns with these values; `None` where there are none, a column is over 15, or the columns do not
+    /// These columns with these values; `None` if there are none, if a column is over 15, or if the columns do not
     /// strictly rise. It takes no memory.
     pub fn of(pairs: &[(u8, i64)]) -> Option<Named>
         ensures { SomeIff result ((1 ≤ length pairs.now) × IsTrue (rise_from 0 pairs.now)) (naming_from pairs.now) }
@@ -64,7 +63,7 @@ impl Named {
         Named::new(mask, &values[..pairs.len()])
     }
 
-    /// The mask: bit c is set where column c is named.
+    /// The mask: bit c is set if column c is named.
     pub fn mask(&self) -> u16
         ensures value { result ≡ self.now.mask }
         ensures some { 1 ≤ result }
@@ -72,7 +71,7 @@ impl Named {
         self.mask
     }
 
-    /// The values, that of the lowest column first: one for each bit of the mask, so 16 at most.
+    /// The values, that of the lowest column first: one for each bit of the mask, so at most 16.
     pub fn values(&self) -> &[i64]
         ensures value { result.now ≡ self.now.values }
         ensures each { length result.now ≡ count_ones self.now.mask }
@@ -88,7 +87,7 @@ impl Named {
         column < 16 && self.mask >> column & 1 == 1
     }
 
-    /// The row with the named columns replaced; `None` where it lacks one of them.
+    /// The row with the named columns replaced; `None` if it does not have all of them.
     pub(crate) fn assigned(&self, row: &Row) -> Option<Row>
         ensures { result ≡ assigned self.now row.now }
     {
@@ -104,7 +103,7 @@ impl Named {
     }
 }
 
-// Replaces the named columns, and tells whether all of them were there.
+// Replaces the named columns, and returns whether all of them were there.
 fn assign(mask: u16, values: &[i64], columns: &mut [i64]) -> bool
     requires { count_ones mask ≤ length values.now }
     ensures { (if result then Some columns.new else None) ≡ assigned_from mask values.now columns.old }

@@ -6,8 +6,8 @@ ghost use Rattle.rows.specs.Shape.{has_columns as columns_fit, is_shaped as fits
 use crate::Change;
 use schema::{Schema, Table};
 
-/// Whether the change is of a table of the schema that has the columns that it gives or names. It takes no memory. The
-/// time is that of a walk over the tables.
+/// Whether the change's table is in the schema and has the columns that the change gives or names. It takes no memory,
+/// and the time of a walk over the tables.
 pub fn is_shaped(schema: &Schema, change: &Change) -> bool
     ensures { result ≡ fits schema.now change.now }
 {
@@ -28,7 +28,7 @@ pub fn has_columns(table: &Table, change: &Change) -> bool
     }
 }
 
-/// Whether the mask names only columns below this number.
+/// Whether the mask names only columns with a number below this one.
 fn is_within(mask: u16, columns: u8) -> bool
     ensures { result ≡ nat_lt mask (2 ^ columns) }
 {

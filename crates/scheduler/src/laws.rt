@@ -1,15 +1,16 @@
-//! What follows from the definitions alone. Each function states a law by its contract, and does nothing.
+//! What follows from the definitions only. Each function states a law by its contract, and does nothing.
 
 ghost use Rattle.scheduler.specs.Gnos.{LowIsLow, OneLow, HasFirst, LowOfFirst, LowRises, AreFewer, LowIsFew};
 ghost use Rattle.scheduler.specs.Laws.{LowIsGreatest};
 
-/// Wherever the transaction behind the low-water mark is not committed, the mark is the greatest number such that every
-/// transaction up to it is committed.
+/// If the transaction after the low-water mark is not committed, the mark is the greatest number up to which every
+/// transaction is committed.
 pub fn low_is_greatest()
     ensures { LowIsGreatest }
 {}
 
-/// The low-water mark of a set of numbers: there is just one, that of the numbers from 1 to n is n, and it never falls as numbers come.
+/// A set of numbers has exactly one low-water mark. That of the numbers from 1 to n is n, and it never falls as numbers
+/// are added.
 pub fn low_of_set()
     ensures low { LowIsLow }
     ensures one { OneLow }
@@ -19,7 +20,7 @@ pub fn low_of_set()
     ensures few { LowIsFew }
 {}
 
-/// Distinct numbers that are all among others are no more than these.
+/// If distinct numbers are all in another list, that list is at least as long.
 pub fn are_fewer()
     ensures { AreFewer }
 {}

@@ -1,10 +1,12 @@
-//! The low-water mark: up to which number every transaction is committed.
+//! The low-water mark: the number up to which every transaction is committed.
 //!
-//! A `Scheduler` knows which transactions are committed at the replica: all up to the low-water mark, and which of the 4096
-//! behind it. A transaction whose parent is at most the mark may be executed, since all that it depends on is committed.
-//! It has fixed places and takes no memory. Where the order of the log is kept, transactions are committed in turn, and none
-//! behind the mark. Else one that takes long holds the mark while others go on: 64 may be under way at once, and 4096 places let
-//! some 64 times as many go ahead of it, in 4 kilobytes, before the others wait for it too.
+//! A `Scheduler` knows which transactions are committed at the replica: all up to the low-water mark, and which of the
+//! 4096 after it. A transaction whose parent is at most the mark may be executed, since all that it depends on is
+//! committed. It has fixed places and takes no memory.
+//!
+//! If the order of the log is kept, transactions are committed in turn, and none after the mark. Else one that takes long
+//! holds the mark while others go on. 64 may be under way at once. The 4096 places, in 4 kilobytes, let some 64 times
+//! that number go ahead of it before the others wait for it too.
 #![tactic(auto)]
 
 ghost use Rattle.std.specs.Prelude.{◌≡◌, ℕ, ◌+◌, ◌%◌, ◌<◌, ◌≤◌, ◌||◌, ◌&&◌, ◌==◌, nat_le, false, replicate};
@@ -15,16 +17,16 @@ pub mod laws;
 
 use std::marker::Model;
 
-/// How far behind the low-water mark a transaction may be committed.
+/// How far past the low-water mark a transaction may be committed.
 pub const AHEAD: usize = 4096;
 
 /// Which transactions are committed.
 #[derive(Debug, Drop)]
 pub struct Scheduler {
     low: u64,
-    /// None behind the mark that is committed is above this one.
+    /// No committed transaction after the mark is above this one.
     most: u64,
-    /// Whether each of those behind the mark is committed, at its number modulo the length.
+    /// Whether each of those after the mark is committed, at its number modulo the length.
     ring: [bool; 4096],
 }
 
@@ -52,14 +54,14 @@ impl Scheduler {
         }
     }
 
-    /// The transaction of this number is committed: one of the 4096 behind the low-water mark. It takes no
-    /// memory. Where the transaction is the one behind the mark, the mark moves past all that are committed; else the time is
-    /// constant, and over all calls it is constant for each.
+    /// Notes that the transaction of this number is committed. It has to be one of the 4096 after the low-water mark. It
+    /// takes no memory. If it is the first one after the mark, the mark moves past all that are committed; else the time
+    /// is constant. Averaged over all calls it is constant for each.
     pub fn committed(&mut self, gno: u64)
         requires later { self.old.low < gno }
         requires near { gno ≤ self.old.low + 4096 }
         ensures exact { (g : ℕ) → is_committed self.new g ≡ (is_committed self.old g || g == gno) }
-        // Behind a gap the mark stays.
+        // Past a gap the mark stays.
         ensures gap { self.old.low + 1 < gno → self.new.low ≡ self.old.low }
         ensures greatest { is_committed self.new (self.new.low + 1) ≡ false }
     {
@@ -68,7 +70,7 @@ impl Scheduler {
         self.low = pass(self.low, self.most, &mut self.ring);
     }
 
-    /// The low-water mark: the greatest number such that every transaction up to it is committed.
+    /// The low-water mark: the greatest number up to which every transaction is committed.
     pub fn low_water(&self) -> u64
         ensures value { result ≡ self.now.low }
         ensures greatest { is_committed self.now (result + 1) ≡ false }
@@ -83,8 +85,8 @@ impl Scheduler {
         gno <= self.low || (gno - self.low <= AHEAD as u64 && self.ring[place(gno)])
     }
 
-    /// Whether the record of this number and parent may be executed: all up to the parent is committed, and there is a place for the
-    /// record.
+    /// Whether the record of this number and parent may be executed: all up to the parent is committed, and there is a
+    /// place for the record.
     pub fn eligible(&self, gno: u64, parent: u64) -> bool
         ensures { result ≡ (nat_le parent self.now.low && nat_le gno (self.now.low + 4096)) }
     {
@@ -92,7 +94,7 @@ impl Scheduler {
     }
 }
 
-/// Places of which none is marked.
+/// Places with none marked.
 fn none_marked<const N: usize>() -> [bool; N]
     ensures { result ≡ replicate N false }
 {
@@ -106,8 +108,8 @@ fn place(gno: u64) -> usize
     (gno % AHEAD as u64) as usize
 }
 
-/// Moves the mark past all that are marked behind it, and gives back where it then is. Their places are free for the numbers that come
-/// into reach.
+/// Moves the mark past all marked numbers that follow it without a gap, and returns the new mark. Their places are free
+/// for the numbers that come into reach.
 fn pass(low: u64, most: u64, ring: &mut [bool]) -> u64
     requires { AreWithin low most ring.old }
     ensures { Passes low most ring.old result ring.new }

@@ -1,4 +1,4 @@
-//! What follows from the definitions alone. Each function states laws by its contract, and does nothing.
+//! What follows from the definitions. Each function states laws by its contract, and does nothing.
 
 ghost use Rattle.schema.specs.Laws.{FlagsRowByRow, ConflictsBothWays, ConflictsBySets, CoversEach, CoversLonger, CoversFromLess};
 ghost use Rattle.schema.specs.Laws.{CoversAtEnd, CoversBySets};
@@ -8,21 +8,21 @@ pub fn flags()
     ensures { FlagsRowByRow }
 {}
 
-/// Conflicts are of two transactions as sets of rows: neither which of the two comes first nor how their rows
-/// are listed matters.
+/// Whether two transactions conflict depends only on their sets of rows, not on which of the two comes first or how
+/// their rows are listed.
 pub fn conflicts()
     ensures both_ways { ConflictsBothWays }
     ensures by_sets { ConflictsBySets }
 {}
 
-/// Which parents cover: one by one, with one transaction more, and by the sets of rows alone.
+/// Which parents cover: one transaction after another, with one more, and by the sets of rows only.
 pub fn covers()
     ensures each { CoversEach }
     ensures longer { CoversLonger }
     ensures by_sets { CoversBySets }
 {}
 
-/// A parent above one that covers does, and so does any parent from the last number on.
+/// A parent above one that covers also covers, and so does each parent that is at least the last number.
 pub fn greater_parents()
     ensures from_less { CoversFromLess }
     ensures at_end { CoversAtEnd }

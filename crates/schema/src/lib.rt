@@ -1,13 +1,13 @@
 //! Row ids, tables and schemas.
 //!
-//! A `Schema` is a list of 1 to 256 tables that obeys the rules of `specs/Schema.antt`: ids from 1 to 256,
-//! each once, 1 to 16 columns, a parent, where there is one, that is named by a column of the table and
-//! is a table of the schema with a lower id, and a unique column, where there is one, that a keyed table has. No other list
-//! becomes one, and each other list is refused with its first fault, table by table.
+//! A `Schema` is a list of 1 to 256 tables that obeys the rules of `specs/Schema.antt`. Table ids are from 1 to 256,
+//! and none comes twice. A table has 1 to 16 columns. If it has a parent, one of its columns names it, and the parent
+//! is a table of the schema with a lower id. If it has a unique column, it is keyed. Any other list is refused with its
+//! first fault, table by table.
 //!
-//! A `Mark` is a value of a unique column. The sets of rows that transactions write and refer to, their marks, and when two
-//! transactions conflict, are defined here too (`specs/Rows.antt`), since every layer above speaks of them; and so is what kinds
-//! of tables a transaction writes (`Flags`). Each fault has its text beside it.
+//! A `Mark` is a value of a unique column. This crate also defines the sets of rows that transactions write and refer
+//! to, their marks, and when two transactions conflict (`specs/Rows.antt`), since all layers above use them; and which
+//! kinds of tables a transaction writes (`Flags`). Each fault has its text beside it.
 #![tactic(auto)]
 
 ghost use Rattle.std.specs.Prelude.{◌≡◌, ◌<◌, ◌||◌, [], is_some, length, take, slice_get, option_and_then, IfOk, Some, None};
@@ -27,7 +27,7 @@ use std::marker::Model;
 use thiserror::Error;
 use uuid::Uuid;
 
-/// The error of a call whose only refusal is want of memory.
+/// The error of a call that fails only if memory runs out.
 #[derive(Clone, Copy, Debug, PartialEq, Eq, Error)]
 #[error("no memory")]
 pub struct Memory;
@@ -87,7 +87,7 @@ impl PartialOrd for RowId {
     }
 }
 
-/// A value of a table's unique column. Marks are ordered as row ids are, with the value in the place of the key.
+/// A value of a table's unique column. Marks are ordered like row ids, with the value as the key.
 #[derive(Clone, Copy, Debug, PartialEq, Eq, Hash)]
 pub struct Mark {
     row: RowId,
@@ -107,7 +107,7 @@ impl Model for Mark {
 }
 
 impl Mark {
-    /// This value in the unique column of the table of this id.
+    /// This value in the unique column of the table with this id.
     pub fn new(table: u16, value: i64) -> Mark
         ensures { result ≡ record { table = table; key = value } }
     {
@@ -130,7 +130,7 @@ impl Mark {
         self.row.key
     }
 
-    /// The row id that the mark is kept and written as: that of its table whose key is the value.
+    /// The row id that the mark is kept and written as: its table, with the value as the key.
     pub fn as_row(self) -> RowId
         ensures { result ≡ self }
     {
@@ -169,7 +169,7 @@ impl PartialOrd for Mark {
     }
 }
 
-/// The name of a transaction: the server that committed it first, and its number there.
+/// The name of a transaction: the server that committed it first, and the transaction's number there.
 #[derive(Clone, Copy, Debug, PartialEq, Eq)]
 pub struct Gtid {
     /// The server's identifier.
@@ -185,17 +185,17 @@ pub struct Table {
     pub id: u16,
     /// How many columns each row has, 1 to 16. They are numbered from 0.
     pub columns: u8,
-    /// Whether changes can be told apart by the table's keys. A keyless table's rows have keys all the same.
+    /// Whether changes can be told apart by the table's keys. The rows of a keyless table have keys too.
     pub keyed: bool,
-    /// The column in which no two rows of the table have one value, where there is such a column. As `UNIQUE KEY` of MySQL, of one
-    /// column that is `NOT NULL`.
+    /// The column in which no two rows of the table have one value, if there is one. It is like a `UNIQUE KEY` of MySQL
+    /// over one column that is `NOT NULL`.
     pub unique: Option<u8>,
-    /// For a child table the column whose value is the key of a row of the parent table, and that table's id.
+    /// In a child table, the column whose value is the key of a row of the parent table, and the parent table's id.
     pub parent: Option<(u8, u16)>,
 }
 
 impl Table {
-    /// A table of this id, with so many columns, without a unique column, whose rows have no parent.
+    /// A table with this id and this number of columns, without a unique column, whose rows have no parent.
     pub fn new(id: u16, columns: u8, keyed: bool) -> Table
         ensures { result ≡ plain_table id columns keyed }
     {
@@ -208,7 +208,7 @@ impl Table {
         }
     }
 
-    /// The table with a unique column: no two of its rows have one value there.
+    /// The table with a unique column: no two of its rows have one value in it.
     pub fn with_unique(self, column: u8) -> Table
         ensures { result ≡ with_unique self column }
     {
@@ -218,7 +218,7 @@ impl Table {
         }
     }
 
-    /// The table as a child: this column of a row has the key of its parent row, in the table of this id.
+    /// The table as a child: this column of a row has the key of its parent row, in the table with this id.
     pub fn child_of(self, column: u8, parent: u16) -> Table
         ensures { result ≡ child_of self column parent }
     {
@@ -229,7 +229,7 @@ impl Table {
     }
 }
 
-/// Why a list of tables is no schema. The text is the fault's number and name.
+/// Why a list of tables is not a schema. The text is the fault's number and name.
 #[derive(Clone, Copy, Debug, PartialEq, Eq)]
 pub enum SchemaFault {
     /// There are no tables, or more than 256.
@@ -238,9 +238,10 @@ pub enum SchemaFault {
     Id,
     /// A table's number of columns is not 1 to 16.
     Columns,
-    /// An earlier table of the list has this id.
+    /// An earlier table of the list has the same id.
     Twice,
-    /// The parent's column is outside the table, or the parent is no table of the list with a lower id.
+    /// The parent's column is outside the table, or the list has no table with the parent's id, or that id is not
+    /// lower.
     Parent,
     /// Memory ran out.
     Memory,
@@ -278,7 +279,7 @@ impl fmt::Display for SchemaFault {
 
 impl StdError for SchemaFault {}
 
-/// What kinds of tables a transaction writes.
+/// Which kinds of tables a transaction writes.
 #[derive(Clone, Copy, Debug, PartialEq, Eq)]
 pub struct Flags {
     /// Foreign-key related: it writes a table that has a parent or is one.
@@ -288,7 +289,7 @@ pub struct Flags {
 }
 
 impl Flags {
-    /// Those of a transaction that writes nothing.
+    /// The flags of a transaction that writes nothing.
     pub fn none() -> Flags
         ensures { result ≡ no_flags }
     {
@@ -298,7 +299,8 @@ impl Flags {
         }
     }
 
-    /// Those of a transaction that writes the table of this id too. The time is that of at most three walks over the tables.
+    /// The flags of a transaction that also writes the table with this id. The time is that of at most three walks over
+    /// the tables.
     pub fn with(self, schema: &Schema, id: u16) -> Flags
         ensures { result ≡ flags_with schema.now self id }
     {
@@ -309,10 +311,10 @@ impl Flags {
     }
 }
 
-/// The greatest number of tables, and the greatest id of one.
+/// The most tables of a schema, and the greatest id of one.
 pub const MAX_TABLES: usize = 256;
 
-/// The greatest number of columns of a row.
+/// The most columns of a row.
 pub const MAX_COLUMNS: u8 = 16;
 
 /// A list of tables that obeys the rules.
@@ -335,9 +337,9 @@ impl Model for Schema {
 }
 
 impl Schema {
-    /// The schema of these tables, or the first fault of the list: first the number of tables, then, table
-    /// by table as they are listed, its id, its columns, an id that was there before, its parent, which
-    /// may stand later in the list, and its unique column. It takes no memory; the time is that of n * n tests for n tables.
+    /// The schema of these tables, or the first fault of the list. The number of tables is checked first. Then, table
+    /// by table as they are listed: the id, the columns, whether an earlier table has the id, the parent (which may
+    /// come later in the list), and the unique column. It takes no memory, and the time of n * n tests for n tables.
     pub fn new(tables: Vec<Table>) -> Result<Schema, SchemaFault>
         ensures exact { result_err result ≡ schema_fault tables.items }
         ensures value { IfOk result (λ schema. schema ≡ tables.items) }
@@ -356,22 +358,23 @@ impl Schema {
         &self.tables
     }
 
-    /// The table of this id. The time is that of a walk over the tables.
+    /// The table with this id. The time is that of a walk over the tables.
     pub fn table(&self, id: u16) -> Option<Table>
         ensures { result ≡ table_at self.now id }
     {
         table_of(&self.tables, id)
     }
 
-    /// The column of a table whose value names a parent row, and the parent's table; `None` where it has no parent, or is none of
-    /// the schema. The time is that of a walk over the tables.
+    /// The column of a table whose value names a parent row, and the parent table's id; `None` if the table has no
+    /// parent, or is not in the schema. The time is that of a walk over the tables.
     pub fn link_of(&self, id: u16) -> Option<(u8, u16)>
         ensures { result ≡ link_of self.now id }
     {
         self.table(id)?.parent
     }
 
-    /// The unique column of a table; `None` where it has none, or is none of the schema. The time is that of a walk over the tables.
+    /// The unique column of a table; `None` if it has none, or is not in the schema. The time is that of a walk over
+    /// the tables.
     pub fn unique_of(&self, id: u16) -> Option<u8>
         ensures { result ≡ unique_of self.now id }
     {
@@ -392,14 +395,15 @@ impl Schema {
         self.link_of(id).is_some() || self.is_parent(id)
     }
 
-    /// Whether the table of this id is there and keyless. The time is that of a walk over the tables.
+    /// Whether the schema has a table with this id, and that table is keyless. The time is that of a walk over the
+    /// tables.
     pub fn is_keyless(&self, id: u16) -> bool
         ensures { result ≡ is_keyless self.now id }
     {
         self.table(id).is_some_and(|table| !table.keyed)
     }
 
-    /// An equal schema, in memory of its own.
+    /// An equal schema, in separate memory.
     pub fn copy(&self) -> Result<Schema, Memory>
         ensures { IfOk result (λ schema. schema ≡ self.now) }
     {
@@ -409,8 +413,8 @@ impl Schema {
     }
 }
 
-/// An equal list, in memory of its own. Its room is taken once, and is that of the items alone. The time is that of moving
-/// their bytes.
+/// An equal list, in separate memory. Its memory is asked for once, and is only that of the items. The time is that of
+/// moving their bytes.
 pub fn copied<T: Copy>(items: &Vec<T>) -> Result<Vec<T>, Memory>
     ensures { IfOk result (λ copy. copy.items ≡ items.now.items) }
 {
@@ -480,7 +484,7 @@ fn first_table_fault(tables: &[Table]) -> Option<SchemaFault>
     None
 }
 
-/// The first fault of the table at a place of the list.
+/// The first fault of the table at this place of the list.
 fn fault_at(tables: &[Table], i: usize) -> Option<SchemaFault>
     requires { i < length tables.now }
     ensures { Some result ≡ option_and_then (λ t. Some (table_fault tables.now (take i tables.now) t)) (slice_get tables.now i) }

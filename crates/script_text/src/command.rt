@@ -1,4 +1,4 @@
-//! The event that a line's words are, as it is kept.
+//! The event that the words of a line give, in the form in which it is kept.
 
 ghost use Rattle.std.specs.Prelude.{◌≡◌, ◌^◌, ◌==◌, [], false, if◌then◌else◌, codes, length, option_map, IfOk, IfSome, OnErr, Some, None};
 ghost use Rattle.std.specs.Str.{bytes_eq};
@@ -12,7 +12,7 @@ use schema::{Memory, RowId};
 use std::alloc::Global;
 use world::Event;
 
-/// What was read, where no word stands behind it.
+/// What was read, if no word follows it.
 pub fn alone<T: Drop>(found: Option<(T, Words)>) -> Option<T>
     ensures { result ≡ alone found.entry }
 {
@@ -20,8 +20,8 @@ pub fn alone<T: Drop>(found: Option<(T, Words)>) -> Option<T>
     if rest.is_empty() { Some(value) } else { None }
 }
 
-/// What is kept of the event of this name and the words behind it; its columns go behind others. `None`, and none of these, where
-/// no event has the name, or the words are not its parameters.
+/// The kept form of the event of this name with the words after it. Its columns are appended to `columns`. `None`, and
+/// no columns, if no event has the name or the words are not its parameters.
 pub fn keep(name: &[u8], words: Words, columns: &mut Vec<i64>) -> Result<Option<KeptEvent>, Memory>
     ensures kept { IfOk result (λ found. Keeps (event_of name.now words.entry) found columns.old.items columns.new.items) }
     ensures err { OnErr result (columns.new.items ≡ columns.old.items) }
@@ -35,8 +35,8 @@ pub fn keep(name: &[u8], words: Words, columns: &mut Vec<i64>) -> Result<Option<
     }
 }
 
-/// The event of this name and the words behind it; `None` where no event has the name, or the words are not its parameters. It takes
-/// no memory but for columns, and gives that back.
+/// The event of this name with the words after it, or `None` if no event has the name or the words are not its
+/// parameters. It takes memory only for columns, and frees it.
 pub fn event_of(alloc: Global, name: &[u8], words: Words) -> Result<Option<Event>, Memory>
     ensures { IfOk result (λ found. found ≡ event_of name.now words.entry) }
 {
@@ -47,7 +47,7 @@ pub fn event_of(alloc: Global, name: &[u8], words: Words) -> Result<Option<Event
     }
 }
 
-/// What is kept of an event without columns. Names are tried in the order of the definition.
+/// The kept form of an event without columns. Names are tried in the order of the definition.
 fn bare_of(name: &[u8], words: Words) -> Option<KeptEvent>
     requires no_insert { bytes_eq name.now (codes "insert") ≡ false }
     requires no_set { bytes_eq name.now (codes "set") ≡ false }
@@ -124,14 +124,14 @@ fn row_of(words: Words) -> Option<RowId>
     alone(words.row_id())
 }
 
-/// An event without parameters.
+/// An event without parameters: no word may be left.
 fn bare(kept: KeptEvent, words: Words) -> Option<KeptEvent>
     ensures { result ≡ (if length words.entry == 0 then Some kept else None) }
 {
     if words.is_empty() { Some(kept) } else { None }
 }
 
-/// An insert, with its columns behind others.
+/// An insert. Its columns are appended to `columns`.
 fn insert_of(words: Words, columns: &mut Vec<i64>) -> Result<Option<KeptEvent>, Memory>
     ensures kept { IfOk result (λ found. Keeps (insert_of words.entry) found columns.old.items columns.new.items) }
     ensures err { OnErr result (columns.new.items ≡ columns.old.items) }
@@ -150,7 +150,7 @@ fn insert_of(words: Words, columns: &mut Vec<i64>) -> Result<Option<KeptEvent>, 
     }))
 }
 
-/// A `set`, with its columns behind others.
+/// A `set`. Its values are appended to `columns`.
 fn set_of(words: Words, columns: &mut Vec<i64>) -> Result<Option<KeptEvent>, Memory>
     ensures kept { IfOk result (λ found. Keeps (set_of words.entry) found columns.old.items columns.new.items) }
     ensures err { OnErr result (columns.new.items ≡ columns.old.items) }
@@ -169,7 +169,7 @@ fn set_of(words: Words, columns: &mut Vec<i64>) -> Result<Option<KeptEvent>, Mem
     }))
 }
 
-/// The session and the row of a write, and the words behind them.
+/// The session and the row of a write, and the words after them.
 #[tactic(auto, unfolding(crate::specs::Command::written_of))]
 fn written_of(words: Words) -> Option<(u16, RowId, Words)>
     ensures { result ≡ written_of words.entry }

@@ -1,9 +1,10 @@
-//! Bytes that are cut at one of them.
+//! Cuts bytes at the first one of a given value.
 
 ghost use Rattle.std.specs.Prelude.{◌≡◌, ◌<◌, ◌==◌, ◌∷◌, [], length, IfSome, MatchOption};
 ghost use Rattle.std.specs.List.{slice_split, position};
 
-/// What stands before the first such byte, and what stands after it; `None` if there is none. The time is that of a walk to it.
+/// The bytes before the first `mark` and the bytes after it, or `None` if there is none. The time grows with the
+/// distance to it.
 pub fn cut_at(text: &[u8], mark: u8) -> Option<(&[u8], &[u8])>
     ensures parts { MatchOption result (slice_split (λ b. b == mark) text.now ≡ text.now ∷ [])
         (λ x. slice_split (λ b. b == mark) text.now ≡ x.0.now ∷ slice_split (λ b. b == mark) x.1.now) }
@@ -13,7 +14,7 @@ pub fn cut_at(text: &[u8], mark: u8) -> Option<(&[u8], &[u8])>
     Some((&text[..at], &text[at + 1..]))
 }
 
-/// The place of the first such byte, counted from 0; `None` if there is none. The time is that of a walk to it.
+/// The index, from 0, of the first `mark`, or `None` if there is none. The time grows with the distance to it.
 pub fn place_of(bytes: &[u8], mark: u8) -> Option<usize>
     ensures { result ≡ position (λ b. b == mark) bytes.now }
 {

@@ -1,4 +1,4 @@
-//! The lines of tables and of rows at the start, as `lines` reads them.
+//! Writes the lines of tables and of rows at the start, as `lines` reads them.
 
 ghost use Rattle.std.specs.Prelude.{◌∷◌, OnOk};
 ghost use Rattle.std.specs.Io.KnownBytes.{Appends};
@@ -31,7 +31,7 @@ fn write_kind<W: Write>(out: &mut W, keyed: bool) -> io::Result<()>
     }
 }
 
-/// The unique column, where there is one.
+/// Writes the unique column, if there is one.
 fn write_unique<W: Write>(out: &mut W, unique: Option<u8>) -> io::Result<()>
     ensures { OnOk result (Appends (W.contents out.old) (W.contents out.new) (behind_spaces (unique_words unique))) }
 {
@@ -41,7 +41,7 @@ fn write_unique<W: Write>(out: &mut W, unique: Option<u8>) -> io::Result<()>
     }
 }
 
-/// The column that names a parent row, and the parent's id, where there is one.
+/// Writes the column that names a parent row, and the parent table's id, if there is one.
 fn write_parent<W: Write>(out: &mut W, parent: Option<(u8, u16)>) -> io::Result<()>
     ensures { OnOk result (Appends (W.contents out.old) (W.contents out.new) (behind_spaces (parent_words parent))) }
 {

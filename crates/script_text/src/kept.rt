@@ -1,6 +1,6 @@
-//! Events as they are kept until they are run.
+//! Events in the form in which they are kept until they run.
 //!
-//! An `Event` has room for sixteen columns. Of one that waits sixteen bytes are kept, and its own columns in a list beside.
+//! An `Event` has room for 16 columns. A kept one takes 16 bytes, and its columns are in a separate list.
 
 ghost use Rattle.std.specs.Prelude.{◌≡◌, ◌≤◌, List, ℤ, length, count_ones};
 ghost use Rattle.script_text.specs.Kept.{IsBare, IsWhole, width_of, event_of};
@@ -9,13 +9,13 @@ use rows::{Change, Named, Row};
 use schema::RowId;
 use world::Event;
 
-/// An event without its columns. A row's table and key stand apart, since a `RowId` has six bytes more.
+/// An event without its columns. A row's table and key are separate fields, since a `RowId` has six bytes more.
 #[derive(Clone, Copy)]
 pub enum KeptEvent {
     Begin {
         session: u16,
     },
-    /// A write of a row with so many columns.
+    /// A write of a row with `count` columns.
     Insert {
         session: u16,
         table: u16,
@@ -70,7 +70,7 @@ pub enum KeptEvent {
 }
 
 impl KeptEvent {
-    /// How many columns it has.
+    /// The number of its columns.
     pub fn width(self) -> usize
         ensures { result ≡ width_of self }
     {
@@ -81,7 +81,7 @@ impl KeptEvent {
         }
     }
 
-    /// The event, with its columns.
+    /// The event with its columns.
     pub fn with(self, columns: &[i64]) -> Event
         requires whole { IsWhole self }
         requires width { length columns.now ≡ width_of self }
@@ -104,7 +104,7 @@ impl KeptEvent {
         }
     }
 
-    /// The event, which has no columns.
+    /// The event, if it has no columns.
     pub fn bare(self) -> Event
         requires { IsBare self }
         ensures { (columns : List ℤ) → result ≡ event_of self columns }
@@ -146,7 +146,7 @@ impl KeptEvent {
     }
 }
 
-/// A write of a row of these columns, of which there are as many as a row may have.
+/// A write of a row with these columns, 1 to 16 of them.
 fn inserted(session: u16, row: RowId, columns: &[i64]) -> Event
     requires some { 1 ≤ length columns.now }
     requires few { length columns.now ≤ 16 }
@@ -159,7 +159,7 @@ fn inserted(session: u16, row: RowId, columns: &[i64]) -> Event
     }
 }
 
-/// A write of these values of the columns that the mask names, one for each.
+/// A write of one value for each column that the mask names.
 fn updated(session: u16, row: RowId, mask: u16, values: &[i64]) -> Event
     requires some { 1 ≤ mask }
     requires each { length values.now ≡ count_ones mask }

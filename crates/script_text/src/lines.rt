@@ -1,4 +1,4 @@
-//! The lines of a script: how they are read, what each is about, and the tables and the rows at the start that they say.
+//! The lines of a script: how they are read, what each is about, and the tables and rows at the start that they give.
 
 ghost use Rattle.std.specs.Prelude.{◌≡◌, option_map, IfOk, IfSome};
 ghost use Rattle.script_text.specs.Lines.{about, table_of, keyed_of, link_in, reference_of, base_of, command_of, is_skipped};
@@ -11,20 +11,20 @@ use schema::{RowId, Table};
 use std::io;
 use std::io::BufRead;
 
-/// What one line is about, by its first word, and the words behind that, which were not looked at yet.
+/// What a line is about, by its first word, with the words after that one, which are not checked yet.
 #[derive(Drop)]
 pub enum Line<'a> {
     /// Nothing.
     Skipped,
-    /// There is a table.
+    /// A table.
     Table(Words<'a>),
-    /// A row is there at the start.
+    /// A row at the start.
     Base(Words<'a>),
-    /// The event of this name happens, where there is one.
+    /// The event of this name, if there is one.
     Event(&'a [u8], Words<'a>),
 }
 
-/// Reads a line in the place of another. `false` where it is the last, as no LF ends it.
+/// Reads a line, and replaces the old one. Returns `false` if it is the last, since no LF ends it.
 pub fn read_line<R: BufRead>(input: &mut R, line: &mut Vec<u8>) -> io::Result<bool>
     ensures known { IfOk result (λ is_more. IfSome (R.remaining input.old)
         (λ text. LeavesLines text line.new.items is_more (R.remaining input.new))) }
@@ -34,7 +34,7 @@ pub fn read_line<R: BufRead>(input: &mut R, line: &mut Vec<u8>) -> io::Result<bo
     Ok(take_end(line))
 }
 
-/// Takes the LF off that ends a line; `false` where none does.
+/// Removes the LF at the end of a line. Returns `false` if there is none.
 pub fn take_end(line: &mut Vec<u8>) -> bool
     ensures { TakesEnd line.old.items line.new.items result }
 {
@@ -105,7 +105,7 @@ pub fn table_of(words: Words) -> Option<Table>
     })
 }
 
-/// Whether a table of this kind has keys; `None` where the word is no kind.
+/// Whether a table of this kind has keys, or `None` if the word is not a kind.
 pub fn is_keyed(kind: &[u8]) -> Option<bool>
     ensures { result ≡ keyed_of kind.now }
 {
@@ -118,7 +118,7 @@ pub fn is_keyed(kind: &[u8]) -> Option<bool>
     }
 }
 
-/// The unique column that a table has where the next word says so, and the words behind it.
+/// The unique column of a table, if the next word says that it has one, and the words after it.
 #[tactic(auto, unfolding(crate::specs::Lines::unique_in))]
 pub fn unique_of(words: Words) -> Option<(Option<u8>, Words)>
     ensures { result ≡ unique_in words.entry }
@@ -131,7 +131,7 @@ pub fn unique_of(words: Words) -> Option<(Option<u8>, Words)>
     Some((Some(column), words))
 }
 
-/// The parent that a table has where words are left: the column, and the parent's id.
+/// The parent of a table, if words are left: the column, and the parent table's id.
 #[tactic(auto, unfolding(crate::specs::Lines::reference_of))]
 pub fn reference_of(words: Words) -> Option<Option<(u8, u16)>>
     ensures { result ≡ reference_of words.entry }

@@ -3,8 +3,8 @@
 ghost use Rattle.std.specs.Prelude.{◌≡◌, ◌^◌, ◌∷◌, pos, option_map};
 ghost use Rattle.script_text.specs.Number.{number, integer, digits_below, ReadsNumber, ReadsInteger};
 
-/// The number that the text is: decimal digits without a leading zero. `None` for any other text, and for a
-/// number past the type.
+/// The number that the text gives: decimal digits without a leading zero. `None` for any other text, and for a number
+/// that does not fit the type.
 pub fn u8_of(text: &[u8]) -> Option<u8>
     ensures exact { result ≡ number (2 ^ 8) text.now }
     ensures reads { ReadsNumber (2 ^ 8) text.now result }
@@ -12,7 +12,7 @@ pub fn u8_of(text: &[u8]) -> Option<u8>
     u8::try_from(u64_of(text)?).ok()
 }
 
-/// The same at 16 bits.
+/// Like `u8_of`, but for 16 bits.
 pub fn u16_of(text: &[u8]) -> Option<u16>
     ensures exact { result ≡ number (2 ^ 16) text.now }
     ensures reads { ReadsNumber (2 ^ 16) text.now result }
@@ -20,7 +20,7 @@ pub fn u16_of(text: &[u8]) -> Option<u16>
     u16::try_from(u64_of(text)?).ok()
 }
 
-/// The same at 64 bits.
+/// Like `u8_of`, but for 64 bits.
 pub fn u64_of(text: &[u8]) -> Option<u64>
     ensures exact { result ≡ number (2 ^ 64) text.now }
     ensures reads { ReadsNumber (2 ^ 64) text.now result }
@@ -35,8 +35,8 @@ pub fn u64_of(text: &[u8]) -> Option<u64>
     }
 }
 
-/// The number that digits write, with leading zeros or without. `None` if a byte is no digit, or the number is past the type. Each digit is
-/// tested as it is read.
+/// The number that the digits give, with or without leading zeros. `None` if a byte is not a digit, or the number does
+/// not fit the type. Each digit is checked as it is read.
 fn value_of(digits: &[u8]) -> Option<u64>
     ensures { result ≡ digits_below (2 ^ 64) digits.now }
 {
@@ -50,8 +50,8 @@ fn value_of(digits: &[u8]) -> Option<u64>
     Some(value)
 }
 
-/// The number with a sign that the text is: decimal digits without a leading zero, and `-` before them where it
-/// is negative. `None` for any other text, `-0` too, and for a number past the type.
+/// The signed number that the text gives: decimal digits without a leading zero, after `-` if it is negative. `None`
+/// for any other text, also for `-0`, and for a number that does not fit the type.
 pub fn i64_of(text: &[u8]) -> Option<i64>
     ensures exact { result ≡ integer text.now }
     ensures reads { ReadsInteger text.now result }
@@ -64,7 +64,7 @@ pub fn i64_of(text: &[u8]) -> Option<i64>
     }
 }
 
-/// The same of the text that is these digits after a `-`.
+/// Like `i64_of`, for the text of these digits after a `-`.
 fn negative_of(digits: &[u8]) -> Option<i64>
     ensures { result ≡ integer (45 ∷ digits.now) }
 {
@@ -76,7 +76,7 @@ fn negative_of(digits: &[u8]) -> Option<i64>
     }
 }
 
-/// The same of a text without a sign.
+/// Like `i64_of`, for a text without a sign.
 fn positive_of(text: &[u8]) -> Option<i64>
     ensures { result ≡ option_map pos (number (2 ^ 63) text.now) }
 {

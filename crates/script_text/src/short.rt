@@ -1,4 +1,4 @@
-//! Short texts, put together from their end.
+//! Short texts that are built from their end.
 
 ghost use Rattle.std.specs.Prelude.{◌≡◌, ◌+◌, ◌≤◌, ◌++◌, [], length, OnOk};
 ghost use Rattle.std.specs.Fmt.{decimal};
@@ -9,14 +9,14 @@ use std::io;
 use std::io::Write;
 use std::marker::Model;
 
-/// A short text has at most so many bytes.
+/// The most bytes of a short text.
 const ROOM: usize = 80;
 
-/// A short text, which is put together from its end, and written by one call.
+/// A short text. It is built from its end, and written by one call.
 #[derive(Drop)]
 pub struct Short {
     bytes: [u8; ROOM],
-    /// Where the text begins; it goes on to the end of the bytes.
+    /// The index at which the text begins. It goes on to the end of the bytes.
     start: usize,
 }
 
@@ -31,7 +31,7 @@ impl Model for Short {
 }
 
 impl Short {
-    /// No byte.
+    /// A text without bytes.
     pub fn new() -> Short
         ensures { result ≡ [] }
     {
@@ -41,7 +41,7 @@ impl Short {
         }
     }
 
-    /// Puts a text before it.
+    /// Puts a text in front.
     #[inline(always)]
     pub fn put(&mut self, text: &str)
         requires { length text.now + length self.old ≤ 80 }
@@ -52,7 +52,7 @@ impl Short {
         self.start = start;
     }
 
-    /// Puts a number before it.
+    /// Puts a number in front.
     #[inline(always)]
     pub fn put_number(&mut self, n: u64)
         requires { 20 + length self.old ≤ 80 }
@@ -62,7 +62,7 @@ impl Short {
         self.start = write_digits(n, &mut self.bytes, self.start);
     }
 
-    /// Writes it.
+    /// Writes the text.
     pub fn write<W: Write>(&self, out: &mut W) -> io::Result<()>
         ensures { OnOk result (Appends (W.contents out.old) (W.contents out.new) self.now) }
     {

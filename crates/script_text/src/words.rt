@@ -1,7 +1,7 @@
 //! The words of a line, taken off one after another.
 //!
-//! Words are what stands between single spaces. So a space at either end of a line, or one behind another,
-//! makes a word without a character, which is no number and no name.
+//! A word is what is between single spaces. So a space at either end of a line, or right after another, makes an empty
+//! word, which is neither a number nor a name.
 
 ghost use Rattle.std.specs.Prelude.{◌≡◌, ◌^◌, ◌==◌, min, option_map, count_by, length, vec_len, vec_capacity, IfOk, OnOk, OnErr};
 ghost use Rattle.std.specs.Str.{bytes_eq};
@@ -15,7 +15,7 @@ use rows::Row;
 use schema::{Memory, RowId};
 use std::marker::Model;
 
-/// A row has so many columns at most.
+/// The most columns of a row.
 const MOST: usize = 16;
 
 /// The words of a line that are left.
@@ -48,7 +48,7 @@ impl<'a> Words<'a> {
         self.rest.is_none()
     }
 
-    /// The first word and those behind it.
+    /// The first word, and the words after it.
     pub fn first(self) -> Option<(&'a [u8], Words<'a>)>
         ensures { option_map (λ x. (x.0.now, x.1)) result ≡ first_word self.entry }
     {
@@ -59,7 +59,7 @@ impl<'a> Words<'a> {
         }
     }
 
-    /// Whether the first word is this one, and the words behind it; where it is not, all of them.
+    /// Whether the first word is this one, and the words after it, or all words if it is not.
     pub fn skip(self, name: &[u8]) -> (bool, Words<'a>)
         ensures { result ≡ behind_name name.now self.entry }
     {
@@ -70,7 +70,7 @@ impl<'a> Words<'a> {
         }
     }
 
-    /// A number of 8 bits and the words behind it; `None` where the first word is none.
+    /// A number of 8 bits and the words after it, or `None` if the first word is not such a number.
     #[tactic(auto, unfolding(crate::specs::Words::number_in))]
     pub fn u8(self) -> Option<(u8, Words<'a>)>
         ensures { result ≡ number_in (2 ^ 8) self.entry }
@@ -79,7 +79,7 @@ impl<'a> Words<'a> {
         Some((u8_of(word)?, rest))
     }
 
-    /// The same at 16 bits.
+    /// Like `u8`, but with 16 bits.
     #[tactic(auto, unfolding(crate::specs::Words::number_in))]
     pub fn u16(self) -> Option<(u16, Words<'a>)>
         ensures { result ≡ number_in (2 ^ 16) self.entry }
@@ -88,7 +88,7 @@ impl<'a> Words<'a> {
         Some((u16_of(word)?, rest))
     }
 
-    /// The same at 64 bits.
+    /// Like `u8`, but with 64 bits.
     #[tactic(auto, unfolding(crate::specs::Words::number_in))]
     pub fn u64(self) -> Option<(u64, Words<'a>)>
         ensures { result ≡ number_in (2 ^ 64) self.entry }
@@ -97,7 +97,7 @@ impl<'a> Words<'a> {
         Some((u64_of(word)?, rest))
     }
 
-    /// The same with a sign.
+    /// Like `u64`, but with a sign.
     #[tactic(auto, unfolding(crate::specs::Words::integer_in))]
     pub fn i64(self) -> Option<(i64, Words<'a>)>
         ensures { result ≡ integer_in self.entry }
@@ -106,7 +106,7 @@ impl<'a> Words<'a> {
         Some((i64_of(word)?, rest))
     }
 
-    /// A table and a key, and the words behind them.
+    /// A table and a key, and the words after them.
     #[tactic(auto, unfolding(crate::specs::Words::row_id_in))]
     pub fn row_id(self) -> Option<(RowId, Words<'a>)>
         ensures { result ≡ row_id_in self.entry }
@@ -116,7 +116,7 @@ impl<'a> Words<'a> {
         Some((RowId { table, key }, rest))
     }
 
-    /// A row of all words that are left; `None` where there are none or more than 16, or one is no number.
+    /// A row of all words that are left. `None` if there are none or more than 16, or one is not a number.
     #[tactic(auto, unfolding(crate::specs::Words::row_in))]
     pub fn row(self) -> Option<Row>
         ensures { result ≡ row_in self.entry }
@@ -126,8 +126,8 @@ impl<'a> Words<'a> {
         Row::new(&columns[..count])
     }
 
-    /// Puts the row that all words left are behind other columns, and tells how many columns it has. `None`, and none is put there, where
-    /// there are no words or more than 16, or one is no number.
+    /// Appends the row of all words that are left to `columns`, and returns how many columns it has. `None`, with
+    /// nothing appended, if there are no words or more than 16, or one is not a number.
     pub fn put_row(self, columns: &mut Vec<i64>) -> Result<Option<u8>, Memory>
         ensures put { IfOk result (λ count. PutsRow (row_in self.entry) count columns.old.items columns.new.items) }
         ensures err { OnErr result (columns.new.items ≡ columns.old.items) }
@@ -141,9 +141,9 @@ impl<'a> Words<'a> {
         Ok(count)
     }
 
-    /// Puts the values of all words that are left, each a column and its value, `COL=V`, behind other columns, and tells the mask of their
-    /// columns. `None`, and none is put there, where there are no words, a word is no such pair, a column is over 15, or the columns do not
-    /// strictly rise.
+    /// Appends the values of all words that are left to `columns`, and returns the mask of the columns that they name.
+    /// Each word is a column and its value, `COL=V`. `None`, with nothing appended, if there are no words, a word is
+    /// not such a pair, a column is over 15, or the columns do not strictly rise.
     pub fn put_named(self, columns: &mut Vec<i64>) -> Result<Option<u16>, Memory>
         ensures put { IfOk result (λ mask. PutsNamed (naming_in self.entry) mask columns.old.items columns.new.items) }
         ensures err { OnErr result (columns.new.items ≡ columns.old.items) }
@@ -157,8 +157,8 @@ impl<'a> Words<'a> {
         Ok(mask)
     }
 
-    /// Makes room for a column of each word that is left, and for 16 at most. The words are counted only where there is no room for
-    /// 16.
+    /// Makes room for a column of each word that is left, but for at most 16. The words are counted only if there is no
+    /// room for 16.
     fn make_room(&self, columns: &mut Vec<i64>) -> Result<(), Memory>
         ensures same { columns.new.items ≡ columns.old.items }
         ensures room { OnOk result (HasRoom self.now (vec_len columns.new) (vec_capacity columns.new)) }
@@ -169,7 +169,7 @@ impl<'a> Words<'a> {
         Ok(())
     }
 
-    /// How many words are left, and 16 if there are more. The time is that of a walk over them.
+    /// The number of words that are left, but at most 16. The time is that of a walk over them.
     fn at_most_16(&self) -> usize
         ensures { result ≡ min 16 (length self.now) }
     {
@@ -180,7 +180,7 @@ impl<'a> Words<'a> {
     }
 }
 
-/// Whether the word is this one. Words are short, and compared byte by byte.
+/// Whether the word is this one. Words are short, so they are compared byte by byte.
 #[inline(always)]
 pub fn is_word(word: &[u8], own: &[u8]) -> bool
     ensures { result ≡ bytes_eq word.now own.now }
@@ -196,14 +196,15 @@ pub fn is_word(word: &[u8], own: &[u8]) -> bool
     true
 }
 
-/// How many of these bytes are spaces.
+/// The number of spaces among these bytes.
 fn spaces_in(bytes: &[u8]) -> usize
     ensures { result ≡ count_by (λ b. b == 32) bytes.now }
 {
     bytes.iter().filter(|b| **b == b' ').count()
 }
 
-/// Writes the numbers that all of the words are, and tells how many there are; `None` where one is none, or they are too many.
+/// Writes the numbers of all these words, and returns how many there are. `None` if a word is not a number, or there
+/// are too many.
 fn numbers_of(words: Words, numbers: &mut [i64]) -> Option<usize>
     ensures { AreAll integer words.entry numbers.new result }
 {
@@ -220,8 +221,9 @@ fn numbers_of(words: Words, numbers: &mut [i64]) -> Option<usize>
     Some(count)
 }
 
-/// Puts the numbers that all of the words are behind columns, where there is room for them, and tells how many they are. `None` where there
-/// are none or more than 16, or a word is no number: then those of the words before it stand there.
+/// Appends the numbers of all these words to `columns`, which has room for them, and returns how many there are. `None`
+/// if there are none or more than 16, or a word is not a number: then the numbers of the words before it are in
+/// `columns`.
 fn put_numbers(words: Words, columns: &mut Vec<i64>) -> Option<u8>
     requires { HasRoom words (vec_len columns.old) (vec_capacity columns.old) }
     ensures { PutsNumbers (row_in words.entry) columns.old.items columns.new.items result }
@@ -239,9 +241,9 @@ fn put_numbers(words: Words, columns: &mut Vec<i64>) -> Option<u8>
     if count == 0 { None } else { Some(count as u8) }
 }
 
-/// Puts the values of the words, each a column and its value, behind columns, where there is room for them, and tells the mask of their
-/// columns. `None` where there are no words, a word is no such pair, or its column is over 15 or not above the one before it: then the
-/// values of the words before it stand there.
+/// Appends the values of the words to `columns`, which has room for them, and returns the mask of the columns that they
+/// name. `None` if there are no words, a word is not a column and its value, or its column is over 15 or not above the
+/// one before it. Then the values of the words before it are in `columns`.
 fn put_values(words: Words, columns: &mut Vec<i64>) -> Option<u16>
     requires { HasRoom words (vec_len columns.old) (vec_capacity columns.old) }
     ensures { PutsValues (naming_in words.entry) columns.old.items columns.new.items result }
@@ -271,7 +273,7 @@ fn assignment_of(word: &[u8]) -> Option<(u8, i64)>
     Some((u8_of(column)?, i64_of(value)?))
 }
 
-/// What stands on either side of the one `=` of a word.
+/// The two sides of the only `=` of a word.
 fn sides_of(word: &[u8]) -> Option<(&[u8], &[u8])>
     ensures { option_map (λ x. (x.0.now, x.1.now)) result ≡ sides_of word.now }
 {

@@ -15,12 +15,12 @@ use store_trait::RowStore;
 use tracker_trait::Tracker;
 use world::{Event, Reply};
 
-/// The reply to an event of the source, at once. `None`, and nothing is done, for the events of the replica, for `Rotate`, which needs a
-/// device (`DurableSource::rotate`), and for `Log`.
+/// The reply to an event of the source, at once. It returns `None`, and does nothing, for the events of the replica,
+/// for `Rotate`, which needs a device (`DurableSource::rotate`), and for `Log`.
 ///
-/// It costs what the call of `DurableSource` does; `Flush` also takes room for a stamp of two numbers for each queued transaction,
-/// before it flushes. Refusals are those of the call, in its order: `S13` if memory ran out, but `L4` at a sync. After each nothing
-/// has changed, but after `L1` of a sync: then the source is halted.
+/// It costs what the call of `DurableSource` does. `Flush` also takes room for a stamp of two numbers for each queued
+/// transaction, before it flushes. Refusals are those of the call, in its order: `S13` if memory runs out, but `L4` at
+/// a sync. A refusal changes nothing, except for `L1` of a sync, which halts the source.
 pub fn answer<S: RowStore, T: Tracker, D: Device>(
     alloc: Global,
     source: &mut DurableSource<S, T, D>,
@@ -29,7 +29,7 @@ pub fn answer<S: RowStore, T: Tracker, D: Device>(
     ensures answers { IfSome result (λ reply. Answers source.old event.now reply source.new) }
     ensures none { IfNone result ((is_of_source event.now ≡ false) × (source.new ≡ source.old)) }
 
-    // What a crash leaves at any moment of a sync, and after it; no other event calls a device.
+    // What a crash leaves at any moment of a sync, and after it. No other event calls a device.
     ensures any_moment { (group : GroupValue) → event.now ≡ Event.Sync → source.old.source.halted ≡ false
         → slice_get source.old.unsynced 0 ≡ Some group
         → LastMoves D.seen D.moment D.left_since D.may_leave (appended group source.old.set.log) source.old.set source.new.set }
@@ -67,7 +67,7 @@ pub(crate) fn queue<S: RowStore, T: Tracker, D: Device>(
     done(source.queue(session))
 }
 
-/// The oldest group that waits is put on the log.
+/// Puts the oldest group that waits on the log.
 pub(crate) fn sync<S: RowStore, T: Tracker, D: Device>(source: &mut DurableSource<S, T, D>) -> Reply
     ensures answers { Answers source.old Event.Sync result source.new }
     ensures any_moment { (group : GroupValue) → source.old.source.halted ≡ false → slice_get source.old.unsynced 0 ≡ Some group

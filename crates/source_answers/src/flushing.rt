@@ -1,4 +1,4 @@
-//! A flush, and the stamps that it tells.
+//! A flush, and the stamps in its reply.
 
 ghost use Rattle.std.specs.Prelude.{◌≡◌, ◌≤◌, ◌+◌, ◌-◌, [], length, map, drop, vec_capacity, IfOk};
 ghost use Rattle.world.specs.Legal.{stamp_of};
@@ -22,7 +22,7 @@ fn room_for_stamps(alloc: Global, count: usize) -> Result<Vec<(u64, u64)>, Memor
     Ok(Vec::with_capacity(alloc, count)?)
 }
 
-/// The stamps of the records from this number on, in an empty list that has room for them.
+/// The stamps of the records from this number on, put into an empty list that has room for them.
 fn stamps_from(mut list: Vec<(u64, u64)>, log: &[Record], first: u64) -> Stamps
     requires empty { list.items ≡ [] }
     requires some { 1 ≤ first }
@@ -36,7 +36,7 @@ fn stamps_from(mut list: Vec<(u64, u64)>, log: &[Record], first: u64) -> Stamps
     Stamps::new(list)
 }
 
-/// Room for the stamps is taken before the flush: what is flushed stays flushed.
+/// Takes the room for the stamps before the flush, because what is flushed stays flushed.
 pub(crate) fn flush<S: RowStore, T: Tracker, D: Device>(
     alloc: Global,
     source: &mut DurableSource<S, T, D>,

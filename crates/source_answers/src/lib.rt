@@ -1,11 +1,11 @@
-//! What a source with its log in files answers to one event at once, and a whole commit in one call.
+//! The replies of a source with its log in files, event by event, and a whole commit in one call.
 //!
-//! `answer` makes the call that an event of the source names, and replies as a world does. What is replied, in which order refusals come,
-//! and what is left of the source is defined by cases of the event in `specs/Answers.antt`. `put` prepares a session's transaction,
-//! queues it, flushes, syncs until no group waits, and commits: its steps are such answers, one after another (`specs/Puts.antt`).
-//! It tells a receipt only once the record is on the log and committed.
+//! `answer` makes the call that an event of the source names, and replies as a world does. `specs/Answers.antt` defines
+//! the replies, the order of refusals, and what is left of the source, by cases of the event. `put` prepares a
+//! session's transaction, queues it, flushes, syncs until no group waits, and commits: its steps are such events, one
+//! after another (`specs/Puts.antt`). It returns a receipt only once the record is on the log and committed.
 //!
-//! It stands on `durable_source` for the source, and on `world` for the events and the replies.
+//! It uses `durable_source` for the source, and `world` for the events and the replies.
 #![tactic(auto)]
 
 mod answering;

@@ -1,4 +1,4 @@
-//! A whole commit.
+//! A whole commit in one call.
 
 ghost use Rattle.std.specs.Prelude.{◌≡◌, ◌==◌, ℕ, [], ◌∷◌, OnOk, replicate, reverse, option_copied};
 ghost use Rattle.std.specs.List.{find};
@@ -16,31 +16,31 @@ use store_trait::RowStore;
 use tracker_trait::Tracker;
 use world::{Event, Reply};
 
-/// What a put says.
+/// The result of a put.
 #[derive(Debug, Drop)]
 pub enum PutReply {
-    /// The transaction is committed, and its record is on the log: its number, and the stamps that it has.
+    /// The transaction is committed, and its record is on the log, with this number and stamp.
     Receipt {
         gno: u64,
         sequence: u64,
         parent: u64,
     },
-    /// The reply that ended it: `Empty` for a transaction without changes, which has ended, and else a refusal.
+    /// The reply that ended it: `Empty` for a transaction without changes, which has ended, or else a refusal.
     Refused(Reply),
 }
 
-/// Commits the session's transaction: it prepares it, queues it, flushes what is queued, syncs until no group waits, and commits all that
-/// is synced. Then the receipt's record is on the log and kept, and each later life finds it (`durable_source::laws::told_stays`). What
-/// others queued is committed with it, and nobody is given a receipt of that.
+/// Commits the session's transaction: it prepares it, queues it, flushes what is queued, syncs until no group waits,
+/// and commits all that is synced. Then the receipt's record is on the log and synced, and each later life finds it
+/// (`durable_source::laws::told_stays`). What other sessions queued is committed with it, without a receipt for them.
 ///
-/// A step that is refused ends it: what was done stays, and the rest is undone. It is refused with `S12` if the source is halted; with
-/// `S1` if there is no such session; with `S15` if the log has no room for one more record, and the transaction stays prepared; with
-/// `S13` or `L4` if memory ran out; and with `L1` if the device failed, and then the source is halted, and it is not known whether a
-/// restart finds the group.
+/// A step that is refused ends it: the steps before stay, and the rest is not done. It is refused with `S12` if the
+/// source is halted, with `S1` if there is no such session, and with `S13` or `L4` if memory runs out. It is refused
+/// with `S15` if the log has no room for one more record; the transaction then stays prepared. It is refused with `L1`
+/// if the device fails. Then the source is halted, and it is not known whether a restart finds the group.
 ///
-/// It begins where the transaction stands, so after a refusal it may be made again: the `S3` of a prepare tells that the transaction is
-/// past it, and so does the `S14` of a queue. That a session has no transaction shows only in the receipts: then it is refused with `S3`,
-/// and the steps were made for the others.
+/// It begins with the step that the transaction needs next, so it may be called again after a refusal. The `S3` of a
+/// prepare says that the transaction is past it, and so does the `S14` of a queue. If a session has no transaction,
+/// only the receipts show this. Then it is refused with `S3`, and the steps were made for the others.
 ///
 /// Time and memory are those of the steps; each sync makes two writes and two syncs of the last file's device.
 pub fn put<S: RowStore, T: Tracker, D: Device>(
@@ -78,7 +78,7 @@ fn lead<S: RowStore, T: Tracker, D: Device>(
     sync_all(source)
 }
 
-/// Goes on after a reply, or ends by it.
+/// Continues after a reply, or ends with it.
 fn go_on(reply: Reply) -> Result<(), Reply>
     ensures { result_err result ≡ ended_by reply }
 {
@@ -105,7 +105,7 @@ fn sync_all<S: RowStore, T: Tracker, D: Device>(
     }
 }
 
-/// What the session is told, by the receipts of a commit.
+/// The session's result, from the receipts of a commit.
 fn said(receipts: &[Receipt], session: u16) -> PutReply
     ensures { result ≡ said_by (find (λ (r : AReceipt). r.session == session) (reverse receipts.now)) }
 {

@@ -1,4 +1,4 @@
-//! What the calls of the source are replied.
+//! The replies for what the calls of the source return.
 
 ghost use Rattle.std.specs.Prelude.{◌≡◌};
 ghost use Rattle.std.specs.Result.{result_err};
@@ -11,7 +11,7 @@ use rows::Row;
 use source_core::{Prepared, SourceFault};
 use world::Reply;
 
-/// What a call that answers nothing is replied.
+/// The reply for a call that returns nothing.
 pub(crate) fn done(answer: Result<(), SourceFault>) -> Reply
     ensures { result ≡ refused_or (result_err answer) Reply.Done }
 {

@@ -23,7 +23,7 @@ use schema::Memory;
 use std::alloc::Global;
 use store_trait::Batch;
 
-/// A receipt for each record, given the sessions of the same records. The room for the list is taken once.
+/// A receipt for each record, given the sessions of the same records. Room for the list is taken once.
 pub(crate) fn receipts_of(
     alloc: Global,
     sessions: &[u16],
@@ -52,7 +52,7 @@ fn receipt_for(session: u16, made: &Record) -> Result<Receipt, Memory>
     })
 }
 
-/// One batch of what the transactions of these sessions leave, which stand in their places.
+/// One batch of what the transactions in the places of these sessions leave.
 pub(crate) fn join_all(
     alloc: Global,
     sessions: &[u16],
@@ -71,7 +71,7 @@ pub(crate) fn join_all(
     Ok(rows.into_batch())
 }
 
-/// Adds what the transaction leaves of rows that are not there yet.
+/// Adds what the transaction leaves of its rows. None of these rows is there yet.
 fn join_one(rows: &mut Joined, place: &Option<Transaction>) -> Result<(), Memory>
     requires there { IsSome place.now }
     requires apart { (q : RowId) → IsSome (left_at (pending_in place.now) q) → find row_cmp q rows.old ≡ None }

@@ -11,27 +11,27 @@ use std::fmt;
 /// Why a call of the source was refused. The text is the fault's number and name.
 #[derive(Clone, Copy, Debug, PartialEq, Eq)]
 pub enum SourceFault {
-    /// The session number is none.
+    /// The session's number is not 1 to 256.
     NoSession,
-    /// The session has a transaction.
+    /// The session has a transaction, or its seat was given out.
     AlreadyOpen,
     /// The transaction is not in a state that allows the call, or there is none.
     NotActive,
     /// The table is not in the schema.
     NoTable,
-    /// The number of columns is not the table's, or a column is named that the table lacks.
+    /// The number of columns is not the table's, or the change names a column that the table does not have.
     WrongColumns,
-    /// Another session holds the row, or one of the change's kin, in a way that clashes, or one of its marks.
+    /// Another session holds the row or one of the change's kin in a way that clashes, or holds one of its marks.
     RowLocked,
-    /// The row is there.
+    /// The row is there already.
     RowExists,
     /// The row is not there.
     NoRow,
-    /// The parent row that the change gives its own is not there.
+    /// The parent row that the change gives its row is not there.
     NoParent,
-    /// The row has a child, and so is not deleted.
+    /// The row has a child, so it can't be deleted.
     HasChild,
-    /// The transaction has 1024 changes.
+    /// The transaction has 1024 changes already.
     TooManyChanges,
     /// The log failed, now or earlier.
     Halted,
@@ -39,9 +39,9 @@ pub enum SourceFault {
     Memory,
     /// The transaction is not prepared, or there is none.
     NotPrepared,
-    /// The log and the queue have as many records as the log may have.
+    /// The log and the queue together have the greatest number of records that the log may have.
     Exhausted,
-    /// Another row has the value that the change gives its own in the table's unique column.
+    /// Another row has the value that the change gives its row in the table's unique column.
     Duplicate,
 }
 

@@ -1,20 +1,28 @@
 //! The source: sessions change rows, and their transactions become the records of a log.
 //!
-//! A `SourceCore` is a plain machine that is stepped by calls; it has no handle and no thread. Contracts see it
-//! as the record `Source` of `specs/Source.antt`. Each of its 256 sessions has at most one transaction, which holds the
-//! rows that it writes, and for sharing their kin, until it ends: the parent rows that they name before each change and after
-//! it. It holds the values that they have in unique columns before each change and after it too, their marks. A record's *parent*
-//! is another thing, the stamp that its tracker gives it. It keeps true that the log is legal over the
-//! base, that its store contains the database after the committed records, that each open transaction's changes apply to that,
-//! and that no two of them clash (`specs/Core.antt`). So each child row has its parent row after each record: a write is
-//! refused that gives a row a parent row that is not there, or deletes a row that has a child. And no two rows of a table have one
-//! value in its unique column: a write is refused that gives a row the value of another one. Neither test walks a table: beside the rows
-//! stands who has each value, and how many children each row has, and follows each commit. What each call answers, its
-//! first cause of refusal in order, and what it leaves is defined in `specs/Calls.antt`. It stands on `overlay` for pending
-//! changes and the steps of each, on `row_locks` for who holds what, on `commit_stages` for who waits, on `store_trait` for
-//! the rows, on `row_index` for what is known of them, on `record_codec` for records and groups, and on a tracker of `tracker_trait`
-//! for the parents of records. `SourceCore::recovered` goes on from a log that is there (`specs/AtLog.antt`). `Opening` is all of a new
-//! source that may be refused for memory: whoever has the rows makes it first, and keeps them if it is refused.
+//! A `SourceCore` is a plain machine that is stepped by calls; it has no handle and no thread. Contracts see it as the
+//! record `Source` of `specs/Source.antt`. Each of its 256 sessions has at most one transaction. Until it ends, the
+//! transaction holds the rows that it writes, and shares their kin: the parent rows that they name before and after each
+//! change. It also holds their marks: the values that they have in unique columns before and after each change. A
+//! record's *parent* is something else, a number that the tracker gives it.
+//!
+//! These things stay true (`specs/Core.antt`):
+//! - The log is legal over the base.
+//! - The store contains the database after the committed records.
+//! - Each open transaction's changes apply to that database, and no two of them clash.
+//!
+//! So each child row has its parent row after each record: a write is refused if it gives a row a parent row that is not
+//! there, or deletes a row that has a child. No two rows of a table have the same value in its unique column: a write is
+//! refused if it gives a row the value of another one. Neither test walks a table. An index beside the rows, which
+//! follows each commit, has the holder of each value and the number of each row's children.
+//!
+//! `specs/Calls.antt` defines what each call returns, its first cause of refusal in order, and what it leaves.
+//! `SourceCore::recovered` continues from an existing log (`specs/AtLog.antt`). `Opening` has all of a new source that
+//! can run out of memory. The owner of the rows makes it first, and keeps the rows if that is refused.
+//!
+//! The crate uses `overlay` for pending changes and their steps, `row_locks` for locks, and `commit_stages` for the
+//! queues. Rows are in a store of `store_trait`, and `row_index` has what is known of them. Records and groups are those
+//! of `record_codec`. A tracker of `tracker_trait` gives the records their parents.
 #![tactic(auto)]
 
 mod committing;

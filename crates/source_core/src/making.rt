@@ -1,4 +1,4 @@
-//! What a source begins with beside its rows: all of it that may be refused is made here, by a look at the store.
+//! What a source begins with besides its rows. All of it that can be refused is made here, by a look at the store.
 
 ghost use Rattle.std.specs.Prelude.{◌≡◌, IfOk};
 ghost use Rattle.store_trait.specs.Batch.{all_rows};
@@ -18,7 +18,7 @@ use std::alloc::Global;
 use std::marker::Model;
 use store_trait::{Batch, RowStore, snapshot};
 
-/// What the sessions stand in: no transactions, queues and locks.
+/// What the sessions use: no transactions yet, empty queues and no locks.
 #[derive(Drop)]
 pub(crate) struct Idle {
     pub places: Vec<Option<Transaction>>,
@@ -52,7 +52,7 @@ impl Idle {
     }
 }
 
-/// What stands beside the rows of a source that begins.
+/// What a source has besides its rows when it begins.
 #[derive(Drop)]
 pub(crate) struct Beside {
     pub schema: Schema,
@@ -69,9 +69,9 @@ pub(crate) struct Past {
     pub index: Log,
 }
 
-/// What a source begins with beside its rows: the schema, the rows as the batch that loads them, who has each value of a unique column,
-/// how many children each row has, and the places of the sessions. It is made by a look at the store, so who owns that has it still where
-/// memory is refused; `SourceCore::opened` takes both, and refuses nothing.
+/// What a source begins with besides its rows: the schema, the rows as the batch that loads them, the holder of each
+/// value of a unique column, how many children each row has, and the places of the sessions. It only looks at the store,
+/// whose owner still has the store if memory runs out. `SourceCore::opened` takes both, and refuses nothing.
 #[derive(Drop)]
 pub struct Opening {
     pub(crate) base: Batch,
@@ -91,9 +91,10 @@ impl Model for Opening {
 }
 
 impl Opening {
-    /// What a source of these rows begins with. With n rows it takes the memory of a copy of them and n log n time: the rows at the
-    /// start are kept, so that the log can be judged by them. Beside them it takes the memory of the places of the sessions, and that of
-    /// the values in unique columns and of the rows that are parents: none where no table has a unique column, or a parent.
+    /// What a source of these rows begins with. With n rows it takes the memory of a copy of them and n log n time: it
+    /// keeps the rows at the start, so that the log can be judged by them. It also takes the memory of the sessions'
+    /// places, of the values in unique columns, and of the rows that are parents: none for these two if no table has a
+    /// unique column, or a parent.
     pub fn of<S: RowStore>(alloc: Global, schema: Schema, store: &S) -> Result<Opening, Memory>
         requires { Fits schema (S.contents store.now) }
         ensures tables { IfOk result (λ opening. opening.tables ≡ schema) }

@@ -1,4 +1,4 @@
-//! The places of the sessions: what a session's calls ask of the transaction there, and what they make of it.
+//! The places of the sessions: what a session's calls ask of the transaction there, and how they change it.
 
 ghost use Rattle.std.specs.Prelude.{◌≡◌, ◌≤◌, ◌||◌, [], length, replicate, false, IfOk, IfErr, IsSome, OnOk, OnErr, None};
 ghost use Rattle.std.specs.Prelude.{option_and_then};
@@ -46,7 +46,7 @@ pub(crate) fn is_active(place: &Option<Transaction>) -> bool
     }
 }
 
-/// How many changes the transaction has, where there is one.
+/// How many changes the transaction has: 0 if there is none.
 pub(crate) fn change_count(place: &Option<Transaction>) -> usize
     ensures { result ≡ length (option_map_or (λ t. t.pending.changes) place.now []) }
 {
@@ -56,8 +56,8 @@ pub(crate) fn change_count(place: &Option<Transaction>) -> usize
     }
 }
 
-/// Adds a change, with what it does to its row, to the transaction, whose session then holds the row, the step's kin and its marks.
-/// Where memory runs out both stay as they are.
+/// Adds a change to the transaction, with what it does to its row. The session then holds the row, the step's kin and its
+/// marks. If memory runs out, both stay as they are.
 pub(crate) fn write_locked(
     place: &mut Option<Transaction>,
     locks: &mut LockTable,
@@ -86,7 +86,7 @@ pub(crate) fn write_locked(
     }
 }
 
-/// What is pending with the change, or as it was where memory runs out. The room for the change is taken before the locks.
+/// What is pending with the change added, or as it was if memory runs out. Room for the change is taken before the locks.
 fn pushed_or_not(
     pending: Pending,
     locks: &mut LockTable,
@@ -115,7 +115,7 @@ fn pushed_or_not(
     }
 }
 
-/// Prepares the transaction, and answers what its session is told. The room of one that ends by it is kept.
+/// Prepares the transaction, and returns what its session gets. A transaction without changes ends, and its room is kept.
 pub(crate) fn prepare_in(
     place: &mut Option<Transaction>,
     rooms: &mut Rooms,
@@ -129,7 +129,7 @@ pub(crate) fn prepare_in(
     answer
 }
 
-/// The transaction once it is prepared, and what its session is told.
+/// The transaction once it is prepared, and what its session gets.
 fn ready_from(
     place: Option<Transaction>,
     rooms: &mut Rooms,

@@ -1,4 +1,4 @@
-//! What a change does to its row, and what of the schema, of the rows and of others' locks refuses it.
+//! What a change does to its row, and what refuses it: the schema, the rows, or the locks of other sessions.
 
 ghost use Rattle.std.specs.Prelude.{◌≡◌, ◌≤◌, false, None, Ok, take, option_and_then};
 ghost use Rattle.std.specs.Result.{result_err};
@@ -36,10 +36,10 @@ pub(crate) fn check_shape(schema: &Schema, change: &Change) -> Result<(), Source
     }
 }
 
-/// What the change does over the rows that the transaction sees, or the first cause that refuses it of those that the rows
-/// and the locks of others on its kin and its marks have. It takes no memory. The time is that of at most two look-ups in the
-/// store; of a delete also that of `has_child`; of a change that gives its row a value in a unique column also that of finding who
-/// has the value, in the index and of the transaction's own rows.
+/// What the change does over the rows that the transaction sees, or the first cause that refuses it. The causes are those
+/// rows, and the locks of others on its kin and its marks. It takes no memory. The time is that of at most two look-ups
+/// in the store. A delete adds that of `has_child`. A change that gives its row a value in a unique column adds that of
+/// finding the value's holder, in the index and among the transaction's own rows.
 pub(crate) fn allowed_step<S: RowStore>(
     pending: &Pending,
     schema: &Schema,
@@ -65,7 +65,7 @@ pub(crate) fn allowed_step<S: RowStore>(
     }
 }
 
-/// The first cause that refuses a change whose row allows it, which does this to it.
+/// The first cause that refuses a change that its row allows; `step` is what it does to the row.
 fn cause<S: RowStore>(
     pending: &Pending,
     schema: &Schema,
@@ -158,7 +158,7 @@ fn deletes_parent<S: RowStore>(
     }
 }
 
-/// Whether no other row that the transaction sees has the value that the change gives its own.
+/// Whether no other row that the transaction sees has the value that the change gives its row.
 fn value_is_free<S: RowStore>(
     pending: &Pending,
     schema: &Schema,
@@ -175,14 +175,14 @@ fn value_is_free<S: RowStore>(
     value_holds(pending, schema, change, step.takes, holder)
 }
 
-/// The key of the committed row that has the mark that a change takes, where it takes one and there is such a row.
+/// The key of the committed row that has the mark that a change takes. `None` if the change takes none, or no row has it.
 fn holder_below(index: &Index, takes: Option<Mark>) -> Option<i64>
     ensures { result ≡ option_and_then (get index.now.map) takes }
 {
     index.holder(takes?)
 }
 
-/// Why the change is refused where its row does not allow it.
+/// Why a change is refused that its row does not allow.
 fn refusal(change: &Change) -> SourceFault
     ensures { result ≡ why change.now }
 {
@@ -192,8 +192,8 @@ fn refusal(change: &Change) -> SourceFault
     }
 }
 
-/// The locks of the change on rows, at the front of the array, and how many there are: its own exclusively, and the step's kin for
-/// sharing.
+/// The change's locks on rows, at the front of the array, and their number: its row exclusively, and the step's kin
+/// shared.
 pub(crate) fn locks_of(change: &Change, step: &Step) -> ([(RowId, Mode); 3], usize)
     ensures locks { take result.1 result.0 ≡ locks_for change.now step.now }
     ensures few { result.1 ≤ 3 }
@@ -206,7 +206,7 @@ pub(crate) fn locks_of(change: &Change, step: &Step) -> ([(RowId, Mode); 3], usi
     }
 }
 
-/// The marks of the step, at the front of the array, and how many there are.
+/// The marks of the step, at the front of the array, and their number.
 pub(crate) fn marks_of(step: &Step) -> ([Mark; 2], usize)
     ensures marks { take result.1 result.0 ≡ marks_for step.now }
     ensures few { result.1 ≤ 2 }

@@ -1,4 +1,4 @@
-//! The committed rows, and what is known of them beside them.
+//! The committed rows, and what is known of them.
 
 ghost use Rattle.std.specs.Prelude.{◌≡◌, OnOk, OnErr};
 ghost use Rattle.rows.specs.Database.{NoValueTwice};
@@ -11,8 +11,8 @@ use schema::{Memory, Schema};
 use std::alloc::Global;
 use store_trait::{Batch, RowStore};
 
-/// The rows after the committed records, with who has each value in a unique column and how many children each row has: so a write
-/// looks up what else it would walk a table for.
+/// The rows after the committed records, the holder of each value in a unique column, and how many children each row has.
+/// So a write looks up what it would otherwise walk a table for.
 #[derive(Drop)]
 pub(crate) struct Stored<S: RowStore> {
     pub store: S,
@@ -21,9 +21,10 @@ pub(crate) struct Stored<S: RowStore> {
 }
 
 impl<S: RowStore> Stored<S> {
-    /// Puts the batch, which the index and the counts follow. All memory is taken before a row changes; where it runs out all stays
-    /// as it was, but for room that was made. With n rows in the store and b in the batch the time is b log n, and the memory that of
-    /// the marks and the parents that the batch's rows had and then have: none where no table has a unique column, or a parent.
+    /// Puts the batch, and the index and the counts follow. All memory is taken before a row changes. If it runs out,
+    /// nothing has changed, except for room that was made. With n rows in the store and b in the batch, the time is b log
+    /// n. The memory is that of the marks and the parents that the batch's rows have before and after: none if no table
+    /// has a unique column, or a parent.
     pub fn put(&mut self, alloc: Global, schema: &Schema, batch: &Batch) -> Result<(), Memory>
         requires rising { IsRising batch.now }
         requires indexed { Indexes schema.now (S.contents self.old.store) self.old.index.map }

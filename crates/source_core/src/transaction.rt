@@ -8,7 +8,7 @@ use record_codec::Changes;
 pub enum Phase {
     /// It takes changes.
     Active,
-    /// It takes none any more. Its parent is the number of transactions committed when it was prepared.
+    /// It takes no more changes. Its order parent is the number of transactions committed when it was prepared.
     Prepared { parent: u64 },
     /// It waits for the next flush.
     Queued { parent: u64 },
@@ -16,23 +16,23 @@ pub enum Phase {
     Flushed { gno: u64 },
 }
 
-/// What a prepared transaction is told.
+/// What the session of a prepared transaction gets.
 #[derive(Clone, Copy, Debug, PartialEq, Eq)]
 pub enum Prepared {
-    /// Its parent: the number of transactions that were committed.
+    /// Its order parent: the number of transactions committed then.
     Parent(u64),
     /// It had no changes, and has ended.
     Empty,
 }
 
-/// A transaction: its changes, with what they leave, their kin and their marks, and how far it has come.
+/// A transaction: its changes, with what they leave, their kin and their marks, and its phase.
 #[derive(Debug, Drop)]
 pub struct Transaction {
     pub pending: Pending,
     pub phase: Phase,
 }
 
-/// What a session is told of its committed transaction.
+/// What a session gets for its committed transaction.
 #[derive(Debug, Drop)]
 pub struct Receipt {
     /// The session's number.
@@ -41,7 +41,7 @@ pub struct Receipt {
     pub gno: u64,
     /// Its place in the log, from 1.
     pub sequence: u64,
-    /// The place up to which the log was committed when it was prepared.
+    /// Its record's parent, as the tracker gave it.
     pub parent: u64,
     /// What it changed, in order.
     pub changes: Changes,

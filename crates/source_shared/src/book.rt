@@ -1,6 +1,7 @@
-//! The history of receipts, which exists in proofs alone: what the commits gave, one entry a commit. A receipt is a
-//! beginning of it with a place there. Who adds to it has a pen, of the cell that the last entry names; since there is
-//! one pen of each cell, nobody else adds, and the one who has it knows the history whole. At run time it is one word.
+//! The history of receipts, which exists only in proofs: what the commits gave, one entry for each commit. A receipt
+//! holds a beginning of the history, and its place there. To add an entry takes the pen of the cell that the last entry
+//! names. There is one pen for each cell, so nobody else adds, and the pen's owner knows the whole history. At run time
+//! the history is one word.
 ghost use Rattle.std.specs.Prelude.{◌≡◌, ◌++◌, ◌-◌, ◌≤◌, [], Some, IfSome, slice_get};
 ghost use Rattle.logbook.specs.Pages.{may_write};
 ghost use Rattle.source_shared.specs.Book.{head_of, old_receipts};
@@ -14,7 +15,7 @@ use std::marker::{Brand, Model, PhantomData};
 /// An entry. No value of it is made.
 pub type Part = (u64, LinkedList<Given>);
 
-/// What has been seen of the history.
+/// What a holder has seen of the history.
 pub type Known = Seen<Part, u64, Law>;
 
 /// The rule of the history.
@@ -38,7 +39,7 @@ impl Rule<Part, u64> for Law {
     ghost moves = { λ ask before after answer. Unit {0} };
 }
 
-/// Nobody keeps anything beside the history.
+/// Nobody keeps anything besides the history.
 pub struct Nothing;
 
 impl Gain<Part, u64> for Nothing {
@@ -56,7 +57,7 @@ impl Play<Part, u64> for Reserve {
     ghost then = { Reserves };
 }
 
-/// A step that begins the history, with the receipts of a log that was there before, for the one who has this pen.
+/// A step that begins the history with the receipts of an older log, for the owner of this pen.
 pub struct Begin;
 
 impl Play<Part, u64> for Begin {
@@ -73,7 +74,7 @@ impl Plain<Pen, Part, u64> for Begin {
     ghost state = { λ pen. None };
 }
 
-/// The log that was there before, and the pen for what comes behind it.
+/// The log that was there before, and the pen for what follows it.
 pub struct Before<'a> {
     log: &'a [Record],
     next: Pen,
@@ -97,7 +98,7 @@ impl Play<Part, u64> for Add {
     ghost then = { Adds };
 }
 
-/// What a commit gave, and the pen for the next.
+/// What a commit gave, and the pen for the next commit.
 pub struct Adding {
     given: Vec<Given>,
     next: Pen,
@@ -120,10 +121,10 @@ impl Play<Part, u64> for Check {
     ghost then = { Checks };
 }
 
-/// Which source a shared source, its seats and its receipts are of: a type stands for it, so that those of two sources
-/// can't be mixed. Write a function over `J: SourceNaming` that takes a `Beginning` and the core, and requires
-/// `beginning ≡ J.book`, `core.base ≡ J.base` and `core.tables ≡ J.tables`. Its caller passes the marker `Brand` for `J`, and
-/// says in its `Invariants.antt` that these are those of the arguments.
+/// Which source a shared source, its seats and its receipts belong to. A type names it, so those of two sources can't be
+/// mixed. Write a function over `J: SourceNaming` that takes a `Beginning` and the core, and requires
+/// `beginning ≡ J.book`, `core.base ≡ J.base` and `core.tables ≡ J.tables`. Its caller passes the marker `Brand` for `J`,
+/// and says in its `Invariants.antt` that these are those of the arguments.
 pub trait SourceNaming {
     ghost use Rattle.std.specs.Prelude.{List};
     ghost use Rattle.logbook.specs.Pages.{Book};
@@ -150,7 +151,7 @@ impl SourceNaming for Brand {
     ghost tables = { [] };
 }
 
-/// A history that has not begun. `SharedSource::new` takes it. Contracts see which one it is.
+/// A history that has not begun. `SharedSource::new` takes it. Contracts see which history it is.
 #[derive(Drop)]
 pub struct Beginning {
     word: Word<Part, u64, Law>,
@@ -177,7 +178,7 @@ impl Beginning {
         Beginning { word, seen }
     }
 
-    // The history, begun with the receipts of this log. `None` where another began it, which nobody but its owner can.
+    // The history, begun with the receipts of this log. `None` if another caller began it, but only its owner can.
     pub(crate) fn begun<J: SourceNaming>(self, log: &[Record]) -> Option<History<J>>
         requires named { self ≡ J.book }
         ensures { IfSome result (λ history. history ≡ old_receipts log.now) }
@@ -203,7 +204,7 @@ impl Beginning {
     }
 }
 
-/// The history, for the one who adds to it. Contracts see it as all receipts that were given.
+/// The history, for the code that adds to it. Contracts see it as all receipts that were given.
 #[derive(Drop)]
 pub struct History<J: SourceNaming> {
     word: Word<Part, u64, Law>,
@@ -225,7 +226,7 @@ impl<J: SourceNaming> Model for History<J> {
 }
 
 impl<J: SourceNaming> History<J> {
-    // Adds what a commit gave, and answers it.
+    // Adds what a commit gave, and returns it.
     pub(crate) fn add(&mut self, given: Vec<Given>) -> Vec<Given>
         ensures history { self.new ≡ self.old ++ given.items }
         ensures given { result.items ≡ given.items }
@@ -242,7 +243,7 @@ impl<J: SourceNaming> History<J> {
         given
     }
 
-    // One of the receipts, that of a commit that gave this one.
+    // The `Receipt` for one that a commit gave.
     pub(crate) fn receipt(&self, given: Given) -> Receipt<J>
         requires { (1 ≤ given.gno) × (slice_get self.now (given.gno - 1) ≡ Some given) }
         ensures { result ≡ given }
@@ -254,7 +255,7 @@ impl<J: SourceNaming> History<J> {
         }
     }
 
-    // The receipt is one of the history, at its number.
+    // Shows that the receipt is in the history, at its number.
     pub(crate) fn find(&mut self, receipt: &Receipt<J>)
         ensures same { self.new ≡ self.old }
         ensures found { (1 ≤ receipt.now.gno) × (slice_get self.old (receipt.now.gno - 1) ≡ Some receipt.now) }
@@ -269,8 +270,8 @@ impl<J: SourceNaming> History<J> {
     }
 }
 
-/// What a session is told of its committed transaction. Contracts see it as the receipt that the core gave. The core that
-/// `SharedSource::end` answers has its record. It may go to any thread.
+/// What a session gets for its committed transaction. Contracts see it as the receipt that the core gave. The core that
+/// `SharedSource::end` returns has its record. It may go to any thread.
 #[derive(Drop)]
 pub struct Receipt<J: SourceNaming> {
     given: Given,
@@ -298,7 +299,7 @@ impl<J: SourceNaming> Receipt<J> {
         &self.given
     }
 
-    /// The same, moved out. It takes no memory.
+    /// Like `given`, but moved out. It takes no memory.
     pub fn into_given(self) -> Given
         ensures { result ≡ self }
     {

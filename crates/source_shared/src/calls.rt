@@ -1,4 +1,4 @@
-//! What threads sleep on, and who of them is to be told.
+//! What threads sleep on, and which of them must be woken.
 
 ghost use Rattle.std.specs.Prelude.{◌≡◌, ◌<◌, true, false, replicate, slice_set};
 
@@ -8,14 +8,15 @@ use std::alloc::Global;
 use std::marker::Model;
 use std::sync::Condvar;
 
-/// What threads sleep on: one for each of the 256 sessions, so that none can sleep where nobody calls, and two that are shared.
+/// What threads sleep on: a condition for each of the 256 sessions, so that each sleeps on one that others call, and two
+/// shared ones.
 #[derive(Drop)]
 pub(crate) struct Calls {
     // Session 1 first.
     all: Vec<Condvar>,
-    // Where those sleep who wait for records.
+    // Readers that wait for records sleep on this one.
     records: Condvar,
-    // And those who wait to rotate.
+    // Threads that wait to rotate sleep on this one.
     rest: Condvar,
 }
 
@@ -42,7 +43,7 @@ impl Calls {
         })
     }
 
-    // Wakes those who are called.
+    // Wakes the sessions that are called.
     fn wake(&self, called: Called) {
         let Called { all, count } = called;
         let mut left = count;
@@ -64,23 +65,24 @@ impl Calls {
         &self.all[place]
     }
 
-    // What those sleep on who wait for records.
+    // What readers sleep on that wait for records.
     pub(crate) fn records(&self) -> &Condvar {
         &self.records
     }
 
-    // What those sleep on who wait to rotate.
+    // What threads sleep on that wait to rotate.
     pub(crate) fn rest(&self) -> &Condvar {
         &self.rest
     }
 }
 
-/// Whom who lets go of the lock has to tell. It is not `Drop`, so it can't be forgotten: it ends in `ring`, and by nothing else.
+/// The sleepers that a thread must wake as it lets go of the lock. It is not `Drop`, so it can't be forgotten: it ends
+/// only in `ring`.
 pub(crate) struct News {
     called: Called,
-    // Those who wait for records.
+    // Whether to wake the readers that wait for records.
     followers: bool,
-    // Those who wait to rotate.
+    // Whether to wake the threads that wait to rotate.
     rotators: bool,
 }
 
@@ -114,14 +116,15 @@ impl News {
     }
 }
 
-/// Who is called: for each session whether it is, session 1 first, and how many are. It is not `Drop`: it ends as they are woken.
+/// The sessions that are called: for each one whether it is, session 1 first, and how many are. It is not `Drop`: it ends
+/// as they are woken.
 pub(crate) struct Called {
     all: [bool; SESSIONS],
     count: usize,
 }
 
 impl Called {
-    // Nobody is.
+    // Calls nobody.
     pub(crate) fn nobody() -> Called
         ensures { result.all ≡ replicate 256 false }
     {
@@ -131,7 +134,7 @@ impl Called {
         }
     }
 
-    // The session of this place is, too.
+    // Calls the session of this place too.
     pub(crate) fn add(&mut self, place: usize)
         requires { place < 256 }
         ensures { self.new.all ≡ slice_set self.old.all place true }
@@ -141,10 +144,10 @@ impl Called {
     }
 }
 
-/// Numbers of those who wait, by what they wait for.
+/// Counts of calls that wait, by what they wait for.
 #[derive(Clone, Copy, Debug, PartialEq, Eq)]
 pub struct Waits {
-    /// Calls of `commit` that wait for a receipt, or until they have to lead.
+    /// Calls of `commit` that wait, without a time limit, for a receipt or until they have to lead.
     pub sessions: u64,
     /// Calls of `bytes_past`.
     pub followers: u64,
@@ -174,7 +177,7 @@ impl Waits {
         ..Waits::NONE
     };
 
-    // So many more.
+    // The sums of these counts and those of `more`.
     pub(crate) fn plus(self, more: Waits) -> Waits {
         Waits {
             sessions: self.sessions.saturating_add(more.sessions),
@@ -183,7 +186,7 @@ impl Waits {
         }
     }
 
-    // So many less.
+    // These counts minus `less`.
     pub(crate) fn minus(self, less: Waits) -> Waits {
         Waits {
             sessions: self.sessions.saturating_sub(less.sessions),

@@ -1,8 +1,9 @@
-//! The lock, and who holds it.
+//! The lock, and the thread that holds it.
 //!
-//! Who takes the lock has a `Held`, which is not `Drop`: it ends by `let_go` or `done`, or for a while by one of the waits, and by nothing
-//! else. Each of these wakes those who are due by what was done under the lock. Only this module takes it apart, and the mutex in it
-//! (`Locked`) goes free only where all was told. So no way out of a function leaves a change untold.
+//! A thread that takes the lock has a `Held`, which is not `Drop`. It ends only by `let_go` or `done`, or for a while by
+//! one of the waits. Each of these wakes the threads that are due after what was done under the lock. Only this module
+//! takes a `Held` apart, and the mutex in it (`Locked`) goes free only when the sleepers that a change concerns are
+//! called. So no way out of a function leaves a sleeper uncalled.
 ghost use Rattle.std.specs.Prelude.{◌≡◌, ◌≢◌, ◌⊎◌, ◌<◌, true, false, slice_index_or};
 ghost use Rattle.std.specs.Sync.Mutex.{mutex_guard_value};
 ghost use Rattle.source_shared.specs.Engine.{due_of, is_at_work, is_awaited, IsTold};
@@ -16,10 +17,11 @@ use std::sync::{Condvar, Mutex, Wait};
 use store_trait::RowStore;
 use tracker_trait::Tracker;
 
-/// So often one who leads, or follows the log, looks whether the lock is free, some microseconds in all.
+/// How often a leader, or a reader that follows the log, looks whether the lock is free before it sleeps: some
+/// microseconds in all.
 const LOOKS: usize = 1000;
 
-/// The engine under its lock, and what threads sleep on until what lies there concerns them.
+/// The engine under its lock, and what threads sleep on until a change there concerns them.
 #[derive(Drop)]
 pub(crate) struct Desk<S: RowStore, T: Tracker, D: Device, J: SourceNaming> {
     engine: Mutex<Engine<S, T, D, J>>,
@@ -48,7 +50,8 @@ impl<S: RowStore, T: Tracker, D: Device + Drop, J: SourceNaming> Desk<S, T, D, J
         }
     }
 
-    // Takes the lock for who holds up others by sleeping: it looks whether the lock is free before it sleeps.
+    // Takes the lock for a caller whose sleep would hold up others. It looks whether the lock is free, up to `LOOKS`
+    // times, before it sleeps.
     pub(crate) fn lock_soon(&self, rt: &impl Wait) -> Held<'_, S, T, D, J> {
         for _look in 0..LOOKS {
             if let Some(locked) = Locked::take_if_free(&self.engine) {
@@ -58,7 +61,8 @@ impl<S: RowStore, T: Tracker, D: Device + Drop, J: SourceNaming> Desk<S, T, D, J
         self.lock(rt)
     }
 
-    // Lets go of the lock, and wakes those whom it concerns. (Who has nobody to wake makes no room for them.)
+    // Lets go of the lock, and wakes the threads that must know. (It is not inlined: a call that wakes nobody needs no
+    // room for the list.)
     #[inline(never)]
     fn free_and_tell(&self, mut locked: Locked<'_, S, T, D, J>, leads: bool) {
         let news = locked.news(leads);
@@ -66,7 +70,7 @@ impl<S: RowStore, T: Tracker, D: Device + Drop, J: SourceNaming> Desk<S, T, D, J
         news.ring(&self.calls);
     }
 
-    // Wakes those whom it concerns, but nobody to lead, before the lock is let go of within a wait.
+    // Wakes the threads that must know, but calls nobody to lead, before a wait lets go of the lock.
     #[inline(never)]
     fn tell_before(&self, locked: &mut Locked<'_, S, T, D, J>)
         ensures { IsTold (mutex_guard_value locked.new.guard) }
@@ -76,7 +80,7 @@ impl<S: RowStore, T: Tracker, D: Device + Drop, J: SourceNaming> Desk<S, T, D, J
         }
     }
 
-    // What lies there, once no thread is left.
+    // The engine, once no thread is left.
     pub(crate) fn into_engine(self) -> Engine<S, T, D, J> {
         let Desk { engine, calls: _ } = self;
         engine.into_inner()
@@ -84,25 +88,26 @@ impl<S: RowStore, T: Tracker, D: Device + Drop, J: SourceNaming> Desk<S, T, D, J
 }
 
 impl<'a, S: RowStore, T: Tracker, D: Device + Drop, J: SourceNaming> Held<'a, S, T, D, J> {
-    // What lies under the lock.
+    // The engine under the lock.
     pub(crate) fn engine(&mut self) -> &mut Engine<S, T, D, J>
         ensures { result.now ≡ mutex_guard_value self.old.locked.guard }
     {
         self.locked.engine()
     }
 
-    // Lets go of the lock, and wakes those who are due, one of them to lead.
+    // Lets go of the lock, and wakes the threads that are due, one of them to lead.
     pub(crate) fn let_go(self) {
         self.release(true);
     }
 
-    // The same for who could not be called to lead, and changed nothing that concerns who sleeps: so it calls nobody to lead.
+    // Like `let_go`, but calls nobody to lead: for calls that can't have been called to lead, and change nothing that
+    // concerns sleepers.
     pub(crate) fn done(self) {
         self.release(false);
     }
 
-    // Lets go of the lock, and wakes those who have their end, those who wait for records that came, those who wait to rotate where the
-    // source is at rest, and, where this says so, one who is to lead.
+    // Lets go of the lock. It wakes the sessions whose wait has ended, the readers that wait for records that came, the
+    // threads that wait to rotate if the source is at rest and, if `leads` says so, a session that has to lead.
     fn release(self, leads: bool) {
         let Held { locked, desk } = self;
         if locked.is_quiet(leads) {
@@ -112,7 +117,7 @@ impl<'a, S: RowStore, T: Tracker, D: Device + Drop, J: SourceNaming> Held<'a, S,
         }
     }
 
-    // Lets go of the lock until the session of this place is due. It sleeps no more then.
+    // Lets go of the lock until the session of this place is due, and is noted as awake.
     pub(crate) fn sleep(self, rt: &impl Wait, place: usize) -> Held<'a, S, T, D, J>
         requires { place < 256 }
         ensures { slice_index_or (mutex_guard_value result.locked.guard).watch.sleeping place false ≡ false }
@@ -123,8 +128,8 @@ impl<'a, S: RowStore, T: Tracker, D: Device + Drop, J: SourceNaming> Held<'a, S,
         Held { locked, desk }
     }
 
-    // Lets go of the lock for so many microseconds, unless the session of this place is called before, or is due already. It sleeps no more
-    // then.
+    // Lets go of the lock for `micros` microseconds, unless the session of this place is called before, or is due
+    // already. The session is then noted as awake.
     pub(crate) fn sleep_for(self, rt: &impl Wait, place: usize, micros: u64) -> Held<'a, S, T, D, J>
         requires { place < 256 }
         ensures awake { slice_index_or (mutex_guard_value result.locked.guard).watch.sleeping place false ≡ false }
@@ -139,7 +144,8 @@ impl<'a, S: RowStore, T: Tracker, D: Device + Drop, J: SourceNaming> Held<'a, S,
         Held { locked, desk }
     }
 
-    // Lets go of the lock for so many microseconds. Who has to lead does, and comes back: so nobody else is called to.
+    // Lets go of the lock for `micros` microseconds. The caller has to lead and comes back to it, so this calls nobody
+    // else to lead.
     pub(crate) fn nap(self, rt: &impl Wait, micros: u64) -> Held<'a, S, T, D, J>
         ensures { result.locked.is_new ≡ true }
     {
@@ -149,7 +155,7 @@ impl<'a, S: RowStore, T: Tracker, D: Device + Drop, J: SourceNaming> Held<'a, S,
         Held { locked, desk }
     }
 
-    // Lets go of the lock until the record behind this gno is synced, or no more come.
+    // Lets go of the lock until the record after this gno is synced, or no more come.
     pub(crate) fn await_record(self, rt: &impl Wait, gno: u64) -> Held<'a, S, T, D, J>
         ensures { is_awaited (mutex_guard_value result.locked.guard) gno ≡ false }
     {

@@ -1,11 +1,11 @@
-//! Laying receipts into the places of their sessions.
+//! Puts receipts into the places of their sessions.
 ghost use Rattle.std.specs.Prelude.{◌≡◌, All, length};
 ghost use Rattle.source_shared.specs.Engine.{ArePlaced, IsKnown, laid, laid_one};
 
 use crate::book::{History, Receipt, SourceNaming};
 use source_core::Receipt as Given;
 
-// Lays each receipt into its session's place.
+// Puts each receipt into its session's place.
 pub(crate) fn place_all<J: SourceNaming>(
     history: &History<J>,
     places: &mut Vec<Option<Receipt<J>>>,
@@ -22,7 +22,7 @@ pub(crate) fn place_all<J: SourceNaming>(
     }
 }
 
-// Lays a receipt into its session's place, where there is one.
+// Puts a receipt into its session's place, if the session has one.
 fn place_one<J: SourceNaming>(
     history: &History<J>,
     places: &mut Vec<Option<Receipt<J>>>,

@@ -1,27 +1,32 @@
-//! The source for many threads, under one lock.
+//! The source that many threads share, under one lock.
 //!
-//! A `SharedSource` keeps a core, what is synced of its log, the groups that are flushed and not synced, and the receipts that
-//! were not taken yet. What is true each time that the lock is taken is `IsSettled` of `specs/Engine.antt`: readers see just the
-//! records that are synced, the groups hold what is flushed and not synced, the oldest of them is the prepared one, and each
-//! receipt in a place is one of that session's. The rest the core says of itself. A shared call states what it does to its
-//! seat; what it does under the lock is said of the engine's own call.
+//! A `SharedSource` keeps a core, the synced part of its log, the groups that are flushed and not synced, and the
+//! receipts that no session has taken yet. Each time that the lock is taken, `IsSettled` of `specs/Engine.antt` is true:
+//! - Readers see just the records that are synced.
+//! - The groups hold what is flushed and not synced. If one is prepared, it is the oldest.
+//! - Each receipt in a place belongs to the session of that place.
 //!
-//! A thread that commits queues its transaction and sleeps until its receipt lies in its place, or until it has to lead: then
-//! it takes the writer of the log's last file and the oldest group out of the lock, puts the group on the log, and brings the writer
-//! back; under the lock the group is then synced and committed, and the receipts are laid into their places. So one group is
-//! written while the next is flushed, and readers of the log wait for no device but during a rotation. Who has the lock has a `Held`,
-//! which can't be dropped: it ends by waking those who are due, each whose receipt has come and one who has to lead, and a wait
-//! under it begins so. Each session has a condition of its own to sleep on (`Calls`), so that nobody is woken for another.
+//! The core states the rest about itself. The contract of a shared call says what it does to its seat; the engine's own
+//! call says what happens under the lock.
 //!
-//! A rotation waits until the source is at rest: each flushed transaction is committed, and the writer is in its place. Then the
-//! writer goes on in a next file, under the lock. Who waits for that is noted under the lock, and who ends the last transaction, or
-//! halts the source, wakes it before the lock is let go of (`IsTold` of `specs/Engine.antt`).
+//! A thread that commits queues its transaction. It sleeps until its receipt is in its place, or until it has to lead. A
+//! leader takes the writer of the log's last file and the oldest group out of the lock, puts the group on the log, and
+//! brings the writer back. Under the lock the group is then synced and committed, and the receipts are put into their
+//! places. So one group is written while the next is flushed, and readers of the log wait for no device except during a
+//! rotation. The thread that holds the lock has a `Held`, which can't be dropped. Its end, and each wait under it, wakes
+//! the sessions whose receipts have come; its end can also wake a session that has to lead. Each session sleeps on a
+//! separate condition (`Calls`), so no thread wakes for another's receipt.
 //!
-//! What is known of a receipt once the lock is let go rides on a history, which exists in proofs alone (`logbook`): the
-//! receipts that all commits gave, in log order. A `Receipt` is a beginning of it with its own place there, and who adds to
-//! it knows it whole, so that a receipt can be neither made up nor left behind (`specs/Book.antt`). It stands on
-//! `source_core`, `log_file` and `log_set`. Over a log that was there before the history begins with the receipts of its records, which
-//! are of no session: so what is said of records and receipts is said of old and new ones alike.
+//! A rotation waits until the source is at rest: each flushed transaction is committed, and the writer is in its place.
+//! Then the writer continues in a next file, under the lock. The engine notes that a thread waits for this. The thread
+//! that ends the last transaction, or halts the source, must call it before it lets go of the lock (`IsTold` of
+//! `specs/Engine.antt`).
+//!
+//! What is known of a receipt after the lock is let go depends on a history, which exists only in proofs (`logbook`): the
+//! receipts of all commits, in log order. A `Receipt` holds a beginning of the history, and its own place in it. The code
+//! that adds to the history knows all of it, so a receipt can be neither made up nor lost (`specs/Book.antt`). Over an
+//! older log the history begins with receipts for the log's records, which belong to no session. So old and new records
+//! have the same promises. The crate uses `source_core`, `log_file` and `log_set`.
 #![tactic(auto)]
 
 mod book;

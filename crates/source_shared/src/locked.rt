@@ -1,7 +1,8 @@
 //! The engine's mutex, taken.
 //!
-//! Who has it has a `Locked`, which is not `Drop`, and only this module takes that apart. Each way out of it, for good or for a while, asks
-//! that all was told: so none is there that leaves a change untold.
+//! The thread that has it has a `Locked`, which is not `Drop`, and only this module takes that apart. Each way out, for
+//! good or for a while, requires that the sleepers concerned are called (`IsTold`). So none of them leaves a sleeper
+//! uncalled.
 ghost use Rattle.std.specs.Prelude.{◌≡◌, ◌≢◌, ◌<◌, true, false, slice_index_or};
 ghost use Rattle.std.specs.Sync.Mutex.{mutex_guard_value};
 ghost use Rattle.source_shared.specs.Engine.{due_of, is_at_work, is_awaited, IsTold};
@@ -18,7 +19,7 @@ use tracker_trait::Tracker;
 /// The mutex, taken.
 pub(crate) struct Locked<'a, S: RowStore, T: Tracker, D: Device, J: SourceNaming> {
     guard: MutexGuard<'a, Engine<S, T, D, J>>,
-    // Nothing was looked at since it was taken. (Clauses alone read it.)
+    // Whether nothing was looked at since the mutex was taken. Only clauses read this.
     is_new: bool,
 }
 
@@ -36,7 +37,7 @@ impl<'a, S: RowStore, T: Tracker, D: Device + Drop, J: SourceNaming> Locked<'a, 
         }
     }
 
-    // Takes it where it is free.
+    // Takes the mutex if it is free.
     pub(crate) fn take_if_free(
         mutex: &'a Mutex<Engine<S, T, D, J>>,
     ) -> Option<Locked<'a, S, T, D, J>> {
@@ -47,7 +48,7 @@ impl<'a, S: RowStore, T: Tracker, D: Device + Drop, J: SourceNaming> Locked<'a, 
         })
     }
 
-    // What lies under it.
+    // The engine under it.
     pub(crate) fn engine(&mut self) -> &mut Engine<S, T, D, J>
         ensures { result.now ≡ mutex_guard_value self.old.guard }
     {
@@ -55,7 +56,7 @@ impl<'a, S: RowStore, T: Tracker, D: Device + Drop, J: SourceNaming> Locked<'a, 
         &mut *self.guard
     }
 
-    // Whether the session of this place has to wait. It sleeps then, and else no more.
+    // Whether the session of this place has to wait. It notes whether the session sleeps: it does if it has to wait.
     pub(crate) fn waits(&mut self, place: usize) -> bool
         requires { place < 256 }
         ensures due { result ≡ false → due_of (mutex_guard_value self.new.guard) place ≢ Due.Wait }
@@ -65,21 +66,22 @@ impl<'a, S: RowStore, T: Tracker, D: Device + Drop, J: SourceNaming> Locked<'a, 
         self.guard.waits(place)
     }
 
-    // Whether nobody is to be told.
+    // Whether no sleeper has to be called.
     pub(crate) fn is_quiet(&self, leads: bool) -> bool
         ensures { result ≡ true → IsTold (mutex_guard_value self.now.guard) }
     {
         self.guard.is_quiet(leads)
     }
 
-    // Whom what was done concerns, and, where this says so, one who is to lead. They know then.
+    // The sleepers that the changes concern and, if `leads` says so, a session that has to lead. It notes that they are
+    // called.
     pub(crate) fn news(&mut self, leads: bool) -> News
         ensures { IsTold (mutex_guard_value self.new.guard) }
     {
         self.guard.news(leads)
     }
 
-    // Frees the mutex. All that there is was told.
+    // Frees the mutex. It requires that the sleepers concerned are called.
     pub(crate) fn free(self)
         requires { IsTold (mutex_guard_value self.guard) }
     {
@@ -87,7 +89,8 @@ impl<'a, S: RowStore, T: Tracker, D: Device + Drop, J: SourceNaming> Locked<'a, 
         MutexGuard::unlock(guard);
     }
 
-    // Frees the mutex for so many microseconds, or until somebody is woken who sleeps on this. All that there is was told.
+    // Frees the mutex for `micros` microseconds, or until a thread is woken that sleeps on `call`. It requires that the
+    // sleepers concerned are called.
     pub(crate) fn free_for(
         self,
         rt: &impl Wait,
@@ -104,8 +107,8 @@ impl<'a, S: RowStore, T: Tracker, D: Device + Drop, J: SourceNaming> Locked<'a, 
         Locked::take(rt, mutex)
     }
 
-    // Frees the mutex for so many microseconds, unless the session of this place is called before. It sleeps no more then. All that there
-    // is was told.
+    // Frees the mutex for `micros` microseconds, unless the session of this place is called before. The session is then
+    // noted as awake. It requires that the sleepers concerned are called.
     pub(crate) fn free_unless_called(
         self,
         rt: &impl Wait,
@@ -123,7 +126,8 @@ impl<'a, S: RowStore, T: Tracker, D: Device + Drop, J: SourceNaming> Locked<'a, 
         locked
     }
 
-    // Frees the mutex until the session of this place is due, which sleeps no more then. All that there is was told.
+    // Frees the mutex until the session of this place is due, and is noted as awake. It requires that the sleepers
+    // concerned are called.
     pub(crate) fn free_until_due(
         self,
         rt: &impl Wait,
@@ -153,7 +157,8 @@ impl<'a, S: RowStore, T: Tracker, D: Device + Drop, J: SourceNaming> Locked<'a, 
         }
     }
 
-    // Frees the mutex until the record behind this gno is synced, or no more come. All that there is was told.
+    // Frees the mutex until the record after this gno is synced, or no more come. It requires that the sleepers concerned
+    // are called.
     pub(crate) fn free_until_synced(
         self,
         rt: &impl Wait,
@@ -178,7 +183,7 @@ impl<'a, S: RowStore, T: Tracker, D: Device + Drop, J: SourceNaming> Locked<'a, 
         }
     }
 
-    // Frees the mutex until the source is at rest, or halted. All that there is was told.
+    // Frees the mutex until the source is at rest, or halted. It requires that the sleepers concerned are called.
     pub(crate) fn free_until_rest(self, rt: &impl Wait, calls: &Calls) -> Locked<'a, S, T, D, J>
         requires { IsTold (mutex_guard_value self.guard) }
         ensures { is_at_work (mutex_guard_value result.guard) ≡ false }

@@ -1,4 +1,4 @@
-//! Seats: what a session calls by.
+//! Seats: a session makes its calls through one.
 ghost use Rattle.std.specs.Prelude.{◌≡◌, ◌↔◌, ◌≤◌, ◌-◌, IsTrue, true, length, take, OnOk, OnErr};
 ghost use Rattle.source_shared.specs.Seat.{new_seat, begun_seat, wrote, aborted_seat, IsFor, Takes};
 
@@ -11,7 +11,7 @@ use std::alloc::Global;
 use std::marker::{Model, PhantomData};
 
 /// The one seat of a session. It keeps the changes that the session wrote since it last began, to compare them with the
-/// receipt that it is given. It may go to any thread.
+/// receipt that it gets. It may go to any thread.
 #[derive(Drop)]
 pub struct SessionSeat<J: SourceNaming> {
     session: u16,
@@ -63,14 +63,14 @@ impl<J: SourceNaming> SessionSeat<J> {
         self.underway
     }
 
-    // Its transaction is queued.
+    // Notes that its transaction is queued.
     pub(crate) fn queued(&mut self)
         ensures { self.new ≡ record self.old { underway = true } }
     {
         self.underway = true;
     }
 
-    // It begins a transaction.
+    // Notes that it begins a transaction.
     pub(crate) fn begun(&mut self)
         ensures { self.new ≡ begun_seat self.old }
     {
@@ -78,14 +78,14 @@ impl<J: SourceNaming> SessionSeat<J> {
         self.underway = false;
     }
 
-    // Its transaction is aborted.
+    // Notes that its transaction is aborted.
     pub(crate) fn aborted(&mut self)
         ensures { self.new ≡ aborted_seat self.old }
     {
         self.changes.clear();
     }
 
-    // It wrote a change.
+    // Notes that it wrote a change.
     pub(crate) fn wrote(&mut self, change: Change) -> Result<(), Memory>
         ensures ok { OnOk result (self.new ≡ wrote self.old change) }
         ensures err { OnErr result (self.new ≡ self.old) }
@@ -94,14 +94,14 @@ impl<J: SourceNaming> SessionSeat<J> {
         Ok(())
     }
 
-    // It did not write the last change.
+    // Takes the last change back: the core did not accept it.
     pub(crate) fn unwrote(&mut self)
         ensures { self.new ≡ record self.old { changes = take (length self.old.changes - 1) self.old.changes } }
     {
         self.changes.truncate(self.changes.len().saturating_sub(1));
     }
 
-    // Whether the receipt is one that it may be given. If so, it is given.
+    // Whether the receipt fits this seat. If so, the seat takes it.
     pub(crate) fn takes(&mut self, receipt: &Receipt<J>) -> bool
         ensures { Takes self.old receipt.now result self.new }
     {
@@ -113,7 +113,8 @@ impl<J: SourceNaming> SessionSeat<J> {
         fits
     }
 
-    // Whether the receipt is of its session and of its changes, and its gno above those of its earlier ones.
+    // Whether the receipt is for its session and for just its changes, and its gno is above those of its earlier
+    // receipts.
     fn fits(&self, given: &Given) -> bool
         ensures { IsTrue result ↔ IsFor self.now given.now }
     {

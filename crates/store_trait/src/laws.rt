@@ -3,17 +3,17 @@
 ghost use Rattle.store_trait.specs.Laws.{SetsItsRows, IsItsRows, HasTheRows, SortedRowsRise, RisingRowsDiffer, CarriesChanges, GoesOn};
 ghost use Rattle.store_trait.specs.Laws.{GoesOnByOps, LoadsAll, FitsApart, StandingFits, FitsStands, HolderIsFirst};
 
-/// Behind a batch each row is as the batch has it, or else as it was.
+/// After a batch each row is as the batch has it, or else as it was.
 pub fn batch_sets_its_rows()
     ensures { SetsItsRows }
 {}
 
-/// Batches that have the same at each row are one.
+/// Batches that agree at each row are equal.
 pub fn batch_is_its_rows()
     ensures { IsItsRows }
 {}
 
-/// The batch of some rows of a database has these rows as they are there, absent ones as removed, and no other.
+/// The batch of some rows of a database has these rows as they are there, absent ones as removed, and no others.
 pub fn batch_of_rows()
     ensures { HasTheRows }
 {}
@@ -23,34 +23,35 @@ pub fn batch_carries_changes()
     ensures { CarriesChanges }
 {}
 
-/// Entries make a batch, once they are sorted by row id, exactly where no row comes twice.
+/// Entries, sorted by row id, make a batch exactly if no row comes twice.
 pub fn sorted_rows()
     ensures rise { SortedRowsRise }
     ensures differ { RisingRowsDiffer }
 {}
 
-/// Batches put in two parts are put in one.
+/// Putting batches in two parts is the same as putting them in one.
 pub fn batches_go_on()
     ensures { GoesOn }
 {}
 
-/// More operations begin with what the operations before them leave.
+/// Further operations begin with what the operations before them leave.
 pub fn operations_go_on()
     ensures { GoesOnByOps }
 {}
 
-/// There is a batch that loads any database.
+/// For each database there is a batch that loads it.
 pub fn batch_loads_all()
     ensures { LoadsAll }
 {}
 
-/// In rows that fit, a value of a unique column has one row at most, which is the first that has it.
+/// In rows that fit, a value of a unique column has at most one row, which is the first that has it.
 pub fn values()
     ensures apart { FitsApart }
     ensures first { HolderIsFirst }
 {}
 
-/// Rows fit exactly where each of them stands, and no two have one value in a unique column.
+/// Rows fit exactly if each has its table's columns and its parent, as `rows_stand` checks, and no two have one value
+/// in a unique column.
 pub fn standing()
     ensures fit { StandingFits }
     ensures stand { FitsStands }

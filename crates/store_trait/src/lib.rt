@@ -1,11 +1,12 @@
 //! Stores of rows, seen as finite maps.
 //!
-//! A `RowStore` contains a database (`contents`, a finite map from row ids to rows), however it keeps it:
-//! callers stand on the trait's contract alone. A `Batch` names each row that changes once, in the order of
-//! row ids, and is put whole or not at all. An `Op` is what a replica publishes: the rows that are loaded at
-//! first, and then the batch of each commit. `holder` looks for the first row that has a value in a column, and `fits` tells
-//! whether a schema allows the rows of a store; `rows_stand` tells it but for the values of unique columns, in less time. `laws` states
-//! what batches leave of a database, and that rows fit exactly where they stand and no two have one value in a unique column.
+//! A `RowStore` contains a database (`contents`, a finite map from row ids to rows), however it keeps it: callers use
+//! only the trait's contract. A `Batch` names each row that changes once, in the order of row ids, and is put whole or
+//! not at all. An `Op` is what a replica publishes: the rows that are loaded at first, and then the batch of each
+//! commit. `holder` looks for the first row that has a value in a column. `fits` says whether a schema allows the rows
+//! of a store. `rows_stand` checks the same except for the values of unique columns, in less time. `laws` states what
+//! batches leave of a database, and that rows fit exactly if `rows_stand` holds and no two have one value in a unique
+//! column.
 #![tactic(auto)]
 
 ghost use Rattle.std.specs.Prelude.{◌≡◌, ℕ, ℤ, Option, ◌≤◌, ◌↔◌, IsTrue, Some, List, [], ◌∷◌, ◌++◌, length, take, map, slice_get, SomeIff};
@@ -30,7 +31,7 @@ use std::alloc::Global;
 use std::marker::Model;
 use walk::next_row;
 
-/// For each row that changes its new columns, or `None` where the row is removed. The row ids strictly rise.
+/// For each row that changes its new columns, or `None` if the row is removed. The row ids strictly rise.
 #[derive(Debug, Drop)]
 pub struct Batch {
     entries: Vec<(RowId, Option<Row>)>,
@@ -57,8 +58,8 @@ impl Batch {
         }
     }
 
-    /// A batch of these rows; `None` where their ids do not strictly rise. It takes no memory. The time is that
-    /// of a walk over the rows.
+    /// A batch of these rows; `None` if their ids do not strictly rise. It takes no memory, and the time of a walk over
+    /// the rows.
     pub fn from_entries(entries: Vec<(RowId, Option<Row>)>) -> Option<Batch>
         ensures { SomeIff result (IsRising entries.items) entries.items }
     {
@@ -84,7 +85,7 @@ impl Batch {
         &self.entries
     }
 
-    /// An equal batch, in memory of its own.
+    /// An equal batch, in separate memory.
     pub fn copy(&self) -> Result<Batch, Memory>
         ensures { IfOk result (λ batch. batch ≡ self.now) }
     {
@@ -101,12 +102,12 @@ fn is_rising(entries: &[(RowId, Option<Row>)]) -> bool
     entries.is_sorted_by(|a, b| a.0 < b.0)
 }
 
-/// What is done to a published store.
+/// An operation on a published store.
 #[derive(Debug, Drop)]
 pub enum Op {
     /// The rows that were there before the first commit.
     Load(Batch),
-    /// What the commit of this number changed.
+    /// What the commit with this number changed.
     Commit { gno: u64, batch: Batch },
 }
 
@@ -120,7 +121,7 @@ impl Op {
         }
     }
 
-    /// An equal operation, in memory of its own.
+    /// An equal operation, in separate memory.
     pub fn copy(&self) -> Result<Op, Memory>
         ensures { IfOk result (λ op. op ≡ self.now) }
     {
@@ -136,18 +137,18 @@ impl Op {
 
 /// A store of rows, which contains a database.
 pub trait RowStore {
-    /// What it contains, however it is kept.
+    /// The database that it contains, however it is kept.
     ghost contents: { Self → Database };
 
-    /// A store that has just refused this batch. What it means is the store's own; callers learn of a refusal by it
-    /// alone.
+    /// The store has just refused this batch. Each store says what this means; it is all that callers learn of a
+    /// refusal.
     ghost has_refused: { Self → List Entry → Type 0 } = { λ _ _. Unit {0} };
 
-    /// The row, where it is there. It takes no memory. The time is logarithmic in the number of rows.
+    /// The row, if it is there. It takes no memory. The time is logarithmic in the number of rows.
     fn get(&self, id: RowId) -> Option<Row>
         ensures { result ≡ row_of (contents self.now) id };
 
-    /// Puts the whole batch, or, where memory runs out, nothing of it.
+    /// Puts the whole batch, or nothing of it if memory runs out.
     fn put_all(&mut self, batch: &Batch) -> Result<(), Memory>
         ensures ok { OnOk result (contents self.new ≡ put_batch batch.now (contents self.old)) }
         ensures err { OnErr result (contents self.new ≡ contents self.old) }
@@ -157,20 +158,20 @@ pub trait RowStore {
     fn len(&self) -> usize
         ensures { result ≡ size_of (contents self.now) };
 
-    /// Whether there is no row.
+    /// Whether there are no rows.
     fn is_empty(&self) -> bool
         ensures { IsTrue result ↔ (size_of (contents self.now) ≡ 0) }
     {
         self.len() == 0
     }
 
-    /// Of a table's rows above the key, or of all of them, the one with the least key. It takes no memory.
-    /// The time is logarithmic in the number of rows.
+    /// The row with the least key, of the table's rows above the given key, or of all of them without one. It takes no
+    /// memory. The time is logarithmic in the number of rows.
     fn next_in_table(&self, table: u16, above: Option<i64>) -> Option<(i64, Row)>
         ensures { IsNextInTable (contents self.now) table above result };
 }
 
-/// Puts batches in order up to the first that is refused, and answers how many were put: all of them, where none is
+/// Puts batches in order up to the first that is refused, and returns how many were put: all of them if none is
 /// refused. The time is that of putting these.
 pub fn run<S: RowStore>(store: &mut S, batches: &[Batch]) -> usize
     ensures within { result ≤ length batches.now }
@@ -185,8 +186,8 @@ pub fn run<S: RowStore>(store: &mut S, batches: &[Batch]) -> usize
     batches.len()
 }
 
-/// The least key of a row of the table that has the value in the column; `None` where no row has it. It takes no memory. The time is
-/// that of a walk over the table's rows up to that one.
+/// The least key of a row of the table that has the value in the column; `None` if no row has it. It takes no memory.
+/// The time is that of a walk over the table's rows up to that one.
 pub fn holder<S: RowStore>(store: &S, table: u16, column: u8, value: i64) -> Option<i64>
     ensures { IsHolder (S.contents store.now) table column value result }
 {
@@ -209,8 +210,8 @@ fn has_value(row: &Row, column: u8, value: i64) -> bool
         .is_some_and(|own| *own == value)
 }
 
-/// The least key of a row that has the mark; `None` where none has it. It takes no memory. The time is that of a walk over the
-/// table's rows up to that one.
+/// The least key of a row that has the mark; `None` if no row has it. It takes no memory. The time is that of a walk
+/// over the table's rows up to that one.
 pub fn holder_of<S: RowStore>(schema: &Schema, store: &S, mark: Mark) -> Option<i64>
     ensures { result ≡ holder_of schema.now (S.contents store.now) mark }
 {
@@ -218,9 +219,9 @@ pub fn holder_of<S: RowStore>(schema: &Schema, store: &S, mark: Mark) -> Option<
     holder(store, mark.table(), column, mark.value())
 }
 
-/// Whether each row has its table's columns, each row of a child table its parent, and no two rows of a table one value in its
-/// unique column. It takes no memory. The time is that of `rows_stand`, and in a table with a unique column each row costs a walk over
-/// the rows up to it too, so that it is quadratic in the rows of such a table.
+/// Whether each row has its table's columns, each row of a child table has its parent, and no two rows of a table have
+/// one value in its unique column. It takes no memory. The time is that of `rows_stand`. In a table with a unique
+/// column each row also costs a walk over the rows up to it, which is quadratic in the rows of the table.
 pub fn fits<S: RowStore>(schema: &Schema, store: &S) -> bool
     ensures fit { IsTrue result ↔ Fits schema.now (S.contents store.now) }
     ensures apart { IsTrue result → NoValueTwice schema.now (S.contents store.now) }
@@ -229,16 +230,16 @@ pub fn fits<S: RowStore>(schema: &Schema, store: &S) -> bool
     rows_stand(schema, store) && values_are_own(schema, store)
 }
 
-/// Whether each row has its table's columns, and each row of a child table its parent: what `fits` asks but for the values of unique
-/// columns. It takes no memory. The time is that of one look-up a row, of two in a child table, and of a walk over the tables for each
-/// row.
+/// Whether each row has its table's columns, and each row of a child table has its parent: the check of `fits` without
+/// the values of unique columns. It takes no memory. The time is that of one look-up for each row, of two in a child
+/// table, and of a walk over the tables for each row.
 pub fn rows_stand<S: RowStore>(schema: &Schema, store: &S) -> bool
     ensures { IsTrue result ↔ RowsStand schema.now (S.contents store.now) }
 {
     let mut last = None;
     for _ in 0..store.len() {
         let Some((id, row)) = next_row(store, schema.tables(), last) else {
-            // The schema's tables have fewer rows than the store: a row is of none of them.
+            // The schema's tables have fewer rows than the store, so some row is of no table of the schema.
             return false;
         };
         if !row_stands(schema, store, id, &row) {
@@ -249,8 +250,8 @@ pub fn rows_stand<S: RowStore>(schema: &Schema, store: &S) -> bool
     true
 }
 
-/// Whether each row is of a table of the schema, whatever its columns are. It takes no memory. The time is that of one look-up a row,
-/// and of a walk over the tables for each table.
+/// Whether each row is of a table of the schema, whatever its columns are. It takes no memory. The time is that of one
+/// look-up for each row, and of a walk over the tables for each table.
 pub fn are_of_tables<S: RowStore>(schema: &Schema, store: &S) -> bool
     ensures { IsTrue result ↔ AreOfTables schema.now (S.contents store.now) }
 {
@@ -264,7 +265,7 @@ pub fn are_of_tables<S: RowStore>(schema: &Schema, store: &S) -> bool
     true
 }
 
-/// Whether the row is of a table of the schema, has its columns, and has its parent, where there is to be one.
+/// Whether the row is of a table of the schema, has its columns, and, if the table has a parent, has its parent row.
 fn row_stands<S: RowStore>(schema: &Schema, store: &S, id: RowId, row: &Row) -> bool
     ensures { IsTrue result ↔ RowStands schema.now (S.contents store.now) id row.now }
 {
@@ -275,7 +276,7 @@ fn row_stands<S: RowStore>(schema: &Schema, store: &S, id: RowId, row: &Row) -> 
     columns.len() == usize::from(table.columns) && parent_is_there(store, table, columns)
 }
 
-/// Whether these columns of a row of the table name a parent that is there, where the table has a parent.
+/// Whether these columns of a row of the table name a parent that is there, or the table has no parent.
 fn parent_is_there<S: RowStore>(store: &S, table: Table, columns: &[i64]) -> bool
     ensures { (ts : List Table) (id : ℕ) → table_at ts id ≡ Some table
         → result ≡ has_parent ts (S.contents store.now) id columns.now }
@@ -293,7 +294,7 @@ fn parent_is_there<S: RowStore>(store: &S, table: Table, columns: &[i64]) -> boo
     store.get(id).is_some()
 }
 
-/// Whether each row is the first of its table that has its value in the unique column, so that no two rows have one value.
+/// Whether each row is the first of its table with its value in the unique column, so that no two rows have one value.
 fn values_are_own<S: RowStore>(schema: &Schema, store: &S) -> bool
     ensures { IsTrue result ↔ NoValueTwice schema.now (S.contents store.now) }
 {
@@ -305,7 +306,8 @@ fn values_are_own<S: RowStore>(schema: &Schema, store: &S) -> bool
     true
 }
 
-/// Whether each row of the table is the first that has its value in the unique column. Without such a column no row is looked at.
+/// Whether each row of the table is the first with its value in the unique column. Without such a column no row is
+/// looked at.
 fn are_own_in_table<S: RowStore>(schema: &Schema, store: &S, table: u16) -> bool
     ensures { IsTrue result ↔ OwnInTable schema.now (S.contents store.now) table }
 {
@@ -315,7 +317,7 @@ fn are_own_in_table<S: RowStore>(schema: &Schema, store: &S, table: u16) -> bool
     }
 }
 
-/// Whether each row of the table is the first that has its value in the column, row by row.
+/// Whether each row of the table is the first with its value in the column, row by row.
 fn are_own_in_column<S: RowStore>(store: &S, table: u16, column: u8) -> bool
     ensures { IsTrue result ↔ OwnInColumn (S.contents store.now) table column }
 {
@@ -329,7 +331,8 @@ fn are_own_in_column<S: RowStore>(store: &S, table: u16, column: u8) -> bool
     true
 }
 
-/// Whether the table's row of this key, with its columns, is the first that has its value in the column, if it has that column.
+/// Whether the table's row with this key and these columns is the first with its value in the column; true if it does
+/// not have that column.
 fn is_own<S: RowStore>(store: &S, table: u16, column: u8, found: &(i64, Row)) -> bool
     ensures { IsTrue result ↔ ((value : ℤ) → slice_get found.now.1 column ≡ Some value
         → IsLeastWithValue (S.contents store.now) table column value found.now.0) }
@@ -340,8 +343,8 @@ fn is_own<S: RowStore>(store: &S, table: u16, column: u8, found: &(i64, Row)) ->
     }
 }
 
-/// The batch that loads an empty store with all rows of this one, each of which is of a table of the schema. The time is that of a
-/// look-up a row, and of a walk over the tables for each table.
+/// The batch that loads an empty store with all rows of this one, each of which is of a table of the schema. The time
+/// is that of a look-up for each row, and of a walk over the tables for each table.
 pub fn snapshot<S: RowStore>(alloc: Global, store: &S, schema: &Schema) -> Result<Batch, Memory>
     requires { AreOfTables schema.now (S.contents store.now) }
     ensures rows { IfOk result (λ batch. batch ≡ all_rows (S.contents store.now)) }

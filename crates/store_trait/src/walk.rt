@@ -1,4 +1,4 @@
-//! A walk over a store's rows in the order of row ids, table by table, with no memory.
+//! A walk over a store's rows in the order of row ids, table by table. It takes no memory.
 
 ghost use Rattle.std.specs.Prelude.{◌≤◌};
 ghost use Rattle.store_trait.specs.Walk.{IsNextTable, IsFirstOf, IsFromTable, IsAhead, IsOfTables};
@@ -7,8 +7,8 @@ use crate::RowStore;
 use rows::Row;
 use schema::{RowId, Table};
 
-/// The first row of these tables behind the last one, or the first of all. The time is that of one look-up; at the
-/// end of a table also that of a walk over the tables and of a look-up, for each empty table that follows too.
+/// The first row of these tables after the last one, or the first of all. The time is that of one look-up. At the end
+/// of a table it is also that of a walk over the tables and of a look-up, again for each empty table that follows.
 pub(crate) fn next_row<S: RowStore>(
     store: &S,
     tables: &[Table],
@@ -27,7 +27,7 @@ pub(crate) fn next_row<S: RowStore>(
     }
 }
 
-/// The first row of these tables whose ids are at least the number.
+/// The first row in those of these tables whose ids are at least `from`.
 fn first_row<S: RowStore>(store: &S, tables: &[Table], mut from: u32) -> Option<(RowId, Row)>
     ensures { IsFirstOf (S.contents store.now) (IsFromTable tables.now from) result }
 {
@@ -40,7 +40,7 @@ fn first_row<S: RowStore>(store: &S, tables: &[Table], mut from: u32) -> Option<
     None
 }
 
-/// The least id of these tables that is at least the number.
+/// The least id of these tables that is at least `from`.
 fn next_table(tables: &[Table], from: u32) -> Option<u16>
     ensures { IsNextTable tables.now from result }
 {

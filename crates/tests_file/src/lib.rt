@@ -1,5 +1,5 @@
-//! Tests of a device over a file: what no clause says of it, of a log on it, and of a log in several files. `noting` has a file that
-//! notes what it is asked.
+//! Tests what no clause says of a device over a file, of a log on it, and of a log in several files. `noting` has a
+//! file that notes what it is asked.
 #![tactic(auto)]
 
 pub mod noting;

@@ -7,7 +7,7 @@ use log_device::{Device, MemoryDevice};
 use std::alloc::{AllocError, Global};
 use std::{fmt, io};
 
-/// A call that it was made.
+/// A call that was made to the file.
 #[derive(Drop)]
 pub enum Noted {
     Written { at: u64, bytes: Vec<u8> },
@@ -25,16 +25,16 @@ impl fmt::Display for Noted {
     }
 }
 
-/// What comes of the call that fails.
+/// What a failing call still does.
 #[derive(Clone, Copy, Debug, PartialEq, Eq)]
 pub enum Outcome {
     /// Nothing.
     None,
-    /// Of a write the first half, and a cut whole.
+    /// Half of a write, or a whole cut.
     Half,
 }
 
-/// A file in memory. Its content has room for a thousand bytes, so that no call lacks memory but for its note.
+/// A file in memory. Its content has room for a thousand bytes, so that only a note can run out of memory.
 #[derive(Drop)]
 pub struct NotingFile {
     alloc: Global,
@@ -48,7 +48,7 @@ pub struct NotingFile {
 impl NotingFile {
     ghost use Rattle.tests_file.specs.Noted.{call_of, made_of};
 
-    /// A file without content that fails its `nth` call, counted from 1; none where it is 0.
+    /// A file without content that fails its `nth` call, counted from 1, or none if `nth` is 0.
     pub fn failing(alloc: Global, nth: u64, outcome: Outcome) -> Result<NotingFile, AllocError> {
         Ok(NotingFile {
             alloc,
@@ -60,7 +60,7 @@ impl NotingFile {
         })
     }
 
-    /// What it was asked, unless a note found no memory.
+    /// What it was asked, unless memory ran out for a note.
     pub fn notes(&self) -> Option<&[Noted]> {
         if self.is_whole {
             Some(&self.notes)
@@ -91,7 +91,7 @@ impl NotingFile {
         }
     }
 
-    /// Whether a call fails: its turn has come.
+    /// Counts a call, and returns whether it fails: its turn has come.
     fn fails(&mut self) -> bool
         ensures { made_of self.new ≡ made_of self.old }
     {

@@ -1,5 +1,5 @@
-//! Tests of what outlives a source: a log that is replayed and goes on, one life after another over the same files, and a replica that
-//! becomes a source. What no clause says of these.
+//! Tests what no clause says of the things that outlive a source: a log that is replayed and goes on, one life after
+//! another over the same files, and a replica that becomes a source.
 #![tactic(auto)]
 
 #[cfg(test)]

@@ -1,4 +1,4 @@
-//! What crates of tests make of records: plain ones, marks, their bytes, and the source that they come from.
+//! What test crates make of records: plain ones, marks, their bytes, and the source that they come from.
 
 use record_codec::{Changes, Flags, Marks, Record, Refs, Version, decode, encode};
 use rows::Change;
@@ -12,12 +12,12 @@ pub fn source() -> Uuid {
     Uuid::from_u128(0x6d74_7200_0000_4000_8000_0000_0000_0001)
 }
 
-/// The record of this number with this change alone.
+/// The record of this number with only this change.
 pub fn record(alloc: Global, gno: u64, parent: u64, change: Change) -> Result<Record, Memory> {
     record_of(alloc, gno, parent, vec![in alloc; change]?)
 }
 
-/// The record of this number with these changes, and neither refs nor marks nor flags.
+/// The record of this number with these changes, and no refs, marks or flags.
 pub fn record_of(
     alloc: Global,
     gno: u64,
@@ -35,7 +35,7 @@ pub fn record_of(
     ))
 }
 
-/// These marks, each a table and a value, in rising order: as they are read from a record that has them.
+/// These marks, each a table and a value, in rising order. They are decoded from a record that has them.
 pub fn marks_of(alloc: Global, marks: &[(u16, i64)]) -> Result<Marks, Memory> {
     let mut bytes = Vec::new(alloc);
     let count = u16::try_from(marks.len()).map_err(|_| Memory)?;
@@ -52,7 +52,8 @@ pub fn marks_of(alloc: Global, marks: &[(u16, i64)]) -> Result<Marks, Memory> {
     Ok(read.marks)
 }
 
-/// The bytes of the records in the form that sources write, one behind the other. Each is written once more where memory lacked.
+/// The bytes of the records, one after another, in the form that sources write. If memory runs out for a record, it is
+/// written once more.
 pub fn spelled(alloc: Global, records: &[Record]) -> Result<Vec<u8>, Memory> {
     let mut bytes = Vec::new(alloc);
     for record in records {

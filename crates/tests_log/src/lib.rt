@@ -1,5 +1,5 @@
-//! Tests of records, whole and in pieces, of sets of ids, of what trackers see of a log, and of the log file on its
-//! device: what no clause says of them. `common` has what other crates of tests make too.
+//! Tests what no clause says of records, whole and in pieces, of sets of ids, of what trackers see of a log, and of the
+//! log file on its device. `common` has what other test crates use too.
 #![tactic(auto)]
 
 pub mod common;

@@ -1,4 +1,4 @@
-//! Tests of the parts of a replica and of the replica itself, on one thread: what no clause says of them.
+//! Tests what no clause says of a replica's parts and of the replica itself, on one thread.
 #![tactic(auto)]
 
 #[cfg(test)]

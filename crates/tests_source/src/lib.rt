@@ -1,4 +1,4 @@
-//! Tests of the parts of a source and of the source itself, on one thread: what no clause says of them.
+//! Tests what no clause says of a source's parts and of the source itself, on one thread.
 #![tactic(auto)]
 
 #[cfg(test)]

@@ -1,4 +1,4 @@
-//! What crates of tests make alike: rows, changes, tables, the text of a fault, and a call's second try.
+//! What several test crates make: rows, changes, tables, the text of a fault, and a call's second try.
 
 ghost use Rattle.std.specs.Prelude.{◌≡◌, IfOk};
 
@@ -7,7 +7,7 @@ use schema::{Memory, RowId, Schema, Table};
 use std::alloc::{AllocError, Global};
 use std::fmt::Display;
 
-/// What the call answers; where it is refused, and for this reason if one is given, what its second try does.
+/// What the call returns. If it is refused, and for this reason if one is given, what its second try returns.
 #[macro_export]
 macro_rules! again {
     ($call:expr) => {
@@ -24,8 +24,8 @@ macro_rules! again {
     };
 }
 
-/// The value in a box, for which a refused request is made once more. To let go of a box is one call, which is proved once; a big value
-/// is gone through at each way out of the test that owns it.
+/// The value in a box. If memory runs out, the request is made once more. To drop a box is one call, which is proved
+/// once; a big value is walked through at each way out of the test that owns it.
 pub fn boxed<T: Drop>(alloc: Global, value: T) -> Result<Box<T>, AllocError>
     ensures { IfOk result (λ made. made.value ≡ value) }
 {
@@ -35,7 +35,7 @@ pub fn boxed<T: Drop>(alloc: Global, value: T) -> Result<Box<T>, AllocError>
     }
 }
 
-/// The row of this key in this table.
+/// The id of the row with this key in this table.
 pub fn row(table: u16, key: i64) -> RowId {
     RowId { table, key }
 }
@@ -56,7 +56,7 @@ pub fn update(row: RowId, column: u8, value: i64) -> Result<Change, Memory> {
     })
 }
 
-/// Tables 1 and 2 have no kin, 3 is the parent of 4, and 5 is keyless. Each has two columns.
+/// Tables 1 and 2 have no kin, table 3 is the parent of 4, and 5 is keyless. Each has two columns.
 pub fn five_tables(alloc: Global) -> Result<Schema, Memory> {
     let tables = vec![in alloc;
         Table::new(1, 2, true),
@@ -68,8 +68,8 @@ pub fn five_tables(alloc: Global) -> Result<Schema, Memory> {
     Schema::new(tables).map_err(|_| Memory)
 }
 
-/// Tables 1 and 2 have a unique column, of one and of two columns their last. Table 3 has none, and is the parent of 4, whose second
-/// of two columns is unique.
+/// Table 1 has one column and table 2 has two; in each the last one is unique. Table 3 has no unique column, and is the
+/// parent of table 4, whose second of two columns is unique.
 pub fn unique_tables(alloc: Global) -> Result<Schema, Memory> {
     let tables = vec![in alloc;
         Table::new(1, 1, true).with_unique(0),
@@ -80,7 +80,7 @@ pub fn unique_tables(alloc: Global) -> Result<Schema, Memory> {
     Schema::new(tables).map_err(|_| Memory)
 }
 
-/// Whether the fault's text is this.
+/// Whether this is the fault's text.
 pub fn is_told(alloc: Global, fault: &impl Display, text: &str) -> Result<bool, AllocError> {
     Ok(format!(in alloc; "{fault}")?.as_str() == text)
 }

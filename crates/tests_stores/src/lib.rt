@@ -1,5 +1,5 @@
-//! Tests of rows, of stores of rows, and of what one transaction lays over a store: what no clause says of them. `common` has
-//! what other crates of tests make too.
+//! Tests what no contract says of rows, of stores of rows, and of what one transaction lays over a store. `common` has
+//! what other test crates make too.
 #![tactic(auto)]
 
 pub mod common;

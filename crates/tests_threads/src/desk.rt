@@ -1,4 +1,4 @@
-//! A publisher of commits that set one row to their own numbers. It ends itself, so that it may lie under a lock.
+//! A publisher whose commits set one row to their own numbers. It closes when it is dropped, so that a lock can hold it.
 ghost use Rattle.std.specs.Prelude.{◌≡◌, ◌≤◌, ◌<◌, ◌^◌, true, None};
 ghost use Rattle.tests_threads.specs.Numbers.{behind as behind_it};
 
@@ -18,8 +18,8 @@ use tests_stores::again;
 /// The greatest gno of a commit.
 pub const LAST: u64 = 4096;
 
-/// The publisher, what it takes to end it, whether the order of the log is kept, and the gno of the next commit. They rise from 1 on where
-/// it is, and else fall to 1.
+/// The publisher, the runtime that ends it, whether the order of the log is kept, and the gno of the next commit. If the
+/// order is kept, the gnos rise from 1; else they fall to 1.
 pub struct Desk<'r, J: Naming, R: Wait>
 where
     Version<BTreeStore, J>: Absorb<CopyStep<J>, State = Common>,
@@ -90,7 +90,7 @@ impl<'r, J: Naming, R: Wait> Desk<'r, J, R> {
         Ok(())
     }
 
-    /// Appends so many commits. What is refused is done once more.
+    /// Appends `count` commits. A refused call is made once more.
     pub fn append_again(&mut self, alloc: Global, count: u64) -> Result<(), Memory> {
         for _ in 0..count {
             again!(self.append(alloc))?;
@@ -103,7 +103,7 @@ impl<'r, J: Naming, R: Wait> Desk<'r, J, R> {
         self.publisher.publish(self.rt)
     }
 
-    /// Appends so many commits and publishes them. What is refused is done once more.
+    /// Appends `count` commits and publishes them. A refused call is made once more.
     pub fn publish_again(&mut self, alloc: Global, count: u64) -> Result<u64, Memory> {
         self.append_again(alloc, count)?;
         again!(self.publish())
@@ -129,7 +129,7 @@ where
     }
 }
 
-/// The gno behind this one.
+/// The gno of the commit after this one.
 fn behind(preserve: bool, gno: u64) -> u64
     requires some { 1 ≤ gno }
     requires few { gno < 2 ^ 63 }

@@ -1,42 +1,42 @@
-//! A device in memory that does as it is told: its syncs take a while, a call is held, and writes find no memory.
+//! A device in memory that follows orders: syncs take a while, a call is held, and writes run out of memory.
 
 use log_device::{Device, DeviceFault, MemoryDevice};
 use std::sync::atomic::{AtomicBool, AtomicU64, Ordering};
 use std::thread::{sleep, yield_now};
 use std::time::{Clock, Duration};
 
-/// How many milliseconds a thread waits for another to come so far.
+/// How many milliseconds a thread waits for another one to get there.
 pub const PATIENCE: u32 = 3000;
 
-/// How often one who holds others up lets them run, at most.
+/// How often a thread that holds others up lets them run, at most.
 const TURNS: u32 = 1_000_000;
 
-/// Which call of the device is held until it is freed, in some turns at most.
+/// Which call of the device is held until it is freed, or until the turns end.
 #[derive(Clone, Copy, Drop)]
 pub enum Hold {
     None,
-    /// The sync of this number.
+    /// The sync of this number, counted from 1.
     Sync(u64),
-    /// A write that finds no memory.
+    /// A write that runs out of memory.
     Refusal,
 }
 
-/// What the device is told, and what it tells.
+/// The orders for the device, and what it reports.
 #[derive(Drop)]
 pub struct Orders<'r, R: Clock> {
     rt: &'r R,
-    /// So many more writes past the end find no memory.
+    /// How many more writes past the end run out of memory.
     pub refusals: AtomicU64,
     /// How many milliseconds a sync takes.
     pub millis: AtomicU64,
     held: Hold,
-    /// How often it was synced.
+    /// How often the device was synced.
     syncs: AtomicU64,
-    /// It is in the call that is held.
+    /// The device is in the call that is held.
     pub entered: AtomicBool,
-    /// That may go on.
+    /// The held call may go on.
     pub freed: AtomicBool,
-    /// It went on before.
+    /// The held call went on before it was freed.
     pub is_late: AtomicBool,
 }
 
@@ -54,12 +54,12 @@ impl<'r, R: Clock> Orders<'r, R> {
         }
     }
 
-    /// How many groups were synced: each twice, and a new log once.
+    /// How many groups were synced. A group takes two syncs, and a new log one.
     pub fn groups(&self) -> u64 {
         self.syncs.load(Ordering::SeqCst) / 2
     }
 
-    /// Whether the next write finds no memory.
+    /// Whether the next write runs out of memory. It is held if the orders say so.
     fn refuses(&self) -> bool {
         let left = self.refusals.load(Ordering::SeqCst);
         self.refusals
@@ -82,7 +82,7 @@ impl<'r, R: Clock> Orders<'r, R> {
         }
     }
 
-    /// Frees the device, late enough for the sessions behind it to sleep.
+    /// Frees the device, late enough for the waiting sessions to fall asleep.
     pub fn free_soon(&self) {
         sleep(self.rt, Duration::from_millis(20));
         self.freed.store(true, Ordering::SeqCst);
@@ -96,7 +96,7 @@ impl<'r, R: Clock> Orders<'r, R> {
     }
 }
 
-/// Whether the flag is set before the patience ends.
+/// Whether the flag is set within `PATIENCE` milliseconds.
 pub fn comes(clock: &impl Clock, flag: &AtomicBool) -> bool {
     for _ in 0..PATIENCE {
         if flag.load(Ordering::SeqCst) {
@@ -107,7 +107,7 @@ pub fn comes(clock: &impl Clock, flag: &AtomicBool) -> bool {
     false
 }
 
-/// Whether the flag is set before the turns end, in each of which another thread may run.
+/// Whether the flag is set before the turns end. In each turn another thread may run.
 pub fn comes_in_turns(flag: &AtomicBool) -> bool {
     for _ in 0..TURNS {
         if flag.load(Ordering::SeqCst) {
@@ -118,7 +118,7 @@ pub fn comes_in_turns(flag: &AtomicBool) -> bool {
     false
 }
 
-/// The device.
+/// A device that follows orders.
 #[derive(Drop)]
 pub struct Ordered<'a, D: Device, R: Clock> {
     pub inner: D,
@@ -171,5 +171,5 @@ impl<'a, D: Device, R: Clock> Device for Ordered<'a, D, R> {
     }
 }
 
-/// The same in memory.
+/// A device in memory that follows orders.
 pub type InMemory<'a, R> = Ordered<'a, MemoryDevice, R>;

@@ -5,14 +5,14 @@ use replica_shared::WorkerGate;
 use schema::Memory;
 use std::sync::atomic::{AtomicBool, AtomicU64, Ordering};
 
-/// It holds the first job until that of another number was left, in some turns at most, or until it is opened.
+/// Holds the first job until the job of number `other` is left, until the gate is opened, or until the turns end.
 #[derive(Drop)]
 pub struct HoldingGate {
     other: u64,
     is_open: AtomicBool,
-    /// The first goes on.
+    /// The first job goes on.
     is_over: AtomicBool,
-    /// The other was left before.
+    /// The other job was left before the first went on.
     has_met: AtomicBool,
 }
 
@@ -30,13 +30,13 @@ impl HoldingGate {
         self.is_open.store(true, Ordering::SeqCst);
     }
 
-    /// Whether the first has not gone on.
+    /// Whether the first job has not gone on.
     pub fn is_held(&self) -> bool {
         !self.is_over.load(Ordering::SeqCst)
     }
 
-    /// The other was left while the first was held. It lacks memory where it was not: then there was none for a thread, and the workers
-    /// ran one after another.
+    /// Checks that the other job was left while the first was held. If not, it fails with `Memory`: then there was no
+    /// memory for a thread, and the workers ran one after another.
     pub fn met(&self) -> Result<(), Memory> {
         if self.has_met.load(Ordering::SeqCst) {
             Ok(())
@@ -62,7 +62,7 @@ impl WorkerGate for HoldingGate {
     }
 }
 
-/// It notes the number of each job that is entered, a digit each; but a number once where it is entered twice in a row.
+/// Notes the number of each job that is entered, one digit each. A number that is entered twice in a row is noted once.
 #[derive(Drop)]
 pub struct Order {
     noted: AtomicU64,

@@ -1,5 +1,5 @@
-//! A shared source whose device is held or slow: what others do meanwhile and what they are told, who waits beside a group that another
-//! writes, and how many of those who sleep are woken.
+//! A shared source whose device is held or slow: what others do and get meanwhile, how a session waits beside a group
+//! that another one writes, and how many of the sleeping threads are woken.
 
 use crate::device::PATIENCE;
 use crate::makers::insert;
@@ -14,15 +14,16 @@ use std::test::Fail;
 use std::thread::{Threads, join, map_indices, sleep};
 use std::time::{Clock, Duration};
 
-/// So many sessions sleep behind the first one's group, and so many groups there are: its own, that of the next, and one of all others.
+/// How many sessions sleep after the first one's group, and how many groups there are: its own, that of the next, and one
+/// of all others.
 const BEHIND: u64 = 8;
 
 const GROUPS: u64 = 3;
 
-/// So many milliseconds a sync takes once they sleep: longer than who is woken for nothing needs to look.
+/// How many milliseconds a sync takes once they sleep: longer than a session that is woken for nothing needs to look.
 const LONG: u64 = 5;
 
-/// So many calls of each kind: of `commit`, of `bytes_past` and of `rotate`.
+/// The number of calls of each kind: of `commit`, of `bytes_past` and of `rotate`.
 pub fn waits(sessions: u64, followers: u64, rotators: u64) -> Waits {
     Waits {
         sessions,
@@ -31,22 +32,22 @@ pub fn waits(sessions: u64, followers: u64, rotators: u64) -> Waits {
     }
 }
 
-/// So often each of two sessions commits.
+/// How often each of two sessions commits.
 const TURNS: u64 = 20;
 
-/// So often all is done again at most, where the machine has no time for these threads.
+/// How often at most all is done, if the machine has no time for these threads.
 const ROUNDS: u64 = 8;
 
-/// So many microseconds one waits at least who waits beside a group of two milliseconds: more than the device, and less than after which
-/// its own group is flushed.
+/// How many microseconds at least a session waits beside a group of two milliseconds: more than one sync takes, and less
+/// than the time after which its own group is flushed.
 const BESIDE: u64 = 1500;
 
-/// A nap in microseconds, and less than half of the most naps behind one another.
+/// The microseconds of a nap, and of half the longest series of naps.
 const NAP: u64 = 50;
 
 const FEW_NAPS: u64 = 400;
 
-/// Whether it is about one nap that took so many microseconds.
+/// Whether these microseconds are about one nap.
 fn is_one_nap(micros: u64) -> bool {
     NAP <= micros && micros < FEW_NAPS
 }
@@ -56,9 +57,9 @@ where
     J: SourceNaming + Send + Sync,
     R: Threads + Wait + Abort + Clock + Sync,
 {
-    /// The first session's group is held, the second's is flushed beside it, and two more sleep behind both.
+    /// The first session's group is held, the second's is flushed beside it, and two more sessions sleep meanwhile.
     pub fn is_held(&self) -> Result<usize, Fail> {
-        // (The first does not sleep: to wake it in the place of those who are to lead would leave them asleep.)
+        // (The first session does not sleep: to wake it instead of those that have to lead would leave them asleep.)
         let (((first, second), (third, fourth)), looked) = join(
             self.rt,
             || join(
@@ -76,7 +77,7 @@ where
             ),
             || self.look(),
         );
-        // (Where there is no memory for a thread, the sessions commit one after another.)
+        // (If there is no memory for a thread, the sessions commit one after another.)
         let hidden = looked.ok_or(Memory)?;
         assert!(self.rt; hidden, "the first record is shown before it is synced");
         let is_late = self.orders.is_late.load(Ordering::SeqCst);
@@ -87,10 +88,10 @@ where
         Ok(4)
     }
 
-    /// The first session's group fails once its sync was held, while the second session sleeps with its own behind it, and another
-    /// thread follows the log: both are told.
+    /// The first session's group fails after its sync was held. Meanwhile the second session sleeps with its own group,
+    /// and another thread follows the log: both learn of the failure.
     pub fn are_told(&self) -> Result<usize, Fail> {
-        // (The second closure is called first where no thread can be made: so what the first waits for stands there.)
+        // (If no thread can be made, the second closure is called first: so it has what the first one waits for.)
         let (((second, followed), first), looked) = join(
             self.rt,
             || join(
@@ -111,7 +112,7 @@ where
         Ok(2)
     }
 
-    /// The first session's commit. Where that does not halt the source, this is closed.
+    /// The first session's commit. If that does not halt the source, the source is closed.
     fn commit_or_close(&self) -> Result<u64, SourceFault> {
         let done = self.commit_one(1);
         if done != Err(SourceFault::Halted) {
@@ -120,8 +121,8 @@ where
         done
     }
 
-    /// Frees the device soon after the second record is flushed, and answers whether the first was hidden then. `None` where it is not
-    /// flushed in time.
+    /// Frees the device soon after the second record is flushed, and returns whether the first was hidden then, or `None`
+    /// if the second is not flushed in time.
     fn look(&self) -> Option<bool> {
         let is_flushed = self.are_flushed(2);
         let hidden = is_flushed.then(|| matches!(self.source.record(self.rt, 1), Ok(None)));
@@ -129,8 +130,8 @@ where
         hidden
     }
 
-    /// Two sessions commit one behind the other, each beside the group of the other. This comes back before the next is flushed, and so it
-    /// got the lock meanwhile.
+    /// Two sessions commit in turn, each beside the group of the other. That group comes back before the next one is
+    /// flushed, and so its session got the lock meanwhile.
     pub fn wait_beside(&self) -> Result<usize, Fail> {
         let mut one = self.source.session(self.rt, 1)?;
         let mut two = self.source.session(self.rt, 2)?;
@@ -148,7 +149,7 @@ where
         Ok(self.source.flushed(self.rt)? as usize)
     }
 
-    /// Both commit in turn. How many groups came back before the next one was flushed.
+    /// Both commit in turn. Returns how many groups came back before the next one was flushed.
     fn take_turns(
         &self,
         one: &mut SessionSeat<J>,
@@ -164,8 +165,8 @@ where
         Ok(one?.saturating_add(two?))
     }
 
-    /// Commits inserts, each once the record of the other session in front of it is flushed. How often the other one waited beside its
-    /// group for long, and was not flushed when this came back.
+    /// Commits inserts, each once the other session's record before it is flushed. Returns how often the other session
+    /// waited long beside this one's group, and was not flushed when the group came back.
     fn take_turns_behind(
         &self,
         seat: &mut SessionSeat<J>,
@@ -191,8 +192,8 @@ where
         Ok(free)
     }
 
-    /// The receipt of one who gave up lies there. Two sessions make the groups long, and then the device is fast and one commits alone: as
-    /// long as it has to nap it does so once.
+    /// A session that gave up has a receipt that it has not taken. Two sessions make the groups long. Then the device is
+    /// fast, and one session commits by itself: as long as it has to nap, it does so once for each commit.
     pub fn nap_alone(&self) -> Result<usize, Fail> {
         let mut refused = self.prepared(5)?;
         self.orders.refusals.store(1, Ordering::SeqCst);
@@ -215,7 +216,7 @@ where
         Ok(self.source.flushed(self.rt)? as usize)
     }
 
-    /// How much longer a commit takes behind long groups than some commits later.
+    /// How many microseconds longer a commit takes just after long groups than some commits later.
     fn nap_of(&self, seat: &mut SessionSeat<J>) -> Result<u64, SourceFault> {
         let napping = self.fastest(seat)?;
         self.fastest(seat)?;
@@ -223,7 +224,7 @@ where
         Ok(napping.saturating_sub(awake))
     }
 
-    /// In how many microseconds the fastest of six commits ends.
+    /// How many microseconds the fastest of six commits takes.
     fn fastest(&self, seat: &mut SessionSeat<J>) -> Result<u64, SourceFault> {
         let mut least = u64::MAX;
         for _ in 0..6 {
@@ -235,7 +236,7 @@ where
         Ok(least)
     }
 
-    /// Prepares an insert of a row of the session's own.
+    /// Prepares an insert of a row that only this session writes.
     fn prepare_next(&self, seat: &mut SessionSeat<J>) -> Result<(), SourceFault> {
         let key = self
             .source
@@ -252,8 +253,8 @@ where
         u64::try_from(passed).unwrap_or(u64::MAX)
     }
 
-    /// The first session's group is held while the others sleep behind it; then groups take long, and two take the lock as often as they
-    /// can. Who sleeps looks once more, and who leads once more for its group.
+    /// The first session's group is held while the others sleep. Then groups take long, and two threads take the lock as
+    /// often as they can. Each session that sleeps looks once more, and each leader once more for its group.
     pub fn are_woken(&self) -> Result<usize, Fail> {
         let is_over = AtomicBool::new(false);
         let ((_, before), committed) = join(
@@ -280,7 +281,7 @@ where
             .sessions
             .saturating_sub(before.ok_or(Memory)?);
         if woken != BEHIND + GROUPS || self.orders.groups() != GROUPS {
-            // Others are woken where memory lacked too.
+            // If memory ran out, others are woken too.
             Err(Memory)?;
         }
         Ok(committed)
@@ -296,7 +297,7 @@ where
         }
     }
 
-    /// How often sessions had looked when all slept. `None` where they don't in time. Then the device is freed, and slow.
+    /// How often sessions had looked when all slept, or `None` if they don't in time. Then the device is freed, and slow.
     fn look_behind(&self) -> Option<u64> {
         let in_time = self.sleep_all(waits(BEHIND, 0, 0));
         let looks = self.source.looks(self.rt).sessions;
@@ -305,7 +306,7 @@ where
         in_time.then_some(looks)
     }
 
-    /// The first session commits, the next once that is flushed, and the others once both are. How many do.
+    /// The first session commits, the next once that is flushed, and the others once both are. Returns how many do.
     fn commit_all_behind(&self) -> Result<usize, Fail> {
         let each = map_indices(self.rt, self.alloc, 9, &|place| self.commit_place(place))?;
         let count = each.len();
@@ -315,13 +316,13 @@ where
         Ok(count)
     }
 
-    /// Commits an insert of the session of this place.
+    /// Commits an insert of the session at this place, counted from 0.
     fn commit_place(&self, place: usize) -> Result<u64, SourceFault> {
         let place = u16::try_from(place).unwrap_or(u16::MAX);
         self.commit_one_behind(place.min(2) as u64, place.saturating_add(1))
     }
 
-    /// Whether so many sleep before the patience ends.
+    /// Whether this number of calls sleep before the patience ends.
     pub fn sleep_all(&self, wanted: Waits) -> bool {
         for _ in 0..PATIENCE {
             if self.source.sleepers(self.rt) == wanted {

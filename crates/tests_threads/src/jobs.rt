@@ -1,4 +1,4 @@
-//! The queue of jobs alone: one pushes, and two steal.
+//! The queue of jobs by itself: one thread pushes, and two steal.
 ghost use Rattle.std.specs.Prelude.{◌≡◌};
 ghost use Rattle.replica_shared.specs.Queue.{IsPassOf, hand_of};
 
@@ -17,24 +17,25 @@ use std::time::{Clock, Duration};
 use store_trait::Batch;
 use tests_log::common::record;
 
-/// So many jobs are pushed.
+/// How many jobs are pushed.
 const JOBS: u64 = 100_000;
 
-/// So many lie in the queue at most, as long as any are stolen.
+/// How many jobs are in the queue at most, as long as any are stolen.
 const ROOM: u64 = 1000;
 
-/// So many lie there at least where one steals, as long as any are pushed: so those who steal meet.
+/// How many jobs are in the queue at least when a thread steals, as long as any are pushed: so the two threads that steal
+/// meet.
 const LEAST: u64 = 100;
 
 /// What was stolen.
 #[derive(Drop)]
 struct Loot {
-    /// Whether each job was.
+    /// Whether each job was stolen.
     each: Vec<AtomicBool>,
     count: AtomicU64,
-    /// How many were pushed.
+    /// How many jobs were pushed.
     pushed: AtomicU64,
-    /// No more are pushed.
+    /// No more jobs are pushed.
     is_over: AtomicBool,
 }
 
@@ -52,7 +53,7 @@ impl Loot {
         })
     }
 
-    /// A job was stolen. Whether it is one that nobody stole before.
+    /// Notes a stolen job. Returns whether nobody stole it before.
     fn is_new(&self, gno: u64) -> bool {
         self.count.fetch_add(1, Ordering::SeqCst);
         match self.each.get(gno.wrapping_sub(1) as usize) {
@@ -73,7 +74,8 @@ impl Loot {
     }
 }
 
-/// Catches a job that no thread gets, that two get, or that one gets behind a later one, and a queue that is told to be empty and is not.
+/// Catches a job that no thread gets, that two get, or that one gets after a later job. Also a queue that reports that it
+/// is empty and is not.
 #[test]
 fn two_steal_what_one_pushes(rt: HostRuntime) -> Result<(), Fail> {
     push_beside(&rt, rt.alloc())
@@ -93,7 +95,7 @@ fn push_beside<R: Threads + Wait + Abort + Clock + Sync>(
     );
     let loot = Loot::new(alloc)?;
     let (jobs, pass) = Jobs::new(alloc)?;
-    // (Where no thread can be made, those who steal come last.)
+    // (If no thread can be made, the stealing comes last.)
     let ((one, two), pushed) = join(
         rt,
         || join(
@@ -116,7 +118,7 @@ fn push_beside<R: Threads + Wait + Abort + Clock + Sync>(
     Ok(())
 }
 
-/// Pushes all jobs, copies of this one. It waits where many lie there, until that is in vain.
+/// Pushes all jobs, copies of this one. It waits while the queue has no room, until one wait is in vain.
 fn push_all(
     rt: &(impl Wait + Clock),
     jobs: &Jobs,
@@ -139,8 +141,9 @@ fn push_all(
     Ok(())
 }
 
-/// Steals until no more are pushed. Whether each gno was above the one before, and new; and, of one who is told so, whether the queue was
-/// empty: of the jobs that had been pushed all were stolen, and the other one may have one in hand.
+/// Steals until no more jobs are pushed. Returns whether each gno was new and above the one before. With `is_told`, also
+/// whether the queue was empty each time that it was reported so: the jobs pushed before were all stolen, except one that
+/// the other thread may have in hand.
 fn steal_all(rt: &impl Wait, jobs: &Jobs, loot: &Loot, is_told: bool) -> bool {
     let mut pass = jobs.pass();
     let mut last = 0;
@@ -169,7 +172,7 @@ fn steal_all(rt: &impl Wait, jobs: &Jobs, loot: &Loot, is_told: bool) -> bool {
     unreachable!()
 }
 
-/// One try to steal, by the call that tells whether the queue is empty, or by the other one.
+/// One try to steal: with `is_told` by the call that reports whether the queue is empty, else by the other one.
 fn steal(rt: &impl Wait, jobs: &Jobs, pass: &mut Pass, is_told: bool) -> Result<Option<Job>, Again>
     requires { IsPassOf jobs.now pass.old }
     ensures { IsPassOf jobs.now pass.new }

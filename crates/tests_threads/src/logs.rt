@@ -1,5 +1,5 @@
-//! The log of a shared source: how it goes on in next files, between commits, beside them, and where the next one can't be made; and who
-//! follows it.
+//! The log of a shared source: how it goes on in next files, between commits and beside them, and if the next file can't
+//! be made. Also the threads that follow it.
 
 use crate::device::{Ordered, PATIENCE, comes};
 use crate::held::waits;
@@ -18,7 +18,8 @@ use std::thread::{Threads, join, sleep};
 use std::time::{Clock, Duration};
 use tests_stores::again;
 
-/// So often two who follow look, three records and the end: each once as it begins to wait, and once as it is woken.
+/// How often the two followers look, for three records and the end: each once when it begins to wait, and once when it is
+/// woken.
 const LOOKS: u64 = 16;
 
 impl<'d, J, R> SourceRig<'_, 'd, J, R>
@@ -26,7 +27,7 @@ where
     J: SourceNaming + Send + Sync,
     R: Threads + Wait + Abort + Clock + Sync,
 {
-    /// A device for a next file. Its call of this number fails.
+    /// A device for a next file. Its call number `nth` fails, counted from 1, or none if that is 0.
     fn next_disk(&self, nth: u64) -> Disk<'d, R> {
         let device = Ordered {
             inner: MemoryDevice::new(self.alloc),
@@ -35,12 +36,12 @@ where
         FaultyDevice::new(device, nth)
     }
 
-    /// Rotates, once more where it lacked memory, and answers how many files there are.
+    /// Rotates, once more if memory runs out, and returns how many files there are.
     pub fn rotate(&self) -> Result<u64, SourceFault> {
         again!(SourceFault::Memory => self.source.rotate(self.rt, self.next_disk(0)))
     }
 
-    /// Two sessions commit, and the log goes on in a next file behind each.
+    /// Two sessions commit, and the log goes on in a next file after each commit.
     pub fn rotate_between(&self) -> Result<usize, Fail> {
         let (rt, source) = (self.rt, self.source);
         let mut one = source.session(rt, 1)?;
@@ -78,7 +79,8 @@ where
         Ok(numbers)
     }
 
-    /// The next file finds no memory, and the source goes on as before; and then its device fails, which halts the source.
+    /// Memory runs out for the next file, and the source goes on as before. Then a next file's device fails, which halts
+    /// the source.
     pub fn rotate_in_vain(&self) -> Result<usize, Fail> {
         let (rt, source) = (self.rt, self.source);
         let mut one = source.session(rt, 1)?;
@@ -100,10 +102,10 @@ where
         Ok(2)
     }
 
-    /// The first session's group is held, and the next one sleeps behind it, while two wait to rotate. Each of these looks as it begins to
-    /// wait, and once more.
+    /// The first session's group is held, and the next session sleeps, while two threads wait to rotate. Each of these
+    /// looks once when it begins to wait, and once more.
     pub fn rotate_twice(&self) -> Result<usize, Fail> {
-        // (The second closure is called first where no thread can be made: so what the first waits for stands there.)
+        // (If no thread can be made, the second closure is called first: so it has what the first one waits for.)
         let ((one, two), (in_time, (second, first))) = join(
             self.rt,
             || join(self.rt, || self.rotate_behind(), || self.rotate_behind()),
@@ -122,13 +124,13 @@ where
         let (one, two) = (one?, two?);
         assert_eq!(self.rt; [one.min(two), one.max(two)], [2, 3]);
         if !in_time || self.source.looks(self.rt).rotators != 4 {
-            // Who lacked memory looks again.
+            // A thread that ran out of memory looks again.
             Err(Memory)?;
         }
         Ok(2)
     }
 
-    /// Rotates once the device is held. It lacks memory where it is not in time.
+    /// Rotates once the device is held. Fails with `Memory` if it is not held in time.
     fn rotate_behind(&self) -> Result<u64, SourceFault> {
         if !comes(self.rt, &self.orders.entered) {
             return Err(SourceFault::Memory);
@@ -136,14 +138,14 @@ where
         self.rotate()
     }
 
-    /// Frees the device once so many sleep, and answers whether they do in time.
+    /// Frees the device once this number of calls sleep, and returns whether they do in time.
     fn free_behind(&self, wanted: Waits) -> bool {
         let in_time = self.sleep_all(wanted);
         self.orders.freed.store(true, Ordering::SeqCst);
         in_time
     }
 
-    /// Whether two who follow the log have looked so often, and sleep, before the patience ends.
+    /// Whether the two followers have looked `looks` times, and sleep, before the patience ends.
     pub fn two_follow(&self, looks: u64) -> bool {
         for _ in 0..PATIENCE {
             if self.source.looks(self.rt).followers >= looks {
@@ -154,9 +156,9 @@ where
         false
     }
 
-    /// A session commits three times while two other threads follow the log from 0 on, until no more come.
+    /// A session commits three times while two other threads follow the log from 0 on, until no more records come.
     pub fn is_followed(&self) -> Result<usize, Fail> {
-        // (The second closure is called first where no thread can be made: so what the first waits for stands there.)
+        // (If no thread can be made, the second closure is called first: so it has what the first one waits for.)
         let ((one, other), committed) = join(
             self.rt,
             || join(self.rt, || self.follow(), || self.follow()),
@@ -165,7 +167,7 @@ where
         committed?;
         let (one, other) = (one?, other?);
         if self.source.looks(self.rt).followers != LOOKS {
-            // Who lacked memory looks again.
+            // A thread that ran out of memory looks again.
             Err(Memory)?;
         }
         self.are_bytes(one, 3)?;
@@ -173,7 +175,7 @@ where
         Ok(3)
     }
 
-    /// Commits three inserts, and closes the source, whatever came of them. Those who follow sleep each time.
+    /// Commits three inserts, and closes the source, whatever came of them. The followers sleep each time before.
     fn commit_three(&self) -> Result<(), SourceFault> {
         let done = self.commit_up_to(3);
         self.two_follow(LOOKS - 2);
@@ -181,8 +183,8 @@ where
         done
     }
 
-    /// Commits inserts of the rows from 1 to this one, each once two sleep who have all before it. It lacks memory where they don't in
-    /// time.
+    /// Inserts the rows from 1 to `last`, one commit each, once two followers sleep that have all earlier records. Fails
+    /// with `Memory` if they don't in time.
     fn commit_up_to(&self, last: i64) -> Result<(), SourceFault> {
         let mut seat = self.source.session(self.rt, 7)?;
         let mut looks = 2u64;
@@ -210,12 +212,13 @@ where
         Ok(bytes)
     }
 
-    /// How many records come behind this one. They are asked for once more where that lacked memory.
+    /// How many records come after this one. A call that runs out of memory is made once more.
     fn come(&self, gno: u64, bytes: &mut Vec<u8>) -> Result<u64, SourceFault> {
         again!(SourceFault::Memory => self.source.bytes_past(self.rt, gno, bytes))
     }
 
-    /// The bytes are those of the source's records, so many, and none come behind them or behind the greatest gno.
+    /// Checks that the bytes are those of the source's `count` records. No bytes come after these, or after the greatest
+    /// gno.
     pub fn are_bytes(&self, mut bytes: Vec<u8>, count: u64) -> Result<(), Fail> {
         let len = bytes.len();
         for gno in [count, u64::MAX] {
@@ -233,7 +236,8 @@ where
         self.fill_the_room(bytes, count)
     }
 
-    /// One call gives the bytes of all records where there is room for them, and of all but the last where a byte is missing.
+    /// Checks that one call gives the bytes of all records if there is room for them, and of all but the last if one byte
+    /// is missing.
     fn fill_the_room(&self, mut bytes: Vec<u8>, count: u64) -> Result<(), Fail> {
         let len = bytes.len();
         for missing in [0, 1] {
@@ -248,7 +252,7 @@ where
         Ok(())
     }
 
-    /// The first record of the bytes and its length, read once more where that lacked memory.
+    /// The first record of the bytes and its length. If memory runs out, it is read once more.
     fn read(&self, bytes: &[u8]) -> Result<(Record, usize), CodecFault> {
         again!(CodecFault::Memory => decode(self.alloc, Version::current(), bytes))
     }

@@ -17,7 +17,7 @@ use store_trait::{Batch, Op, fits};
 use tests_stores::common::{row, update};
 use uuid::Uuid;
 
-/// The source of the log.
+/// The identifier of the log's source.
 pub const SOURCE: u128 = 0x8c5f8f9a_1111_11ef_9d3a_0242ac120002;
 
 /// The row that is set.
@@ -29,7 +29,7 @@ pub fn schema(alloc: Global) -> Result<Schema, Memory> {
     Schema::new(tables).map_err(|_| Memory)
 }
 
-/// A source of no rows, for 1024 records.
+/// A source without rows, for 1024 records.
 pub fn source(alloc: Global) -> Result<SourceCore<BTreeStore, CommitOrder>, Memory>
     ensures { IfOk result (λ core. core ≡ new_source core.tables core.base core.limit core.kind) }
 {
@@ -42,7 +42,7 @@ pub fn source(alloc: Global) -> Result<SourceCore<BTreeStore, CommitOrder>, Memo
     Ok(core)
 }
 
-/// A replica of no rows, with three workers, which keeps the order of the log or does not.
+/// A replica without rows, with three workers, which keeps the order of the log or does not.
 pub fn replica(alloc: Global, store: Store, preserve: bool) -> Result<ReplicaCore<Store>, Memory>
     ensures { IfOk result (λ core. IsNewReplica (replica_names core) core.preserve core) }
 {
@@ -64,7 +64,7 @@ pub fn set(key: i64, value: i64) -> Result<Change, Memory> {
     update(row(1, key), 0, value)
 }
 
-/// The row `ONE` is set to this number.
+/// The batch that sets the row `ONE` to this number.
 pub fn set_to(alloc: Global, n: i64) -> Result<Batch, Memory> {
     let row = Row::new(&[n]).ok_or(Memory)?;
     Ok(Batch::from_rising(vec![in alloc; (ONE, Some(row))]?))
@@ -80,8 +80,8 @@ pub fn commit(alloc: Global, gno: u64) -> Result<Op, Memory>
     })
 }
 
-/// What is read of a row of these columns, or, where there are none, of one that is not there, with all commits up to that number and so
-/// many more.
+/// What a reader gets once all commits up to `upto` and `more` later ones are published: a row of these columns, or no
+/// row if there are none.
 pub fn answer(columns: &[i64], upto: u64, more: u64) -> Answer {
     Answer {
         row: Row::new(columns),
@@ -90,7 +90,7 @@ pub fn answer(columns: &[i64], upto: u64, more: u64) -> Answer {
     }
 }
 
-/// So many records are received, committed and published.
+/// How many records are received, committed and published.
 pub fn counts(received: u64, committed: u64, published: u64) -> Counts {
     Counts {
         received,

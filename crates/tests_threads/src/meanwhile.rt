@@ -1,5 +1,5 @@
-//! What others get and are told while a worker has a job: the lock, the status, and, where the order of the log is not kept, the commits
-//! behind.
+//! What other threads get while a worker has a job: the lock, the status and, if the order of the log is not kept, the
+//! later commits.
 
 use crate::device::comes;
 use crate::gates::HoldingGate;
@@ -22,15 +22,15 @@ use std::time::{Clock, Duration};
 use tests_log::common::{record, record_of};
 use uuid::Uuid;
 
-/// So many records come, of so many changes each: a worker needs about a millisecond for one.
+/// How many records come, and how many changes each has: a worker needs about a millisecond for one record.
 const RECORDS: u64 = 40;
 
 const CHANGES: i64 = 1024;
 
-/// So often at most one looks whether it gets the lock.
+/// How often at most a thread looks whether it gets the lock.
 const LOOKS: u32 = 30_000;
 
-/// It knows which job was entered last, and whether the worker has ended.
+/// Notes which job was entered last, and whether the worker has ended.
 #[derive(Drop)]
 struct Last {
     entered: AtomicU64,
@@ -45,7 +45,7 @@ impl WorkerGate for Last {
     fn left(&self, _gno: u64) {}
 }
 
-/// The record of this number: the first inserts rows, and each other one sets them.
+/// The record of this number: the first one inserts rows, and each other one sets them.
 fn large(alloc: Global, gno: u64) -> Result<Record, Memory> {
     let mut changes = Vec::with_capacity(alloc, 1024)?;
     for key in 0..CHANGES {
@@ -62,10 +62,10 @@ fn large(alloc: Global, gno: u64) -> Result<Record, Memory> {
 /// The row that the second record inserts.
 const TWO: RowId = RowId { table: 1, key: 11 };
 
-/// So many records come, where the jobs of the first and the last lie as far apart as there are places for jobs.
+/// How many records come: the jobs of the first and the last are as far apart as there are places for jobs.
 const FAR: u64 = 65;
 
-/// The id of the second record alone.
+/// The set that has only the id of the second record.
 fn only_two(alloc: Global) -> Result<GtidSet, Memory> {
     let mut set = GtidSet::new(alloc);
     let id = Gtid {
@@ -81,8 +81,8 @@ where
     J: ReplicaNaming + Send + Sync,
     R: Threads + Wait + Abort + Clock + Sync,
 {
-    /// One worker executes all records, beside one who takes the lock now and then: it gets the lock while a job is executed, some time
-    /// behind its entry.
+    /// One worker executes all records, beside a thread that takes the lock now and then. That thread gets the lock while
+    /// a job is executed, some time after the job was entered.
     pub fn is_unlocked(&self) -> Result<u64, Fail> {
         for gno in 1..=RECORDS {
             self.receive(&large(self.alloc, gno)?)?;
@@ -98,7 +98,7 @@ where
             || self.is_free(&gate),
         );
         worked?;
-        // (Where there is no memory for a thread, one looks before the worker begins.)
+        // (If there is no memory for a thread, the other one looks before the worker begins.)
         if !is_free {
             Err(Memory)?;
         }
@@ -111,7 +111,7 @@ where
         worked
     }
 
-    /// Whether the lock is got a tenth of a millisecond after a job was entered, and before it is committed.
+    /// Whether the lock can be taken a tenth of a millisecond after a job was entered, and before it is committed.
     fn is_free(&self, gate: &Last) -> bool {
         for _ in 0..LOOKS {
             let over = gate.over.load(Ordering::SeqCst);
@@ -128,8 +128,8 @@ where
         false
     }
 
-    /// The first job is held until the third is left, so that its result commits all three. While the first commit is held the status is
-    /// told. The working rows take all three, and then a copy does.
+    /// The first job is held until the third is left, so that its result commits all three. While the first commit is
+    /// held, the status is read. The working rows take all three, and then a copy does.
     pub fn are_stored(&self) -> Result<u64, Fail> {
         self.feed(&[Step::Take(1, 3)])?;
         self.notes.word.store(0, Ordering::SeqCst);
@@ -145,7 +145,7 @@ where
         self.shows(3, [5, 6])
     }
 
-    /// The status while the batch is held. `None` where it is not in time. Then all go on.
+    /// The status while the batch is held, or `None` if it is not held in time. Then all go on.
     fn look(&self, gate: &HoldingGate) -> Option<Counts> {
         let in_time = comes(self.rt, &self.notes.entered);
         let told = in_time.then(|| self.shared.status(self.rt));
@@ -154,10 +154,11 @@ where
         told
     }
 
-    /// The first job is held until both rows were read behind the second commit, while one waits for the first.
+    /// The first job is held until both rows were read after the second commit, while a thread waits for the first
+    /// commit.
     pub fn is_gapped(&self) -> Result<u64, Fail> {
         let gate = HoldingGate::new(0);
-        // (A worker stands on each side: where no thread can be made for one side, the other ends without it.)
+        // (A worker is on each side: if no thread can be made for one side, the other ends without it.)
         let (one, (two, (first, read))) = join(
             self.rt,
             || self.work(&gate),
@@ -176,7 +177,7 @@ where
         Ok(2)
     }
 
-    /// Reads while the first job is held, and opens the gate and closes, however that ends.
+    /// Reads while the first job is held. Whatever comes of that, it then closes the replica and opens the gate.
     fn read_ahead(&self, gate: &HoldingGate) -> Result<Option<[Option<Answer>; 2]>, ReplicaFault> {
         let read = self.read_held(gate);
         self.shared.close(self.rt);
@@ -184,8 +185,9 @@ where
         read
     }
 
-    /// Hands over the first two records once two workers sleep and one who waits for the first commit, and reads the rows `ONE` and `TWO`
-    /// once the second commit is published and one worker and that one sleep again. `None` where they don't in time.
+    /// Hands over the first two records once two workers sleep and one thread waits for the first commit. Reads the rows
+    /// `ONE` and `TWO` once the second commit is published, and one worker and that thread sleep again. `None` if they
+    /// don't in time.
     fn read_held(&self, gate: &HoldingGate) -> Result<Option<[Option<Answer>; 2]>, ReplicaFault> {
         let mut in_time = self.sleep_all(2, 1);
         self.receive_each(1, 2)?;
@@ -204,12 +206,13 @@ where
         let gate = HoldingGate::new(2);
         let stopped = ReplicaFault::Stopped(1);
         assert_eq!(self.rt; self.two_work(&gate), [Err(stopped); 2]);
-        // (Where there is no memory for a thread, the stop comes first.)
+        // (If there is no memory for a thread, the stop comes first.)
         gate.met()?;
         self.shows_ahead(stopped)
     }
 
-    /// The second commit alone is published: who waits for it alone is told, and reads it; who waits for one in front is told of the stop.
+    /// Only the second commit is published. A wait for just that commit returns, and the row is read. A wait for an
+    /// earlier commit too reports the stop.
     fn shows_ahead(&self, stopped: ReplicaFault) -> Result<u64, Fail> {
         for gno in [1, 2, 3] {
             assert_eq!(self.rt; self.shown(gno), Err(stopped));
@@ -223,7 +226,7 @@ where
         Ok(1)
     }
 
-    /// The first job is held until the last was executed, and handed in or kept.
+    /// The first job is held until the last one was executed, and then handed in or kept.
     pub fn come_back(&self) -> Result<u64, Fail> {
         for gno in 1..=FAR {
             let change = insert(gno.cast_signed(), [5, 6])?;
@@ -232,7 +235,7 @@ where
         self.shared.close(self.rt);
         let gate = HoldingGate::new(FAR);
         let _ends = self.two_work(&gate);
-        // (Who lacked memory ended, and what it kept is left.)
+        // (A worker that ran out of memory ended, and the job that it kept is left.)
         self.work(&NoGate)?;
         gate.met()?;
         let mut seat = self.shared.seat(self.rt).ok_or("a seat")?;

@@ -1,4 +1,4 @@
-//! Publication: what a seat, a watch and a plain store show, and what those who publish and read side by side see.
+//! Publication: what a seat, a watch and a plain store show, and what threads see that publish and read side by side.
 ghost use Rattle.std.specs.Prelude.{◌≡◌, ◌≤◌, true, None, IfOk};
 
 use crate::desk::{Desk, LAST};
@@ -15,7 +15,7 @@ use std::test::Fail;
 use std::thread::{Threads, join};
 use tests_stores::again;
 
-/// Catches a call that gives up where memory is there, once it was refused, or where some number of commits wait.
+/// Catches a call that gives up although there is memory, after a refusal, or if some number of commits wait.
 #[test]
 fn plain_publishes_again(rt: HostRuntime) -> Result<(), Fail> {
     let alloc = rt.alloc();
@@ -29,7 +29,7 @@ fn plain_publishes_again(rt: HostRuntime) -> Result<(), Fail> {
     Ok(())
 }
 
-/// A plain store of the base alone, which keeps the order of the log.
+/// A plain store with only the base, which keeps the order of the log.
 fn plain_of_base(alloc: Global) -> Result<Plain<BTreeStore>, Memory>
     ensures { IfOk result (λ plain. (plain.preserve ≡ true) × (plain.more ≡ 0)) }
 {
@@ -67,7 +67,7 @@ fn append_upto(alloc: Global, plain: &mut Plain<BTreeStore>, last: u16) -> Resul
     Ok(())
 }
 
-/// What is read of the row `ONE` once so many commits are published in the order of the log.
+/// What is read of the row `ONE` once `upto` commits are published in the order of the log.
 fn in_order(upto: u64) -> Answer {
     answer(&[upto.cast_signed()], upto, 0)
 }
@@ -84,7 +84,8 @@ const MORE: Counts = Counts {
     published: 2,
 };
 
-/// Catches a watch that is refused where memory is there, and one that shows for ever what was stored when it was made.
+/// Catches a watch that is refused although there is memory, and one that shows for ever what was stored when it was
+/// made.
 #[test]
 fn watches_are_made_again(rt: HostRuntime) -> Result<(), Fail> {
     let mut status = again!(Status::new(rt.alloc()))?;
@@ -99,11 +100,11 @@ fn watches_are_made_again(rt: HostRuntime) -> Result<(), Fail> {
 /// What is done with a publisher and its seats.
 #[derive(Clone, Copy, Drop)]
 enum Course {
-    /// The most seats read, beside refused calls.
+    /// 32 seats read, the most that there can be, beside refused calls.
     Seats,
     /// The second commit is published before the first.
     Gap,
-    /// As many as there are come in front of the first.
+    /// All other commits come before the first.
     WideGap,
     /// Two threads publish, and two read.
     Beside,
@@ -124,28 +125,29 @@ impl Course {
     }
 }
 
-/// Catches a seat that is refused, or answers nothing, while the publisher is there, and a publisher that gives up for good
-/// once memory was refused, or where some number of commits wait.
+/// Catches a seat that is refused, or reads nothing, while the publisher is there. Also a publisher that gives up for
+/// good once memory ran out, or if some number of commits wait.
 #[test]
 fn seats_read_again(rt: HostRuntime) -> Result<(), Fail> {
     runs(&rt, rt.alloc(), Course::Seats)
 }
 
-/// Catches a commit ahead of a gap that is refused for good, that is counted twice where memory was refused, or that is shown as if there
-/// were no gap; a gap that stays open; and a publisher that gives up for good once memory was refused.
+/// Catches a commit ahead of a gap that is refused for good, counted twice if memory ran out, or shown as if there were
+/// no gap. Also a gap that stays open, and a publisher that gives up for good once memory ran out.
 #[test]
 fn a_seat_sees_a_gap_close_again(rt: HostRuntime) -> Result<(), Fail> {
     runs(&rt, rt.alloc(), Course::Gap)
 }
 
-/// Catches numbers ahead of a gap that the mark does not pass at once, or that get lost where there are many.
+/// Catches numbers ahead of a gap that the low-water mark does not pass at once, or that get lost if there are many.
 #[test]
 fn a_gap_closes_below_4095_numbers(rt: HostRuntime) -> Result<(), Fail> {
     runs(&rt, rt.alloc(), Course::WideGap)
 }
 
-/// Catches an answer that falls, one below what was learnt, a row that is not that of its number, a commit that is lost or
-/// a publisher that gives up where two have it in turn, and a seat that shows what it read thousands of commits before.
+/// Catches a number of commits that falls, or is below what the seat has learnt, and a row that is not that of its
+/// number. Also a commit that is lost or a publisher that gives up if two threads have it in turn, and a seat that shows
+/// what it read thousands of commits before.
 #[test]
 fn two_publish_beside_two_seats(rt: HostRuntime) -> Result<(), Fail> {
     runs(&rt, rt.alloc(), Course::Beside)
@@ -213,7 +215,7 @@ fn run_over<J: Naming + Send + Sync, R: Threads + Wait + Abort + Sync>(
     Ok(true)
 }
 
-/// Commits are published, with one more behind a refused call or none.
+/// Commits are published, and after a refused call one more or none.
 fn seats_see<J: Naming, R: Wait + Abort>(
     rt: &R,
     alloc: Global,
@@ -227,7 +229,7 @@ fn seats_see<J: Naming, R: Wait + Abort>(
     Ok(())
 }
 
-/// Publishes so many commits, and the second number more where it was refused.
+/// Publishes `count` commits. If that is refused, publishes them with `more` others.
 fn publish_seen<J: Naming, R: Wait + Abort>(
     rt: &R,
     alloc: Global,
@@ -246,7 +248,7 @@ fn publish_seen<J: Naming, R: Wait + Abort>(
     Ok(())
 }
 
-/// Each seat reads the row as the published commits leave it, also once it has learnt which these are.
+/// Checks that each seat reads the row as the published commits leave it, also once it has learnt which these are.
 fn all_read<J: Naming, R: Wait + Abort>(
     rt: &R,
     desk: &Desk<'_, J, R>,
@@ -259,7 +261,8 @@ fn all_read<J: Naming, R: Wait + Abort>(
     }
 }
 
-/// What a seat reads once it has learnt this, and has read so far before. Answers how many commits it sees.
+/// Checks what a seat reads once it has learnt this notice, after it has seen `seen` commits. Returns how many commits it
+/// sees.
 fn read_on<J: Naming>(
     rt: &impl Abort,
     seat: &mut ReadSeat<BTreeStore, J>,
@@ -291,7 +294,7 @@ fn a_gap_closes<J: Naming, R: Wait + Abort>(
     Ok(())
 }
 
-/// Two threads publish beside two that read; a third seat reads before and behind.
+/// Two threads publish beside two that read; a third seat reads before and after that.
 fn all_see<J: Naming + Send + Sync, R: Threads + Wait + Abort + Sync>(
     rt: &R,
     alloc: Global,
@@ -303,7 +306,7 @@ fn all_see<J: Naming + Send + Sync, R: Threads + Wait + Abort + Sync>(
     };
     let desk = Mutex::new(desk);
     assert_eq!(rt; idle.read(ONE), Some(in_order(0)));
-    // (Where no thread can be made, those who read come last.)
+    // (If no thread can be made, the readers come last.)
     join(
         rt,
         || join(rt, || follow(rt, &desk, one), || follow(rt, &desk, two)),

@@ -1,4 +1,4 @@
-//! A shared replica under test: the courses, how it is made for each, and how it ends.
+//! A shared replica under test: the courses, how the replica is made for each, and how it ends.
 ghost use Rattle.std.specs.Prelude.{◌≡◌, None, IfOk};
 ghost use Rattle.std.specs.FinMap.{empty};
 ghost use Rattle.replica_shared.specs.Names.{replica_names, IsNewReplica, OpensReplica};
@@ -25,7 +25,7 @@ type Core = ReplicaCore<Store>;
 /// A shared replica of three workers.
 pub type Shared<J> = SharedReplica<Store, J>;
 
-/// A shared replica of three workers and one seat, the records that come to it, and what its stores tell.
+/// A shared replica of three workers and one seat, the records that come to it, and what its stores note.
 #[derive(Drop)]
 pub struct ReplicaRig<'a, J: ReplicaNaming, R: Wait> {
     pub rt: &'a R,
@@ -33,7 +33,7 @@ pub struct ReplicaRig<'a, J: ReplicaNaming, R: Wait> {
     pub shared: &'a Shared<J>,
     pub records: &'a [Record],
     pub notes: &'a Notes,
-    /// Nothing is known of the replica's log before.
+    /// Nothing is known beforehand of the replica's log.
     ghost free: { J.names.log ≡ None },
 }
 
@@ -44,47 +44,47 @@ pub enum Course {
     Alone,
     /// One worker does all up to the second record, which does not apply.
     Stopping,
-    /// Three workers and two who wait are there before the records.
+    /// Three workers and two threads that wait for commits are there before the records.
     Beside,
-    /// They sleep when a record comes that does not apply.
+    /// All of these sleep when a record comes that does not apply.
     AsleepAtStop,
-    /// Two of the workers and those who wait sleep when no more records come, before the only result.
+    /// Two of the workers and those that wait for commits sleep when no more records come, before the only result.
     AsleepAtEnd,
     /// No record comes.
     Empty,
     /// A gate notes the status at each job.
     Watched,
-    /// The same, where the second record does not apply.
+    /// Like `Watched`, but the second record does not apply.
     WatchedStop,
     /// More calls of `worker` than workers.
     Crowded,
-    /// The same, and the records come one by one, each once all sleep.
+    /// Like `Crowded`, but the records come one by one, each once all workers sleep.
     Woken,
-    /// The first commit's publication finds no memory.
+    /// Memory runs out for the first commit's publication.
     Refused,
-    /// A result is handed in once another has stopped the replica.
+    /// A result is handed in after another one has stopped the replica.
     Late,
     /// The records come as bytes, seven at a time.
     Sevens,
-    /// One at a time.
+    /// The records come as bytes, one at a time.
     Singles,
-    /// One of the bytes is another.
+    /// One of the bytes is wrong.
     Damaged,
-    /// They come before the record in front of them.
+    /// The bytes come before the record in front of them.
     Waiting,
     /// Two workers sleep when the bytes come.
     Asleep,
-    /// Sets of ids are waited for.
+    /// A thread waits for sets of ids.
     Sets,
-    /// Large records are executed, and another takes the lock meanwhile.
+    /// Large records are executed, and another thread takes the lock meanwhile.
     Unlocked,
     /// One result commits all three, and the first commit is slow.
     Stored,
     /// The order of the log is not kept: the second record is committed while the job of the first is held.
     Gapped,
-    /// The same, where the first does not apply.
+    /// Like `Gapped`, but the first record does not apply.
     GappedStop,
-    /// The same with 65 records, where the jobs of the first and the last are out at one time.
+    /// Like `Gapped`, but with 65 records: the jobs of the first and the last are out at one time.
     Far,
 }
 
@@ -94,7 +94,7 @@ impl Course {
         !matches!(self, Course::Gapped | Course::GappedStop | Course::Far)
     }
 
-    /// Which batch a copy for readers refuses, counted from 1; 0 for none. (The first is that of the rows of the start.)
+    /// Which batch a copy for readers refuses, counted from 1; 0 for none. (The first batch is that of the initial rows.)
     fn refused(self) -> u64 {
         if matches!(self, Course::Refused) {
             2
@@ -103,8 +103,8 @@ impl Course {
         }
     }
 
-    /// Three records: a row is inserted or (where that stops the replica) set, another one is inserted or (the same) set, and the first is
-    /// set, or (the same) one that is not there, or a third one is inserted.
+    /// Three records. The first inserts row 10 and the second row 11; one that has to stop the replica sets its row
+    /// instead. The third sets row 10, or row 12, which is not there, or inserts row 12.
     fn records(self, alloc: Global) -> Result<[Record; 3], Memory> {
         let first = match self {
             Course::GappedStop => set(10, 1)?,
@@ -127,128 +127,132 @@ impl Course {
     }
 }
 
-/// Catches a shared call that gives up where memory is there, also once it was refused, and a job that was kept then and is
-/// not the next to be executed.
+/// Catches a shared call that gives up although there is memory, also after a refusal. Also a job that was kept then and
+/// is not executed next.
 #[test]
 fn one_worker_does_all_again(rt: HostRuntime) -> Result<(), Fail> {
     runs(&rt, rt.alloc(), &[Course::Alone])
 }
 
-/// Catches a replica that goes on behind a stop, and one that then tells of no commit, also of one that was published.
+/// Catches a replica that goes on after a stop, and one that then reports no commit, not even a published one.
 #[test]
 fn what_does_not_apply_stops_again(rt: HostRuntime) -> Result<(), Fail> {
     runs(&rt, rt.alloc(), &[Course::Stopping])
 }
 
-/// Catches a closed replica without records whose worker does not end, or a wait for the rows of the start.
+/// Catches a closed replica without records whose worker does not end, or a wait for the initial rows that does not.
 #[test]
 fn no_record_is_waited_for_again(rt: HostRuntime) -> Result<(), Fail> {
     runs(&rt, rt.alloc(), &[Course::Empty])
 }
 
-/// Catches a status that shows as published what is committed alone, and a worker that ends once it made up for a publication.
+/// Catches a status that shows as published what is only committed, and a worker that ends once it made up for a
+/// publication.
 #[test]
 fn a_refused_publication_is_made_up_for(rt: HostRuntime) -> Result<(), Fail> {
     runs(&rt, rt.alloc(), &[Course::Refused])
 }
 
-/// Catches a stop that is told with the number of the result that is handed in.
+/// Catches a stop that is reported with the number of the result that is handed in.
 #[test]
 fn a_late_result_is_told_of_the_stop(rt: HostRuntime) -> Result<(), Fail> {
     runs(&rt, rt.alloc(), &[Course::Late])
 }
 
-/// Catches a gate that is entered behind the execution, left before the result is in or not where it is refused, or called with
-/// another number.
+/// Catches a gate that is entered after the execution, or called with another number. Also one that is left before the
+/// result is in, or not left if the result is refused.
 #[test]
 fn a_gate_sees_each_job(rt: HostRuntime) -> Result<(), Fail> {
     runs(&rt, rt.alloc(), &[Course::Watched, Course::WatchedStop])
 }
 
-/// Catches, of three workers and two who wait:
-/// - workers that execute one at a time, or hand in only in their turn, and a sleeper whom no record, no commit or no end wakes;
-/// - a stop that leaves a worker asleep, or one of those who wait for a commit, and one that tells another number than that of the record
-///   that did not apply;
-/// - an end that leaves a worker asleep: the last result comes behind `close`.
+/// Catches, of three workers and two threads that wait:
+/// - Workers that execute one at a time, or hand in only in their turn, and a sleeper that is not woken by a record, a
+///   commit or the end.
+/// - A stop that leaves a worker or a waiting thread asleep, and one that reports another number than that of the record
+///   that did not apply.
+/// - An end that leaves a worker asleep: the last result comes after `close`.
 #[test]
 fn three_workers_and_two_who_wait_are_woken(rt: HostRuntime) -> Result<(), Fail> {
     let courses = [Course::Beside, Course::AsleepAtStop, Course::AsleepAtEnd];
     runs(&rt, rt.alloc(), &courses)
 }
 
-/// Catches a call of `worker` that fails where there is no job for it, or sleeps on when `close` is called; and a record that wakes all who
-/// sleep, or two, in the place of one.
+/// Catches a call of `worker` that fails if there is no job for it, or sleeps on when `close` is called. Also a record
+/// that wakes all sleeping calls, or two, instead of one.
 #[test]
 fn seven_calls_of_worker_sleep_and_end(rt: HostRuntime) -> Result<(), Fail> {
     runs(&rt, rt.alloc(), &[Course::Crowded, Course::Woken])
 }
 
-/// Catches bytes that are lost or taken twice at a cut, also where memory was refused, and records that no worker gets. Pieces have seven
-/// bytes, and then one.
+/// Catches bytes that are lost or taken twice at a cut, also if memory ran out, and records that no worker gets. Pieces
+/// have seven bytes, and then one.
 #[test]
 fn bytes_in_pieces_again(rt: HostRuntime) -> Result<(), Fail> {
     runs(&rt, rt.alloc(), &[Course::Sevens, Course::Singles])
 }
 
-/// Catches a damaged piece of which a whole record is taken.
+/// Catches a damaged piece from which a whole record is taken.
 #[test]
 fn nothing_of_a_damaged_piece_is_taken(rt: HostRuntime) -> Result<(), Fail> {
     runs(&rt, rt.alloc(), &[Course::Damaged])
 }
 
-/// Catches a refused record that is dropped, and one that is passed over.
+/// Catches a refused record that is dropped or passed over.
 #[test]
 fn a_refused_record_waits(rt: HostRuntime) -> Result<(), Fail> {
     runs(&rt, rt.alloc(), &[Course::Waiting])
 }
 
-/// Catches bytes whose records wake no worker that sleeps, a worker that is woken and wakes no other where more is left, and one that
-/// waits with its result for that of the record in front.
+/// Catches bytes whose records wake no sleeping worker, and a woken worker that wakes no other if more is left. Also a
+/// worker that waits with its result for that of the record in front.
 #[test]
 fn bytes_wake_two_workers(rt: HostRuntime) -> Result<(), Fail> {
     runs(&rt, rt.alloc(), &[Course::Asleep])
 }
 
-/// Catches a wait for an id of another source, and one for no id that does not end.
+/// Catches a wait for an id of another source that is not refused, and one for no id that does not end.
 #[test]
 fn sets_of_ids_are_waited_for(rt: HostRuntime) -> Result<(), Fail> {
     runs(&rt, rt.alloc(), &[Course::Sets])
 }
 
-/// Catches a job that is executed under the lock, and a gate that is entered once the job was executed.
+/// Catches a job that is executed under the lock, and a gate that is entered only after the job was executed.
 #[test]
 fn others_get_the_lock_while_a_job_is_executed(rt: HostRuntime) -> Result<(), Fail> {
     runs(&rt, rt.alloc(), &[Course::Unlocked])
 }
 
-/// Catches a status that waits for the lock, and a result that publishes each of its commits by itself.
+/// Catches a status that waits for the lock, and a result that publishes its commits one by one.
 #[test]
 fn one_result_publishes_three_commits_at_once(rt: HostRuntime) -> Result<(), Fail> {
     runs(&rt, rt.alloc(), &[Course::Stored])
 }
 
-/// Catches a commit that waits for the one in front of it, one that is shown as if that were there, one who waits for the commit in front
-/// and is not asleep still, or not woken by it, and one who waits for a set and sleeps on until those in front of it are published.
+/// Catches a commit that waits for the one in front of it, or is shown as if that were there. Also a thread that waits
+/// for the commit in front and does not sleep until then, or is not woken by it. Also one that waits for a set and sleeps
+/// on until the commits in front of the set are published.
 #[test]
 fn a_commit_is_read_before_the_one_in_front(rt: HostRuntime) -> Result<(), Fail> {
     runs(&rt, rt.alloc(), &[Course::Gapped])
 }
 
-/// Catches a stop that takes back what was committed behind the record that does not apply, and a wait for it that is not told what is
-/// published.
+/// Catches a stop that takes back what was committed after the record that does not apply, and a wait for such commits
+/// that does not return what is published.
 #[test]
 fn commits_behind_a_stop_are_read(rt: HostRuntime) -> Result<(), Fail> {
     runs(&rt, rt.alloc(), &[Course::GappedStop])
 }
 
-/// Catches a replica that hands out no job as far behind one that is held; and, where the requests for memory of both jobs are refused, one
-/// kept job that takes the place of the other.
+/// Catches a replica that hands out no job this far after one that is held. Also, if memory runs out for both jobs, one
+/// kept job that replaces the other.
 #[test]
 fn jobs_1_and_65_come_back(rt: HostRuntime) -> Result<(), Fail> {
     runs(&rt, rt.alloc(), &[Course::Far])
 }
 
-/// Makes a replica and its records for each course, and does with them what it says.
+/// Makes a replica and its records for each course, and runs the course on them. If there is no memory for these, it
+/// tries once more.
 pub fn runs<R: Threads + Wait + Abort + Clock + Sync>(
     rt: &R,
     alloc: Global,
@@ -262,7 +266,7 @@ pub fn runs<R: Threads + Wait + Abort + Clock + Sync>(
     Ok(())
 }
 
-/// What is done, and with which records.
+/// What is done, with which records, and what the stores note.
 #[derive(Drop)]
 struct Plan {
     course: Course,
@@ -296,7 +300,7 @@ fn has_run<R: Threads + Wait + Abort + Clock + Sync>(
     run_over::<Brand, R>(rt, alloc, core, beginning, copies, &plan)
 }
 
-/// The core and a publication of its rows.
+/// The core and the beginning of a publication of its rows.
 fn parts(alloc: Global, notes: &Arc<Notes>, preserve: bool) -> Result<(Core, Beginning), Memory>
     ensures core { IfOk result (λ made. IsNewReplica (replica_names made.0) made.0.preserve made.0) }
     ensures rows { IfOk result (λ made. made.1.base ≡ made.0.base) }
@@ -344,7 +348,7 @@ fn run_over<J: ReplicaNaming + Send + Sync, R: Threads + Wait + Abort + Clock + 
     Ok(true)
 }
 
-/// A shared replica with one seat, which keeps the order of the log where the core does.
+/// A shared replica with one seat, which keeps the order of the log if the core does.
 fn shared<J: ReplicaNaming, R: Wait>(
     rt: &R,
     alloc: Global,
@@ -366,7 +370,7 @@ fn shared<J: ReplicaNaming, R: Wait>(
     }
 }
 
-/// Ends the replica, and answers how many records are committed and published, by the core and by the publisher.
+/// Ends the replica. Returns how many records are committed and published by the core, and how many the publisher shows.
 fn ended<J: ReplicaNaming>(rt: &impl Wait, shared: Shared<J>) -> [u64; 3] {
     let (core, publisher) = shared.end();
     let shown = publisher.tell().count();
@@ -381,7 +385,7 @@ where
     J: ReplicaNaming + Send + Sync,
     R: Threads + Wait + Abort + Clock + Sync,
 {
-    /// Does what the course says. Answers how many commits are published then.
+    /// Runs the course, and returns how many commits are published then.
     fn run(&self, course: Course) -> Result<u64, Fail> {
         match course {
             Course::Alone => self.works(),

@@ -1,5 +1,5 @@
-//! Sessions of a shared source: their calls, made again where memory was refused, in turn, side by side, and in groups: behind one for
-//! which the device found no memory, and where a sync is slow.
+//! Sessions of a shared source: their calls, each made again if memory runs out, in turn, side by side, and in groups.
+//! Groups come after one for which the device ran out of memory, or while syncs are slow.
 
 use crate::device::PATIENCE;
 use crate::makers::{ONE, insert, set};
@@ -16,10 +16,10 @@ use std::thread::{Threads, join, map_indices, sleep};
 use std::time::{Clock, Duration};
 use tests_stores::again;
 
-/// So often sixteen sessions commit at most until they share their syncs: each time others, of 256.
+/// How often at most sixteen sessions commit until they share their syncs: each time others of the 256.
 const ROUNDS: usize = 16;
 
-/// So many milliseconds lie between these.
+/// How many milliseconds are between two of these times.
 const PAUSE: u64 = 250;
 
 impl<J, R> SourceRig<'_, '_, J, R>
@@ -27,7 +27,7 @@ where
     J: SourceNaming + Send + Sync,
     R: Threads + Wait + Abort + Clock + Sync,
 {
-    /// A transaction of one change, from its begin to its receipt. It answers what was prepared, and the number.
+    /// A transaction of one change, from its begin to its receipt. Returns what was prepared, and the gno.
     pub fn transact(
         &self,
         seat: &mut SessionSeat<J>,
@@ -48,45 +48,46 @@ where
         self.source.prepare(self.rt, seat)
     }
 
-    /// Begins and writes, and writes once more where it lacked memory.
+    /// Begins and writes. If memory runs out, it writes once more.
     fn write(&self, seat: &mut SessionSeat<J>, change: &Change) -> Result<(), SourceFault> {
         self.source.begin(self.rt, seat)?;
         again!(SourceFault::Memory => self.source.write(self.rt, seat, *change))
     }
 
-    /// Commits what is prepared, once more where it lacked memory, and answers its number.
+    /// Commits what is prepared, once more if memory runs out, and returns the gno.
     pub fn commit(&self, seat: &mut SessionSeat<J>) -> Result<u64, SourceFault> {
         let receipt = again!(SourceFault::Memory => self.source.commit(self.rt, seat))?;
         self.keep(receipt)
     }
 
-    /// The same, where it lacks memory too.
+    /// Like `commit`, but does not try again if memory runs out.
     pub fn commit_once(&self, seat: &mut SessionSeat<J>) -> Result<u64, SourceFault> {
         self.keep(self.source.commit(self.rt, seat)?)
     }
 
-    /// Keeps the receipt, and answers its number.
+    /// Keeps the receipt, and returns its gno.
     fn keep(&self, receipt: Receipt<J>) -> Result<u64, SourceFault> {
         let gno = receipt.given().gno;
         self.receipts.lock(self.rt).push(receipt)?;
         Ok(gno)
     }
 
-    /// The seat of the session, whose insert is prepared.
+    /// The seat of the session, with an insert prepared.
     pub fn prepared(&self, session: u16) -> Result<SessionSeat<J>, SourceFault> {
         let mut seat = self.source.session(self.rt, session)?;
         self.prepare(&mut seat, &insert(session as i64, [5, 6])?)?;
         Ok(seat)
     }
 
-    /// Commits an insert of the session, and answers its number.
+    /// Commits an insert of the session, and returns its gno.
     pub fn commit_one(&self, session: u16) -> Result<u64, SourceFault> {
         let mut seat = self.source.session(self.rt, session)?;
         let change = insert(session as i64, [5, 6])?;
         Ok(self.transact(&mut seat, &change)?.1)
     }
 
-    /// The same, once so many records are flushed. It lacks memory where they are not in time: there was none for another one's thread.
+    /// Like `commit_one`, but once `count` records are flushed. Fails with `Memory` if they are not in time: then there
+    /// was no memory for another session's thread.
     pub fn commit_one_behind(&self, count: u64, session: u16) -> Result<u64, SourceFault> {
         if !self.are_flushed(count) {
             return Err(SourceFault::Memory);
@@ -94,7 +95,7 @@ where
         self.commit_one(session)
     }
 
-    /// Whether so many records are flushed before the patience ends.
+    /// Whether `count` records are flushed within `PATIENCE` milliseconds.
     pub fn are_flushed(&self, count: u64) -> bool {
         for _ in 0..5 * PATIENCE {
             if self
@@ -109,7 +110,7 @@ where
         false
     }
 
-    /// The first session and the last: one aborts, the other inserts the row in its place, and then the first sets it. Then the
+    /// The first session aborts an insert, the last one inserts the row instead, and then the first sets it. Then the
     /// source is closed, and its log followed.
     pub fn commit_in_turn(&self) -> Result<usize, Fail> {
         let (rt, source) = (self.rt, self.source);
@@ -136,7 +137,7 @@ where
         Ok(2)
     }
 
-    /// A session commits in vain, and all is refused from then on.
+    /// A session's commit fails, and all calls are refused from then on.
     pub fn is_halted(&self) -> Result<usize, Fail> {
         let (rt, source) = (self.rt, self.source);
         let mut seat = source.session(rt, 1)?;
@@ -156,7 +157,8 @@ where
         Ok(1)
     }
 
-    /// So many sessions, those in front of this number of others, commit inserts of so many rows of their own each, side by side.
+    /// `count` sessions commit inserts side by side, of `rows` separate rows each. They are the last sessions but for the
+    /// very last `first`.
     pub fn commit_beside(&self, first: usize, count: usize, rows: u16) -> Result<usize, Fail> {
         let each = map_indices(
             self.rt,
@@ -170,7 +172,7 @@ where
         Ok(count.saturating_mul(rows as usize))
     }
 
-    /// Commits inserts of so many rows, by the session in front of so many others, which are the last.
+    /// Commits inserts of `rows` rows, in the session of number 256 minus `place`.
     fn commit_each(&self, place: usize, rows: u16) -> Result<(), SourceFault> {
         let session = 256u16.saturating_sub(u16::try_from(place).unwrap_or(u16::MAX));
         let mut seat = self.source.session(self.rt, session)?;
@@ -181,8 +183,8 @@ where
         Ok(())
     }
 
-    /// The first session's group finds no memory, as often as other sessions are to write it: they stay queued. The last session writes it,
-    /// and the transactions of these with its own as one group.
+    /// Memory runs out for the first session's group, each time that one of the first 255 sessions writes it; the others
+    /// stay queued. The last session writes it, and then all other transactions with its own as one group.
     pub fn is_refused(&self) -> Result<usize, Fail> {
         let mut seats = self.all_prepared()?;
         let mut last = self.prepared(256)?;
@@ -194,7 +196,7 @@ where
         Ok(256)
     }
 
-    /// The seats of all sessions but the last, whose inserts are prepared.
+    /// The seats of all sessions but the last, each with an insert prepared.
     fn all_prepared(&self) -> Result<Vec<SessionSeat<J>>, Fail> {
         let mut seats = Vec::new(self.alloc);
         for session in 1..256 {
@@ -203,14 +205,14 @@ where
         Ok(seats)
     }
 
-    /// No commit of these finds memory.
+    /// Checks that each commit of these runs out of memory.
     fn are_refused(&self, seats: &mut [SessionSeat<J>]) {
         for seat in seats {
             assert_eq!(self.rt; self.commit_once(seat), Err(SourceFault::Memory));
         }
     }
 
-    /// These are the first commits, in their order.
+    /// Checks that these are the first commits, in their order.
     fn are_committed(&self, seats: &mut [SessionSeat<J>]) -> Result<(), SourceFault> {
         for (place, seat) in seats.iter_mut().enumerate() {
             let given = self.commit_once(seat)?;
@@ -219,10 +221,10 @@ where
         Ok(())
     }
 
-    /// Sixteen sessions commit twelve times each. They share nearly all of their syncs: each that comes back from a group comes to the next
-    /// one in time. Where one leads alone and the others behind it that makes two groups for each turn. (It is done again, with other
-    /// sessions and a while later, where the machine has no time for these threads; or no memory for threads, and the sessions commit one
-    /// after another.)
+    /// Sixteen sessions commit twelve times each. They share nearly all of their syncs: each one that comes back from a
+    /// group comes to the next one in time. If one led by itself and the others after it, each turn would make two
+    /// groups. (All is done again, with other sessions and a while later, if the machine has no time for these threads.
+    /// So it is if there is no memory for threads, and the sessions commit one after another.)
     pub fn is_shared(&self) -> Result<usize, Fail> {
         let mut committed = 0usize;
         for round in 0..ROUNDS {
@@ -237,8 +239,8 @@ where
         Err(Memory)?
     }
 
-    /// The first session's group is held, and finds no memory then, as it does not with the next of the two who sleep behind it. Neither
-    /// calls again, and the other one gets its receipt all the same; and then they do.
+    /// The first session's group is held and then runs out of memory, as it does with the next of the two sessions that
+    /// sleep. Neither of these calls again, and the third session still gets its receipt. Then both call again.
     pub fn give_up(&self) -> Result<usize, Fail> {
         let mut one = self.prepared(1)?;
         let mut two = self.prepared(2)?;
@@ -260,7 +262,7 @@ where
                 self.orders.free_soon();
             },
         );
-        // (Where there is no memory for a thread, or for what a commit does, all may be refused.)
+        // (If there is no memory for a thread, or for what a commit does, all may be refused.)
         second.or(third)?;
         assert!(self.rt;
             first.is_err() && (second.is_err() || third.is_err()),
@@ -272,7 +274,7 @@ where
         Ok(3)
     }
 
-    /// The session has its own number as that of its commit. One that was refused calls again.
+    /// Checks that the gno of the session's commit is the session's number. A session that was refused calls again.
     fn is_committed(
         &self,
         seat: &mut SessionSeat<J>,
@@ -286,8 +288,8 @@ where
         Ok(())
     }
 
-    /// Commits what is prepared, once a record for each session before this one is flushed, and answers its number. It lacks memory where
-    /// they are not in time.
+    /// Commits what is prepared, once a record for each session before this one is flushed, and returns the gno. Fails
+    /// with `Memory` if they are not in time.
     fn commit_behind(&self, seat: &mut SessionSeat<J>) -> Result<u64, SourceFault> {
         if !self.are_flushed((seat.session() as u64).saturating_sub(1)) {
             return Err(SourceFault::Memory);

@@ -1,4 +1,5 @@
-//! A shared source under test, on a device that does as it is told: the courses, how it is made for each, and how it ends.
+//! A shared source under test, on a device that follows orders: the courses, how the source is made for each, and how it
+//! ends.
 ghost use Rattle.std.specs.Prelude.{◌≡◌};
 ghost use Rattle.source_core.specs.Source.{new_source};
 ghost use Rattle.log_file.specs.Log.{IsNew};
@@ -25,10 +26,10 @@ type Core = SourceCore<BTreeStore, CommitOrder>;
 
 pub type Disk<'a, R> = FaultyDevice<InMemory<'a, R>>;
 
-/// A shared source on a device that does as it is told.
+/// A shared source on a device that follows orders.
 pub type Shared<'a, J, R> = SharedSource<BTreeStore, CommitOrder, Disk<'a, R>, J>;
 
-/// A shared source, the receipts of its commits, and what its device is told.
+/// A shared source, the receipts of its commits, and the orders for its device.
 #[derive(Drop)]
 pub struct SourceRig<'a, 'd, J: SourceNaming, R: Clock> {
     pub rt: &'a R,
@@ -47,37 +48,37 @@ pub enum Course {
     Failing,
     /// Four threads commit ten times each.
     Beside,
-    /// The first group's writes find no memory, for all sessions but the last.
+    /// Memory runs out at the first group's writes, for all sessions but the last.
     Refused,
-    /// Two of three sessions give up, the first one's group being held.
+    /// Two of three sessions give up while the first one's group is held.
     GiveUp,
     /// The first group's sync is held.
     Held,
     /// A sync takes a millisecond.
     Slow,
-    /// The same, where two sessions commit in turn.
+    /// Like `Slow`, but two sessions commit in turn.
     Aside,
-    /// The same, and then one commits alone.
+    /// Like `Aside`, and then one session commits by itself.
     NappingAlone,
     /// Two threads follow the log while a session commits three times.
     Followed,
-    /// The first group's sync is held, and the write behind it fails.
+    /// The first group's sync is held, and the write after it fails.
     Told,
-    /// Two sessions commit, and the log goes on in a next file behind each.
+    /// Two sessions commit, and the log goes on in a next file after each commit.
     Rotated,
     /// Four threads commit ten times each, and the log goes on in next files meanwhile.
     RotatedBeside,
-    /// The next file finds no memory, and then its device fails.
+    /// Memory runs out for the next file, and then the device of a next file fails.
     RotatedInVain,
-    /// The first group's sync is held, and two wait to rotate behind it.
+    /// The first group's sync is held, and two threads wait to rotate.
     RotatedTwice,
-    /// The first group's sync is held, and eight sessions sleep behind it.
+    /// The first group's sync is held, and eight sessions sleep meanwhile.
     Woken,
 }
 
 impl Course {
-    /// Which call of the device fails, how many milliseconds a sync takes, and which call is held. (The log file calls its device four
-    /// times before it syncs the first group, and syncs it once.)
+    /// Which call of the device fails, how many milliseconds a sync takes, and which call is held. (Before it syncs the
+    /// first group, the log file calls its device four times. One of these calls is a sync.)
     fn row(self) -> (u64, u64, Hold) {
         match self {
             Course::Failing => (5, 0, Hold::None),
@@ -90,14 +91,14 @@ impl Course {
     }
 }
 
-/// Catches a shared call that gives up where memory is there, also once it was refused, a seat that is given out twice, and
-/// records that are not counted as flushed.
+/// Catches a shared call that gives up although there is memory, also after a refusal. Also a seat that is given out
+/// twice, and records that are not counted as flushed.
 #[test]
 fn two_sessions_commit_again(rt: HostRuntime) -> Result<(), Fail> {
     runs(&rt, rt.alloc(), Course::InTurn)
 }
 
-/// Catches a source that goes on behind a sync that failed.
+/// Catches a source that goes on after a failed sync.
 #[test]
 fn a_failed_sync_halts_again(rt: HostRuntime) -> Result<(), Fail> {
     runs(&rt, rt.alloc(), Course::Failing)
@@ -109,61 +110,64 @@ fn four_threads_get_each_number_once(rt: HostRuntime) -> Result<(), Fail> {
     runs(&rt, rt.alloc(), Course::Beside)
 }
 
-/// Catches a group that is lost, or committed out of turn, behind one for which the device found no memory, and sessions that are
-/// queued meanwhile, all that there are, and do not become one group.
+/// Catches a group that is lost or committed out of turn after one for which the device ran out of memory. Also sessions,
+/// as many as there are, that are queued meanwhile and do not become one group.
 #[test]
 fn the_greatest_group_waits_behind_a_refused_one(rt: HostRuntime) -> Result<(), Fail> {
     runs(&rt, rt.alloc(), Course::Refused)
 }
 
-/// Catches one who finds no memory, gives up, and leaves those asleep who would have led in its place.
+/// Catches a session that runs out of memory, gives up, and leaves those asleep that would have led instead.
 #[test]
 fn who_gives_up_wakes_the_next(rt: HostRuntime) -> Result<(), Fail> {
     runs(&rt, rt.alloc(), Course::GiveUp)
 }
 
-/// Catches sessions that sync one by one where a sync is slow, leaders who do not wait for those who come back from the group before, or
-/// keep the lock meanwhile, and groups that are flushed beside one that is not slow.
+/// Catches sessions that sync one by one when a sync is slow, and groups that are flushed beside one that is not slow.
+/// Also leaders that do not wait for the sessions that come back from the group before, or that keep the lock meanwhile.
 #[test]
 fn sixteen_sessions_share_syncs(rt: HostRuntime) -> Result<(), Fail> {
     runs(&rt, rt.alloc(), Course::Slow)
 }
 
-/// Catches a group that is flushed only once the one before it is synced, a reader of the log who waits for the device, a
-/// record that is shown before it is synced, and sessions that sleep on though one has to lead.
+/// Catches a group that is flushed only once the one before it is synced, and a reader of the log that waits for the
+/// device. Also a record that is shown before it is synced, and sessions that sleep on although one has to lead.
 #[test]
 fn flushes_beside_a_sync(rt: HostRuntime) -> Result<(), Fail> {
     runs(&rt, rt.alloc(), Course::Held)
 }
 
-/// Catches one who sleeps on where the source is halted.
+/// Catches a thread that sleeps on although the source is halted.
 #[test]
 fn who_sleeps_is_told_of_a_failure(rt: HostRuntime) -> Result<(), Fail> {
     runs(&rt, rt.alloc(), Course::Told)
 }
 
-/// Catches one who waits beside a group of another and keeps the lock meanwhile.
+/// Catches a session that waits beside the group of another one and keeps the lock meanwhile.
 #[test]
 fn who_waits_beside_a_group_leaves_it_the_lock(rt: HostRuntime) -> Result<(), Fail> {
     runs(&rt, rt.alloc(), Course::Aside)
 }
 
-/// Catches a leader who naps on though nobody comes, since a receipt lies there that nobody takes.
+/// Catches a leader that naps on although nobody comes, because of a receipt that nobody takes.
 #[test]
 fn a_leader_to_whom_nobody_comes_naps_once(rt: HostRuntime) -> Result<(), Fail> {
     runs(&rt, rt.alloc(), Course::NappingAlone)
 }
 
-/// Catches one of two who wait to rotate that sleeps on though all is committed, where nobody commits later, and one that is woken before.
+/// Two threads wait to rotate. Catches one that sleeps on although all is committed and nobody commits later, and one
+/// that is woken before that.
 #[test]
 fn two_who_wait_to_rotate_are_woken(rt: HostRuntime) -> Result<(), Fail> {
     runs(&rt, rt.alloc(), Course::RotatedTwice)
 }
 
-/// So often it is looked whether one is woken for nothing: who only looks at the source may come too late to call another one.
+/// How often the test looks for a session that is woken for nothing: a thread that only looks at the source may come too
+/// late to call another one.
 const ROUNDS: u32 = 4;
 
-/// Catches a call that wakes all who sleep in the place of one, and another one that is called to lead by who only looked.
+/// Catches a call that wakes all sleeping sessions instead of one, and a thread that only looked and calls another one to
+/// lead.
 #[test]
 fn no_session_is_woken_for_nothing(rt: HostRuntime) -> Result<(), Fail> {
     for _ in 0..ROUNDS {
@@ -172,31 +176,34 @@ fn no_session_is_woken_for_nothing(rt: HostRuntime) -> Result<(), Fail> {
     Ok(())
 }
 
-/// Catches one who follows the log and sleeps on where a record came, or where no more come, and one who is woken for nothing.
+/// Catches a follower of the log that sleeps on when a record came or when no more come, and one that is woken for
+/// nothing.
 #[test]
 fn follows_a_log_of_three_records(rt: HostRuntime) -> Result<(), Fail> {
     runs(&rt, rt.alloc(), Course::Followed)
 }
 
-/// Catches a rotation that starts gnos or stamps anew, or is answered with another file's number.
+/// Catches a rotation that starts gnos or stamps anew, or returns another file's number.
 #[test]
 fn a_log_goes_on_between_commits_again(rt: HostRuntime) -> Result<(), Fail> {
     runs(&rt, rt.alloc(), Course::Rotated)
 }
 
-/// Catches one who waits to rotate and sleeps on though all is committed, and a number that is given twice or never around a rotation.
+/// Catches a thread that waits to rotate and sleeps on although all is committed, and a number that is given twice or
+/// never around a rotation.
 #[test]
 fn a_log_goes_on_beside_four_threads(rt: HostRuntime) -> Result<(), Fail> {
     runs(&rt, rt.alloc(), Course::RotatedBeside)
 }
 
-/// Catches a source that is halted, or counts a file, where the next one finds no memory, and one that goes on where the device failed.
+/// Catches a source that halts, or counts a file, if memory runs out for the next one, and a source that goes on if the
+/// device failed.
 #[test]
 fn a_next_file_is_not_made_again(rt: HostRuntime) -> Result<(), Fail> {
     runs(&rt, rt.alloc(), Course::RotatedInVain)
 }
 
-/// Makes a source, and does with it what the course says.
+/// Makes a source, and runs the course on it. If there is no memory for the source, it tries once more.
 pub fn runs<R: Threads + Wait + Abort + Clock + Sync>(
     rt: &R,
     alloc: Global,
@@ -259,7 +266,8 @@ fn run_over<'a, J: SourceNaming + Send + Sync, R: Threads + Wait + Abort + Clock
     Ok(true)
 }
 
-/// Does what is to be done. The receipts, and how many records are flushed then; `None` where there was no room for receipts.
+/// Runs the course. Returns the receipts and how many records are flushed then, or `None` if there was no room for
+/// receipts.
 fn commit_all<'a, J: SourceNaming + Send + Sync, R: Threads + Wait + Abort + Clock + Sync>(
     rt: &R,
     alloc: Global,
@@ -282,7 +290,7 @@ fn commit_all<'a, J: SourceNaming + Send + Sync, R: Threads + Wait + Abort + Clo
     Ok(Some((receipts.into_inner(), flushed)))
 }
 
-/// The gnos are the first ones, each once.
+/// Checks that the gnos are the first ones, each once.
 fn are_numbered<J: SourceNaming>(rt: &impl Abort, receipts: &[Receipt<J>]) {
     for gno in 1..receipts.len() as u64 + 1 {
         let same = receipts
@@ -298,7 +306,7 @@ where
     J: SourceNaming + Send + Sync,
     R: Threads + Wait + Abort + Clock + Sync,
 {
-    /// Does what the course says. Answers how many records are flushed then.
+    /// Runs the course, and returns how many records are flushed then.
     fn run(&self, course: Course) -> Result<usize, Fail> {
         match course {
             Course::InTurn => self.commit_in_turn(),

@@ -1,4 +1,5 @@
-//! What a shared replica under test is told: records one by one, made again where memory was refused, and what is waited for between them.
+//! The calls that a shared replica under test gets: records one by one, each again if memory runs out, and waits between
+//! them.
 
 use crate::device::PATIENCE;
 use crate::gates::HoldingGate;
@@ -15,14 +16,14 @@ use std::time::{Clock, Duration};
 use tests_stores::again;
 use uuid::Uuid;
 
-/// What the one who hands over the records does next.
+/// What the thread that hands over the records does next.
 #[derive(Clone, Copy, Drop)]
 pub enum Step {
-    /// Waits until so many calls of `worker` sleep, and so many of `wait_for`.
+    /// Waits until the first number of calls of `worker` and the second number of calls of `wait_for` sleep.
     Sleep(u64, u64),
-    /// Hands over the records from this number to that.
+    /// Hands over the records from the first number to the second.
     Take(u64, u64),
-    /// Waits for the commit of this number, unless some did not sleep in time.
+    /// Waits for the commit of this number, unless some calls did not sleep in time.
     Show(u64),
 }
 
@@ -31,8 +32,8 @@ where
     J: ReplicaNaming + Send + Sync,
     R: Threads + Wait + Abort + Clock + Sync,
 {
-    /// Goes through the steps, and closes, however they end. It lacks memory where so many do not sleep in time: then there was
-    /// none for a thread, or a worker ended for want of it.
+    /// Goes through the steps, and closes the replica, whatever came of them. Fails with `Memory` if the calls do not
+    /// sleep in time: then there was no memory for a thread, or a worker ended when memory ran out.
     pub fn feed(&self, steps: &[Step]) -> Result<(), ReplicaFault> {
         let fed = self.feed_each(steps);
         self.shared.close(self.rt);
@@ -43,7 +44,7 @@ where
         }
     }
 
-    /// Whether all slept in time. Records are handed over also where they do not, so that nobody waits for ever.
+    /// Whether all slept in time. Records are handed over even if they did not, so that nobody waits for ever.
     fn feed_each(&self, steps: &[Step]) -> Result<bool, ReplicaFault> {
         let mut in_time = true;
         for step in steps {
@@ -62,7 +63,7 @@ where
         Ok(in_time)
     }
 
-    /// Hands over the records from this number to that.
+    /// Hands over the records from number `first` to number `last`.
     pub fn receive_each(&self, first: u64, last: u64) -> Result<(), ReplicaFault> {
         for record in self.records {
             if first <= record.gno && record.gno <= last {
@@ -72,8 +73,8 @@ where
         Ok(())
     }
 
-    /// Receives a record, and again where memory was refused: it may have been accepted by then, and a worker may have stopped
-    /// the replica at it.
+    /// Hands over a record, and again if memory runs out. By then it may have been accepted, and a worker may have
+    /// stopped the replica at it.
     pub fn receive(&self, new: &Record) -> Result<Received, ReplicaFault> {
         let source = Uuid::from_u128(SOURCE);
         match self.shared.receive(self.rt, source, new) {
@@ -85,7 +86,7 @@ where
         }
     }
 
-    /// Whether so many calls of `worker` sleep, and so many of `wait_for`, before the patience ends.
+    /// Whether `workers` calls of `worker` and `readers` calls of `wait_for` sleep before the patience ends.
     pub fn sleep_all(&self, workers: u64, readers: u64) -> bool {
         for _ in 0..PATIENCE {
             if self.shared.sleepers(self.rt) == (Sleepers { workers, readers }) {
@@ -96,12 +97,12 @@ where
         false
     }
 
-    /// A worker, and another where memory was refused.
+    /// Runs a worker, and another one if memory runs out.
     pub fn work<G: WorkerGate>(&self, gate: &G) -> Result<(), ReplicaFault> {
         again!(ReplicaFault::Memory => self.shared.worker(self.rt, self.alloc, gate))
     }
 
-    /// Two workers with this gate.
+    /// Runs two workers with this gate.
     pub fn two_work(&self, gate: &HoldingGate) -> [Result<(), ReplicaFault>; 2] {
         let (one, two) = join(
             self.rt,
@@ -111,14 +112,15 @@ where
         [one, two]
     }
 
-    /// How many commits are published once that of this number is.
+    /// How many commits are published once the commit of this number is.
     pub fn shown(&self, gno: u64) -> Result<u64, ReplicaFault> {
         self.shared
             .wait_for(self.rt, gno)
             .map(|notice| notice.upto())
     }
 
-    /// So many of the three records are published, and the one seat reads the row as these columns once it has learnt that.
+    /// Checks that `published` of the three records are published, and that the only seat reads these columns of the row
+    /// once it has learnt that.
     pub fn shows(&self, published: u64, columns: [i64; 2]) -> Result<u64, Fail> {
         let mut seat = self.shared.seat(self.rt).ok_or("a seat")?;
         assert!(self.rt; self.shared.seat(self.rt).is_none(), "a second seat");

@@ -1,4 +1,4 @@
-//! A store that tells of its batches, may be slow, and finds no memory once.
+//! A store that notes its batches, can be slow, and can run out of memory once.
 ghost use Rattle.std.specs.Prelude.{◌≡◌, IfOk};
 ghost use Rattle.std.specs.FinMap.{empty};
 
@@ -14,17 +14,17 @@ use store_trait::{Batch, RowStore};
 /// The digit of the store of the working rows.
 const WORKING: u64 = 1;
 
-/// That of each copy for readers.
+/// The digit of each copy for readers.
 const COPY: u64 = 2;
 
-/// What the stores of a replica tell, and what they are told.
+/// What the stores of a replica note, and the orders for them.
 #[derive(Drop)]
 pub struct Notes {
-    /// The digit of the store that took a batch, for each batch.
+    /// For each batch, the digit of the store that took it.
     pub word: AtomicU64,
-    /// The next batch of the working rows is held until it is freed, in some turns at most.
+    /// The next batch of the working rows is held until it is freed, or until the turns end.
     pub is_slow: AtomicBool,
-    /// It is held.
+    /// That batch is held.
     pub entered: AtomicBool,
     pub freed: AtomicBool,
 }
@@ -53,7 +53,7 @@ impl Notes {
     }
 }
 
-/// A store that refuses a batch once.
+/// A store that refuses a batch at most once.
 #[derive(Drop)]
 pub struct Noting<S: RowStore> {
     inner: S,
@@ -65,7 +65,7 @@ pub struct Noting<S: RowStore> {
 pub type Store = Noting<BTreeStore>;
 
 impl<S: RowStore> Noting<S> {
-    /// The batch of this number is refused, counted from 1; none where it is 0.
+    /// A store that refuses the batch of number `left`, counted from 1, or none if that is 0.
     fn new(inner: S, digit: u64, left: u64, notes: Arc<Notes>) -> Noting<S>
         ensures { result.inner ≡ inner }
     {
@@ -84,7 +84,7 @@ pub fn working(alloc: Global, notes: &Arc<Notes>) -> Result<Store, Memory> {
     Ok(Noting::new(BTreeStore::new(alloc), WORKING, 0, notes))
 }
 
-/// Two empty ones for readers, which refuse their batch of this number.
+/// Two empty stores for readers, which refuse their batch of this number.
 pub fn copies(alloc: Global, refused: u64, notes: &Arc<Notes>) -> Result<(Store, Store), Memory>
     ensures { IfOk result (λ copies. (copies.0.inner ≡ empty) × (copies.1.inner ≡ empty)) }
 {

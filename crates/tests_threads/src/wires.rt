@@ -1,4 +1,4 @@
-//! Bytes of a log that come to a shared replica in pieces, and sets of ids that are waited for.
+//! Bytes of a log that come to a shared replica in pieces, and waits for sets of ids.
 ghost use Rattle.std.specs.Prelude.{◌<◌};
 
 use crate::gates::HoldingGate;
@@ -19,10 +19,10 @@ use std::time::Clock;
 use tests_log::common::spelled;
 use uuid::Uuid;
 
-/// A source whose records are not taken.
+/// The identifier of a source that is not the replica's.
 const OTHER: u128 = 7;
 
-/// The place of the second record's flags, behind the 63 bytes of the first record and 28 of its own.
+/// The place of the second record's flags: after the 63 bytes of the first record and 28 bytes of the second.
 const FLAGS: usize = 91;
 
 impl<J, R> ReplicaRig<'_, J, R>
@@ -30,7 +30,7 @@ where
     J: ReplicaNaming + Send + Sync,
     R: Threads + Wait + Abort + Clock + Sync,
 {
-    /// The records come in pieces of so many bytes, and are published.
+    /// The records come in pieces of `width` bytes, and are published.
     pub fn come_in_pieces(&self, width: usize) -> Result<u64, Fail>
         requires { 0 < width }
     {
@@ -54,7 +54,7 @@ where
         self.shows(3, [7, 6])
     }
 
-    /// Feeds a piece, and where memory was refused once more what of it was not taken.
+    /// Feeds a piece. If memory runs out, feeds once more what was not taken of it.
     fn feed_again(&self, wire: &mut Wire, piece: &[u8]) -> Result<u64, WireFault> {
         match self.shared.feed(self.rt, wire, piece) {
             Err(WireFault::Codec(CodecFault::Memory) | WireFault::Waiting(ReplicaFault::Memory)) =>
@@ -66,7 +66,7 @@ where
         }
     }
 
-    /// What is told of a piece, want of memory aside.
+    /// What `feed` returns for a piece. If memory runs out, that is the outer error.
     fn told(&self, wire: &mut Wire, piece: &[u8]) -> Result<Result<u64, WireFault>, Memory> {
         match self.shared.feed(self.rt, wire, piece) {
             Err(
@@ -78,7 +78,7 @@ where
         }
     }
 
-    /// The second record is damaged, and then it is not.
+    /// The second record comes damaged, and then intact.
     pub fn are_damaged(&self) -> Result<u64, Fail> {
         let mut bytes = spelled(self.alloc, self.records)?;
         let mut wire = self.wire();
@@ -91,7 +91,7 @@ where
         self.all_is_done()
     }
 
-    /// The first record comes last, and not over the wire. What comes over it meanwhile is no record.
+    /// The first record comes last, and not over the wire. Meanwhile four bytes come over the wire that are not a record.
     pub fn are_kept_waiting(&self) -> Result<u64, Fail> {
         let (first, rest) = self.records.split_first().ok_or("a record")?;
         let bytes = spelled(self.alloc, rest)?;
@@ -108,7 +108,8 @@ where
         self.all_is_done()
     }
 
-    /// Two workers sleep when the bytes of the first two records come at once. The second is executed while the first is held.
+    /// Two workers sleep when the bytes of the first two records come in one piece. The second record is executed while
+    /// the first is held.
     pub fn wake_workers(&self) -> Result<u64, Fail> {
         let (_, two) = self.records.split_last().ok_or("a record")?;
         let bytes = spelled(self.alloc, two)?;
@@ -127,8 +128,8 @@ where
         self.shows(2, [5, 6])
     }
 
-    /// Feeds the bytes once two workers sleep, waits until both records are published, and closes and opens the gate, however that ends.
-    /// Whether they are.
+    /// Feeds the bytes once two workers sleep, and waits until both records are published. Whatever comes of that, it
+    /// then closes the replica and opens the gate. Returns whether both are published.
     fn show_asleep(&self, bytes: &[u8], gate: &HoldingGate) -> Result<bool, Memory> {
         let in_time = self.sleep_all(2, 0);
         let told = self.told(&mut self.wire(), bytes);
@@ -139,7 +140,7 @@ where
         Ok(shown)
     }
 
-    /// No id, one of another source, and then the first two.
+    /// Waits for no id, for an id of another source, and then for the first two ids.
     pub fn sets_are_shown(&self) -> Result<u64, Fail> {
         let two = GtidSet::first(self.alloc, Uuid::from_u128(SOURCE), 2)?;
         let other = GtidSet::first(self.alloc, Uuid::from_u128(OTHER), 1)?;
@@ -154,7 +155,7 @@ where
         self.shows(3, [7, 6])
     }
 
-    /// How many commits are published once all ids of the set are.
+    /// How many commits are published once those of all ids of the set are.
     fn set_shown(&self, set: &GtidSet) -> Result<u64, ReplicaFault> {
         self.shared
             .wait_for_set(self.rt, set)

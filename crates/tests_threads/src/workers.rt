@@ -1,5 +1,6 @@
-//! Workers of a shared replica: one after another, what a gate sees of them and what is refused or comes late; and in threads of their own,
-//! beside those who wait for a commit: who sleeps until when, and whom a record, a stop and the end wake.
+//! Workers of a shared replica. One after another: what a gate sees of them, and what is refused or comes late. In
+//! separate threads, beside threads that wait for a commit: how long each sleeps, and which of them a record, a stop or
+//! the end wakes.
 
 use crate::device::PATIENCE;
 use crate::gates::{HoldingGate, Order};
@@ -16,8 +17,9 @@ use std::test::Fail;
 use std::thread::{Threads, join, map_indices, sleep};
 use std::time::{Clock, Duration};
 
-/// So often seven who sleep look while three records come one by one: one is woken for each, and looks once more before it sleeps again. It
-/// is 24 times where all are woken, and 9 where two are. (One who was about to sleep when a record came may look once more.)
+/// How often seven sleeping workers look while three records come one by one. For each record one is woken, and looks
+/// once more before it sleeps again. If all were woken there would be 24 looks, and 9 if two were. (A worker that was
+/// about to sleep when a record came may look once more.)
 const LOOKS: u64 = 6;
 
 impl<J, R> ReplicaRig<'_, J, R>
@@ -25,7 +27,7 @@ where
     J: ReplicaNaming + Send + Sync,
     R: Threads + Wait + Abort + Clock + Sync,
 {
-    /// One worker does all. Answers how many commits are published then.
+    /// One worker does all. Returns how many commits are published then.
     pub fn works(&self) -> Result<u64, Fail> {
         self.send();
         let order = Order::new();
@@ -34,7 +36,7 @@ where
         self.shows(3, [7, 6])
     }
 
-    /// The workers end, nobody waits any more, and no record is taken; what was published is told still.
+    /// The workers end, nobody waits any more, and no record is taken. Published commits are still reported.
     pub fn stops(&self) -> Result<u64, Fail> {
         let stopped = ReplicaFault::Stopped(2);
         self.send();
@@ -48,7 +50,7 @@ where
         self.shows(1, [5, 6])
     }
 
-    /// Hands over the records, each of them twice, and closes.
+    /// Hands over each record twice, and closes the replica.
     fn send(&self) {
         for record in self.records {
             assert_eq!(self.rt; self.receive(record), Ok(Received::Accepted));
@@ -59,7 +61,7 @@ where
         self.shared.close(self.rt);
     }
 
-    /// No record comes: the worker ends, nobody waits for the rows of the start, and they are what is read.
+    /// No record comes: the worker ends, nobody waits for the initial rows, and they are what is read.
     pub fn is_empty(&self) -> Result<u64, Fail> {
         self.shared.close(self.rt);
         self.work(&NoGate)?;
@@ -70,7 +72,8 @@ where
         Ok(0)
     }
 
-    /// One worker executes the records one after another, ends so, and its gate noted this; so many are published then.
+    /// One worker executes the records one after another and ends with `ended`. Its gate has noted `wanted`, and
+    /// `published` commits are published then.
     pub fn is_watched(
         &self,
         wanted: u64,
@@ -92,13 +95,13 @@ where
         self.shows(published, columns)
     }
 
-    /// The first worker commits the first record and can't publish it. The next does, sleeps while there is nothing else to do, and applies
-    /// what comes then.
+    /// The first worker commits the first record and can't publish it. The next one does, sleeps while there is nothing
+    /// else to do, and applies what comes then.
     pub fn is_refused(&self) -> Result<u64, Fail> {
         self.receive_each(1, 1)?;
         let refused = self.shared.worker(self.rt, self.alloc, &NoGate);
         assert_eq!(self.rt; refused, Err(ReplicaFault::Memory));
-        // (It may have found no memory before that.)
+        // (It may have run out of memory before that.)
         if self.shared.status(self.rt) != counts(1, 1, 0) {
             refused?;
         }
@@ -109,7 +112,7 @@ where
         self.shows(3, [7, 6])
     }
 
-    /// The third record does not apply, and the first one's result is handed in then.
+    /// The third record does not apply, and the first one's result is handed in after that.
     pub fn is_handed_in_late(&self) -> Result<u64, Fail> {
         self.feed(&[Step::Take(1, 3)])?;
         let stopped = ReplicaFault::Stopped(3);
@@ -137,7 +140,8 @@ where
         self.shows(3, [7, 6])
     }
 
-    /// Three workers and two who wait for the third commit sleep when the second record comes, which does not apply.
+    /// Three workers and two threads that wait for the third commit sleep when the second record comes, which does not
+    /// apply.
     pub fn are_asleep_at_stop(&self) -> Result<u64, Fail> {
         let gate = HoldingGate::new(0);
         gate.open();
@@ -152,15 +156,16 @@ where
         self.shows(1, [5, 6])
     }
 
-    /// Two workers and two who wait for a commit sleep, and a third executes the only record, when no more come.
+    /// Two workers and two threads that wait for a commit sleep, and a third worker executes the only record, when no
+    /// more come.
     pub fn are_asleep_at_end(&self) -> Result<u64, Fail> {
         let steps = [Step::Take(1, 1), Step::Sleep(2, 2)];
         self.all_end(&HoldingGate::new(0), 1, &steps, Ok(1))?;
         self.shows(1, [5, 6])
     }
 
-    /// Three workers with this gate, and two who wait for this commit, end so beside the one who goes through the steps, and opens the
-    /// gate then.
+    /// Three workers with this gate, and two threads that wait for this commit, end as `wanted` says. Beside them a
+    /// thread goes through the steps, and then opens the gate.
     fn all_end(
         &self,
         gate: &HoldingGate,
@@ -168,7 +173,7 @@ where
         steps: &[Step],
         wanted: Result<u64, ReplicaFault>,
     ) -> Result<(), Fail> {
-        // (A worker stands on each side: where no thread can be made for one side, the other ends without it.)
+        // (A worker is on each side: if no thread can be made for one side, the other ends without it.)
         let (two, (three, (read, fed))) = join(
             self.rt,
             || self.two_work(gate),
@@ -193,13 +198,14 @@ where
         Ok(())
     }
 
-    /// Two wait for this commit.
+    /// Two threads wait for this commit.
     fn two_shown(&self, gno: u64) -> [Result<u64, ReplicaFault>; 2] {
         let (one, two) = join(self.rt, || self.shown(gno), || self.shown(gno));
         [one, two]
     }
 
-    /// Seven calls of `worker` beside the one who hands over the records: all sleep before the first and behind the last, and end.
+    /// Seven calls of `worker` run beside the thread that hands over the records. All sleep before the first record and
+    /// after the last, and then end.
     pub fn are_crowded(&self) -> Result<u64, Fail> {
         let steps = [
             Step::Sleep(7, 0),
@@ -213,7 +219,7 @@ where
         self.shows(3, [7, 6])
     }
 
-    /// Seven calls of `worker` sleep before each record, and behind the last.
+    /// Seven calls of `worker` sleep before each record, and after the last.
     pub fn are_woken_one_by_one(&self) -> Result<u64, Fail> {
         let (worked, looks) = join(
             self.rt,
@@ -227,13 +233,13 @@ where
         let looks = looks?;
         worked?;
         if looks < LOOKS || looks > LOOKS + 1 {
-            // Others are woken where memory lacked too.
+            // If memory ran out, others are woken too.
             Err(Memory)?;
         }
         self.shows(3, [7, 6])
     }
 
-    /// Seven calls of `worker`, to their end.
+    /// Runs seven calls of `worker` to their end.
     fn seven_work(&self) -> Result<(), ReplicaFault> {
         let worked = map_indices(
             self.rt,
@@ -247,7 +253,8 @@ where
         Ok(())
     }
 
-    /// How often seven workers look that sleep when each record comes, until all sleep again. It lacks memory where they don't in time.
+    /// How often seven workers look that sleep when each record comes, until all sleep again. Fails with `Memory` if they
+    /// don't in time.
     fn look_on(&self) -> Result<u64, ReplicaFault> {
         let mut looks = 0u64;
         for record in self.records {
@@ -260,7 +267,7 @@ where
         Ok(looks)
     }
 
-    /// How often workers looked, once seven sleep and nobody looked for some time.
+    /// How often workers have looked, once seven sleep and nobody looked for 20 milliseconds.
     fn looks_of_seven(&self) -> Result<u64, ReplicaFault> {
         let mut seen = 0;
         for _ in 0..PATIENCE {
@@ -278,7 +285,8 @@ where
     }
 }
 
-/// It notes for each job its number and how many commits are published, as it is entered and as it is left: two digits each.
+/// Notes the number of each job and how many commits are published, as the job is entered and as it is left: two digits
+/// each time.
 #[derive(Drop)]
 struct Watcher<'a, 'b, J: ReplicaNaming, R: Wait> {
     rig: &'a ReplicaRig<'b, J, R>,

@@ -1,8 +1,9 @@
 //! A store of rows in one sorted vector.
 //!
-//! A `VectorStore` contains what its vector has (`specs/Contents.antt`), whose row ids strictly rise: the type keeps that. It
-//! stands on `store_trait`, whose contract it meets. Rows are found by halves (`search`). A batch is put whole or not at all: its
-//! room is taken first, and then a gap of free places is moved through the rows, from the last to the first (`put`).
+//! A `VectorStore` contains the rows of its vector (`specs/Contents.antt`). Its type ensures that their ids strictly
+//! rise, and it meets the contract of `store_trait`. Rows are found by binary search (`search`). A batch is put whole
+//! or not at all: its room is taken first, and then a gap of free places is moved through the rows, from the last to
+//! the first (`put`).
 #![tactic(auto)]
 
 ghost use Rattle.std.specs.Prelude.{◌≡◌};
@@ -22,10 +23,11 @@ use store_trait::{Batch, RowStore};
 /// A row with its id.
 type KeyedRow = (RowId, Row);
 
-/// Rows in one vector, in the order of their ids. With n rows and a batch of b, a put looks b places up, each in a time that is
-/// logarithmic in how far it is from the one before it, which is at most b log n and at most n + b; and it moves only rows that
-/// stand behind the first one that is new or removed, each at most twice. So rows behind all others, and rows
-/// that are overwritten, move none. Its memory is that of the rows that are new, and stays for later ones.
+/// Rows in one vector, in the order of their ids. A put looks up each of the batch's b places among n rows, from the
+/// last to the first, in time logarithmic in its distance from the place before. Together that is at most b log n and
+/// at most n + b. It moves only rows after the first one that is new or removed, each at most twice. So overwritten
+/// rows, and new rows after all others, move none. A put takes memory only for new rows, and the memory stays for later
+/// ones.
 #[derive(Debug, Drop)]
 pub struct VectorStore {
     rows: Vec<KeyedRow>,
@@ -57,7 +59,7 @@ impl VectorStore {
         }
     }
 
-    /// Lets go of all rows, and keeps their room for others. It takes no memory. The time is that of a walk over the rows.
+    /// Removes all rows, and keeps their room for others. It takes no memory, and the time of a walk over the rows.
     pub fn clear(&mut self)
         ensures { self.new ≡ empty }
     {

@@ -1,10 +1,11 @@
 //! A batch is put whole or not at all.
 //!
-//! The rows that are new are counted, and so many free places made behind all rows: only that may be refused. They are a gap
-//! among the rows. For each row of the batch, the last first, the gap is moved down to where the row is or would stand, by
-//! moving the rows between to its other end. A row that is there falls into it, and one that is set is written at its end. So
-//! what is behind the gap is done, what is before it is as it was, and the gap is as wide as the new rows that are still to come
-//! and the removed ones. At the end it is closed, where rows were removed.
+//! The new rows are counted, and one free place for each is made after all rows; only this can be refused. The free
+//! places are a gap among the rows. For each row of the batch, the last first, the gap is moved down to the row's
+//! place, or to the place that it would have: the rows between are moved to the gap's other end. A row that is there
+//! becomes part of the gap, and a row that is set is written at the gap's end. So the rows after the gap are done, and
+//! those before it are as they were. The gap has a place for each new row that is still to come, and for each row
+//! removed so far. At the end it is closed if rows were removed.
 
 ghost use Rattle.std.specs.Prelude.{◌≡◌, ◌+◌, ◌-◌, ◌<◌, ◌≤◌, [], ◌∷◌, ◌++◌, ◌&&◌, length, take, drop, count_by, is_some, is_none, IsSome};
 ghost use Rattle.std.specs.Prelude.{IsNone, IfOk, OnOk, OnErr};
@@ -21,7 +22,7 @@ use crate::search::place_near_end;
 use rows::Row;
 use schema::{Memory, RowId};
 
-/// A row by its id, or that there is none.
+/// A row with its id, or that the row is absent.
 type Entry = (RowId, Option<Row>);
 
 /// The places from `start` up to `end`, which are free.
@@ -31,7 +32,7 @@ struct Gap {
     end: usize,
 }
 
-/// Puts all of these entries, or, where memory runs out, none.
+/// Puts all of these entries, or none if memory runs out.
 pub(crate) fn put_whole(rows: &mut Vec<KeyedRow>, entries: &[Entry]) -> Result<(), Memory>
     requires rising { IsRising entries.now }
     requires order { AreInOrder rows.old.items }
@@ -46,7 +47,7 @@ pub(crate) fn put_whole(rows: &mut Vec<KeyedRow>, entries: &[Entry]) -> Result<(
     Ok(())
 }
 
-/// How many rows that are not there the entries set.
+/// How many rows the entries set that are not there yet.
 fn count_new(rows: &[KeyedRow], entries: &[Entry]) -> usize
     requires rising { IsRising entries.now }
     requires order { AreInOrder rows.now }
@@ -65,7 +66,7 @@ fn count_new(rows: &[KeyedRow], entries: &[Entry]) -> usize
     count
 }
 
-/// The place from which on all rows are behind those that are before the row, and whether it is set without being there.
+/// The place of the first row with this id or a greater one; and whether the row is set without being there.
 fn look_up(rows: &[KeyedRow], id: RowId, is_set: bool) -> (usize, bool)
     requires { AreInOrder rows.now }
     ensures within { result.0 ≤ length rows.now }
@@ -78,7 +79,7 @@ fn look_up(rows: &[KeyedRow], id: RowId, is_set: bool) -> (usize, bool)
     }
 }
 
-/// Makes so many free places behind the rows, or, where memory runs out, none.
+/// Makes this many free places after the rows, or none if memory runs out.
 fn open(rows: &mut Vec<KeyedRow>, count: usize) -> Result<Gap, Memory>
     ensures gap { IfOk result (λ gap. IsGap gap rows.new.items) }
     ensures ok { IfOk result (λ gap. around gap rows.new.items ≡ rows.old.items) }
@@ -93,13 +94,13 @@ fn open(rows: &mut Vec<KeyedRow>, count: usize) -> Result<Gap, Memory>
     Ok(Gap { start, end })
 }
 
-/// What stands in a free place.
+/// What a free place holds.
 fn filler() -> KeyedRow {
     (RowId { table: 0, key: 0 }, Row::new(&[0]).unwrap())
 }
 
-/// Puts the entries, the last of them first, into the rows around the gap, which is behind all rows and has a place for each row
-/// that is new. Answers the gap that is left.
+/// Puts the entries, the last of them first, into the rows around the gap, which is after all rows and has a place for
+/// each new row. Returns the gap that is left.
 fn merge(rows: &mut [KeyedRow], entries: &[Entry], mut gap: Gap) -> Gap
     requires rising { IsRising entries.now }
     requires gap { IsGap gap rows.old }
@@ -119,7 +120,7 @@ fn merge(rows: &mut [KeyedRow], entries: &[Entry], mut gap: Gap) -> Gap
     gap
 }
 
-/// Puts one row, or removes it, where all rows behind the gap are behind it. Answers the gap that is left.
+/// Puts one row, or removes it. All rows after the gap must have greater ids. Returns the gap that is left.
 fn put_one(rows: &mut [KeyedRow], gap: Gap, id: RowId, row: Option<Row>) -> Gap
     requires gap { IsGap gap rows.old }
     requires order { AreInOrder (around gap rows.old) }
@@ -139,7 +140,7 @@ fn put_one(rows: &mut [KeyedRow], gap: Gap, id: RowId, row: Option<Row>) -> Gap
     }
 }
 
-/// Moves the gap to where the row is or would stand. A row that is there falls into it.
+/// Moves the gap to the row's place, or to the place that it would have. A row that is there becomes part of the gap.
 fn part(rows: &mut [KeyedRow], gap: Gap, id: RowId) -> Gap
     requires gap { IsGap gap rows.old }
     requires order { AreInOrder (around gap rows.old) }
@@ -154,7 +155,7 @@ fn part(rows: &mut [KeyedRow], gap: Gap, id: RowId) -> Gap
     }
 }
 
-/// Moves the rows from `behind` up to the gap to its other end, and lets the gap begin at `start`.
+/// Moves the rows from `behind` up to the gap to the gap's other end, and lets the gap begin at `start`.
 fn move_gap(rows: &mut [KeyedRow], gap: Gap, start: usize, behind: usize) -> Gap
     requires gap { IsGap gap rows.old }
     requires rises { start ≤ behind }

@@ -1,4 +1,4 @@
-//! Where a row stands among rows in the order of their ids. Nothing here takes memory.
+//! The place of a row among rows in the order of their ids. Nothing here takes memory.
 
 ghost use Rattle.std.specs.Prelude.{◌≡◌, ◌≤◌, length};
 ghost use Rattle.std.specs.FinMap.{get as row_of};
@@ -10,7 +10,7 @@ use crate::KeyedRow;
 use rows::Row;
 use schema::RowId;
 
-/// The row, where it is there.
+/// The row, if it is there.
 pub(crate) fn row_at(rows: &[KeyedRow], id: RowId) -> Option<Row>
     requires { AreInOrder rows.now }
     ensures { result ≡ row_of (contents_of rows.now) id }
@@ -21,7 +21,7 @@ pub(crate) fn row_at(rows: &[KeyedRow], id: RowId) -> Option<Row>
     }
 }
 
-/// The place of the row, or the one where it would stand. The time is logarithmic in the number of rows.
+/// The place of the row, or the place that it would have. The time is logarithmic in the number of rows.
 fn place_of(rows: &[KeyedRow], id: RowId) -> Result<usize, usize>
     requires { AreInOrder rows.now }
     ensures { IsPlaceOf rows.now id result }
@@ -29,7 +29,7 @@ fn place_of(rows: &[KeyedRow], id: RowId) -> Result<usize, usize>
     rows.binary_search_by_key(&id, |row| row.0)
 }
 
-/// The place of the row, or the one where it would stand. The time is logarithmic in how far it is from the end.
+/// The place of the row, or the place that it would have. The time is logarithmic in its distance from the end.
 pub(crate) fn place_near_end(rows: &[KeyedRow], id: RowId) -> Result<usize, usize>
     requires { AreInOrder rows.now }
     ensures { IsPlaceOf rows.now id result }
@@ -41,8 +41,8 @@ pub(crate) fn place_near_end(rows: &[KeyedRow], id: RowId) -> Result<usize, usiz
     }
 }
 
-/// Two places such that all rows before the first are before the id, and all from the second on behind it. The distance from
-/// the end is doubled until the first is found.
+/// Two places: all rows before the first have lower ids, and all rows from the second on have greater ids. The distance
+/// from the end is doubled until the first is found.
 fn window_near_end(rows: &[KeyedRow], id: RowId) -> (usize, usize)
     requires { AreInOrder rows.now }
     ensures { IsWindowOf rows.now id result.0 result.1 }
@@ -56,7 +56,7 @@ fn window_near_end(rows: &[KeyedRow], id: RowId) -> (usize, usize)
     (low, high)
 }
 
-/// Of a table's rows above the key, or of all of them, the one with the least key.
+/// The row with the least key, of the table's rows above the given key, or of all of them without one.
 pub(crate) fn next_row(rows: &[KeyedRow], table: u16, above: Option<i64>) -> Option<(i64, Row)>
     requires { AreInOrder rows.now }
     ensures { IsNextInTable (contents_of rows.now) table above result }
@@ -69,7 +69,7 @@ pub(crate) fn next_row(rows: &[KeyedRow], table: u16, above: Option<i64>) -> Opt
     }
 }
 
-/// How many rows stand before all rows of the table whose keys are above the key.
+/// How many rows come before all rows of the table whose keys are above the key.
 fn passed_rows(rows: &[KeyedRow], table: u16, above: Option<i64>) -> usize
     requires { AreInOrder rows.now }
     ensures within { result ≤ length rows.now }
@@ -78,7 +78,7 @@ fn passed_rows(rows: &[KeyedRow], table: u16, above: Option<i64>) -> usize
     rows.partition_point(|row| is_passed(row.0, table, above))
 }
 
-/// Whether the row stands before all rows of the table whose keys are above the key.
+/// Whether the row comes before all rows of the table whose keys are above the key.
 fn is_passed(id: RowId, table: u16, above: Option<i64>) -> bool
     ensures { result ≡ is_passed table above id }
 {

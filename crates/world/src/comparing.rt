@@ -15,9 +15,9 @@ use source_core::SourceCore;
 use store_trait::{Batch, RowStore};
 use tracker_trait::Tracker;
 
-/// Whether both sides began with the same rows, and the records that the replica accepted are a beginning of the source's
-/// log. It takes no memory. With n rows at the start the time is that of 2n look-ups among them, and of comparing the
-/// records accepted.
+/// Whether both sides began with the same rows, and the records that the replica accepted are a prefix of the source's
+/// log. It takes no memory. With n initial rows, it takes the time of 2n look-ups among them, and of comparing the
+/// accepted records.
 pub fn begins<S: RowStore, T: Tracker, R: RowStore>(
     source: &SourceCore<S, T>,
     replica: &ReplicaCore<R>,
@@ -27,14 +27,14 @@ pub fn begins<S: RowStore, T: Tracker, R: RowStore>(
     load_alike(source.base(), replica.base()) && is_beginning(replica.accepted(), source.log())
 }
 
-/// Whether two batches leave the same rows of an empty store.
+/// Whether two batches load the same rows into an empty store.
 fn load_alike(one: &Batch, other: &Batch) -> bool
     ensures { IsTrue result ↔ (loaded one.now ≡ loaded other.now) }
 {
     all_loaded(one.entries(), other) && all_loaded(other.entries(), one)
 }
 
-/// Whether the batch loads each of these rows, and of those that are removed none.
+/// Whether the batch loads each of these rows, and none of those that are marked as removed.
 fn all_loaded(entries: &[(RowId, Option<Row>)], batch: &Batch) -> bool
     ensures { IsTrue result ↔ AllByRecursion (λ (e : Entry). row_of (loaded batch.now) e.0 ≡ e.1) entries.now }
 {
@@ -52,7 +52,7 @@ fn is_loaded(entry: &(RowId, Option<Row>), batch: &Batch) -> bool
     loaded_row(batch, entry.0) == entry.1
 }
 
-/// The row as the batch loads it, found by halves.
+/// The row as the batch loads it, found by binary search.
 fn loaded_row(batch: &Batch, id: RowId) -> Option<Row>
     ensures { result ≡ row_of (loaded batch.now) id }
 {

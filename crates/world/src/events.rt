@@ -1,4 +1,4 @@
-//! What may happen in a world, and what is answered.
+//! The events of a world, and their replies.
 
 ghost use Rattle.std.specs.Prelude.{◌≡◌, map};
 
@@ -11,7 +11,7 @@ use schema::RowId;
 use source_core::SourceFault;
 use std::marker::Model;
 
-/// One step of a run: one call of the source or of the replica, one publish or one read.
+/// One step of a run: one call of the source, of its log or of the replica, one publish, or one read.
 #[derive(Clone, Copy, Debug, PartialEq, Eq)]
 pub enum Event {
     /// The session opens a transaction.
@@ -24,35 +24,38 @@ pub enum Event {
     Prepare { session: u16 },
     /// The session's transaction waits for the next flush.
     Queue { session: u16 },
-    /// The session's transaction ends without a trace, where it is not queued yet.
+    /// The session's transaction ends without a trace, if it is not queued yet.
     Abort { session: u16 },
     /// The queued transactions become the next records of the log.
     Flush,
-    /// The oldest group of records that is not yet synced is written to the last file of the log.
+    /// The oldest group that is not yet synced is written to the last file of the log, and synced.
     Sync,
     /// The synced transactions are committed.
     Commit,
-    /// The record of this number comes to the replica.
+    /// The record with this number is delivered to the replica.
     Deliver { gno: u64 },
     /// The replica hands out the job of its next record, which then waits to be executed.
     Dispatch,
-    /// The job of this record is executed, where it waits, and its result handed in.
+    /// The job of this record is executed, if it waits, and its result is handed in.
     Finish { gno: u64 },
-    /// The replica commits a record: the next in log order, or, where that order is not kept, the one whose job was finished first.
+    /// The replica commits a record: the next in log order or, if that order is not kept, the one whose job was
+    /// finished first.
     Next,
     /// The replica publishes all that it committed.
     Publish,
-    /// The replica tells the ids of the transactions that it committed, as MySQL's `gtid_executed`.
+    /// The replica reports the ids of the transactions that it committed, like MySQL's `gtid_executed`.
     Executed,
     /// A read at the replica.
     Read { row: RowId },
-    /// The log goes on in a next file, on the next spare device: the last file is finished, and the next one is the last.
+    /// The log continues in a next file, on the next spare device: the last file is finished, and the new one becomes
+    /// the last.
     Rotate,
-    /// The files of the log are shown, as their devices are to have them: of each its header, the synced groups, and the last gate.
+    /// The files of the log are shown as their devices should have them: for each file its header, the synced groups,
+    /// and the last gate.
     Log,
 }
 
-/// The stamps of the records of a group, in log order: sequence number and parent of each.
+/// The stamps of a group's records, in log order: the sequence number and the parent of each.
 #[derive(Debug, Drop)]
 pub struct Stamps {
     list: Vec<(u64, u64)>,
@@ -112,10 +115,10 @@ impl LogText {
     }
 }
 
-/// What an event is answered.
+/// The reply to an event.
 #[derive(Debug, Drop)]
 pub enum Reply {
-    /// The call was taken, and answers nothing.
+    /// The call was accepted, and returns nothing.
     Done,
     /// What the session sees of the row.
     Seen {
@@ -127,17 +130,17 @@ pub enum Reply {
     },
     /// The transaction had no changes, and has ended.
     Empty,
-    /// The queued transactions are the records from this number on, with these stamps.
+    /// The queued transactions are now the records from this number on, with these stamps.
     Flushed {
         first: u64,
         stamps: Stamps,
     },
-    /// The records of these numbers are on the log.
+    /// The records from the first to the last of these numbers are on the log, synced.
     Synced {
         first: u64,
         last: u64,
     },
-    /// The transactions of these numbers are committed.
+    /// The transactions from the first to the last of these numbers are committed.
     Committed {
         first: u64,
         last: u64,
@@ -162,15 +165,15 @@ pub enum Reply {
     Commit {
         gno: u64,
     },
-    /// As many commits are published.
+    /// The number of commits that are published.
     Published {
         upto: u64,
     },
-    /// The ids of the transactions committed at the replica, published or not; the empty set where there are none.
+    /// The ids of the transactions committed at the replica, published or not. The set is empty if there are none.
     Executed(GtidSet),
-    /// The row as the published commits leave it: those of all records from 1 to this gno, and so many of greater gnos. In the
-    /// order of the log there are none of these; else the next record's is missing, while all that conflict with what is there and come
-    /// before it are there too.
+    /// The row as the published commits leave it. These are all records from 1 to `upto`, and `more` records with
+    /// greater gnos. In log order `more` is 0. Otherwise the record after `upto` is missing, but each published record
+    /// comes with all earlier records that conflict with it.
     Read {
         upto: u64,
         more: u64,
@@ -182,16 +185,16 @@ pub enum Reply {
     Replica(ReplicaFault),
     /// The record could not be read from its bytes.
     Codec(CodecFault),
-    /// The log goes on in a next file: its number. The first file has the number 1.
+    /// The log continues in the next file, which has this number. The first file has the number 1.
     Rotated {
         number: u64,
     },
-    /// A flushed transaction is not committed yet: the log goes on in the same file.
+    /// A flushed transaction is not committed yet, so the log stays in the same file.
     Busy,
     /// No device is left for a next file.
     NoDevice,
     /// The files of the log.
     Text(LogText),
-    /// A device of the log failed, and the source is halted; or there was no memory for the log.
+    /// A device of the log failed, and the source is halted; or memory ran out for the log.
     Log(LogFault),
 }

@@ -19,14 +19,14 @@ use schema::Memory;
 use store_trait::{Op, RowStore};
 use uuid::Uuid;
 
-/// What is known of every replica.
+/// What holds for every replica.
 pub(crate) fn sound_replica<S: RowStore>(replica: &ReplicaCore<S>)
     ensures { IsSound replica.now }
 {
     let _published = replica.published();
 }
 
-/// The replica is given the record, which is not copied. A refused one is dropped: the log has it.
+/// Gives the record to the replica, without a copy. A refused record is dropped, since the log has it.
 pub(crate) fn give<S: RowStore>(
     replica: &mut ReplicaCore<S>,
     from: Uuid,
@@ -59,7 +59,8 @@ pub(crate) fn keep_job(jobs: &mut Vec<Job>, job: Job)
     jobs.push(job).unwrap();
 }
 
-/// Takes out the job of this record, where one waits, and tells its place. The time is that of a look at each job that waits.
+/// Takes out the job of this record, if one waits, and returns it with its place. The time is that of a look at each
+/// job that waits.
 pub(crate) fn take_job(jobs: &mut Vec<Job>, gno: u64) -> Option<(usize, Job)>
     ensures some { IfSome result (λ taken. TakesOut gno jobs.old.items taken.0 taken.1 jobs.new.items) }
     ensures room { IfSome result (λ _. vec_len jobs.new < vec_capacity jobs.new) }
@@ -76,7 +77,7 @@ fn place_of(jobs: &[Job], gno: u64) -> Option<usize>
     jobs.iter().position(|job| job.gno == gno)
 }
 
-/// The job waits again at its place, for which there is room.
+/// Puts the job back in its place, for which there is room.
 pub(crate) fn put_job(jobs: &mut Vec<Job>, place: usize, job: Job)
     requires within { place ≤ vec_len jobs.old }
     requires room { vec_len jobs.old < vec_capacity jobs.old }
@@ -85,7 +86,7 @@ pub(crate) fn put_job(jobs: &mut Vec<Job>, place: usize, job: Job)
     jobs.insert(place, job).unwrap();
 }
 
-/// The operations behind as many.
+/// The operations after the first `done` ones.
 pub(crate) fn rest_of(ops: &[Op], done: u64) -> &[Op]
     requires { done ≤ length ops.now }
     ensures { result.now ≡ drop done ops.now }

@@ -1,4 +1,4 @@
-//! What the calls of the two sides are replied.
+//! The replies for what the calls of both sides return.
 
 ghost use Rattle.std.specs.Prelude.{◌≡◌};
 ghost use Rattle.std.specs.Result.{result_err};
@@ -10,7 +10,7 @@ use relay::{Received, ReplicaFault};
 use rows::Row;
 use source_core::{Prepared, SourceFault};
 
-/// What a call that answers nothing is replied.
+/// The reply for a call that returns nothing.
 pub(crate) fn done(answer: Result<(), SourceFault>) -> Reply
     ensures { result ≡ refused_or (result_err answer) Reply.Done }
 {
@@ -20,7 +20,7 @@ pub(crate) fn done(answer: Result<(), SourceFault>) -> Reply
     }
 }
 
-/// What a read at the source is replied.
+/// The reply for a read at the source.
 pub(crate) fn seen(answer: Result<Option<Row>, SourceFault>) -> Reply
     ensures { result ≡ seen_reply answer }
 {
@@ -30,7 +30,7 @@ pub(crate) fn seen(answer: Result<Option<Row>, SourceFault>) -> Reply
     }
 }
 
-/// What a prepare is replied.
+/// The reply for a prepare.
 pub(crate) fn prepared(answer: Result<Prepared, SourceFault>) -> Reply
     ensures { result ≡ prepared_reply answer }
 {
@@ -41,7 +41,7 @@ pub(crate) fn prepared(answer: Result<Prepared, SourceFault>) -> Reply
     }
 }
 
-/// What a commit of the records from the first to the last of these numbers is replied.
+/// The reply for a commit of the records from the first to the last of these numbers.
 pub(crate) fn committed(ends: Option<(u64, u64)>) -> Reply
     ensures { result ≡ ends_reply ends }
 {
@@ -51,7 +51,7 @@ pub(crate) fn committed(ends: Option<(u64, u64)>) -> Reply
     }
 }
 
-/// What a record that was received is replied.
+/// The reply for a record that was received.
 pub(crate) fn received(answer: Result<Received, ReplicaFault>) -> Reply
     ensures { result ≡ received_reply answer }
 {

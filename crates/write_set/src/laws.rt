@@ -1,8 +1,9 @@
-//! What follows from the definitions alone. Each function states laws by its contract, and does nothing.
+//! What follows from the definitions. Each function states laws by its contract, and does nothing.
 
 ghost use Rattle.write_set.specs.Laws.{HasJustTheDigests, DigestsRise};
 
-/// A write set has just the digests of the written rows in keyed tables and of the marks, each once and in rising order.
+/// A write set has exactly the digests of the written rows in keyed tables and of the marks, each once and in rising
+/// order.
 pub fn digest_sets()
     ensures members { HasJustTheDigests }
     ensures rising { DigestsRise }

@@ -1,14 +1,14 @@
-//! The write sets of transactions.
+//! The write sets of transactions: digests of the rows that they write, and of their marks.
 //!
-//! The digest of a row is a number of 64 bits: its key's bits, xor its table's id in the upper 16. That of a mark is
-//! the complement of the same number of its table and value, so that it is seldom a row's. A `WriteSet` is the
-//! digests of the rows that a transaction writes in keyed tables, and of its marks, each once, in rising order: its
-//! type keeps that they rise. Rows of keyless tables have none. Rows of different tables may share a digest, and a
-//! row with a mark: whoever compares write sets takes them for one, which only raises a parent; it finds no conflict
-//! too few.
+//! The digest of a row is a number of 64 bits: its key's bits, xor its table's id in the upper 16. The digest of a mark
+//! is the complement of the same number made from its table and value, so that it is seldom that of a row. A `WriteSet`
+//! is the digests of the rows that a transaction writes in keyed tables, and of its marks, each once, in rising order;
+//! its type ensures that they rise. Rows of keyless tables have no digest. Rows of different tables, or a row and a
+//! mark, may have the same digest. A tracker then takes them for one, which only raises a parent: no conflict is
+//! missed.
 //!
-//! `specs/Digest.antt` defines digests and sets of them. The crate stands on `schema`, which says which tables
-//! are keyed, and on `log_index`, whose footprints have the written rows and the marks.
+//! `specs/Digest.antt` defines digests and sets of them. `schema` says which tables are keyed, and `log_index` has the
+//! footprints, with the written rows and the marks.
 #![tactic(auto)]
 
 ghost use Rattle.std.specs.Prelude.{◌≡◌, ◌==◌, ◌++◌, length, filter, map, IfOk};
@@ -62,7 +62,7 @@ impl WriteSet {
         self.digests.is_empty()
     }
 
-    /// The same digests, in memory of their own.
+    /// The same digests, in separate memory.
     pub fn copy(&self) -> Result<WriteSet, Memory>
         ensures { IfOk result (λ set. set ≡ self.now) }
     {
@@ -73,7 +73,7 @@ impl WriteSet {
 }
 
 /// The write set of a transaction with this footprint. For n written rows and marks and t tables the time is that of
-/// n * t tests, to find the rows' tables, and of n log n to sort; the memory is that of n digests.
+/// n * t tests, to find the rows' tables, and of n log n to sort. The memory is that of n digests.
 pub fn digests(alloc: Global, schema: &Schema, footprint: &Footprint) -> Result<WriteSet, Memory>
     ensures { IfOk result (λ set. set ≡ digests_of schema.now footprint.now) }
 {
@@ -88,7 +88,7 @@ pub fn digests(alloc: Global, schema: &Schema, footprint: &Footprint) -> Result<
     Ok(WriteSet { digests })
 }
 
-/// The digest of each row in a keyed table, in the order of the rows, and of each mark behind these.
+/// The digest of each row in a keyed table, in the order of the rows, and then of each mark.
 fn each_digest(
     alloc: Global,
     schema: &Schema,

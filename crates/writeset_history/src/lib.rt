@@ -1,12 +1,12 @@
 //! The history of written rows: which sequence number touched the digest of a row last.
 //!
-//! A `History` is seen as a finite map from digests to sequence numbers, each above the history's start (`specs/History.antt`):
-//! what was touched up to the start is not known. It has no more digests than its limit, to which its caller sees by
-//! `has_room`. To forget all of them is one step: the start is raised to the newest number.
+//! Contracts see a `History` as a finite map from digests to sequence numbers, each above the history's start
+//! (`specs/History.antt`). What was touched up to the start is not known. It has no more digests than its limit; the
+//! caller ensures that with `has_room`. Forgetting all of them is one step: the start is raised to the newest number.
 //!
-//! The digests stand in slots (`slots`, `specs/Slots.antt`). A slot whose number is at most the start is free, so no slot is
-//! ever emptied by itself. All slots are made with the history, and no other call takes memory. The crate stands on no
-//! other.
+//! The digests are in slots (`slots`, `specs/Slots.antt`). A slot whose number is at most the start is free, so slots
+//! are never emptied one by one. All slots are made with the history, and no other call takes memory. The crate uses no
+//! other crate.
 #![tactic(auto)]
 
 ghost use Rattle.std.specs.Prelude.{◌≡◌, ◌+◌, ◌<◌, ◌≤◌, ◌==◌, ◌↔◌, IsTrue, IfOk, length};
@@ -20,7 +20,7 @@ use slots::{FREE, Slot, is_live, probe};
 use std::alloc::{AllocError, Global};
 use std::marker::Model;
 
-/// Which sequence number touched each digest last, of the numbers above a start.
+/// Which sequence number touched each digest last, among the numbers above a start.
 #[derive(Debug, Drop)]
 pub struct History {
     slots: Vec<Slot>,
@@ -45,9 +45,9 @@ impl Model for History {
 }
 
 impl History {
-    /// A history of no digests, which starts at 0. The limit is that of MySQL's
-    /// `binlog_transaction_dependency_history_size`, from 1 to 1000000 there. All memory is taken here: 32 bytes for each digest
-    /// of the limit, or up to twice that, since the number of slots is a power of two. The time is that of writing it.
+    /// A history of no digests, which starts at 0. The limit is MySQL's `binlog_transaction_dependency_history_size`,
+    /// which is from 1 to 1000000 there. All memory is taken here: 32 bytes for each digest of the limit, or up to
+    /// twice that, since the number of slots is a power of two. The time is that of writing it.
     pub fn with_limit(alloc: Global, limit: u32) -> Result<History, AllocError>
         ensures { IfOk result (λ history. history ≡ new_history limit) }
     {
@@ -59,8 +59,8 @@ impl History {
         })
     }
 
-    /// The number that touched the digest last, and 0 where the history has none. It takes expected constant time, and at worst
-    /// that of a look at each digest of the history.
+    /// The number that touched the digest last; 0 if the history does not have it. It takes expected constant time, and
+    /// at worst a look at each digest of the history.
     pub fn look(&self, digest: u64) -> u64
         ensures { result ≡ number_of self.now digest }
     {
@@ -72,7 +72,7 @@ impl History {
         }
     }
 
-    /// Each of these digests is now touched by this number last. The time is that of a look at each of them.
+    /// Notes that this number touched each of these digests last. The time is that of a look at each of them.
     pub fn enter(&mut self, digests: &[u64], sequence: u64)
         requires room { len self.old.numbers + length digests.now ≤ self.old.limit }
         requires above { self.old.start < sequence }
@@ -117,14 +117,14 @@ impl History {
         self.len
     }
 
-    /// Whether there is no digest.
+    /// Whether there are no digests.
     pub fn is_empty(&self) -> bool
         ensures { result ≡ (len self.now.numbers == 0) }
     {
         self.len == 0
     }
 
-    /// Whether so many digests, were they all new, are within the limit.
+    /// Whether `more` digests are within the limit, even if all of them are new.
     pub fn has_room(&self, more: usize) -> bool
         ensures { IsTrue result ↔ (len self.now.numbers + more ≤ self.now.limit) }
     {
@@ -132,7 +132,8 @@ impl History {
     }
 }
 
-/// How many slots a history of this limit has: two for each digest at least, so that probes are short and each has an end.
+/// How many slots a history with this limit has: at least two for each digest, so that probes are short and each has an
+/// end.
 fn slots_for(limit: u32) -> usize
     ensures some_free { limit < result }
     ensures half_free { limit + limit ≤ result }

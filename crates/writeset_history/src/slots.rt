@@ -1,14 +1,15 @@
-//! Slots for digests, and where that of a digest is found.
+//! Slots for digests, and how a digest's slot is found.
 //!
-//! A probe for a digest goes from slot to slot, behind the last on with the first, and ends at the digest's own or at a free
-//! one, where the digest is entered. It begins at the digest's home, a number that is mixed from the digest's bits. Rising keys
-//! of a table have digests that follow one another; their homes lie as if by chance, so no run of taken slots grows with them.
+//! A probe for a digest goes from slot to slot, from the last one on to the first, and ends at the digest's slot or at
+//! a free one, which takes the digest. It begins at the digest's home, a number that is mixed from the digest's bits.
+//! Rising keys of a table have digests that follow one another. Their homes look random, so runs of taken slots do not
+//! grow with them.
 
 ghost use Rattle.std.specs.Prelude.{◌≡◌, ◌<◌, length, position};
 ghost use Rattle.writeset_history.specs.Probing.{mixed, home_of};
 ghost use Rattle.writeset_history.specs.Slots.{is_live, is_end, EndsAt, HasNoEnd};
 
-/// A place for a digest, and for the number that touched it last.
+/// A place for a digest and the number that touched it last.
 #[derive(Clone, Copy, Debug)]
 pub(crate) struct Slot {
     pub digest: u64,
@@ -28,7 +29,7 @@ pub(crate) fn is_live(start: u64, slot: Slot) -> bool
     start < slot.sequence
 }
 
-/// Where a probe for the digest ends.
+/// The place of the slot that a probe for the digest ends at.
 pub(crate) fn probe(slots: &[Slot], start: u64, digest: u64) -> usize
     requires { ¬ HasNoEnd slots.now start digest }
     ensures { EndsAt slots.now start digest result }
@@ -49,7 +50,8 @@ fn first_end(slots: &[Slot], start: u64, digest: u64) -> Option<usize>
         .position(|slot| !is_live(start, *slot) || slot.digest == digest)
 }
 
-/// Where a probe for the digest begins. The number of slots is a power of two, so that each is a home.
+/// The place of the slot that a probe for the digest begins at. The number of slots is a power of two, so each slot can
+/// be a home.
 #[tactic(auto, unfolding(crate::specs::Probing::home_of))]
 fn home_of(digest: u64, slots: usize) -> usize
     requires { 0 < slots }
@@ -59,7 +61,7 @@ fn home_of(digest: u64, slots: usize) -> usize
     mixed(digest) as usize & (slots - 1)
 }
 
-/// The digest's bits, mixed as the generator SplitMix64 mixes those of its counter: no two digests become one number.
+/// The digest's bits, mixed as the generator SplitMix64 mixes those of its counter: no two digests give one number.
 #[tactic(auto, unfolding(crate::specs::Probing::mixed))]
 fn mixed(digest: u64) -> u64
     ensures { result ≡ mixed digest }

@@ -1,13 +1,15 @@
 //! The trackers of write sets: MySQL's WRITESET and WRITESET_SESSION.
 //!
-//! Both keep a history: which transaction had the digest of each row or mark last (`writeset_history`). A transaction's parent is
-//! the last that had one of its digests, at least where the history starts, and no later than the order parent. With
-//! `WriteSetSession` it is also at least the session's own last transaction, for which it keeps a number for each session. A
-//! transaction that is foreign-key related, or whose digests are too many beside those that are there, empties the history.
+//! Both keep a history: which transaction touched the digest of each row or mark last (`writeset_history`). A
+//! transaction's parent is the number of the last one that touched one of its digests, at least the history's start,
+//! and at most the order parent. It is the order parent if the transaction is foreign-key related or writes a keyless
+//! table. With `WriteSetSession` the parent is also at least the session's own last transaction, whose number is kept
+//! for each session. A transaction empties the history if it is foreign-key related, or if its digests do not fit in
+//! beside those that are there.
 //!
-//! `specs/Agreement.antt` says what a history knows of the log that a tracker has seen: where it starts, and which digests it
-//! has, read off the log alone. That it stays so is shown for lists of entries (`proofs`). The trackers stand on
-//! `tracker_trait`, whose law they meet over the whole log.
+//! `specs/Agreement.antt` says what a history knows of the log that a tracker has seen: its start and its digests, from
+//! the log only. `proofs` shows for lists of entries that this stays so. The trackers meet the law of `tracker_trait`
+//! over the whole log.
 #![tactic(auto)]
 
 ghost use Rattle.std.specs.Prelude.{◌≡◌, List, [], IfOk};
@@ -44,9 +46,9 @@ impl Model for WriteSetTracker {
 }
 
 impl WriteSetTracker {
-    /// A tracker that has seen no transaction, with a history of at most so many digests: MySQL's
-    /// `binlog_transaction_dependency_history_size`, from 1 to 1000000 there. All memory is taken here: 32 bytes for each digest
-    /// of the limit, or up to twice that.
+    /// A tracker that has seen no transaction, with a history of at most `limit` digests: MySQL's
+    /// `binlog_transaction_dependency_history_size`, which is from 1 to 1000000 there. All memory is taken here: 32
+    /// bytes for each digest of the limit, or up to twice that.
     pub fn with_limit(alloc: Global, limit: u32) -> Result<WriteSetTracker, Memory>
         ensures value { IfOk result (λ tracker. tracker ≡ new_history limit) }
         ensures new { IfOk result (λ tracker. (ts : List Table) → IsHistoryOf ts [] tracker) }
@@ -65,8 +67,8 @@ impl Tracker for WriteSetTracker {
 
     ghost agrees = { λ history ts log. IsHistoryOf ts (reverse log) history };
 
-    /// The time is that of a look at each digest of the write set, and of entering each: expected constant for one. To empty the
-    /// history takes constant time.
+    /// The time is that of a look at each digest of the write set, and of entering each, which is expected to be
+    /// constant for one digest. Emptying the history takes constant time.
     fn stamp(
         &mut self,
         log: &Log,
@@ -88,12 +90,12 @@ impl Resumable for WriteSetTracker {
     }
 }
 
-/// Parents by write sets, and never before the session's own last transaction: a replica then applies each session's
+/// Parents by write sets, and never before the session's own last transaction. So a replica applies each session's
 /// transactions in their order.
 #[derive(Debug, Drop)]
 pub struct WriteSetSession {
     history: History,
-    /// The number of each session's last transaction, 0 where it has none. Session 1 comes first.
+    /// The number of each session's last transaction, 0 if it has none. Session 1 comes first.
     last: Vec<u64>,
 }
 
@@ -111,8 +113,9 @@ impl Model for WriteSetSession {
 }
 
 impl WriteSetSession {
-    /// A tracker that has seen no transaction, with a history of at most so many digests, as `WriteSetTracker::with_limit`. All
-    /// memory is taken here: that of the history, and a number for each of 256 sessions.
+    /// A tracker that has seen no transaction, with a history of at most `limit` digests, as in
+    /// `WriteSetTracker::with_limit`. All memory is taken here: that of the history, and a number for each of 256
+    /// sessions.
     pub fn with_limit(alloc: Global, limit: u32) -> Result<WriteSetSession, Memory>
         ensures history { IfOk result (λ tracker. tracker.history ≡ new_history limit) }
         ensures new { IfOk result (λ tracker. (ts : List Table) → IsHistoryOf ts [] tracker.history × AreLast [] tracker.last) }
@@ -133,7 +136,7 @@ impl Tracker for WriteSetSession {
 
     ghost agrees = { λ tracker ts log. IsHistoryOf ts (reverse log) tracker.history × AreLast (reverse log) tracker.last };
 
-    /// The time is that of `WriteSetTracker`'s.
+    /// The time is that of `WriteSetTracker`.
     fn stamp(
         &mut self,
         log: &Log,
@@ -152,7 +155,7 @@ impl Tracker for WriteSetSession {
 }
 
 impl Resumable for WriteSetSession {
-    /// The time is that of `WriteSetTracker`'s.
+    /// The time is that of `WriteSetTracker`.
     fn observe(&mut self, log: &Log, t: &Footprint, w: &WriteSet) {
         note(&mut self.history, log, t, w);
     }

@@ -1,4 +1,4 @@
-//! What a history says of the next transaction, and how it goes on behind it. Both trackers do this alike.
+//! What a history says of the next transaction, and how it takes that one in. Both trackers do this alike.
 
 ghost use Rattle.std.specs.Prelude.{◌≡◌, ◌<◌, ℕ, List};
 ghost use Rattle.std.proofs.Common.{reverse};
@@ -12,7 +12,7 @@ use log_index::{Footprint, Log};
 use write_set::WriteSet;
 use writeset_history::History;
 
-/// The transaction's parent, as far as write sets and the order parent say.
+/// The transaction's parent by its write set and the order parent.
 pub(crate) fn parent_by(history: &History, t: &Footprint, w: &WriteSet, order_parent: u64) -> u64
     ensures { result ≡ parent_by history.now t.now w.now order_parent }
 {
@@ -23,7 +23,7 @@ pub(crate) fn parent_by(history: &History, t: &Footprint, w: &WriteSet, order_pa
     }
 }
 
-/// The last number that had one of the digests, and at least the start.
+/// The last number that touched one of the digests, at least the history's start.
 fn last_number(history: &History, digests: &[u64]) -> u64
     ensures { result ≡ last_number history.now digests.now }
 {
@@ -34,7 +34,7 @@ fn last_number(history: &History, digests: &[u64]) -> u64
     last
 }
 
-/// Notes the transaction behind the log, which the history is of.
+/// Notes the transaction as the next one after the log, which the history is of.
 pub(crate) fn note(history: &mut History, log: &Log, t: &Footprint, w: &WriteSet)
     requires { (ts : List Table) × IsHistoryOf ts (reverse log.now.entries) history.old }
     ensures goes_on { (ts : List Table) (session parent : ℕ) → IsHistoryOf ts (reverse log.now.entries) history.old
@@ -44,8 +44,8 @@ pub(crate) fn note(history: &mut History, log: &Log, t: &Footprint, w: &WriteSet
     note_at(history, t, w, log.len() as u64 + 1);
 }
 
-/// Notes the transaction, which has this number: its digests are entered, or the history is emptied. Whether there is room is
-/// asked for all digests as if each were new, before any is entered.
+/// Notes the transaction with this number: its digests are entered, or the history is emptied. Before any is entered,
+/// the room for all digests is checked as if each were new.
 fn note_at(history: &mut History, t: &Footprint, w: &WriteSet, sequence: u64)
     requires up_to { IsUpTo history.old sequence }
     requires above { history.old.start < sequence }

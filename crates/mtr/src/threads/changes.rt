@@ -1,6 +1,6 @@
 //! What each session writes, and what its rows are in the end.
 //!
-//! Each session has rows of its own: its transaction j inserts row j, and from the second on sets column 1 of row j - 1
+//! Each session has separate rows. Its transaction j inserts row j and, from the second on, sets column 1 of row j - 1
 //! to j. So no two sessions hold the same row, and each transaction but a session's first depends on the one before it.
 
 ghost use Rattle.std.specs.Prelude.{◌≡◌, ◌<◌, ◌≤◌, [], ◌∷◌, pos};
@@ -32,7 +32,7 @@ pub fn inserted(session: u16, transaction: u16) -> Change
     }
 }
 
-/// Its change of the row of the transaction before it.
+/// The update, by a session's transaction, of the row of its transaction before.
 pub fn set_before(session: u16, transaction: u16) -> Change
     requires { 1 < transaction }
     ensures { result ≡ set_before session transaction }
@@ -43,7 +43,7 @@ pub fn set_before(session: u16, transaction: u16) -> Change
     }
 }
 
-/// What the row of a transaction is in the end, of so many transactions.
+/// The row of a session's transaction in the end, if the session has this number of transactions.
 pub fn row_left(session: u16, transaction: u16, transactions: u16) -> Row
     ensures { result ≡ row_left session transaction transactions }
 {

@@ -1,4 +1,4 @@
-//! Both sides as they ended, and whether they came to the same.
+//! Both sides as they ended, and whether they agree.
 
 ghost use Rattle.std.specs.Prelude.{◌≡◌, true};
 ghost use Rattle.std.specs.List.{list_all};
@@ -18,33 +18,38 @@ use world::begins;
 /// What was counted while both sides worked.
 #[derive(Clone, Copy)]
 pub struct Counts {
-    /// How many workers did all that there was.
+    /// The number of workers that worked to the end.
     pub workers: usize,
-    /// How many rows both sides have as the sessions left them.
+    /// The number of rows that both sides have as the sessions left them.
     pub rows: usize,
 }
 
-/// Both sides as they ended, what the sessions were given, and what the readers saw.
+/// Both sides as they ended, the receipts of the sessions, and what the readers saw.
 #[derive(Drop)]
 pub struct Ended<S: RowStore, T: Tracker> {
     /// The source.
     pub source: SourceCore<S, T>,
     /// The replica.
     pub replica: ReplicaCore<S>,
-    /// The receipts of all sessions, in no order.
+    /// The receipts of all sessions, in no particular order.
     pub receipts: Vec<Receipt>,
     /// What each reader saw, in order.
     pub readings: Vec<Vec<Shown>>,
     /// What was counted.
     pub counts: Counts,
-    /// How many commits the replica told that it has published.
+    /// The number of commits that the replica reported as published.
     pub published: u64,
 }
 
 impl<S: RowStore, T: Tracker> Ended<S, T> {
-    /// Whether both sides came to the same: as many workers and readers took part as planned, each reader read as often as it is to,
-    /// both have each row of the sessions as these left it, the replica published as many commits as it told, what it accepted is a
-    /// beginning of the source's log, and no reader saw more commits. The time is that of the records, the receipts and the answers.
+    /// Whether both sides agree. For that, all of this must hold:
+    ///
+    /// - The planned number of workers and of readers took part, and each reader read as often as it has to.
+    /// - Both sides have each row as the sessions left it.
+    /// - The replica published the number of commits that it reported, and no reader saw more.
+    /// - What the replica accepted is a prefix of the source's log.
+    ///
+    /// The time is that of the records, the receipts and the reads.
     pub fn verdict(&self, plan: &Plan) -> Verdict
         requires plan { IsInRange (Options.Threads plan.now) }
         requires ended { IsEnded plan.now self.now }
@@ -64,7 +69,8 @@ impl<S: RowStore, T: Tracker> Ended<S, T> {
         }
     }
 
-    // Whether as many workers and readers took part as planned, each reader read as often as it is to, and each row was compared.
+    // Whether the planned number of workers and readers took part, each reader read as often as it has to, and both
+    // sides have each row as the sessions left it.
     fn took_part(&self, plan: &Plan) -> bool
         requires plan { IsInRange (Options.Threads plan.now) }
         ensures yes { result ≡ true → TookPart plan.now self.now }
@@ -77,14 +83,14 @@ impl<S: RowStore, T: Tracker> Ended<S, T> {
     }
 }
 
-/// Whether each of these readers read as often as it is to.
+/// Whether each of these readers read as often as it has to.
 fn have_all_read(readings: &[Vec<Shown>]) -> bool
     ensures { result ≡ list_all (λ v. has_read v.items) readings.now }
 {
     readings.iter().all(|shown| shown.len() >= READS)
 }
 
-/// Whether none of these readers saw more commits.
+/// Whether none of these readers saw more than `most` commits.
 fn are_all_within(readings: &[Vec<Shown>], most: u64) -> bool
     ensures { result ≡ list_all (λ v. are_within most v.items) readings.now }
 {
@@ -97,7 +103,7 @@ fn are_within(shown: &[Shown], most: u64) -> bool
     shown.iter().all(|one| one.commits() <= u128::from(most))
 }
 
-/// The greatest gno of receipts; 0 where there are none.
+/// The greatest gno of these receipts, or 0 if there are none.
 fn last_gno(receipts: &[Receipt]) -> u64
     ensures { IsLast receipts.now result }
 {

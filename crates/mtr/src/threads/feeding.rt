@@ -1,4 +1,4 @@
-//! The sessions' threads, and the wire's.
+//! The work of the sessions' threads and of the wire's thread.
 
 ghost use Rattle.std.specs.Prelude.{◌<◌};
 
@@ -15,17 +15,17 @@ use std::thread::{Threads, join, map_indices};
 use tracker_trait::Tracker;
 use uuid::Uuid;
 
-/// So many bytes of the log are sent at once.
+/// How many bytes of the log are sent at once.
 const PIECE: usize = 7;
 
-/// So many are sent first. Each record of a session has a multiple of seven bytes: so each ends within a piece, and in front of the
-/// next one's beginning.
+/// How many bytes are sent first. Each record of a session has a multiple of seven bytes. So each record ends in the
+/// middle of a piece, which also has the start of the next record.
 const FIRST: usize = 3;
 
-/// So many bytes of the log are taken from the source at once, or those of one record where it has more.
+/// The most bytes of the log that are taken from the source at once, unless a single record has more.
 const ROOM: usize = 4096;
 
-/// The receipts of one session, in order; or why it stopped.
+/// The receipts of one session, in order, or why it stopped.
 type Receipts<J> = Result<Vec<Receipt<J>>, Trouble>;
 
 impl<
@@ -35,18 +35,18 @@ impl<
     K: ReplicaNaming + Send + Sync,
     H: Threads + Wait + Sync,
 > Shared<'_, S, T, J, K, H> {
-    /// Commits what all sessions write, sends the source's log to the replica, and tells the replica that no more come. It
-    /// does so however the sessions and the wire end.
+    /// Commits what all sessions write, and sends the source's log to the replica. However the sessions and the wire
+    /// end, it then closes the replica, since no more comes.
     pub fn feed(&self) -> Receipts<J> {
-        // The second closure is called first where no thread can be made.
+        // If no thread can be made, `join` calls the second closure first.
         let (carried, receipts) = join(self.rt, || self.carry_all(), || self.commit_all());
         self.replica.close(self.rt);
         carried?;
         receipts
     }
 
-    /// Commits the transactions of all sessions, each session in a thread of its own, and tells the source that they ended, and so
-    /// the wire.
+    /// Commits the transactions of all sessions, each session in a separate thread. Then it closes the source, which
+    /// ends the wire.
     fn commit_all(&self) -> Receipts<J> {
         let each = map_indices(
             self.rt,
@@ -60,7 +60,7 @@ impl<
         all_receipts(self.alloc, each?)
     }
 
-    /// Commits the transactions of the session behind so many others, one after another.
+    /// Commits the transactions of the session at this place, counted from 0, one after another.
     fn commit_session(&self, place: usize) -> Receipts<J>
         requires { place < 16 }
     {
@@ -90,8 +90,8 @@ impl<
         Ok(source.commit(rt, seat)?)
     }
 
-    /// Sends the source's log to the replica until the sessions have ended and all was sent. The bytes are kept of as many records
-    /// as there is room for, and of one at least.
+    /// Sends the source's log to the replica until the sessions have ended and everything is sent. At a time it keeps
+    /// the bytes of the records that fit the room, and of at least one.
     fn carry_all(&self) -> Result<(), Trouble> {
         let mut wire = Wire::new(self.alloc, Uuid::from_bytes(SOURCE));
         let mut bytes = Vec::with_capacity(self.alloc, ROOM)?;
@@ -106,8 +106,8 @@ impl<
         unreachable!()
     }
 
-    /// Sends records behind so many, once there are any, and answers how many: 0 where no more come. What is no whole piece is kept,
-    /// and sent with the bytes behind it or at the end.
+    /// Sends the next records past `sent`, once there are any, and returns their number: 0 if no more come. Bytes that
+    /// do not fill a piece are kept, and sent with the bytes after them or at the end.
     fn carry_past(&self, sent: u64, wire: &mut Wire, bytes: &mut Vec<u8>) -> Result<u64, Trouble> {
         let count = self.source.bytes_past(self.rt, sent, bytes)?;
         if count == 0 {
@@ -122,7 +122,7 @@ impl<
         Ok(count)
     }
 
-    /// Sends the first bytes over the wire, so many of them, and takes them off.
+    /// Sends the first `count` bytes over the wire, or all if there are fewer, and removes them.
     fn send_off(&self, wire: &mut Wire, bytes: &mut Vec<u8>, count: usize) -> Result<(), Trouble> {
         let count = count.min(bytes.len());
         self.send(wire, &bytes[..count])?;

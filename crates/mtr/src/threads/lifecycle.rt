@@ -33,10 +33,10 @@ use tracker_trait::Tracker;
 use uuid::Uuid;
 use world::{Pair, pair_of};
 
-/// Both sides before their threads.
+/// Both sides before they are shared by threads.
 type Cores<S, T> = Pair<S, T, MemoryDevice>;
 
-/// What the threads come to, with what each reader saw in place of the readers.
+/// Like `Met`, but with what each reader saw instead of the readers.
 type Told<J> = (Vec<Receipt<J>>, Vec<Vec<Shown>>, Counts);
 
 /// Opens both sides over no rows, runs all threads, compares the rows, and ends both.
@@ -78,8 +78,8 @@ fn schema(alloc: Global) -> Result<Schema, Trouble> {
     }
 }
 
-/// A new source, a new log file and a new replica over no rows, of which the sides say how many workers it has, and whether it commits
-/// in the order of the log.
+/// A new source, a new log file and a new replica, without rows. `sides` says how many workers the replica has, and
+/// whether it commits in the order of the log.
 fn new_cores<S: NewStore, T: Tracker + Drop>(
     alloc: Global,
     sides: Sides,
@@ -114,8 +114,8 @@ fn new_cores<S: NewStore, T: Tracker + Drop>(
     }
 }
 
-/// Runs both sides, under the names of their histories. They end as that source and that replica, over the rows and tables that
-/// they began with.
+/// Runs both sides, with the source named by `J` and the replica by `K`. They end as that source and that replica, over
+/// the rows and tables with which they began.
 fn run_named<
     S: NewStore,
     T: Tracker + Drop + Send + Sync,
@@ -175,7 +175,8 @@ fn run_named<
     end_all(rt, alloc, plan, source, replica, met, published)
 }
 
-/// Both sides as they ended, once the threads came to this and the replica told that it has published so many commits.
+/// Both sides as they ended, once the threads came to `met` and the replica reported that it has published this number
+/// of commits.
 fn end_all<
     S: NewStore,
     T: Tracker + Drop + Send + Sync,
@@ -238,7 +239,7 @@ fn end_source<S: NewStore, T: Tracker + Drop + Send + Sync, J: SourceNaming>(
     Ok((core, given_all(alloc, receipts)?))
 }
 
-/// What the threads came to, and what all readers saw, once they learnt all that was published.
+/// What the threads came to, with all that each reader saw. Each seat first learns all that was published.
 fn tell_all<S: NewStore, J: SourceNaming, K: ReplicaNaming>(
     alloc: Global,
     met: Result<Met<S, J, K>, Trouble>,
@@ -254,7 +255,7 @@ fn tell_all<S: NewStore, J: SourceNaming, K: ReplicaNaming>(
     Ok((receipts, readings, counts))
 }
 
-/// The receipts, as the core gave them.
+/// The receipts in the form in which the core gave them.
 fn given_all<J: SourceNaming>(
     alloc: Global,
     receipts: Vec<Receipt<J>>,

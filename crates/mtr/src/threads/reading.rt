@@ -13,17 +13,17 @@ use std::alloc::{AllocError, Global};
 use std::marker::Model;
 use store_trait::RowStore;
 
-/// A row, as it was answered.
+/// One read of a row, with its result.
 #[derive(Clone, Copy, Debug, PartialEq, Eq)]
 pub struct Shown {
-    /// The row that was asked for.
+    /// The row that was read.
     pub id: RowId,
-    /// What the seat answered.
+    /// What the seat returned.
     pub answer: Answer,
 }
 
 impl Shown {
-    /// How many commits the answer is of.
+    /// The number of commits that the read shows.
     pub fn commits(&self) -> u128
         ensures { result ≡ self.now.answer.upto + self.now.answer.more }
     {
@@ -31,8 +31,8 @@ impl Shown {
     }
 }
 
-/// A reader, with all that its seat answered, in order. Each answer is of a beginning of what the seat knows, and none is
-/// of fewer commits than one before it, be it of all up to a number or in all.
+/// A reader, with all results of its seat, in order. Each result shows a first part of the commits that the seat knows.
+/// No result shows fewer commits than an earlier one, neither up to a number nor in all.
 #[derive(Drop)]
 pub struct Reader<S: RowStore + Drop, K: ReplicaNaming> {
     seat: ReadSeat<S, K>,
@@ -50,7 +50,7 @@ impl<S: RowStore + Drop, K: ReplicaNaming> Model for Reader<S, K> {
 }
 
 impl<S: RowStore + Drop, K: ReplicaNaming> Reader<S, K> {
-    /// Nothing was read by the seat yet. There is room for so many answers.
+    /// A reader whose seat has read nothing yet, with room for this number of results.
     pub fn new(alloc: Global, seat: ReadSeat<S, K>, room: usize) -> Result<Reader<S, K>, AllocError>
         ensures { IfOk result (λ reader. reader.shown ≡ []) }
     {
@@ -60,7 +60,7 @@ impl<S: RowStore + Drop, K: ReplicaNaming> Reader<S, K> {
         })
     }
 
-    /// Reads the row. The answer is kept.
+    /// Reads the row, and keeps the result.
     pub fn read(&mut self, id: RowId) -> Result<Option<Row>, Trouble>
         ensures kept { IfOk result (λ row. (upto : ℕ) × (more : ℕ)
             × (self.new.shown ≡ self.old.shown ++ record { id = id; answer = record { row = row; upto = upto; more = more } } ∷ [])) }
@@ -76,7 +76,7 @@ impl<S: RowStore + Drop, K: ReplicaNaming> Reader<S, K> {
         }
     }
 
-    /// From now on no answer is below the notice.
+    /// From now on each read shows at least the commits of the notice.
     pub fn learn(&mut self, notice: Notice<K>)
         ensures shown { self.new.shown ≡ self.old.shown }
         ensures kept { IsPrefix self.old.known self.new.known }
@@ -85,7 +85,7 @@ impl<S: RowStore + Drop, K: ReplicaNaming> Reader<S, K> {
         self.seat.learn(notice);
     }
 
-    /// All that was answered, once the seat learnt the last of all notices.
+    /// All results, once the seat has learnt the last of all notices.
     pub fn into_shown(mut self, last: Notice<K>) -> Vec<Shown>
         ensures all { result.items ≡ self.shown }
         ensures told { AreTold K.preserve last result.items }

@@ -1,5 +1,5 @@
-//! Both sides as their threads share them: the work of all threads but those that feed the replica, and the comparison of each row once
-//! all have ended.
+//! Both sides as their threads share them. It has the work of all threads except those that feed the replica, and the
+//! comparison of each row once all have ended.
 
 ghost use Rattle.std.specs.Prelude.{◌≡◌, None};
 ghost use Rattle.mtr.specs.Options.{IsInRange};
@@ -19,7 +19,7 @@ use std::sync::Wait;
 use std::thread::{Threads, join, map_indices};
 use tracker_trait::Tracker;
 
-/// How often each reader reads.
+/// How many times each reader reads.
 pub const READS: usize = 100;
 
 /// The source, with its log file in memory.
@@ -28,10 +28,10 @@ pub type Source<S, T, J> = SharedSource<S, T, MemoryDevice, J>;
 /// The replica.
 pub type Replica<S, K> = SharedReplica<S, K>;
 
-/// What the threads come to: the receipts of all sessions, all readers, and what was counted.
+/// What the threads come to: the receipts of all sessions, all readers, and the counts.
 pub type Met<S, J, K> = (Vec<Receipt<J>>, Vec<Reader<S, K>>, Counts);
 
-/// Both sides, the plan of what is done with them, and what starts threads.
+/// Both sides, the plan for them, and the handle that starts threads.
 #[derive(Drop)]
 pub struct Shared<
     'a,
@@ -47,7 +47,7 @@ pub struct Shared<
     pub source: &'a Source<S, T, J>,
     pub replica: &'a Replica<S, K>,
     ghost in_range: { IsInRange (asked.Threads plan.now) },
-    /// Nothing is known of the replica's log before.
+    /// The replica's log is not known in advance.
     ghost free: { K.names.log ≡ None },
 }
 
@@ -60,7 +60,7 @@ impl<
 > Shared<'_, S, T, J, K, H> {
     /// Runs all threads, and compares the rows of both sides once they have ended.
     pub fn meet(&self) -> Result<Met<S, J, K>, Trouble> {
-        // Of two closures the second is called first where no thread can be made.
+        // If no thread can be made, `join` calls the second closure first.
         let (readers, (worked, receipts)) = join(self.rt, || self.read_all(), || self.apply());
         let receipts = receipts?;
         let workers = worked?;
@@ -70,12 +70,13 @@ impl<
         Ok((receipts, readers, Counts { workers, rows }))
     }
 
-    /// Runs the workers beside those who feed the replica.
+    /// Runs the workers beside the threads that feed the replica.
     fn apply(&self) -> (Result<usize, Trouble>, Result<Vec<Receipt<J>>, Trouble>) {
         join(self.rt, || self.work_all(), || self.feed())
     }
 
-    /// Runs the workers, each in a thread of its own, until all records are committed and published. It answers how many did so.
+    /// Runs the workers, each in a separate thread, until all records are committed and published. Returns the number
+    /// of workers.
     fn work_all(&self) -> Result<usize, Trouble> {
         let workers = self.plan.sides.workers;
         let each = map_indices(self.rt, self.alloc, workers, &|_place| self.work())?;
@@ -90,7 +91,7 @@ impl<
         Ok(self.replica.worker(self.rt, self.alloc, &NoGate)?)
     }
 
-    /// Lets each seat read in a thread of its own, and gives the seats back.
+    /// Lets each seat read in a separate thread, and returns the readers.
     fn read_all(&self) -> Result<Vec<Reader<S, K>>, Trouble> {
         let seats = self.plan.seats;
         let each = map_indices(self.rt, self.alloc, seats, &|_place| self.read_many())?;
@@ -101,7 +102,7 @@ impl<
         Ok(readers)
     }
 
-    /// Takes a seat and reads the first row of the first session, again and again. Each read has to answer.
+    /// Takes a seat and reads the first row of the first session, again and again. No read may fail.
     fn read_many(&self) -> Result<Reader<S, K>, Trouble> {
         let seat = self.replica.seat(self.rt).ok_or(Trouble::Different)?;
         let mut reader = Reader::new(self.alloc, seat, READS)?;
@@ -111,8 +112,8 @@ impl<
         Ok(reader)
     }
 
-    /// Reads each row at the source and by a reader that learnt of the last commit. It answers how many of them both have as
-    /// the sessions left them.
+    /// Reads each row at the source, and at the replica by a reader that learnt of the last commit. Returns the number
+    /// of rows that both have as the sessions left them.
     fn compare(
         &self,
         reader: &mut Reader<S, K>,
@@ -120,7 +121,7 @@ impl<
     ) -> Result<usize, Trouble> {
         reader.learn(self.replica.wait_for(self.rt, last_gno(receipts))?);
         let sessions = self.plan.sessions as u16;
-        // A session that wrote nothing sees just what is committed.
+        // A session that wrote nothing sees only what is committed.
         let mut seat = self.source.session(self.rt, sessions + 1)?;
         let mut count = 0usize;
         for session in 1..=sessions {
@@ -129,7 +130,7 @@ impl<
         Ok(count)
     }
 
-    /// How many rows of the session both sides have as it left them.
+    /// The number of rows of the session that both sides have as it left them.
     fn compare_session(
         &self,
         seat: &mut SessionSeat<J>,
@@ -149,7 +150,7 @@ impl<
     }
 }
 
-/// The greatest gno of receipts; 0 where there are none.
+/// The greatest gno of these receipts, or 0 if there are none.
 fn last_gno<J: SourceNaming>(receipts: &[Receipt<J>]) -> u64 {
     let mut last = 0;
     for receipt in receipts {

@@ -8,12 +8,12 @@ use schema::Memory;
 use source_core::SourceFault;
 use std::alloc::{AllocError, AllocFailed};
 
-/// Why a thread's work, or that over all threads, was not done.
+/// Why the work of one thread, or of all of them, was not done.
 #[derive(Clone, Copy)]
 pub enum Trouble {
     /// Memory ran out.
     Memory,
-    /// A call answered what it never does where both sides are as they should be.
+    /// A call returned what it never returns while both sides work as they should.
     Different,
 }
 

@@ -17,7 +17,8 @@ use store_trait::RowStore;
 use uuid::Uuid;
 
 impl<S: RowStore + Drop, J: ReplicaNaming> Coordinator<S, J> {
-    // The core's call; then what may be dispatched is. Behind want of memory the record may have been accepted.
+    // The core's call; then commits, publishes and dispatches what it can. If memory ran out, the record may have been
+    // accepted.
     pub(crate) fn receive(
         &mut self,
         rt: &impl Wait,
@@ -60,9 +61,9 @@ impl<S: RowStore + Drop, J: ReplicaNaming> Coordinator<S, J> {
         Ok(answer)
     }
 
-    // The wire's call over the core; then, where records were accepted, what may be dispatched is. Behind want of memory for that
-    // the piece is taken, as behind a refused record of it, and so that is told: who sent the piece again would send its bytes
-    // twice. A fault of the wire's own call comes first.
+    // The wire's call over the core; then, if records were accepted, commits, publishes and dispatches what it can. If
+    // memory runs out for that, the piece is taken. So the fault is the same kind as for a refused record of the piece: a
+    // caller that sent the piece again would send its bytes twice. A fault of the wire's own call comes first.
     pub(crate) fn take(
         &mut self,
         rt: &impl Wait,
@@ -79,7 +80,7 @@ impl<S: RowStore + Drop, J: ReplicaNaming> Coordinator<S, J> {
         told_of(taken, settled)
     }
 
-    // The same of a piece that was gathered already, where no record waited before.
+    // Like `take`, but the piece was gathered already, and no record waited before.
     pub(crate) fn hand(&mut self, rt: &impl Wait, wire: &mut Wire) -> Result<u64, WireFault>
         requires known { AreEachInLog J.names.log wire.old.waiting }
         ensures takes { HandsAndSettles self.old wire.old result wire.new self.new }
@@ -112,7 +113,7 @@ impl<S: RowStore + Drop, J: ReplicaNaming> Coordinator<S, J> {
         taken
     }
 
-    // Hands on the records that wait. What is refused is told as a record of the piece.
+    // Hands on the records that wait. A refusal is reported as that of a record of the piece.
     fn hand_waiting(&mut self, rt: &impl Wait, wire: &mut Wire) -> Result<u64, WireFault>
         requires known { AreEachInLog J.names.log wire.old.waiting }
         ensures hands { HandsAs wire.old self.old.core result wire.new self.new.core }
@@ -131,7 +132,7 @@ impl<S: RowStore + Drop, J: ReplicaNaming> Coordinator<S, J> {
         }
     }
 
-    // Does all that can be done, where more than so many records were accepted.
+    // Does all that can be done, if more than `before` records were accepted.
     fn settle_past(&mut self, rt: &impl Wait, before: usize) -> Result<(), ReplicaFault>
         requires runs { before < length self.old.core.accepted → self.old.core.stopped ≡ None }
         ensures none { length self.old.core.accepted ≤ before → (result ≡ Ok tt) × (self.new ≡ self.old) }
@@ -152,7 +153,7 @@ impl<S: RowStore + Drop, J: ReplicaNaming> Coordinator<S, J> {
     }
 }
 
-// What is told of a piece: the fault of the wire's call, or else want of memory for what came behind it.
+// The result for a piece: the fault of the wire's call, or else that memory ran out for what came after it.
 fn told_of(
     taken: Result<u64, WireFault>,
     settled: Result<(), ReplicaFault>,

@@ -28,7 +28,7 @@ impl<S: RowStore + Drop, J: ReplicaNaming> Coordinator<S, J> {
         unreachable!()
     }
 
-    // Pushes the job that waits, if any does.
+    // Pushes the job that waits, if there is one.
     fn push(&mut self, rt: &impl Wait) -> Result<(), ReplicaFault>
         requires behind { self.old.behind ≡ true }
         ensures ok { OnOk result (self.new ≡ record self.old { outlet = pushed_aside self.old.outlet }) }
@@ -37,7 +37,7 @@ impl<S: RowStore + Drop, J: ReplicaNaming> Coordinator<S, J> {
         Ok(self.outlet.push(rt)?)
     }
 
-    // The core's call; the job is the next to be pushed. `false` where there is none.
+    // The core's call; the job is the next one to push. `false` if there is none.
     fn dispatch(&mut self) -> Result<bool, ReplicaFault>
         requires behind { self.old.behind ≡ true }
         requires runs { self.old.core.stopped ≡ None }

@@ -1,4 +1,4 @@
-//! Settling: what can be committed is, what is committed is published, and then what may be dispatched is.
+//! Settling: commits what can be committed, publishes that, and then dispatches what may be.
 ghost use Rattle.std.specs.Prelude.{◌≡◌, ◌⊎◌, true, false, length, None, Err, IfOk, IfErr, IfSome, OnOk, OnErr, IsErrOf};
 ghost use Rattle.std.specs.Option.{option_map_or};
 ghost use mathlib.Core.List.{IsPrefix};
@@ -89,7 +89,7 @@ impl<S: RowStore + Drop, J: ReplicaNaming> Coordinator<S, J> {
         unreachable!()
     }
 
-    // Appends the next of the waiting commits. `false` where all were appended.
+    // Appends the next of the waiting commits. `false` if all were appended.
     fn append_next(&mut self) -> Result<bool, ReplicaFault>
         ensures same { self.new ≡ with_waiting self.old self.new.publication.waiting }
         ensures all { IfOk result (λ more. more ≡ false → IsAppended self.new.core self.new.publication) }

@@ -1,4 +1,4 @@
-//! Who sleeps, and whom what was done concerns.
+//! The threads that sleep, and the news for them.
 ghost use Rattle.std.specs.Prelude.{◌≡◌};
 ghost use Rattle.replica_core.specs.Sound.{IsSound};
 ghost use Rattle.replica_shared.specs.Together.{is_idle, offers, outlook_of, news_between};
@@ -17,7 +17,7 @@ impl<S: RowStore + Drop, J: ReplicaNaming> Coordinator<S, J> {
         !(0 < now.offers || now.behind || now.over)
     }
 
-    // What those who wait look at.
+    // What waiting threads look at.
     fn outlook(&self) -> Outlook
         ensures { result ≡ outlook_of self.now }
     {
@@ -30,7 +30,7 @@ impl<S: RowStore + Drop, J: ReplicaNaming> Coordinator<S, J> {
         }
     }
 
-    // How many jobs there are that no worker has.
+    // The number of jobs that no worker has.
     fn offers(&self) -> u64
         requires { IsSound self.now.core }
         ensures { result ≡ offers self.now }
@@ -38,7 +38,7 @@ impl<S: RowStore + Drop, J: ReplicaNaming> Coordinator<S, J> {
         (self.outlet.pushed() - self.claimed) + self.kept.len()
     }
 
-    // Who is to be told of what was done since this was asked last.
+    // The threads to wake for what was done since the last call.
     pub(crate) fn news(&mut self) -> News
         ensures news { result ≡ news_between self.old.told (outlook_of self.old) }
         ensures told { self.new ≡ record self.old { told = outlook_of self.old } }
@@ -56,14 +56,14 @@ impl<S: RowStore + Drop, J: ReplicaNaming> Coordinator<S, J> {
         self.sleepers.workers = self.sleepers.workers.saturating_add(1);
     }
 
-    // And one less.
+    // One call of `worker` less waits.
     pub(crate) fn worker_wakes(&mut self)
         ensures { self.new ≡ self.old }
     {
         self.sleepers.workers = self.sleepers.workers.saturating_sub(1);
     }
 
-    // A call of `worker` that waits looks. Whether there is nothing for it.
+    // A waiting call of `worker` looks. Whether there is nothing for it.
     pub(crate) fn worker_looks(&mut self) -> bool
         ensures idle { result ≡ is_idle self.old }
         ensures same { self.new ≡ self.old }
@@ -72,12 +72,12 @@ impl<S: RowStore + Drop, J: ReplicaNaming> Coordinator<S, J> {
         self.is_idle()
     }
 
-    // How many wait.
+    // The number of waiting calls.
     pub(crate) fn sleepers(&self) -> Sleepers {
         self.sleepers
     }
 
-    // How often those who wait looked.
+    // How often waiting calls looked.
     pub(crate) fn looks(&self) -> Looks {
         self.looks
     }

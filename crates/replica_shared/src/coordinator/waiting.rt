@@ -16,7 +16,7 @@ use relay::ReplicaFault;
 use store_trait::{Op, RowStore};
 
 impl<S: RowStore + Drop, J: ReplicaNaming> Coordinator<S, J> {
-    // Whether neither are these commits published, each of them, nor is the replica stopped.
+    // Whether the replica runs and not all of these commits are published.
     fn is_awaited(&self, wanted: &[Interval]) -> bool
         requires { AllByRecursion (λ i. 1 ≤ i.first) wanted.now }
         ensures { result ≡ is_awaited self.now wanted.now }
@@ -38,7 +38,8 @@ impl<S: RowStore + Drop, J: ReplicaNaming> Coordinator<S, J> {
         true
     }
 
-    // Whether those of the interval are: up to the mark they are, and behind it those that are committed and do not wait for `publish`.
+    // Whether the commits of the interval are published. Those up to the mark are, and after it those that are committed
+    // and do not wait for `publish`.
     fn shows(&self, interval: Interval) -> bool
         requires sound { IsSound self.now.core }
         requires first { 1 ≤ interval.first }
@@ -48,8 +49,9 @@ impl<S: RowStore + Drop, J: ReplicaNaming> Coordinator<S, J> {
             || (self.has_committed(interval) && !has_commit_in(self.core.pending(), interval))
     }
 
-    // Whether the records of the interval are committed. Up to the core's mark they are, and the one behind it is not, so it looks at as
-    // many as there are places behind the mark, at most. The last may be the greatest number that there is.
+    // Whether the records of the interval are committed. Those up to the core's mark are, and the next one is not. So it
+    // looks at most at the places after the mark. The last number may be the greatest of its type, so the loop ends
+    // before it.
     fn has_committed(&self, interval: Interval) -> bool
         requires { 1 ≤ interval.first }
         ensures { result ≡ has_each self.now.core.commits interval }
@@ -63,7 +65,7 @@ impl<S: RowStore + Drop, J: ReplicaNaming> Coordinator<S, J> {
         interval.last < from || self.core.has_committed(interval.last)
     }
 
-    // What is published, where these commits are. `P5` where the replica is stopped and one of them is not.
+    // What is published, if these commits are. `P5` if the replica is stopped and one of them is not.
     pub(crate) fn notice(&self, wanted: &[Interval]) -> Result<Notice<J>, ReplicaFault>
         requires wanted { AllByRecursion (λ i. 1 ≤ i.first) wanted.now }
         requires answered { is_awaited self.now wanted.now ≡ false }
@@ -83,21 +85,21 @@ impl<S: RowStore + Drop, J: ReplicaNaming> Coordinator<S, J> {
         }
     }
 
-    // One more call of `wait_for` waits.
+    // One more call of `wait_for` or `wait_for_set` waits.
     pub(crate) fn reader_sleeps(&mut self)
         ensures { self.new ≡ self.old }
     {
         self.sleepers.readers = self.sleepers.readers.saturating_add(1);
     }
 
-    // And one less.
+    // One such call less waits.
     pub(crate) fn reader_wakes(&mut self)
         ensures { self.new ≡ self.old }
     {
         self.sleepers.readers = self.sleepers.readers.saturating_sub(1);
     }
 
-    // A call of `wait_for` that waits for these commits looks. Whether it has to wait still.
+    // A call that waits for these commits looks. Whether it still has to wait.
     pub(crate) fn reader_looks(&mut self, wanted: &[Interval]) -> bool
         requires { AllByRecursion (λ i. 1 ≤ i.first) wanted.now }
         ensures awaited { result ≡ is_awaited self.old wanted.now }

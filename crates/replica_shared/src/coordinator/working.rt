@@ -17,9 +17,9 @@ use std::sync::Wait;
 use store_trait::RowStore;
 
 impl<S: RowStore + Drop, J: ReplicaNaming> Coordinator<S, J> {
-    // What there is for a worker, once all is done that was left behind. A job for which memory ran out comes first.
+    // What there is for a worker, once all that was left undone is done. A job for which memory ran out comes first.
     pub(crate) fn next(&mut self, rt: &impl Wait) -> Result<Next, ReplicaFault>
-        // Whoever has nothing to find waits.
+        // A worker for which there is nothing waits instead.
         requires { is_idle self.old ≡ false }
         ensures stopped { IfSome self.old.core.stopped (λ at. result ≡ Err (ReplicaFault.Stopped at)) }
         ensures ok { IfOk result (λ next. FindsBehind self.old next self.new) }
@@ -29,7 +29,7 @@ impl<S: RowStore + Drop, J: ReplicaNaming> Coordinator<S, J> {
         Ok(self.find())
     }
 
-    // What there is for a worker, where all was done.
+    // What there is for a worker, once nothing is left undone.
     fn find(&mut self) -> Next
         ensures { Finds self.old result self.new }
     {
@@ -39,7 +39,7 @@ impl<S: RowStore + Drop, J: ReplicaNaming> Coordinator<S, J> {
         }
     }
 
-    // One of the jobs that were pushed, where any is left.
+    // One of the pushed jobs, if any is left.
     fn claim(&mut self) -> Next
         requires { NoneIsKept self.old.kept }
         ensures { Finds self.old result self.new }
@@ -54,7 +54,7 @@ impl<S: RowStore + Drop, J: ReplicaNaming> Coordinator<S, J> {
         }
     }
 
-    // A job that was kept, if any is.
+    // A job that was kept, if there is one.
     fn take_kept(&mut self) -> Option<Job>
         ensures same { self.new ≡ record self.old { kept = self.new.kept } }
         ensures taken { TakesOut self.old.kept result self.new.kept }
@@ -76,7 +76,7 @@ impl<S: RowStore + Drop, J: ReplicaNaming> Coordinator<S, J> {
         self.settle(rt)
     }
 
-    // The core's call. The job is kept where memory ran out.
+    // The core's call. If memory ran out, the job is kept.
     fn finish(&mut self, done: JobResult) -> Result<(), ReplicaFault>
         requires { IsResult done }
         ensures refused { IfSome (finish_fault self.old.core done.job.gno) (λ fault. result ≡ Err fault) }
@@ -99,7 +99,7 @@ impl<S: RowStore + Drop, J: ReplicaNaming> Coordinator<S, J> {
         }
     }
 
-    // Keeps the job of a refused result where memory ran out.
+    // Keeps the job of a refused result if memory ran out.
     fn take_back(&mut self, fault: ReplicaFault, done: JobResult)
         requires { fault ≡ ReplicaFault.Memory → IsSound self.old.core × (has_gno self.old.core.out done.job.gno ≡ true) }
         ensures kept { self.new ≡ record self.old { kept = taken_back self.old.core fault done.job self.old.kept } }
@@ -110,7 +110,8 @@ impl<S: RowStore + Drop, J: ReplicaNaming> Coordinator<S, J> {
         }
     }
 
-    // Keeps a job, in the place of one of its number. Those of which a result was taken go: the others are fewer than the places.
+    // Keeps a job, instead of one with its number. Jobs whose result was taken go first: the others are fewer than the
+    // places.
     fn keep(&mut self, job: Job)
         requires sound { IsSound self.old.core }
         requires out { has_gno self.old.core.out job.gno ≡ true }

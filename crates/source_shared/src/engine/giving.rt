@@ -1,4 +1,4 @@
-//! Receipts: what a commit gives, and what the session finds that waits for it.
+//! Receipts: what a commit gives, and what a session finds that waits for its receipt.
 ghost use Rattle.std.specs.Prelude.{
   ◌≡◌,
   ◌⊎◌,
@@ -32,7 +32,7 @@ use store_trait::RowStore;
 use tracker_trait::Tracker;
 
 impl<S: RowStore, T: Tracker, D: Device + Drop, J: SourceNaming> Engine<S, T, D, J> {
-    // Commits the synced transactions, and lays their receipts into the places.
+    // Commits the synced transactions, and puts their receipts into the places.
     pub(super) fn give(&mut self) -> Result<(), SourceFault>
         ensures exact { IsErrOf result SourceFault.Memory ⊎ (result_err result ≡ halted_fault self.old.core) }
         ensures no_memory { self.old.core.committed ≡ self.old.core.synced → result_err result ≡ halted_fault self.old.core }
@@ -46,7 +46,7 @@ impl<S: RowStore, T: Tracker, D: Device + Drop, J: SourceNaming> Engine<S, T, D,
         Ok(())
     }
 
-    // What the session of this place finds that waits for its receipt.
+    // What the session of this place finds as it waits for its receipt.
     pub(crate) fn due(&self, place: usize) -> Due
         requires place { place < 256 }
         ensures { result ≡ due_of self.now place }
@@ -60,7 +60,7 @@ impl<S: RowStore, T: Tracker, D: Device + Drop, J: SourceNaming> Engine<S, T, D,
         }
     }
 
-    // Whether the receipt of the session of this place is there, or the source is halted.
+    // Whether the wait of this place's session has ended: its receipt is there, or the source is halted.
     pub(super) fn has_end(&self, place: usize) -> bool
         requires { place < 256 }
         ensures { result ≡ has_end self.now place }
@@ -68,7 +68,7 @@ impl<S: RowStore, T: Tracker, D: Device + Drop, J: SourceNaming> Engine<S, T, D,
         self.core.is_halted() || self.places[place].is_some()
     }
 
-    // The receipt in the seat's place, where the seat may be given it. Else the source is halted.
+    // The receipt in the seat's place, if it fits the seat. Otherwise the source is halted.
     pub(crate) fn hand(
         &mut self,
         place: usize,
@@ -92,7 +92,7 @@ impl<S: RowStore, T: Tracker, D: Device + Drop, J: SourceNaming> Engine<S, T, D,
         }
     }
 
-    // How many receipts were not taken yet.
+    // How many receipts no session has taken yet.
     pub(crate) fn receipts(&self) -> usize
         ensures { result ≡ count_by is_some self.now.places }
     {
@@ -100,7 +100,7 @@ impl<S: RowStore, T: Tracker, D: Device + Drop, J: SourceNaming> Engine<S, T, D,
     }
 }
 
-// How many receipts lie there.
+// How many receipts are there.
 fn count_receipts<J: SourceNaming>(places: &[Option<Receipt<J>>]) -> usize
     ensures { result ≡ count_by is_some places.now }
 {

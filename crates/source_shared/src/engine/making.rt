@@ -19,7 +19,8 @@ pub(crate) struct Made<J: SourceNaming> {
     pub(super) history: History<J>,
 }
 
-// Takes it: no receipt in a place, no seat given out, nobody asleep, no group. The history begins with the receipts of this log.
+// Takes that memory: no receipt in a place, no seat given out, no thread asleep, no group. The history begins with the
+// receipts of this log.
 pub(crate) fn make<J: SourceNaming>(
     alloc: Global,
     beginning: Beginning,
@@ -59,7 +60,7 @@ fn empty_places<J: SourceNaming>(alloc: Global) -> Result<Vec<Option<Receipt<J>>
     Ok(places)
 }
 
-// For each session, that something is not so.
+// A flag for each session, all false.
 fn no_flags(alloc: Global) -> Result<Vec<bool>, Memory>
     ensures { IfOk result (λ out. out.items ≡ replicate 256 false) }
 {

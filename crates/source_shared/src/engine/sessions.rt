@@ -111,7 +111,7 @@ impl<S: RowStore, T: Tracker, D: Device + Drop, J: SourceNaming> Engine<S, T, D,
         Ok(())
     }
 
-    // Queues the seat's transaction, unless it is queued. It answers the session's place.
+    // Queues the seat's transaction, unless it is queued. It returns the session's place.
     pub(crate) fn enqueue(&mut self, seat: &mut SessionSeat<J>) -> Result<usize, SourceFault>
         ensures exact { result_err result ≡ enqueue_fault self.old seat.old }
         ensures place { IfOk result (λ place. (place + 1 ≡ seat.old.session) × (place < 256)) }

@@ -1,4 +1,4 @@
-//! Who sleeps, and whom who lets go of the lock, or waits under it, has to tell.
+//! Which sessions sleep, and which sleepers a thread must call as it lets go of the lock, or waits under it.
 ghost use Rattle.std.specs.Prelude.{
   ◌≡◌,
   ◌⊎◌,
@@ -42,8 +42,9 @@ use store_trait::RowStore;
 use tracker_trait::Tracker;
 
 impl<S: RowStore, T: Tracker, D: Device + Drop, J: SourceNaming> Engine<S, T, D, J> {
-    // Whom who lets go of the lock, or waits under it, has to tell: those who sleep and are due; those who wait for records, where they
-    // were told of fewer, or not that no more come; and those who wait to rotate, where the source is at rest. They know then.
+    // The sleepers that a thread must call as it lets go of the lock, or waits under it. They are now noted as called. A
+    // sleeping session is called if it is due. Readers that wait for records are called if more are synced than they
+    // know, or if they don't know that no more come. Threads that wait to rotate are called if the source is at rest.
     pub(crate) fn news(&mut self, leads: bool) -> News
         ensures called { result.called.all ≡ called_by self.old leads }
         ensures followers { result.followers ≡ has_news self.old }
@@ -58,7 +59,7 @@ impl<S: RowStore, T: Tracker, D: Device + Drop, J: SourceNaming> Engine<S, T, D,
         News::new(called, followers, rotators)
     }
 
-    // Whether nobody is to be told. It looks at no place.
+    // Whether no sleeper has to be called. It looks at no place.
     pub(crate) fn is_quiet(&self, leads: bool) -> bool
         ensures told { result ≡ true → IsTold self.now }
         ensures nobody { result ≡ true → NobodyIsCalled self.now leads }
@@ -66,7 +67,8 @@ impl<S: RowStore, T: Tracker, D: Device + Drop, J: SourceNaming> Engine<S, T, D,
         !self.may_call(leads) && self.is_calm()
     }
 
-    // Whether nobody sleeps who has its end, those who wait for records know of all, and nobody is to be called who waits to rotate.
+    // Whether no session sleeps whose wait has ended, readers that wait for records know all, and no thread that waits to
+    // rotate has to be called.
     fn is_calm(&self) -> bool
         ensures { result ≡ true → IsTold self.now }
     {
@@ -75,16 +77,16 @@ impl<S: RowStore, T: Tracker, D: Device + Drop, J: SourceNaming> Engine<S, T, D,
             && !self.calls_rotator()
     }
 
-    // Whether somebody sleeps who may be called to lead.
+    // Whether a session sleeps that may be called to lead.
     fn may_call(&self, leads: bool) -> bool
         ensures { result ≡ false → ((leads && is_some self.now.home) ≡ false) ⊎ (count self.now.watch.sleeping ≡ 0) }
     {
         self.may_lead(leads) && self.asleep() > 0
     }
 
-    // Calls those who sleep and are due: each who has its end, and, where `leads` says so and the writer is here, the first of the others,
-    // who has to lead. Who is called sleeps no more, and so is called once, unless it finds that it has to wait still. It looks at no more
-    // places than up to the last who sleeps.
+    // Calls the sleeping sessions that are due: each whose wait has ended and, if `leads` says so and the writer is here,
+    // the first of the others, which has to lead. A called session is noted as awake, so it is called once, unless it
+    // then finds that it still has to wait. The loop ends at the last sleeper's place.
     fn call_due(&mut self, leads: bool) -> Called
         ensures called { result.all ≡ called_by self.old leads }
         ensures left { self.new ≡ awoken self.old result.all }
@@ -105,7 +107,7 @@ impl<S: RowStore, T: Tracker, D: Device + Drop, J: SourceNaming> Engine<S, T, D,
         called
     }
 
-    // Calls the session of this place, if it has its end or is to lead. It answers whether another is to lead.
+    // Calls the session of this place, if its wait has ended or it has to lead. It returns whether another has to lead.
     fn call_one(&mut self, place: usize, lead: bool, called: &mut Called) -> bool
         requires { place < 256 }
         ensures lead { result ≡ (lead && has_end self.old place) }
@@ -120,7 +122,7 @@ impl<S: RowStore, T: Tracker, D: Device + Drop, J: SourceNaming> Engine<S, T, D,
         lead && ends
     }
 
-    // Whether one is to lead: where this says so, and the writer is here.
+    // Whether a session has to lead: `leads` says so, and the writer is here.
     fn may_lead(&self, leads: bool) -> bool
         ensures { result ≡ (leads && is_some self.now.home) }
     {
@@ -145,7 +147,7 @@ impl<S: RowStore, T: Tracker, D: Device + Drop, J: SourceNaming> Engine<S, T, D,
         self.sleeping[place]
     }
 
-    // The session of this place sleeps from now on, or no more.
+    // Notes whether the session of this place sleeps.
     pub(crate) fn set_sleeping(&mut self, place: usize, sleeps: bool)
         requires place { place < 256 }
         requires waits { sleeps ≡ true → has_end self.old place ≡ false }
@@ -156,7 +158,7 @@ impl<S: RowStore, T: Tracker, D: Device + Drop, J: SourceNaming> Engine<S, T, D,
         self.asleep = self.asleep + usize::from(sleeps) - usize::from(slept);
     }
 
-    // Whether the session of this place has to wait. Its thread sleeps then, and else no more.
+    // Whether the session of this place has to wait. It notes whether its thread sleeps: it does if it has to wait.
     pub(crate) fn waits(&mut self, place: usize) -> bool
         requires place { place < 256 }
         ensures tells { MatchBool result (due_of self.old place ≡ Due.Wait) (due_of self.old place ≢ Due.Wait) }
@@ -168,7 +170,8 @@ impl<S: RowStore, T: Tracker, D: Device + Drop, J: SourceNaming> Engine<S, T, D,
         waits
     }
 
-    // Whether those who wait for records were told of fewer, or not that no more come. They are told then.
+    // Whether more records are synced than waiting readers know, or they don't know that no more come. They are now noted
+    // to know.
     fn has_news(&mut self) -> bool
         ensures news { result ≡ has_news self.old }
         ensures told { self.new ≡ with_told self.old }
@@ -181,14 +184,15 @@ impl<S: RowStore, T: Tracker, D: Device + Drop, J: SourceNaming> Engine<S, T, D,
         news
     }
 
-    // Whether a flushed transaction is not committed yet, or a thread writes a group. Never so where the source is halted.
+    // Whether a flushed transaction is not committed yet, or a thread writes a group. It is false if the source is
+    // halted.
     pub(super) fn is_at_work(&self) -> bool
         ensures { result ≡ is_at_work self.now }
     {
         !self.core.is_halted() && (self.core.busy() || self.writer.is_none())
     }
 
-    // Whether who is to rotate has to wait: it is called then, once the source is at rest.
+    // Whether a thread that rotates has to wait. If so, it is called once the source is at rest.
     pub(crate) fn waits_to_rotate(&mut self) -> bool
         ensures tells { result ≡ is_at_work self.new }
         ensures left { self.new ≡ with_rotator self.old }
@@ -199,14 +203,14 @@ impl<S: RowStore, T: Tracker, D: Device + Drop, J: SourceNaming> Engine<S, T, D,
         waits
     }
 
-    // Whether those are to be called who wait to rotate.
+    // Whether the threads that wait to rotate have to be called.
     fn calls_rotator(&self) -> bool
         ensures { result ≡ calls_rotator self.now }
     {
         self.rotating && !self.is_at_work()
     }
 
-    // Whether those are to be called who wait to rotate. They are called then.
+    // Whether the threads that wait to rotate have to be called. They are now noted as called.
     fn call_rotators(&mut self) -> bool
         ensures called { result ≡ calls_rotator self.old }
         ensures left { self.new ≡ with_rest self.old }
@@ -217,7 +221,7 @@ impl<S: RowStore, T: Tracker, D: Device + Drop, J: SourceNaming> Engine<S, T, D,
         called
     }
 
-    // Nobody sleeps who has its end: those who do were called.
+    // Notes that no session sleeps whose wait has ended: they were all called.
     fn settle(&mut self)
         requires { NoneSleepsWithEnd self.old }
         ensures { self.new ≡ with_calm self.old }
@@ -225,26 +229,26 @@ impl<S: RowStore, T: Tracker, D: Device + Drop, J: SourceNaming> Engine<S, T, D,
         self.stirred = false;
     }
 
-    // So many more wait.
+    // Counts more calls that wait.
     pub(crate) fn one_more(&mut self, more: Waits)
         ensures { self.new ≡ self.old }
     {
         self.sleepers = self.sleepers.plus(more);
     }
 
-    // So many less.
+    // Counts fewer calls that wait.
     pub(crate) fn one_less(&mut self, less: Waits)
         ensures { self.new ≡ self.old }
     {
         self.sleepers = self.sleepers.minus(less);
     }
 
-    // How many wait.
+    // How many calls wait.
     pub(crate) fn sleepers(&self) -> Waits {
         self.sleepers
     }
 
-    // How often those who wait looked.
+    // How often waiting calls looked.
     pub(crate) fn looks(&self) -> Waits {
         self.looks
     }

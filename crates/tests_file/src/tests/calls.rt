@@ -1,4 +1,4 @@
-//! What a device asks of its file, and what stands in the file then.
+//! What a device asks of its file, and what the file holds then.
 
 use crate::noting::{NotingFile, Outcome};
 use crate::tests::makers::put_again;
@@ -11,7 +11,7 @@ use std::test::Fail;
 use tests_log::common::source;
 use tests_stores::common::{boxed, is_told};
 
-/// A device over a file without content that fails its `nth` call. There is room for what the tests write.
+/// A device over a file without content that fails its `nth` call. It has room for what the tests write.
 fn device(
     alloc: Global,
     nth: u64,
@@ -24,7 +24,7 @@ fn device(
     )
 }
 
-/// Whether the file was asked just this.
+/// Whether the file was asked exactly this.
 fn is_asked(alloc: Global, file: &NotingFile, wanted: &[&str]) -> Result<bool, AllocError> {
     let notes = file.notes().ok_or(AllocError)?;
     for (note, text) in notes.iter().zip(wanted) {
@@ -35,8 +35,8 @@ fn is_asked(alloc: Global, file: &NotingFile, wanted: &[&str]) -> Result<bool, A
     Ok(notes.len() == wanted.len())
 }
 
-/// Writes past the end, over what is there and without bytes, cuts and syncs, and answers what is read then: six bytes, and the rest of
-/// the room.
+/// Writes past the end, over what is there, and no bytes; cuts and syncs. Returns what is read then: six bytes, and the
+/// rest of the room.
 fn ask(device: &mut FileDevice<NotingFile>) -> Result<(usize, [u8; 8]), DeviceFault> {
     device.write_at(2, &[6, 7, 8])?;
     device.sync()?;
@@ -50,8 +50,8 @@ fn ask(device: &mut FileDevice<NotingFile>) -> Result<(usize, [u8; 8]), DeviceFa
     Ok((count, room))
 }
 
-/// A call that is made twice or not at all, in another order or with other bytes; a file that holds other bytes than are told,
-/// behind a write past the end, one of no bytes, or a cut past the end.
+/// Catches a call that is made twice or not at all, in another order or with other bytes. Also: a file with wrong bytes
+/// after a write past the end, a write of no bytes, or a cut past the end.
 #[test]
 fn what_a_file_is_asked(rt: HostRuntime) -> Result<(), Fail> {
     let mut device = device(rt.alloc(), 0, Outcome::None)?;
@@ -69,7 +69,7 @@ fn what_a_file_is_asked(rt: HostRuntime) -> Result<(), Fail> {
     Ok(())
 }
 
-/// What each of four calls answers, and a read behind them: a write, a cut, a sync and a write of no room.
+/// Whether each of four calls succeeds, and a read after them: a write, a cut, a sync, and a write that needs no room.
 fn answers(device: &mut FileDevice<NotingFile>) -> [bool; 5] {
     [
         device.write_at(0, &[1, 2, 3, 4]).is_ok(),
@@ -80,8 +80,8 @@ fn answers(device: &mut FileDevice<NotingFile>) -> [bool; 5] {
     ]
 }
 
-/// Makes these calls of a device whose `nth` fails. All before it are made, and none behind it; the file was asked the first
-/// `nth`, and holds this.
+/// Makes these calls of a device whose `nth` call fails. All before it succeed, and none after it. The file was asked
+/// for the first `nth`, and holds these bytes.
 fn fails_at(rt: &(impl Abort + AllocGlobal), nth: usize, left: &[u8]) -> Result<(), Fail> {
     let calls = ["write 0 [1, 2, 3, 4]", "cut 3", "sync", "write 1 [9]"];
     let mut device = device(rt.alloc(), nth as u64, Outcome::Half)?;
@@ -97,7 +97,8 @@ fn fails_at(rt: &(impl Abort + AllocGlobal), nth: usize, left: &[u8]) -> Result<
     Ok(())
 }
 
-/// A device that asks its file again behind a failure, or answers as if it had not failed; a failure that is not counted.
+/// Catches a device that asks its file again after a failure, or returns as if it had not failed, and a failure that is
+/// not counted.
 #[test]
 fn nothing_is_asked_behind_a_failure(rt: HostRuntime) -> Result<(), Fail> {
     fails_at(&rt, 1, &[1, 2])?;
@@ -107,8 +108,8 @@ fn nothing_is_asked_behind_a_failure(rt: HostRuntime) -> Result<(), Fail> {
     Ok(())
 }
 
-/// Makes a log on the file and puts three groups on it, up to the first call that is refused, and answers how many were synced, and
-/// the file.
+/// Makes a log on the file and puts three groups on it, up to the first call that is refused. Returns how many were
+/// synced, or `None` if no log was made, and the file.
 fn write_log(
     alloc: Global,
     device: FileDevice<NotingFile>,
@@ -124,7 +125,7 @@ fn write_log(
     }
 }
 
-/// Puts three groups on the log, up to the first that is refused, and answers how many were synced.
+/// Puts three groups on the log, up to the first that is refused. Returns how many were synced.
 fn put_three<D: Device>(alloc: Global, log: &mut LogFile<D>) -> Result<u64, LogFault> {
     for gno in 1..4 {
         match put_again(alloc, log, gno) {
@@ -136,8 +137,8 @@ fn put_three<D: Device>(alloc: Global, log: &mut LogFile<D>) -> Result<u64, LogF
     Ok(3)
 }
 
-/// Opens the log that the file holds once it was given up, over a file that does not fail. There are the groups that were synced,
-/// or one more.
+/// Opens the log that the file held when it was given up, on a device that does not fail. It has the groups that were
+/// synced, or one more.
 fn finds_synced(
     rt: &(impl Abort + AllocGlobal),
     content: MemoryDevice,
@@ -156,12 +157,12 @@ fn finds_synced(
     }
 }
 
-/// A log on a file that fails at each call in turn, made in part or not at all: told records that the file does not have, and torn
-/// ones that are read.
+/// Catches reported records that the file does not have, and torn ones that are read. The file fails at each call in
+/// turn, which is made in part or not at all.
 #[test]
 fn a_log_on_a_file_that_fails(rt: HostRuntime) -> Result<(), Fail> {
-    // The cut of an empty file is no call: a write and a sync make the log, and each group takes a write, a sync, the write of its
-    // gate and a sync.
+    // The cut of an empty file is not a call. A write and a sync make the log, and each group takes a write, a sync,
+    // the write of its gate and a sync.
     for outcome in [Outcome::None, Outcome::Half] {
         for nth in 1..16 {
             let device = Box::into_inner(device(rt.alloc(), nth, outcome)?);

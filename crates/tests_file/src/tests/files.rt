@@ -15,13 +15,13 @@ use std::{fs, process};
 use tests_log::common::source;
 use tests_stores::common::boxed;
 
-/// A path for such files, which no other process has.
+/// A path for such a file, which no other process has.
 fn path_of(rt: &HostRuntime, name: &str) -> Result<String, AllocError> {
     let process = process::id(rt.process());
     format!(in rt.alloc(); "/tmp/mtr_{name}_{process}")
 }
 
-/// The file at such a path, which is there for one test: what lies there is removed, before and behind it.
+/// The file at such a path, for one test. What is there is removed before and after the test.
 pub struct OwnFile<'r> {
     rt: &'r HostRuntime,
     path: String,
@@ -46,7 +46,7 @@ impl<'r> Drop for OwnFile<'r> {
     }
 }
 
-/// The log that the file has, or a new one where it has none.
+/// The log that the file has, or a new one if the file is empty.
 fn log_on<R: Files<File = File> + AllocGlobal>(
     rt: &R,
     path: &str,
@@ -63,7 +63,7 @@ fn log_on<R: Files<File = File> + AllocGlobal>(
     }
 }
 
-/// Opens the log, which has so many records, and puts the next one on it.
+/// Opens the log, which has `before` records, and puts the next one on it.
 fn put_next<R: Files<File = File> + AllocGlobal + Abort>(
     rt: &R,
     path: &str,
@@ -75,7 +75,7 @@ fn put_next<R: Files<File = File> + AllocGlobal + Abort>(
     Ok(())
 }
 
-/// Writes bytes behind the file's last, as a write that was torn may leave them.
+/// Appends bytes to the file, as a torn write may leave them.
 fn tear<R: Files<File = File> + AllocGlobal>(rt: &R, path: &str) -> Result<(), Fail> {
     let mut file = OpenOptions::new().append(true).open(rt, path)?;
     file.write_all(&[0, 0, 0, 63, 7, 7])?;
@@ -95,7 +95,7 @@ fn goes_on<R: Files<File = File> + AllocGlobal + Abort>(rt: &R, path: &str) -> R
     Ok(())
 }
 
-/// A log that is not on the file once its process is gone, and bytes behind its closed gate that stay.
+/// Catches a log that is not on its file when that is opened again, and bytes after its closed gate that stay.
 #[test]
 fn a_log_on_a_file_goes_on(rt: HostRuntime) -> Result<(), Fail> {
     let file = OwnFile::new(&rt, "log")?;
@@ -118,7 +118,7 @@ fn is_held<R: Files<File = File> + AllocGlobal + Abort>(rt: &R, path: &str) -> R
     Ok(())
 }
 
-/// A file that two write, and one that holds other bytes than are told.
+/// Catches a file that two devices write, and one that holds other bytes than it should.
 #[test]
 fn a_file_is_held_by_one(rt: HostRuntime) -> Result<(), Fail> {
     let file = OwnFile::new(&rt, "held")?;
@@ -149,7 +149,7 @@ fn are_refused<R: Files<File = File> + AllocGlobal + Abort>(
     Ok(())
 }
 
-/// A folder that is taken for a file, a link that is followed, and a file that is made in a folder that is not there.
+/// Catches a folder that is taken for a file, a link that is followed, and a file that is made in a folder that does not exist.
 #[test]
 fn what_is_no_file_is_refused(rt: HostRuntime) -> Result<(), Fail> {
     let (folder, link) = (path_of(&rt, "folder")?, OwnFile::new(&rt, "link")?);

@@ -1,4 +1,4 @@
-//! What the tests make their groups of.
+//! What the tests make their groups from.
 
 ghost use Rattle.std.specs.Prelude.{◌≡◌, IfOk};
 
@@ -12,7 +12,7 @@ use tests_log::common::record;
 use tests_stores::again;
 use tests_stores::common::{insert, row, update};
 
-/// The change of the record of this number: a row, a column of it set anew, and another row.
+/// The change of the record of this number: the insert of a row, the update of a column of it, or the insert of another row.
 fn change(gno: u64) -> Result<Change, Memory> {
     match gno {
         2 => update(row(1, 10), 0, 7),
@@ -21,7 +21,7 @@ fn change(gno: u64) -> Result<Change, Memory> {
     }
 }
 
-/// The group of one record, of this number, in this form. Record 2 alone has a parent.
+/// The group of one record with this number, in this form. Only record 2 has a parent.
 pub fn group(alloc: Global, version: Version, gno: u64) -> Result<Group, Memory>
     ensures { IfOk result (λ group. group.version ≡ version) }
 {
@@ -34,7 +34,7 @@ pub fn group(alloc: Global, version: Version, gno: u64) -> Result<Group, Memory>
     again!(Group::of(alloc, version, &records))
 }
 
-/// Has the group of one record, of this number, written and synced.
+/// Appends the group of one record with this number, and syncs it.
 pub fn put_again<D: Device>(alloc: Global, log: &mut LogFile<D>, gno: u64) -> Result<(), LogFault> {
     let group = group(alloc, log.version(), gno)?;
     again!(LogFault::Memory => log.append(&group))?;

@@ -1,4 +1,5 @@
-//! A log in several files: what stands in each of them, devices that fail as it goes on in a next one, and files of the system.
+//! A log in several files: what is in each of them, devices that fail as the log continues in a next file, and files of
+//! the system.
 
 ghost use Rattle.std.specs.Prelude.{◌≡◌, false, IfOk};
 
@@ -20,8 +21,8 @@ use tests_log::common::source;
 use tests_stores::again;
 use tests_stores::common::boxed;
 
-/// The first file of a log in two: the insert of (1, 10) = [5, 6], gno 1, sequence 1, parent 0. The group's gate is byte 32, and the
-/// last one is open.
+/// The first file of a log in two: the insert of (1, 10) = [5, 6], gno 1, sequence 1, parent 0. The group's gate is
+/// byte 32, and the last gate is open.
 const FIRST: [u8; 101] = [
     0x4d, 0x54, 0x52, 0x4c, 0x4f, 0x47, 0x30, 0x33, 0x6d, 0x74, 0x72, 0, 0, 0, 0x40, 0, 0x80, 0, 0,
     0, 0, 0, 0, 1, 0, 0, 0, 0, 0, 0, 0, 1, 1, 0, 0, 0, 0x3f, 0, 0, 0, 0x3b, 0, 0, 0, 0, 0, 0, 0, 1,
@@ -29,8 +30,8 @@ const FIRST: [u8; 101] = [
     0, 0x0a, 2, 0, 0, 0, 0, 0, 0, 0, 5, 0, 0, 0, 0, 0, 0, 0, 6, 1,
 ];
 
-/// The second: the update of its column 0 to 7, gno 2, sequence 2, parent 1; and the insert of (1, 11) = [7, 8], gno 3, sequence 3,
-/// parent 0.
+/// The second file: the update of column 0 of (1, 10) to 7, gno 2, sequence 2, parent 1; and the insert of (1, 11) =
+/// [7, 8], gno 3, sequence 3, parent 0.
 const SECOND: [u8; 162] = [
     0x4d, 0x54, 0x52, 0x4c, 0x4f, 0x47, 0x30, 0x33, 0x6d, 0x74, 0x72, 0, 0, 0, 0x40, 0, 0x80, 0, 0,
     0, 0, 0, 0, 1, 0, 0, 0, 0, 0, 0, 0, 2, 1, 0, 0, 0, 0x38, 0, 0, 0, 0x34, 0, 0, 0, 0, 0, 0, 0, 2,
@@ -54,7 +55,7 @@ fn created<D: Device + Drop>(alloc: Global, device: D) -> Result<LogFile<D>, Log
     }
 }
 
-/// A log of that file alone.
+/// A log with only that file.
 fn new_set<D: Device + Drop>(alloc: Global, device: D) -> Result<Box<LogSet<D>>, LogFault> {
     match LogSet::new(alloc, created(alloc, device)?) {
         Ok(set) => Ok(boxed(alloc, set)?),
@@ -65,14 +66,14 @@ fn new_set<D: Device + Drop>(alloc: Global, device: D) -> Result<Box<LogSet<D>>,
     }
 }
 
-/// Has the group of the next record written and synced.
+/// Appends the group of the next record, and syncs it.
 fn put_next<D: Device>(alloc: Global, set: &mut LogSet<D>) -> Result<(), LogFault> {
     let group = group(alloc, set.version(), set.count().saturating_add(1))?;
     again!(LogFault::Memory => set.append(&group))?;
     again!(LogFault::Memory => set.sync())
 }
 
-/// Goes on in a next file on the device.
+/// Continues the log in a next file on this device.
 fn rotate<D: Device>(set: &mut LogSet<D>, device: D) -> Result<(), (LogFault, D)> {
     if set.form() != Form::Three {
         return Err((LogFault::BadMagic, device));
@@ -83,7 +84,7 @@ fn rotate<D: Device>(set: &mut LogSet<D>, device: D) -> Result<(), (LogFault, D)
     }
 }
 
-/// A log in several files, which have so many groups.
+/// A log in several files, with these numbers of groups.
 fn set_of(alloc: Global, groups: &[u64]) -> Result<Box<LogSet<MemoryDevice>>, LogFault> {
     let mut set = new_set(alloc, MemoryDevice::new(alloc))?;
     for (at, count) in groups.iter().enumerate() {
@@ -110,7 +111,7 @@ fn texts_again<D: Device>(alloc: Global, set: &LogSet<D>) -> Result<Vec<Vec<u8>>
     Ok(again!(set.texts(alloc))?)
 }
 
-/// Compares the texts of all files, and what stands on their devices.
+/// Compares the texts of all files, and the contents of their devices, with these.
 fn has_texts(
     rt: &(impl Abort + AllocGlobal),
     set: Box<LogSet<MemoryDevice>>,
@@ -129,8 +130,8 @@ fn has_texts(
     Ok(())
 }
 
-/// A file that begins with another gno than the next, is finished while it is the last or not once it isn't, or has another's groups;
-/// texts that the devices don't hold; a record that is not shown once its file is finished.
+/// Catches a file that begins with another gno than the next, has another's groups, or is finished while it is the last or
+/// not once it isn't. Also: texts that the devices don't hold, and a record that is not shown once its file is finished.
 #[test]
 fn each_file_has_its_groups_again(rt: HostRuntime) -> Result<(), Fail> {
     let set = set_of(rt.alloc(), &[1, 2])?;
@@ -139,7 +140,7 @@ fn each_file_has_its_groups_again(rt: HostRuntime) -> Result<(), Fail> {
     has_texts(&rt, set, &[&FIRST, &SECOND])
 }
 
-/// A file without groups that is left out, or behind which the gnos go on by one.
+/// Catches a file without groups that is left out, or that uses up a gno.
 #[test]
 fn files_without_groups_are_files_again(rt: HostRuntime) -> Result<(), Fail> {
     let set = set_of(rt.alloc(), &[0, 0, 0])?;
@@ -149,7 +150,8 @@ fn files_without_groups_are_files_again(rt: HostRuntime) -> Result<(), Fail> {
     has_texts(&rt, set, &[&FIRST[..33], &FIRST[..33], &last[..33]])
 }
 
-/// A log that goes on in a next file while a group waits, which is lost then, or calls the device that it hands back.
+/// Catches a log that continues in a next file while a group waits, which is then lost, or that calls the device that
+/// it hands back.
 #[test]
 fn a_group_that_waits_keeps_its_file_again(rt: HostRuntime) -> Result<(), Fail> {
     let alloc = rt.alloc();
@@ -171,7 +173,8 @@ fn a_group_that_waits_keeps_its_file_again(rt: HostRuntime) -> Result<(), Fail> 
     Ok(())
 }
 
-/// The number of files that these devices hold, one behind the other, whether it is all of them, and the gno behind their last record.
+/// The number of files that these devices hold, one after another, from the first device on, and the gno after their
+/// last record.
 fn found_on<D: Device>(alloc: Global, devices: &mut [D]) -> Result<(usize, u128), LogFault> {
     let mut place = Place::First;
     for at in 0..devices.len() {
@@ -187,14 +190,15 @@ fn found_on<D: Device>(alloc: Global, devices: &mut [D]) -> Result<(usize, u128)
     Err(LogFault::OutOfTurn)
 }
 
-/// A device with room for all that is written here, so that no call of it is made twice for want of memory. Its `nth` call fails.
+/// A device with room for all that is written here, so that no call of it is repeated because memory ran out. Its `nth`
+/// call fails.
 fn failing(alloc: Global, nth: u64) -> Result<FaultyDevice<MemoryDevice>, AllocError> {
     let room = again!(Vec::with_capacity(alloc, 200))?;
     Ok(FaultyDevice::new(MemoryDevice::of(room), nth))
 }
 
-/// A log of one group does not go on, where the last file's device or the next one's fails at this call. It takes nothing more then,
-/// and so many files are found on both.
+/// A log of one group does not continue if the last file's device or the next one's fails at this call. It takes
+/// nothing more then, and `files` files are found on both.
 fn fails_at(
     rt: &(impl Abort + AllocGlobal),
     old: u64,
@@ -213,7 +217,7 @@ fn fails_at(
     }
 }
 
-/// The log of one group takes nothing more, and so many files are found on its device and the one that it handed back.
+/// The log of one group takes nothing more, and `files` files are found on its device and the one that it handed back.
 fn is_left(
     rt: &(impl Abort + AllocGlobal),
     set: Box<LogSet<FaultyDevice<MemoryDevice>>>,
@@ -229,9 +233,9 @@ fn is_left(
     Ok(())
 }
 
-/// A file that is finished before the next one is made, a failure that is not told, a log that takes groups behind one, and a device
-/// handed back that is not the next file's: at each call of a rotation. The last file's device is called three times as it is made,
-/// and four times for its group.
+/// Catches a file that is finished before the next one is made, a failure that is not reported, a log that takes groups
+/// after it, and a wrong device that is handed back, at each call of a rotation. The last file's device is called three
+/// times as the file is made, and four times for its group.
 #[test]
 fn a_device_fails_as_a_log_goes_on_again(rt: HostRuntime) -> Result<(), Fail> {
     for (old, next, files) in [(0, 1, 1), (0, 2, 1), (0, 3, 1), (8, 0, 1), (9, 0, 2)] {
@@ -261,7 +265,7 @@ fn open_on(alloc: Global, contents: &[&[u8]]) -> Result<Box<LogSet<MemoryDevice>
     Ok(boxed(alloc, set)?)
 }
 
-/// The log on these devices; without one there is none.
+/// The log on these devices. Without a device there is none.
 fn open(
     alloc: Global,
     devices: Vec<MemoryDevice>,
@@ -272,8 +276,8 @@ fn open(
     LogSet::open(alloc, devices)
 }
 
-/// Files that are opened in another order, or without one of them; one of another source, of an older form, or with a gno past the next
-/// behind the first.
+/// Catches files that are opened in another order, or without one of them. Also: a second file of another source, of an
+/// older form, or with a gno past the next.
 #[test]
 fn files_are_opened_in_order_again(rt: HostRuntime) -> Result<(), Fail> {
     let alloc = rt.alloc();
@@ -296,10 +300,10 @@ fn files_are_opened_in_order_again(rt: HostRuntime) -> Result<(), Fail> {
     Ok(())
 }
 
-/// How many files the log on a small stack has.
+/// The number of files of the log on a small stack.
 const MANY: usize = 30_000;
 
-/// The count of files of a log in which each but the last is finished, and none has a group.
+/// The number of files of a log in which each but the last is finished, and none has a group.
 fn open_many(alloc: Global) -> Result<usize, LogFault> {
     let mut devices = Vec::with_capacity(alloc, MANY)?;
     for file in 1..=MANY {
@@ -311,7 +315,7 @@ fn open_many(alloc: Global) -> Result<usize, LogFault> {
     Ok(set.firsts().len())
 }
 
-/// Why no thread was made. The system tells want of memory for one, and for its stack, as a call that would block.
+/// Why no thread was made. If memory runs out for it or for its stack, the system reports a call that would block.
 fn refused(error: Error) -> Fail {
     match error.kind() {
         ErrorKind::WouldBlock => Memory.into(),
@@ -319,7 +323,7 @@ fn refused(error: Error) -> Fail {
     }
 }
 
-/// A log of so many files that a call for each would pass the end of a stack of 1 MiB.
+/// Catches an `open` that makes a nested call for each file: for `MANY` files it would pass the end of a stack of 1 MiB.
 #[test]
 fn many_files_open_on_a_small_stack(rt: HostRuntime) -> Result<(), Fail> {
     let alloc = rt.alloc();
@@ -331,7 +335,7 @@ fn many_files_open_on_a_small_stack(rt: HostRuntime) -> Result<(), Fail> {
     Ok(())
 }
 
-/// A next file that counts before the one in front of it is finished; a log that goes on in it then.
+/// Catches a next file that counts before the one before it is finished, and a log that then continues in it.
 #[test]
 fn a_file_behind_an_unfinished_one_is_dropped_again(rt: HostRuntime) -> Result<(), Fail> {
     let alloc = rt.alloc();
@@ -375,7 +379,7 @@ fn is_read<R: Files<File = File> + AllocGlobal + Abort>(
     Ok(())
 }
 
-/// A log that is not on its files once its process is gone, or on another than the one that it was given.
+/// Catches a log that is not on its files when they are opened again, or is on another file than the one that it was given.
 #[test]
 fn a_log_in_two_files_is_read(rt: HostRuntime) -> Result<(), Fail> {
     let (first, second) = (OwnFile::new(&rt, "set_1")?, OwnFile::new(&rt, "set_2")?);

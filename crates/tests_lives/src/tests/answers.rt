@@ -1,4 +1,4 @@
-//! What a source with its log in files replies to its events, and whole commits in one call.
+//! What a source with its log in files replies to its events, and to whole commits in one call.
 
 use crate::tests::durable::{Life, begun};
 use log_device::{CrashDevice, Device, MemoryDevice};
@@ -12,7 +12,7 @@ use tests_stores::again;
 use tests_stores::common::{insert, row};
 use world::{Event, Reply};
 
-/// A reply in short: its name, and up to two numbers of it.
+/// A reply in short: its name, and up to two of its numbers.
 type Short = (&'static str, u64, u64);
 
 fn short(reply: &Reply) -> Short {
@@ -31,7 +31,7 @@ fn short(reply: &Reply) -> Short {
     }
 }
 
-/// A device whose content finds room, so that no call of it takes memory.
+/// A device with room for its content, so that no call of it takes memory.
 fn roomy(alloc: Global) -> Result<MemoryDevice, AllocError> {
     Ok(MemoryDevice::of(Vec::with_capacity(alloc, 4096)?))
 }
@@ -47,7 +47,7 @@ fn ask_once<D: Device>(alloc: Global, life: &mut Life<D>, event: &Event) -> Shor
     }
 }
 
-/// The reply to an event; one that lacked memory is made once more.
+/// The reply to an event, which is sent once more if memory runs out.
 fn ask<D: Device>(alloc: Global, life: &mut Life<D>, event: &Event) -> Short {
     let told = ask_once(alloc, life, event);
     if lacked(told) {
@@ -63,7 +63,7 @@ fn put_once<D: Device>(alloc: Global, life: &mut Life<D>, session: u16) -> Short
     }
 }
 
-/// What a put says, a receipt by its gno and its parent; one that lacked memory is made once more.
+/// The reply to a put, a receipt by its gno and its parent. The put is made once more if memory runs out.
 fn try_put<D: Device>(alloc: Global, life: &mut Life<D>, session: u16) -> Short {
     let told = put_once(alloc, life, session);
     if lacked(told) {
@@ -83,7 +83,7 @@ fn opens<D: Device>(life: &mut Life<D>, session: u16, key: i64) -> Result<(), Fa
     Ok(again!(life.write(session, change))?)
 }
 
-/// An event that makes another's call, or tells another's reply; a flush without its stamps.
+/// Catches an event that makes another's call, or gives another's reply, and a flush without its stamps.
 #[test]
 fn each_event_is_answered_again(rt: HostRuntime) -> Result<(), Fail> {
     let alloc = rt.alloc();
@@ -113,7 +113,7 @@ fn each_event_is_answered_again(rt: HostRuntime) -> Result<(), Fail> {
     Ok(())
 }
 
-/// The receipt of another session; a second put of a session that has no transaction any more.
+/// Catches the receipt of another session, and a second put that succeeds for a session without a transaction.
 #[test]
 fn sessions_put_in_turn_again(rt: HostRuntime) -> Result<(), Fail> {
     let alloc = rt.alloc();
@@ -126,7 +126,8 @@ fn sessions_put_in_turn_again(rt: HostRuntime) -> Result<(), Fail> {
     Ok(())
 }
 
-/// A put that tells the last record of the group, which is another session's, of one that was queued before.
+/// Catches a put of a transaction that was queued before, if it reports the last record of the group, which is another
+/// session's.
 #[test]
 fn a_queued_transaction_is_put_again(rt: HostRuntime) -> Result<(), Fail> {
     let alloc = rt.alloc();
@@ -143,7 +144,7 @@ fn a_queued_transaction_is_put_again(rt: HostRuntime) -> Result<(), Fail> {
     Ok(())
 }
 
-/// A receipt that is told though the device failed, at each of its four calls in a sync.
+/// Catches a receipt although the device failed, at each of its four calls in a sync.
 #[test]
 fn a_failed_device_is_told(rt: HostRuntime) -> Result<(), Fail> {
     let alloc = rt.alloc();

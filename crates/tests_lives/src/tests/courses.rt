@@ -1,5 +1,5 @@
-//! Courses of three lives, against a plain model: the first is killed at each moment, the second goes on from each image of it and ends,
-//! and the third finds what the second had.
+//! Courses of three lives, against a plain model. The first life is killed at each moment. The second one goes on from
+//! each image of it, and ends. The third one finds what the second had.
 
 ghost use Rattle.std.specs.Prelude.{◌≤◌, ◌<◌, length};
 
@@ -21,12 +21,12 @@ use writeset_trackers::{WriteSetSession, WriteSetTracker};
 
 type Life<T, D> = DurableSource<BTreeStore, T, D>;
 
-/// So many moments pass as the log is made, and so many with each group that is synced.
+/// Making the log takes this many moments, and each group that is synced takes `GROUP`.
 const MADE: usize = 3;
 
 const GROUP: usize = 4;
 
-/// So many groups a life has.
+/// The number of groups that a life commits.
 const GROUPS: usize = 4;
 
 /// The row of the start. Each record that writes it sets its first column to the record's number.
@@ -49,7 +49,7 @@ fn begun<T: Fresh + Resumable + Drop>(alloc: Global) -> Result<Box<Life<T, Crash
     let (tracker, device) = (T::fresh(alloc)?, CrashDevice::new(alloc));
     match DurableSource::make(alloc, schema, store, tracker, 256, source(), device) {
         Ok(life) => Ok(boxed(alloc, life)?),
-        // A device in memory fails for want of it.
+        // A device in memory fails only if memory runs out.
         Err(_) => Err(Memory)?,
     }
 }
@@ -64,21 +64,21 @@ fn next_life<T: Fresh + Resumable + Drop>(
     let tracker = T::fresh(alloc)?;
     match DurableSource::open(alloc, schema, store, tracker, 256, source(), devices) {
         Ok(life) => Ok(boxed(alloc, life)?),
-        // A device in memory fails for want of it.
+        // A device in memory fails only if memory runs out.
         Err(_) => Err(Memory)?,
     }
 }
 
-/// What comes of a life.
+/// The model of a life.
 #[derive(Drop)]
 struct Course {
-    /// A course of numbers that look drawn.
+    /// The state of a sequence of numbers that look random.
     drawn: u64,
     /// The key of the last row that was inserted.
     key: i64,
-    /// At the start, and behind each record: the first column of row 10, and how many rows there are.
+    /// At the start, and after each record: the first column of row 10, and the number of rows.
     states: Vec<(i64, usize)>,
-    /// How many records there are behind each group.
+    /// At the start, and after each group: the number of records.
     ends: Vec<usize>,
 }
 
@@ -92,7 +92,7 @@ impl Course {
         })
     }
 
-    /// That of a life which goes on behind so many records.
+    /// The course of a life that goes on after the first `found` records.
     fn behind(&self, alloc: Global, found: usize) -> Result<Course, Memory> {
         let states = self.states.get(..=found).ok_or(Memory)?;
         Ok(Course {
@@ -114,7 +114,7 @@ impl Course {
         (self.drawn >> 33) % most
     }
 
-    /// The change of the next transaction: the first of a group may write row 10, and each other one inserts a row.
+    /// The change of the next transaction. The first one of a group may write row 10, and each other one inserts a row.
     fn change(&mut self, session: u16) -> Result<Change, Memory> {
         let number = self.states.len();
         let (value, rows) = *self.states.last().ok_or(Memory)?;
@@ -127,7 +127,7 @@ impl Course {
         insert(row(2, self.key), &[1, self.key])
     }
 
-    /// A group of up to three transactions is flushed.
+    /// Flushes a group of up to three transactions.
     fn flush<T: Tracker, D: Device>(&mut self, life: &mut Life<T, D>) -> Result<(), Fail> {
         let last = self.draw(3) as u16 + 1;
         for session in 1..=last {
@@ -142,7 +142,7 @@ impl Course {
         Ok(())
     }
 
-    /// The groups of a life; its last one is flushed alone, and the one before it is not committed.
+    /// The groups of a life: `GROUPS` that are committed, and a last one that is synced and not committed.
     fn run<T: Tracker, D: Device>(&mut self, life: &mut Life<T, D>) -> Result<(), Fail> {
         for _ in 0..GROUPS {
             self.flush(life)?;
@@ -154,7 +154,7 @@ impl Course {
         Ok(())
     }
 
-    /// The life has a beginning of the records, and the rows behind that.
+    /// The life has the first records of the course, and the rows after them. Returns the number of these records.
     fn agrees<T: Tracker, D: Device>(
         &self,
         rt: &impl Abort,
@@ -169,7 +169,8 @@ impl Course {
     }
 }
 
-/// Goes on from this image, and is opened once more: how many records it found.
+/// Goes on from this image in a second life, and opens that in a third. Returns the number of records that the second
+/// one found.
 fn goes_on<T: Fresh + Resumable + Drop>(
     rt: &(impl Abort + AllocGlobal),
     first: &Course,
@@ -188,7 +189,7 @@ fn goes_on<T: Fresh + Resumable + Drop>(
     Ok(found)
 }
 
-/// A life is killed at each moment; a next one finds each group that was synced by then, and at most one more.
+/// A life is killed at each moment. The next one finds each group that was synced by then, and at most one more.
 fn three_lives<T: Fresh + Resumable + Drop>(
     rt: &(impl Abort + AllocGlobal),
     drawn: u64,
@@ -210,7 +211,7 @@ fn three_lives<T: Fresh + Resumable + Drop>(
     Ok(())
 }
 
-/// Catches a restart that loses a group which was synced, takes half of one, or gives other rows or numbers than the records.
+/// Catches a restart that loses a synced group, takes half of one, or gives other rows or numbers than the records.
 #[test]
 fn three_lives_by_commit_order(rt: HostRuntime) -> Result<(), Fail> {
     for drawn in 0..3 {
@@ -219,13 +220,13 @@ fn three_lives_by_commit_order(rt: HostRuntime) -> Result<(), Fail> {
     Ok(())
 }
 
-/// The same beside what the tracker sees of the rows.
+/// Like `three_lives_by_commit_order`, but the tracker also looks at the rows.
 #[test]
 fn three_lives_by_rows(rt: HostRuntime) -> Result<(), Fail> {
     three_lives::<WriteSetTracker>(&rt, 7)
 }
 
-/// The same beside what it sees of the sessions.
+/// Like `three_lives_by_rows`, but the tracker also looks at the sessions.
 #[test]
 fn three_lives_by_session(rt: HostRuntime) -> Result<(), Fail> {
     three_lives::<WriteSetSession>(&rt, 8)

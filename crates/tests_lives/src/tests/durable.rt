@@ -18,16 +18,16 @@ use uuid::Uuid;
 
 pub(super) type Life<D> = DurableSource<BTreeStore, CommitOrder, D>;
 
-/// So many moments pass as the log is made: its cut, its write and its sync; and so many with each group: its write, a sync, the write of
-/// its gate, a sync.
+/// Making the log takes this many moments: its cut, its write and its sync. Each group takes `GROUP`: its write, a
+/// sync, the write of its gate, a sync.
 const MADE: usize = 3;
 
 const GROUP: usize = 4;
 
-/// What making answers.
+/// What making a life returns.
 type Made<D> = Result<Box<Life<D>>, (MakeFault, D)>;
 
-/// Makes a first life, of no rows.
+/// Makes a first life, without rows.
 fn make<D: Device + Drop>(alloc: Global, device: D) -> Result<Made<D>, Memory> {
     let (schema, store) = (five_tables(alloc)?, BTreeStore::new(alloc));
     if !fits(&schema, &store) {
@@ -39,7 +39,7 @@ fn make<D: Device + Drop>(alloc: Global, device: D) -> Result<Made<D>, Memory> {
     }
 }
 
-/// A first life, of no rows. A device in memory fails for want of it.
+/// A first life, without rows. Its device fails only if memory runs out.
 pub(super) fn begun<D: Device + Drop>(alloc: Global, device: D) -> Result<Box<Life<D>>, Memory> {
     match make(alloc, device)? {
         Ok(life) => Ok(life),
@@ -47,7 +47,7 @@ pub(super) fn begun<D: Device + Drop>(alloc: Global, device: D) -> Result<Box<Li
     }
 }
 
-/// What opening answers.
+/// What opening a log returns.
 type Opened<D> = Result<Box<Life<D>>, (OpenFault, Returned<D>)>;
 
 /// The next life, over the same rows.
@@ -68,7 +68,7 @@ fn next_life<D: Device + Drop>(
     }
 }
 
-/// Commits the insert of a row of table 1, and answers its gno and its parent.
+/// Commits the insert of a row of table 1. Returns its gno and its parent.
 fn commit<D: Device>(life: &mut Life<D>, key: i64) -> Result<(u64, u64), Fail> {
     life.begin(1)?;
     life.write(1, insert(row(1, key), &[5, 6])?)?;
@@ -82,7 +82,7 @@ fn commit<D: Device>(life: &mut Life<D>, key: i64) -> Result<(u64, u64), Fail> {
     }
 }
 
-/// Gives the devices back, in order.
+/// Ends the life, and returns its devices in order.
 fn ended<D: Device + Drop>(life: Box<Life<D>>) -> Result<Vec<D>, Fail>
     ensures { IfOk result (λ devices. 1 ≤ length devices.items) }
 {
@@ -91,7 +91,7 @@ fn ended<D: Device + Drop>(life: Box<Life<D>>) -> Result<Vec<D>, Fail>
     Ok(devices)
 }
 
-/// A life that numbers anew, or gives a transaction a parent of its own life alone; rotated files of which one is forgotten.
+/// Catches a life that numbers anew, or gives a transaction a parent only from this life, and a rotated file that is forgotten.
 #[test]
 fn lives_go_on(rt: HostRuntime) -> Result<(), Fail> {
     let alloc = rt.alloc();
@@ -111,7 +111,8 @@ fn lives_go_on(rt: HostRuntime) -> Result<(), Fail> {
     Ok(())
 }
 
-/// A log that is opened as that of another source, or of fewer records than it has: it is refused, and its devices come back.
+/// Catches a log that is opened as that of another source, or with a limit of fewer records than it has. It must be
+/// refused, and its devices must come back.
 #[test]
 fn other_logs_are_refused(rt: HostRuntime) -> Result<(), Fail> {
     let alloc = rt.alloc();
@@ -135,7 +136,7 @@ fn other_logs_are_refused(rt: HostRuntime) -> Result<(), Fail> {
     Ok(())
 }
 
-/// A log that is made where one may stand.
+/// Catches a log that is made over bytes that may be another log.
 #[test]
 fn a_log_is_not_made_over_another(rt: HostRuntime) -> Result<(), Fail> {
     let alloc = rt.alloc();
@@ -147,7 +148,7 @@ fn a_log_is_not_made_over_another(rt: HostRuntime) -> Result<(), Fail> {
     Ok(())
 }
 
-/// The next life after a kill that left this in its files: how many records it has, and the gno of its first transaction.
+/// The next life after a kill that left this in its files: the number of its records, and the gno of its first transaction.
 fn after_kill(alloc: Global, files: Vec<MemoryDevice>) -> Result<(u64, u64), Fail>
     requires { 1 ≤ length files.items }
 {
@@ -159,7 +160,7 @@ fn after_kill(alloc: Global, files: Vec<MemoryDevice>) -> Result<(u64, u64), Fai
     Ok((found, gno))
 }
 
-/// A commit that is told and gone behind a kill; a next life that numbers anew, or behind what it did not find.
+/// Catches a commit that is reported and then lost in a kill, and a next life that numbers anew, or skips numbers.
 #[test]
 fn killed_at_each_moment(rt: HostRuntime) -> Result<(), Fail> {
     let alloc = rt.alloc();
@@ -180,7 +181,7 @@ fn killed_at_each_moment(rt: HostRuntime) -> Result<(), Fail> {
     Ok(())
 }
 
-/// Opens what a kill may have left of two files, each at a moment of its own, in both of which stands one record.
+/// Opens what a kill may have left of two files, each at its own moment. Together they hold one record.
 fn open_pairs(
     rt: &(impl Abort + AllocGlobal),
     first: (&CrashDevice, usize),
@@ -197,8 +198,8 @@ fn open_pairs(
     Ok(())
 }
 
-/// A rotation that finishes the first file before the next one is made and kept: the first one rests while that is made, and the next one
-/// while the first is finished.
+/// Catches a rotation that finishes the first file before the next one is made and kept. The first one rests while the
+/// next one is made, and the next one rests while the first is finished.
 #[test]
 fn killed_in_a_rotation(rt: HostRuntime) -> Result<(), Fail> {
     let alloc = rt.alloc();

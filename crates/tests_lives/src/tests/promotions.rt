@@ -34,7 +34,7 @@ fn other_name() -> Uuid {
     Uuid::from_u128(0x6d74_7200_0000_4000_8000_0000_0000_0002)
 }
 
-/// The source that the replica becomes. Where memory is refused the replica comes back, and it is tried once more.
+/// The source that the replica becomes. If memory runs out, the replica comes back, and is tried once more.
 fn promoted<T: Fresh + Drop>(
     rt: &(impl Abort + AllocGlobal),
     replica: Box<Replica>,
@@ -71,7 +71,7 @@ fn promoted_again<T: Fresh + Drop>(
     }
 }
 
-/// The replica is refused under this name for this reason, and comes back.
+/// Promoting the replica under this name is refused for this reason, and the replica comes back.
 fn refused(
     rt: &(impl Abort + AllocGlobal),
     replica: Box<Replica>,
@@ -90,7 +90,7 @@ fn refused(
     }
 }
 
-/// The new source begins with row 10 as it is told, behind so many records, and has logged nothing.
+/// The new source begins with these columns of row 10, after `behind` records, and has logged nothing.
 fn begins<T: Tracker>(rt: &impl Abort, made: &Life<T>, behind: u64, columns: &[i64]) {
     assert_eq!(rt; (made.identifier, made.behind), (other_name(), behind));
     assert_eq!(rt; made.source.rows().get(ten()), Row::new(columns));
@@ -110,7 +110,7 @@ fn sets_nine<T: Tracker>(
     source.queue(1)
 }
 
-/// Its transaction is record 1, behind none.
+/// Its transaction is record 1, without a parent.
 fn logs_first<T: Tracker>(
     rt: &impl Abort,
     source: &mut SourceCore<BTreeStore, T>,
@@ -133,7 +133,7 @@ fn goes_on<T: Fresh + Drop>(rt: &(impl Abort + AllocGlobal)) -> Result<(), Fail>
     logs_first(rt, &mut made.source)
 }
 
-/// Catches a source without the replica's rows, or one whose numbers go on with those of the old log.
+/// Catches a source without the replica's rows, or one that continues the numbers of the old log.
 #[test]
 fn goes_on_by_commit_order_again(rt: HostRuntime) -> Result<(), Fail> {
     goes_on::<CommitOrder>(&rt)
@@ -160,7 +160,7 @@ fn third_is_out(rt: &(impl Abort + AllocGlobal), replica: &mut Replica) -> Resul
     Ok(())
 }
 
-/// Catches rows of what was accepted and not committed, and a refusal because of it.
+/// Catches rows of a record that was accepted and not committed, and a refusal because of that record.
 #[test]
 fn drops_what_is_not_committed_again(rt: HostRuntime) -> Result<(), Fail> {
     let mut replica = again!(replica(rt.alloc(), true))?;
@@ -180,7 +180,7 @@ fn stops(rt: &(impl Abort + AllocGlobal), replica: &mut Replica) -> Result<(), F
     Ok(())
 }
 
-/// Catches a stopped replica that is refused, though its rows are all that is left.
+/// Catches a stopped replica that is refused, although its rows are all that is left.
 #[test]
 fn a_stopped_replica_goes_on_again(rt: HostRuntime) -> Result<(), Fail> {
     let mut replica = again!(replica(rt.alloc(), true))?;
@@ -190,7 +190,7 @@ fn a_stopped_replica_goes_on_again(rt: HostRuntime) -> Result<(), Fail> {
     Ok(())
 }
 
-/// Catches a new log under the old name, and a refused replica that doesn't go on.
+/// Catches a new log under the old name, and a refused replica that does not go on.
 #[test]
 fn the_old_name_is_refused_again(rt: HostRuntime) -> Result<(), Fail> {
     let mut replica = again!(replica(rt.alloc(), true))?;
@@ -203,7 +203,7 @@ fn the_old_name_is_refused_again(rt: HostRuntime) -> Result<(), Fail> {
     Ok(())
 }
 
-/// The first worked record is accepted, and behind it one that inserts another row.
+/// The first worked record is accepted, and after it one that inserts another row.
 fn accepts_two(rt: &(impl Abort + AllocGlobal), replica: &mut Replica) -> Result<(), Fail> {
     let first = again!(worked(rt.alloc(), 1, 0))?;
     accepts(rt, replica, &first);
@@ -221,7 +221,7 @@ fn second_passes(rt: &(impl Abort + AllocGlobal), replica: &mut Replica) -> Resu
     Ok(first)
 }
 
-/// Catches a source over a state that has a gap; and one that is refused because the commits came in another order.
+/// Catches a source over a state that has a gap, and a refusal because the commits came in another order.
 #[test]
 fn gaps_are_refused_again(rt: HostRuntime) -> Result<(), Fail> {
     let mut replica = again!(replica(rt.alloc(), false))?;
@@ -236,7 +236,7 @@ fn gaps_are_refused_again(rt: HostRuntime) -> Result<(), Fail> {
     Ok(())
 }
 
-/// A replica of a child row that has no parent.
+/// A replica of a child row without its parent.
 fn orphaned(alloc: Global) -> Result<Box<Replica>, Memory> {
     let rows = vec![in alloc; (row(4, 9), Row::new(&[1, 5]))]?;
     replica_loaded(alloc, &Batch::from_entries(rows).ok_or(Memory)?, true)
@@ -252,7 +252,7 @@ fn misfits_are_refused_again(rt: HostRuntime) -> Result<(), Fail> {
     Ok(())
 }
 
-/// Catches a text that no clause fixes.
+/// Catches a wrong text: no clause fixes the texts.
 #[test]
 fn texts_of_promotion_faults(rt: HostRuntime) -> Result<(), Fail> {
     for (fault, text) in [

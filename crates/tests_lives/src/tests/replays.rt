@@ -1,4 +1,4 @@
-//! Logs that are replayed: which one goes on, by which parents, and which record of another one is told.
+//! Logs that are replayed: which of them goes on, with which parents, and which record of the others is reported.
 
 ghost use Rattle.std.specs.Prelude.{◌<◌, ◌^◌};
 
@@ -30,9 +30,9 @@ const RELATED: Flags = Flags {
 /// The rows at the start.
 #[derive(Clone, Copy, Debug)]
 enum Start {
-    /// The row 1 of table 3, which is the parent of table 4.
+    /// Row 1 of table 3, which is the parent of table 4.
     Parent,
-    /// Beside it the row 10 of table 2, which record 2 inserts.
+    /// Also row 10 of table 2, which record 2 inserts.
     OneMore,
     /// A row of table 4 without its parent.
     Misfit,
@@ -50,7 +50,7 @@ fn store_of(alloc: Global, start: Start) -> Result<BTreeStore, Memory> {
     Ok(store)
 }
 
-/// The record inserts the child 9 of the row 1 of table 3.
+/// The record that inserts child 9 of row 1 of table 3.
 fn child(alloc: Global, gno: u64, parent: u64) -> Result<Record, Memory> {
     let plain = record(alloc, gno, parent, insert(row(4, 9), &[1, 5])?)?;
     Ok(Record {
@@ -61,19 +61,19 @@ fn child(alloc: Global, gno: u64, parent: u64) -> Result<Record, Memory> {
     })
 }
 
-/// The record inserts the row 10 of table 2.
+/// The record that inserts row 10 of table 2.
 fn other(alloc: Global, gno: u64, parent: u64) -> Result<Record, Memory> {
     let plain = record(alloc, gno, parent, insert(row(2, 10), &[1, 6])?)?;
     let marks = marks_of(alloc, &[(2, 6)])?;
     Ok(Record { marks, ..plain })
 }
 
-/// The record sets a column of it.
+/// The record that sets a column of that row.
 fn sets(alloc: Global, gno: u64, parent: u64) -> Result<Record, Memory> {
     record(alloc, gno, parent, update(row(2, 10), 0, 2)?)
 }
 
-/// The record deletes the row 1 of table 3, or inserts it again.
+/// The record that deletes row 1 of table 3, or inserts it again.
 fn of_parent(alloc: Global, gno: u64, parent: u64, deletes: bool) -> Result<Record, Memory> {
     let there = row(3, 1);
     let change = if deletes {
@@ -127,7 +127,7 @@ fn three_records_are_replayed_again(rt: HostRuntime) -> Result<(), Fail> {
 
 type Source<T> = SourceCore<BTreeStore, T>;
 
-/// A source that goes on behind the three records.
+/// A source that goes on after the three records.
 fn goes_on<T: Fresh + Resumable + Drop>(
     alloc: Global,
     log: &[Record],
@@ -154,7 +154,7 @@ fn queues<T: Resumable>(
     source.queue(session)
 }
 
-/// The next two records, one of a row that record 2 wrote and one of a new row, have these parents.
+/// The next two records have these parents: one changes a row that record 2 wrote, and one inserts a new row.
 fn next_parents<T: Fresh + Resumable + Drop>(
     rt: &(impl Abort + AllocGlobal),
     parents: [u64; 2],
@@ -179,19 +179,19 @@ fn goes_on_by_commit_order_again(rt: HostRuntime) -> Result<(), Fail> {
     next_parents::<CommitOrder>(&rt, [3, 3])
 }
 
-/// Catches a tracker that does not see the log, or that sees the parents of another tracker in it.
+/// Catches a tracker that does not see the log, or that takes over the parents of another tracker from it.
 #[test]
 fn goes_on_by_rows_again(rt: HostRuntime) -> Result<(), Fail> {
     next_parents::<WriteSetTracker>(&rt, [3, 1])
 }
 
-/// Catches a session that waits for a record of the same number before the restart.
+/// Catches a session that waits for a record that the session of this number wrote before the restart.
 #[test]
 fn goes_on_by_session_again(rt: HostRuntime) -> Result<(), Fail> {
     next_parents::<WriteSetSession>(&rt, [3, 1])
 }
 
-/// The log is refused over these rows, with this text.
+/// The log is refused over these rows, with this fault and text.
 fn refused(
     rt: &(impl Abort + AllocGlobal),
     start: Start,
@@ -210,7 +210,7 @@ fn refused(
     Ok(())
 }
 
-/// Catches what is known before the log is read and is asked behind it: the length before the rows, and both before a record.
+/// Catches a check that comes too late: the length is checked before the rows, and both before a record.
 #[test]
 fn length_and_rows_come_first_again(rt: HostRuntime) -> Result<(), Fail> {
     let log = again!(three(rt.alloc()))?;
@@ -221,7 +221,7 @@ fn length_and_rows_come_first_again(rt: HostRuntime) -> Result<(), Fail> {
     refused(&rt, Start::Misfit, &[], 3, misfit, "E2 Misfit")
 }
 
-/// Catches a replay over other rows than the log was written over, where a record looks at one.
+/// Catches a replay over other rows than the log was written over, if a record looks at one of them.
 #[test]
 fn a_row_is_there_that_a_record_inserts_again(rt: HostRuntime) -> Result<(), Fail> {
     let log = again!(three(rt.alloc()))?;
@@ -236,7 +236,7 @@ fn a_row_is_there_that_a_record_inserts_again(rt: HostRuntime) -> Result<(), Fai
     )
 }
 
-/// Catches a record that a replica would skip, and takes again here; and the record in front of one that is missing.
+/// Catches a record that a replica would skip, if it is taken again here, and a record after a missing one.
 #[test]
 fn a_record_is_out_of_its_place_again(rt: HostRuntime) -> Result<(), Fail> {
     let alloc = rt.alloc();
@@ -277,7 +277,7 @@ fn a_replica_refuses_a_record_again(rt: HostRuntime) -> Result<(), Fail> {
     )
 }
 
-/// Catches a replay that asks for no orphans, or asks for them at the end alone: the last record mends what the second broke.
+/// Catches a replay that looks for no orphans, or only at the end: the last record mends what the second one broke.
 #[test]
 fn a_child_loses_its_parent_again(rt: HostRuntime) -> Result<(), Fail> {
     let alloc = rt.alloc();
@@ -290,7 +290,7 @@ fn a_child_loses_its_parent_again(rt: HostRuntime) -> Result<(), Fail> {
     refused(&rt, Start::Parent, &log, 3, orphan, "E4 Orphan 2")
 }
 
-/// The parent of no child goes, and a child comes back to the parent that came back.
+/// A parent without children is deleted and inserted again, and then gets a child.
 #[test]
 fn a_parent_without_children_goes_again(rt: HostRuntime) -> Result<(), Fail> {
     let alloc = rt.alloc();

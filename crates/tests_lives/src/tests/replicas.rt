@@ -1,4 +1,4 @@
-//! A replica and its steps; each call that lacks memory is made once more.
+//! A replica and its steps. Each call that runs out of memory is made once more.
 
 use btree_store::BTreeStore;
 use executor::{Job, JobResult, Outcome, execute};
@@ -18,12 +18,13 @@ use tests_stores::common::{boxed, five_tables, insert, row, update};
 
 pub type Replica = ReplicaCore<BTreeStore>;
 
-/// The row that the worked records are of.
+/// The row of the worked records.
 pub fn ten() -> RowId {
     row(1, 10)
 }
 
-/// The record of this number, 1 to 3: an insert of row 10 as `[5, 6]`, then an update of column 0 to 7, and then one of column 1 to 8.
+/// The record of this number, 1 to 3: an insert of row 10 as `[5, 6]`, then an update of column 0 to 7, and then one of
+/// column 1 to 8.
 pub fn worked(alloc: Global, gno: u64, parent: u64) -> Result<Record, Memory> {
     let change = match gno {
         1 => insert(ten(), &[5, 6])?,
@@ -46,7 +47,7 @@ pub fn replica_loaded(alloc: Global, base: &Batch, preserve: bool) -> Result<Box
     }
 }
 
-/// The same of no rows.
+/// Like `replica_loaded`, but without rows.
 pub fn replica(alloc: Global, preserve: bool) -> Result<Box<Replica>, Memory> {
     replica_loaded(alloc, &Batch::new(alloc), preserve)
 }
@@ -57,7 +58,7 @@ pub fn accepts(rt: &impl Abort, replica: &mut Replica, next: &Record) {
     assert_eq!(rt; answer, Ok(Received::Accepted));
 }
 
-/// The job that is dispatched.
+/// Dispatches the next job.
 pub fn job(replica: &mut Replica) -> Result<Job, Fail> {
     match again!(ReplicaFault::Memory => replica.dispatch())? {
         Some(job) => Ok(job),
@@ -74,7 +75,7 @@ fn executed(alloc: Global, job: Job) -> JobResult {
     done
 }
 
-/// The result of this job is handed in, and this is the answer.
+/// The result of this job is handed in, and the call returns `want`.
 pub fn hands_in(
     rt: &(impl Abort + AllocGlobal),
     replica: &mut Replica,
@@ -85,14 +86,14 @@ pub fn hands_in(
     assert_eq!(rt; replica.finish(done).map_err(|refused| refused.0), want);
 }
 
-/// The job that is dispatched is executed, and its result taken.
+/// Dispatches the next job, executes it, and hands in its result.
 pub fn runs(rt: &(impl Abort + AllocGlobal), replica: &mut Replica) -> Result<(), Fail> {
     let job = job(replica)?;
     hands_in(rt, replica, job, Ok(()));
     Ok(())
 }
 
-/// A record is committed, and it is the one of this number.
+/// Commits a record, which is the one of this number.
 pub fn commits(rt: &impl Abort, replica: &mut Replica, gno: u64) {
     let answer = again!(ReplicaFault::Memory => replica.commit_next());
     assert_eq!(rt; answer, Ok(Some(gno)));
@@ -112,7 +113,7 @@ pub fn passes(
     Ok(())
 }
 
-/// The first worked records are committed.
+/// The first `count` worked records are committed.
 pub fn passes_first(
     rt: &(impl Abort + AllocGlobal),
     replica: &mut Replica,
@@ -124,7 +125,7 @@ pub fn passes_first(
     Ok(())
 }
 
-/// How many records are committed, and row 10.
+/// The number of committed records, and row 10.
 pub fn shown(replica: &Replica) -> (u64, Option<Row>) {
     (replica.committed(), replica.store().get(ten()))
 }

@@ -1,4 +1,4 @@
-//! The tables and the rows of the start, which are not in the log: what comes of others than those that it was written over.
+//! The tables and the rows of the start, which are not in the log: what happens if they are not those that it was written over.
 
 use btree_store::BTreeStore;
 use record_codec::Record;
@@ -19,11 +19,11 @@ use tests_stores::common::{insert, row, update};
 enum Tables {
     /// Those that the log was written over.
     Same,
-    /// A table more.
+    /// One more table.
     TableMore,
     /// Table 2 is a child of table 1, by its column 0.
     Child,
-    /// Table 2 has a column more.
+    /// Table 2 has one more column.
     ColumnMore,
 }
 
@@ -32,15 +32,15 @@ enum Tables {
 enum Start {
     /// Those that the log was written over: row 1 of table 2.
     Same,
-    /// A row more, which no record touches.
+    /// One more row, which no record touches.
     RowMore,
     /// Another value in a column that no record looks at.
     OtherValue,
-    /// Another row in its place.
+    /// Another row instead of it.
     OtherRow,
-    /// The parent of that row beside it.
+    /// That row, and its parent.
     WithParent,
-    /// A column more in that row.
+    /// One more column in that row.
     Wider,
 }
 
@@ -73,7 +73,7 @@ fn store_of(alloc: Global, start: Start) -> Result<BTreeStore, Memory> {
     Ok(store)
 }
 
-/// Two records: the first one changes the row of the start, and the second one inserts another.
+/// Two records: the first one changes the row of the start, and the second one inserts another row.
 fn two(alloc: Global) -> Result<Vec<Record>, Memory> {
     Ok(vec![in alloc;
         record(alloc, 1, 0, update(row(2, 1), 0, 9)?)?,
@@ -81,7 +81,7 @@ fn two(alloc: Global) -> Result<Vec<Record>, Memory> {
     ]?)
 }
 
-/// Why the log can't go on over these rows, or none if it can.
+/// Why the log can't go on over these rows, or `None` if it can.
 fn why(
     alloc: Global,
     tables: Tables,
@@ -96,7 +96,7 @@ fn why(
     }
 }
 
-/// What comes of these tables and rows.
+/// What comes of these tables and rows: `want`.
 fn comes(
     rt: &(impl Abort + AllocGlobal),
     tables: Tables,
@@ -109,8 +109,8 @@ fn comes(
     Ok(())
 }
 
-/// Catches a replay that refuses rows at which no record looks, since a log does not know them; and one that takes a row's place for
-/// the row.
+/// Catches a replay that refuses rows at which no record looks, since a log does not know them, and one that takes
+/// another row for the one that a record changes.
 #[test]
 fn other_rows_are_told_if_a_record_looks_again(rt: HostRuntime) -> Result<(), Fail> {
     let log = again!(two(rt.alloc()))?;
@@ -121,14 +121,14 @@ fn other_rows_are_told_if_a_record_looks_again(rt: HostRuntime) -> Result<(), Fa
     comes(&rt, Tables::Same, Start::OtherRow, &log, Some(stops))
 }
 
-/// Catches a replay that asks of a table at which no record and no row looks.
+/// Catches a replay that checks a table without rows, at which no record looks.
 #[test]
 fn a_table_more_changes_nothing_again(rt: HostRuntime) -> Result<(), Fail> {
     let log = again!(two(rt.alloc()))?;
     comes(&rt, Tables::TableMore, Start::Same, &log, None)
 }
 
-/// Catches a log whose records name no parents taken over tables that have them.
+/// Catches records that name no parents, if they are taken over tables that have parents.
 #[test]
 fn a_parent_column_more_is_malformed_again(rt: HostRuntime) -> Result<(), Fail> {
     let log = again!(two(rt.alloc()))?;
@@ -139,7 +139,7 @@ fn a_parent_column_more_is_malformed_again(rt: HostRuntime) -> Result<(), Fail> 
     comes(&rt, Tables::Child, Start::WithParent, &[], None)
 }
 
-/// Catches rows of another width taken, at the start or from a record.
+/// Catches rows of another width that are taken, at the start or from a record.
 #[test]
 fn a_column_more_is_told_again(rt: HostRuntime) -> Result<(), Fail> {
     let log = again!(two(rt.alloc()))?;

@@ -10,7 +10,7 @@ use tests_stores::again;
 use tracker_trait::Tracker;
 use writeset_trackers::{WriteSetSession, WriteSetTracker};
 
-/// A tracker of which a new one can be made.
+/// A tracker that the tests can make anew.
 pub trait Fresh: Tracker {
     fn fresh(alloc: Global) -> Result<Self, Memory>
         ensures { IfOk result (λ tracker. (ts : List Table) → Self.agrees tracker ts []) };

@@ -1,4 +1,4 @@
-//! What a crash leaves of a log, at each moment of its writing and of its opening.
+//! What a crash leaves of a log, at each moment while it is written or opened.
 
 use crate::common::source;
 use crate::tests::logs::{append_again, records_in};
@@ -9,16 +9,16 @@ use std::alloc::Global;
 use std::process::Abort;
 use std::test::Fail;
 
-/// A device that keeps what a crash may leave, and may fail before it is asked.
+/// A device that keeps what a crash may leave, and may fail a call that never reaches it.
 type Crashing = FaultyDevice<CrashDevice>;
 
-/// So many moments pass as a log is made: its cut, its write and its sync; and so many with each group: its write, a sync, the write of
-/// its gate, a sync.
+/// Making a log takes this many moments: its cut, its write and its sync. Each group takes `GROUP`: its write, a sync,
+/// the write of its gate, a sync.
 const MADE: usize = 3;
 
 const GROUP: usize = 4;
 
-/// Puts three groups of a record each on the log, up to the first that is refused, and answers how many were synced.
+/// Puts three groups of one record each on the log, up to the first that is refused. Returns how many were synced.
 fn put_three<D: Device>(alloc: Global, log: &mut LogFile<D>) -> usize {
     for gno in 1..4 {
         if append_again(alloc, log, gno).is_err() || log.sync().is_err() {
@@ -28,8 +28,8 @@ fn put_three<D: Device>(alloc: Global, log: &mut LogFile<D>) -> usize {
     3
 }
 
-/// Opens what a crash may have left at each moment since the log was made. There are the groups whose sync had ended by then, so many in
-/// the end; and the next one, at the earliest once its gate was written.
+/// Opens what a crash may have left at each moment since the log was made. It finds the groups whose sync had ended by
+/// then, `synced` of them in the end. It may find one more: if that was synced, only once its gate was written.
 fn open_each_image(
     rt: &(impl Abort + AllocGlobal),
     device: &CrashDevice,
@@ -50,7 +50,7 @@ fn open_each_image(
     Ok(())
 }
 
-/// Opens the log on a device whose `nth` call fails, and answers how many records were found, unless it failed.
+/// Opens the log on a device whose `nth` call fails. Returns how many records were found, or `None` if that call failed.
 fn open_once(
     alloc: Global,
     device: CrashDevice,
@@ -66,8 +66,8 @@ fn open_once(
     }
 }
 
-/// Opens the log where each call of that fails in turn, and each time what a crash may have left, until none fails. The log has the groups
-/// that were synced, or one more.
+/// Opens the log with each of its calls failing in turn, until none fails. Before each try, and after the last, it
+/// opens what a crash may have left. The log has the groups that were synced, or one more.
 fn open_at_last(
     rt: &(impl Abort + AllocGlobal),
     device: CrashDevice,
@@ -86,7 +86,7 @@ fn open_at_last(
     Err(Memory)?
 }
 
-/// Has three groups written, and what is left opened.
+/// Writes three groups, and opens what is left.
 fn write_and_open(rt: &(impl Abort + AllocGlobal), device: Crashing) -> Result<(), Fail> {
     let alloc = rt.alloc();
     match LogFile::create(alloc, device, source()) {
@@ -95,14 +95,14 @@ fn write_and_open(rt: &(impl Abort + AllocGlobal), device: Crashing) -> Result<(
             let synced = put_three(alloc, &mut log);
             open_at_last(rt, log.into_device().into_inner(), synced)
         }
-        // Where the making fails there is no log yet.
+        // If making the log fails, there is no log yet.
         Err((_, _)) => Ok(()),
     }
 }
 
-/// A gate that is opened before its group is kept, or told of before it is kept itself; a group that is written over one that waits; an
-/// `open` that cuts before it has synced, or cuts too much: on a device that fails nowhere, or at a call of which a crash may leave all, a
-/// part or nothing.
+/// Catches a gate that is opened before its group is kept, or reported before it is kept itself; a group that is
+/// written over one that waits; an `open` that cuts before it has synced, or cuts too much. The device fails nowhere,
+/// or at a call that a crash may leave whole, in part or not at all.
 #[test]
 fn what_a_crash_leaves_of_a_log(rt: HostRuntime) -> Result<(), Fail> {
     for nth in 0..16 {
@@ -112,7 +112,7 @@ fn what_a_crash_leaves_of_a_log(rt: HostRuntime) -> Result<(), Fail> {
     Ok(())
 }
 
-/// The same where the call that fails never reached the device.
+/// Like `what_a_crash_leaves_of_a_log`, but the failing call never reaches the device.
 #[test]
 fn what_a_crash_leaves_of_a_log_whose_device_is_not_reached(rt: HostRuntime) -> Result<(), Fail> {
     for nth in 1..16 {

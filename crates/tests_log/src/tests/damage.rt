@@ -1,4 +1,4 @@
-//! Records that are cut short, and records of which a byte is another: what `decode` and a stream answer to them.
+//! Records that are cut short or have a wrong byte: what `decode` and a stream make of them.
 
 use crate::tests::makers::{FORMS, ends, joined, spellings};
 use crate::tests::reader::{Fault, read};
@@ -11,7 +11,7 @@ use std::process::Abort;
 use std::test::Fail;
 use tests_stores::again;
 
-/// Each beginning of the record is told to be short, and a stream waits for the rest.
+/// `decode` reports each beginning of the record as short, and a stream waits for the rest.
 fn is_short_at_each_cut(
     rt: &(impl Abort + AllocGlobal),
     version: Version,
@@ -29,7 +29,7 @@ fn is_short_at_each_cut(
     Ok(())
 }
 
-/// A record that is read before its last byte is there, or whose beginning is told as another fault.
+/// Catches a record that is read before its last byte is there, or a beginning that is reported as another fault.
 #[test]
 fn records_are_cut_at_each_place_again(rt: HostRuntime) -> Result<(), Fail> {
     for version in FORMS {
@@ -40,7 +40,7 @@ fn records_are_cut_at_each_place_again(rt: HostRuntime) -> Result<(), Fail> {
     Ok(())
 }
 
-/// The fault in the reader's words.
+/// The fault, as the reader names it.
 fn fault_of(fault: CodecFault) -> Fault {
     match fault {
         CodecFault::Short => Fault::Short,
@@ -54,7 +54,8 @@ fn fault_of(fault: CodecFault) -> Fault {
     }
 }
 
-/// The record's fields as the reader has them. In the first form nothing stands for marks, and none may be found.
+/// The record's fields, as the reader has them. The first form has no field for marks. If a record of that form has
+/// marks, they are put in anyway, so that the comparison fails.
 fn fields_of(alloc: Global, version: Version, record: &Record) -> Result<Vec<i64>, AllocError> {
     let (marks, changes) = (record.marks.list(), record.changes.list());
     let mut fields = vec![in alloc;
@@ -107,7 +108,7 @@ fn put_change(fields: &mut Vec<i64>, change: &Change) -> Result<(), AllocError> 
     }
 }
 
-/// What `decode` answers, in the reader's words.
+/// What `decode` returns, in the reader's terms.
 fn decoded(alloc: Global, version: Version, bytes: &[u8]) -> Result<(Vec<i64>, usize), Fault> {
     match decode(alloc, version, bytes) {
         Ok((record, len)) => match fields_of(alloc, version, &record) {
@@ -118,7 +119,7 @@ fn decoded(alloc: Global, version: Version, bytes: &[u8]) -> Result<(Vec<i64>, u
     }
 }
 
-/// Feeds bytes one by one, up to the first fault.
+/// Feeds the bytes one by one, up to the first fault.
 fn first_fault(
     alloc: Global,
     version: Version,
@@ -134,7 +135,7 @@ fn first_fault(
     None
 }
 
-/// A stream gives the records that stand at the front of the bytes, and meets the fault that is behind them.
+/// A stream gives the records at the front of the bytes, and meets the fault after them.
 fn is_streamed(
     rt: &(impl Abort + AllocGlobal),
     version: Version,
@@ -160,7 +161,7 @@ fn is_streamed(
     Ok(())
 }
 
-/// `decode` answers to the record in which this place is what the reader does, and so does a stream over all of the bytes.
+/// `decode` and the reader give the same for the record with this place, and so do a stream and the reader for all the bytes.
 fn is_read_alike(
     rt: &(impl Abort + AllocGlobal),
     version: Version,
@@ -180,7 +181,8 @@ fn is_read_alike(
     is_streamed(rt, version, bytes, place)
 }
 
-/// A fault that is told in another's place, a damaged byte that goes unseen, or a record that it takes along or lets out behind it.
+/// Catches a wrong fault, a damaged byte that goes unseen, a record that is lost before the fault, or one that is given
+/// after it.
 #[test]
 fn a_byte_at_each_place_is_another(rt: HostRuntime) -> Result<(), Fail> {
     for version in FORMS {

@@ -1,4 +1,4 @@
-//! Calls of a device in memory, one of which needs room, and what a crash may leave of a device that keeps it.
+//! Calls of a device in memory, which needs room only for a write, and what a crash may leave of a device that keeps it.
 
 use log_device::{CrashDevice, Device, DeviceFault, MemoryDevice};
 use std::alloc::AllocError;
@@ -6,8 +6,8 @@ use std::test::Fail;
 use tests_stores::again;
 use tests_stores::common::boxed;
 
-/// A write that finds no memory past some length; a fill that is not zeros; a short read that spoils its room; a cut at the
-/// wrong end.
+/// Catches a write that runs out of memory past some length; a fill that is not zeros; a short read that changes the
+/// rest of its buffer; a cut at the wrong end.
 #[test]
 fn writes_reads_and_cuts_again(rt: HostRuntime) -> Result<(), Fail> {
     let mut device = boxed(rt.alloc(), MemoryDevice::new(rt.alloc()))?;
@@ -26,8 +26,8 @@ fn writes_reads_and_cuts_again(rt: HostRuntime) -> Result<(), Fail> {
     Ok(())
 }
 
-/// A crash device whose contents are all the kept one, of another moment, in another order, or longer or shorter: each of them
-/// may be left.
+/// Catches a crash device whose contents are only the kept one, or are of another moment, order or length. Each content
+/// listed here may be left.
 #[test]
 fn what_a_crash_may_leave_again(rt: HostRuntime) -> Result<(), Fail> {
     let mut device = boxed(rt.alloc(), CrashDevice::new(rt.alloc()))?;
@@ -53,7 +53,7 @@ fn what_a_crash_may_leave_again(rt: HostRuntime) -> Result<(), Fail> {
     Ok(())
 }
 
-/// A failed write of which a crash leaves nothing.
+/// Catches a failed write that no crash leaves.
 #[test]
 fn a_failed_write_may_stand(rt: HostRuntime) -> Result<(), Fail> {
     let mut device = boxed(rt.alloc(), CrashDevice::failing(rt.alloc(), 1))?;
@@ -70,7 +70,7 @@ fn a_failed_write_may_stand(rt: HostRuntime) -> Result<(), Fail> {
     Ok(())
 }
 
-/// A cut that every crash leaves made, or none does; a failed cut of which a crash leaves nothing.
+/// Catches a cut that every crash leaves made, or that none does, and a failed cut that no crash leaves made.
 #[test]
 fn a_failed_cut_may_stand(rt: HostRuntime) -> Result<(), Fail> {
     let mut device = boxed(rt.alloc(), CrashDevice::failing(rt.alloc(), 3))?;

@@ -15,7 +15,7 @@ fn marks(alloc: Global, list: &[Mark]) -> Result<MarkSet, Memory> {
     Ok(MarkSet::new(again!(list.to_vec(alloc))?))
 }
 
-/// The footprint of a transaction that writes one row, refers to another and has a mark.
+/// The footprint of a transaction that writes one row, refers to another, and has a mark.
 fn footprint(alloc: Global, write: RowId, to: RowId) -> Result<Footprint, Memory> {
     Ok(Footprint {
         writes: rows(alloc, &[write])?,
@@ -25,7 +25,7 @@ fn footprint(alloc: Global, write: RowId, to: RowId) -> Result<Footprint, Memory
     })
 }
 
-/// A table that is a parent, has one or is keyless, and is taken for another kind.
+/// Catches a table that is taken for another kind: a parent, a child or a keyless one.
 #[test]
 fn kinds_of_tables(rt: HostRuntime) -> Result<(), Fail> {
     let schema = five_tables(rt.alloc())?;
@@ -47,7 +47,7 @@ fn kinds_of_tables(rt: HostRuntime) -> Result<(), Fail> {
     Ok(())
 }
 
-/// The entry of the next number, over the number before it.
+/// Pushes the entry of the next number, whose parent is the number before it.
 fn push_next(log: &mut Log, footprint: Footprint) -> Result<(), Memory> {
     let parent = log.len() as u64;
     let sequence = parent.checked_add(1).ok_or(Memory)?;
@@ -59,7 +59,7 @@ fn push_next(log: &mut Log, footprint: Footprint) -> Result<(), Memory> {
     })
 }
 
-/// A copy that finds no memory past some number of rows or marks.
+/// Catches a copy that runs out of memory past some number of rows or marks.
 #[test]
 fn an_entry_at_the_bound_is_copied_again(rt: HostRuntime) -> Result<(), Fail> {
     let entry = Entry {
@@ -79,7 +79,8 @@ fn an_entry_at_the_bound_is_copied_again(rt: HostRuntime) -> Result<(), Fail> {
     Ok(())
 }
 
-/// A push without room that is always refused, room that is, and an entry past some number.
+/// Catches a push without reserved room that is always refused, a `reserve` that is refused, and an entry that is
+/// refused past some number.
 #[test]
 fn many_entries(rt: HostRuntime) -> Result<(), Fail> {
     let mut log = Log::new();

@@ -1,4 +1,4 @@
-//! What one process hands to another: a head, and records after it.
+//! What one process sends to another: a head, and records after it.
 
 use crate::common::source;
 use crate::tests::makers::{joined, records, three};
@@ -42,7 +42,7 @@ impl Read for Drops<'_> {
     }
 }
 
-/// The fault of a stream; if memory ran out for what was to be written, that.
+/// The fault for an error of a stream, or `Memory` if memory ran out for the bytes to write.
 fn of_stream(error: io::Error) -> HeadFault {
     match error.kind() {
         ErrorKind::OutOfMemory => HeadFault::Memory,
@@ -50,7 +50,7 @@ fn of_stream(error: io::Error) -> HeadFault {
     }
 }
 
-/// The head in these bytes, drop by drop, and what is left of them.
+/// The head in these bytes, read drop by drop, and the bytes that are left.
 fn read_drops(alloc: Global, left: &[u8]) -> (Result<Head, HeadFault>, &[u8]) {
     let mut input = Drops {
         left,
@@ -60,7 +60,7 @@ fn read_drops(alloc: Global, left: &[u8]) -> (Result<Head, HeadFault>, &[u8]) {
     (head, input.left)
 }
 
-/// Whether reading a head of these bytes is refused with this text.
+/// Whether reading a head from these bytes is refused with this text.
 fn is_refused(alloc: Global, mut bytes: &[u8], text: &str) -> Result<bool, Fail> {
     match read_head(alloc, &mut bytes) {
         Ok(_) => Ok(false),
@@ -69,7 +69,7 @@ fn is_refused(alloc: Global, mut bytes: &[u8], text: &str) -> Result<bool, Fail>
     }
 }
 
-/// Another order of the bytes of a number, or of the fields.
+/// Catches another order of a number's bytes, or of the fields.
 #[test]
 fn a_head_is_these_bytes(rt: HostRuntime) -> Result<(), Fail> {
     let mut bytes = Vec::new(rt.alloc());
@@ -78,8 +78,8 @@ fn a_head_is_these_bytes(rt: HostRuntime) -> Result<(), Fail> {
     Ok(())
 }
 
-/// A cut that is told as another magic; a magic that is not looked at, or only once it is whole; a length that lies, for which four
-/// gigabytes are asked.
+/// Catches a cut that is reported as a wrong magic; a magic that is not checked, or only once it is whole; a false
+/// length for which four gigabytes are requested.
 #[test]
 fn heads_that_are_none(rt: HostRuntime) -> Result<(), Fail> {
     for end in 0..HEAD.len() {
@@ -99,7 +99,7 @@ fn heads_that_are_none(rt: HostRuntime) -> Result<(), Fail> {
     Ok(())
 }
 
-/// A byte too many that is read; a failure or an interruption that is told as an end.
+/// Catches one byte too many that is read, and a failure or an interruption that is reported as an end.
 #[test]
 fn a_head_drop_by_drop(rt: HostRuntime) -> Result<(), Fail> {
     let mut bytes = HEAD.to_vec(rt.alloc())?;
@@ -121,7 +121,7 @@ fn a_head_drop_by_drop(rt: HostRuntime) -> Result<(), Fail> {
     Ok(())
 }
 
-/// Records of which other bytes than the first are written where the stream takes no more.
+/// Catches bytes that are not the first of the records, if the stream takes no more.
 #[test]
 fn records_written_as_far_as_they_go(rt: HostRuntime) -> Result<(), Fail> {
     let wanted = joined(rt.alloc(), Version::Two)?;
@@ -138,7 +138,7 @@ fn records_written_as_far_as_they_go(rt: HostRuntime) -> Result<(), Fail> {
     Ok(())
 }
 
-/// Records that are lost where a piece ends.
+/// Catches records that are lost at the end of a piece.
 #[test]
 fn records_come_out_of_a_stream(rt: HostRuntime) -> Result<(), Fail> {
     let records = three(rt.alloc())?;

@@ -1,4 +1,4 @@
-//! Sets of ids: texts from outside, and ids that are put in.
+//! Sets of ids: fixed texts, and ids that are added.
 
 use crate::common::source;
 use gtid_set::{GtidFault, GtidSet};
@@ -9,10 +9,10 @@ use tests_stores::again;
 use tests_stores::common::boxed;
 use uuid::Uuid;
 
-/// The identifier of `source`.
+/// The identifier of `source`, as text.
 const NAME: &str = "6d747200-0000-4000-8000-000000000001";
 
-/// The text of the set that the text is read as, or of the fault.
+/// The text of the set that this text is parsed as, or of the fault.
 fn told(alloc: Global, text: &str) -> Result<String, AllocError> {
     let read = again!(GtidFault::Memory => GtidSet::parse(alloc, text));
     match read {
@@ -21,7 +21,7 @@ fn told(alloc: Global, text: &str) -> Result<String, AllocError> {
     }
 }
 
-/// A text that is read as no other, where it begins.
+/// Catches a misread beginning of a text: an identifier in another form that is taken, or a good one that is refused.
 #[test]
 fn texts_begin_with_an_identifier_again(rt: HostRuntime) -> Result<(), Fail> {
     for (text, wanted) in [
@@ -44,7 +44,7 @@ fn texts_begin_with_an_identifier_again(rt: HostRuntime) -> Result<(), Fail> {
     Ok(())
 }
 
-/// An interval that is taken and is none, a fault that is not the first, or intervals that are not joined.
+/// Catches an interval that is taken although it is not one, a fault that is not the first, or intervals that are not joined.
 #[test]
 fn intervals_are_read_again(rt: HostRuntime) -> Result<(), Fail> {
     for (list, wanted) in [
@@ -87,7 +87,8 @@ fn intervals_are_read_again(rt: HostRuntime) -> Result<(), Fail> {
     Ok(())
 }
 
-/// An id that is told to be new and is not, that is put beside an interval, or that joins no two.
+/// Catches an id that is reported as new although it is not, one that is put beside the interval that it extends, or
+/// one that fails to join two intervals.
 #[test]
 fn ids_are_put_in_again(rt: HostRuntime) -> Result<(), Fail> {
     let mut set = boxed(rt.alloc(), GtidSet::new(rt.alloc()))?;
@@ -126,7 +127,7 @@ fn ids_are_put_in_again(rt: HostRuntime) -> Result<(), Fail> {
     Ok(())
 }
 
-/// Ids from 1 on that are refused where the last one has many digits, or of which there is one too few.
+/// Catches ids from 1 on that are refused if the last one has many digits, or a set that is one id short.
 #[test]
 fn first_ids_are_made_again(rt: HostRuntime) -> Result<(), Fail> {
     for (last, wanted) in [
@@ -141,7 +142,7 @@ fn first_ids_are_made_again(rt: HostRuntime) -> Result<(), Fail> {
     Ok(())
 }
 
-/// A refusal in another's place, or that leaves another set.
+/// Catches the wrong refusal, or one that changes the set.
 #[test]
 fn ids_are_refused(rt: HostRuntime) -> Result<(), Fail> {
     let mut set = GtidSet::parse(rt.alloc(), "6d747200-0000-4000-8000-000000000001:1-5:7")?;
@@ -169,7 +170,7 @@ fn ids_are_refused(rt: HostRuntime) -> Result<(), Fail> {
     Ok(())
 }
 
-/// A set that is refused once it has more intervals than a number of 16 bits counts.
+/// Catches a set that is refused once it has more intervals than 16 bits can count.
 #[test]
 fn more_intervals_than_65536(rt: HostRuntime) -> Result<(), Fail> {
     let mut set = GtidSet::new(rt.alloc());

@@ -1,4 +1,4 @@
-//! Files at their places: what is asked of a head, in which order it is refused, and two files of one log behind each other.
+//! Files at their places: what each place asks of a head, the order of its refusals, and two files of one log.
 
 ghost use Rattle.std.specs.Prelude.{◌≡◌, None, IfOk};
 ghost use Rattle.log_file.specs.Place.{Fits};
@@ -14,7 +14,7 @@ use tests_stores::again;
 use tests_stores::common::boxed;
 use uuid::Uuid;
 
-/// The place behind a file of the source, which goes on with this gno.
+/// The place after a file of the source, if the next gno is this.
 fn behind(next: u128) -> Place {
     Place::Behind {
         source: source(),
@@ -22,7 +22,7 @@ fn behind(next: u128) -> Place {
     }
 }
 
-/// The place behind a file of another source.
+/// The place after a file of another source.
 fn behind_another(next: u128) -> Place {
     Place::Behind {
         source: Uuid::from_u128(1),
@@ -30,7 +30,7 @@ fn behind_another(next: u128) -> Place {
     }
 }
 
-/// The log of one insert in the third form, whose records are to begin with this gno, up to so many bytes.
+/// The first `len` bytes of the log of one insert in the third form, with this first gno in its header.
 fn third(alloc: Global, first: u8, len: usize) -> Result<Vec<u8>, LogFault> {
     let mut bytes = LOG_THREE;
     bytes[31] = first;
@@ -39,14 +39,15 @@ fn third(alloc: Global, first: u8, len: usize) -> Result<Vec<u8>, LogFault> {
     Ok(text)
 }
 
-/// The next gno and the number of groups of the file that these bytes begin with at this place, and how many bytes are left of it.
+/// The next gno and the number of groups of the file that these bytes begin with at this place, and how many bytes are
+/// left of it.
 fn found(alloc: Global, bytes: &[u8], place: &Place) -> Result<(u128, usize, u64), LogFault> {
     let mut device = MemoryDevice::of(bytes.to_vec(alloc)?);
     let found = find(alloc, &mut device, *place)?;
     Ok((found.next(), found.groups(), device.len()))
 }
 
-/// What is found of the log of one insert in the third form, of which so many bytes stand there, and whose header says this gno.
+/// Like `found`, but for the bytes of `third`.
 fn third_found(
     alloc: Global,
     first: u8,
@@ -56,7 +57,7 @@ fn third_found(
     found(alloc, &third(alloc, first, len)?, place)
 }
 
-/// A first file that begins anywhere; one behind another of whose head a part is not compared, or a part of the gno.
+/// Catches a first file that may begin anywhere, and a later one if a part of its head, or of the gno, is not compared.
 #[test]
 fn a_head_fits_its_place_again(rt: HostRuntime) -> Result<(), Fail> {
     let out_of_turn = Err(LogFault::OutOfTurn);
@@ -75,7 +76,8 @@ fn a_head_fits_its_place_again(rt: HostRuntime) -> Result<(), Fail> {
     Ok(())
 }
 
-/// A fault of a group that is told before one of the head, and one of the gno that is told before the form.
+/// Catches a fault of a group that is reported before one of the head, and one of the gno that is reported before one
+/// of the form.
 #[test]
 fn faults_of_a_place_come_in_order_again(rt: HostRuntime) -> Result<(), Fail> {
     let short = Err(LogFault::Codec(CodecFault::Short));
@@ -87,7 +89,7 @@ fn faults_of_a_place_come_in_order_again(rt: HostRuntime) -> Result<(), Fail> {
         (3, 32, behind(3), short),
         (3, 32, Place::Any, short),
         (1, 32, Place::First, short),
-        // The group begins with the gno 1.
+        // The group's first gno is 1.
         (3, 101, behind(3), out_of_turn),
     ] {
         let told = again!(LogFault::Memory => third_found(rt.alloc(), first, len, &place));
@@ -96,7 +98,7 @@ fn faults_of_a_place_come_in_order_again(rt: HostRuntime) -> Result<(), Fail> {
     Ok(())
 }
 
-/// A log of an older form that is taken behind another file, or not as the first.
+/// Catches a log of an older form that is taken after another file, or refused as the first.
 #[test]
 fn older_forms_stand_first_again(rt: HostRuntime) -> Result<(), Fail> {
     for bytes in [LOG_ONE.as_slice(), LOG.as_slice()] {
@@ -115,7 +117,7 @@ fn older_forms_stand_first_again(rt: HostRuntime) -> Result<(), Fail> {
     Ok(())
 }
 
-/// What readers see of the file of these bytes, which stands at this place.
+/// What readers see of the file of these bytes, at this place.
 fn synced_at(alloc: Global, bytes: &[u8], place: Place) -> Result<Synced, LogFault>
     ensures fits { IfOk result (λ s. Fits place s.head) }
     ensures none { IfOk result (λ s. s.prepared ≡ None) }
@@ -125,7 +127,7 @@ fn synced_at(alloc: Global, bytes: &[u8], place: Place) -> Result<Synced, LogFau
     Ok(found.into_synced())
 }
 
-/// What readers see of two files, one behind the other.
+/// What readers see of two files, the second after the first.
 fn joined(alloc: Global, first: &[u8], second: &[u8]) -> Result<Synced, LogFault> {
     let mut all = synced_at(alloc, first, Place::First)?;
     if all.version() != Version::Two {
@@ -140,7 +142,7 @@ fn joined(alloc: Global, first: &[u8], second: &[u8]) -> Result<Synced, LogFault
     Ok(all)
 }
 
-/// The same file, finished; and one behind it, of the same insert with the numbers 2 and 2, and the parent 1.
+/// The file `LOG_THREE`, finished, and the file after it: the same insert with gno and sequence number 2, and the parent 1.
 fn two_files() -> ([u8; 101], [u8; 101]) {
     let (mut first, mut second) = (LOG_THREE, LOG_THREE);
     first[100] = 1;
@@ -151,7 +153,7 @@ fn two_files() -> ([u8; 101], [u8; 101]) {
     (first, second)
 }
 
-/// A file of which a group or a record is missing once the next one is behind it, or that is printed with the groups of the other.
+/// Catches a group or a record that is lost when the next file joins, or a file that is printed with the groups of the other.
 #[test]
 fn two_files_are_one_log_again(rt: HostRuntime) -> Result<(), Fail> {
     let (alloc, (first, second)) = (rt.alloc(), two_files());
@@ -170,7 +172,8 @@ fn two_files_are_one_log_again(rt: HostRuntime) -> Result<(), Fail> {
     Ok(())
 }
 
-/// What a log has that is opened of what was found: its first gno, how many records, whether it is finished, and its bytes.
+/// The first gno, the number of records, whether it is finished and the number of bytes, of a log that is opened from
+/// what was found.
 fn opened_at(
     alloc: Global,
     bytes: &[u8],
@@ -183,7 +186,7 @@ fn opened_at(
     Ok((told.0, told.1, told.2, log.into_device().len()))
 }
 
-/// A file that is found at its place, and opened as another.
+/// Catches a file that is found at its place, and opened as another.
 #[test]
 fn what_is_found_is_opened_again(rt: HostRuntime) -> Result<(), Fail> {
     let (first, second) = two_files();

@@ -1,4 +1,4 @@
-//! Records and groups: spellings from outside, and calls at the bounds.
+//! Records and groups: fixed spellings, and calls at the bounds.
 
 use crate::tests::makers::{
     FORMS, MARKED, decode_again, greatest, group_of, marked, records, spellings, three,
@@ -9,7 +9,7 @@ use std::test::Fail;
 use tests_stores::again;
 use tests_stores::common::boxed;
 
-/// Whether the record is written as these bytes in this form, and read from them.
+/// Whether the record is encoded as these bytes in this form, and decoded from them.
 fn is_spelled(
     alloc: Global,
     version: Version,
@@ -30,7 +30,7 @@ fn is_spelled(
     )
 }
 
-/// Columns, a mask, refs, marks or a flag that are written and read in the same wrong way, or as in the other form.
+/// Catches columns, a mask, refs, marks or a flag that are written and read in the same wrong way, or as in the other form.
 #[test]
 fn records_are_spelled_again(rt: HostRuntime) -> Result<(), Fail> {
     for version in FORMS {
@@ -46,7 +46,7 @@ fn records_are_spelled_again(rt: HostRuntime) -> Result<(), Fail> {
     Ok(())
 }
 
-/// A call that finds no memory past some number of refs, marks, changes or bytes.
+/// Catches a call that runs out of memory past some number of refs, marks, changes or bytes.
 #[test]
 fn the_greatest_record_again(rt: HostRuntime) -> Result<(), Fail> {
     for (version, marks) in [(Version::One, 0), (Version::Two, 2048)] {
@@ -64,7 +64,7 @@ fn the_greatest_record_again(rt: HostRuntime) -> Result<(), Fail> {
     Ok(())
 }
 
-/// A group that is refused past some number of bytes, and a record that is looked for in another's place.
+/// Catches a group that is refused past some number of bytes, and a record that is read at another's place.
 #[test]
 fn a_group_of_three_again(rt: HostRuntime) -> Result<(), Fail> {
     let records = three(rt.alloc())?;

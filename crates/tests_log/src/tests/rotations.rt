@@ -1,5 +1,5 @@
-//! Files of the form `Three`: what stands at their heads and ends, and a log that goes on in a next one, on devices that fail and
-//! of which a crash leaves a part.
+//! Files of the form `Three`: their heads and ends, and a log that continues in a next file. The devices may fail, and
+//! a crash may leave a part of them.
 
 use crate::common::source;
 use crate::tests::logs::append_again;
@@ -13,13 +13,13 @@ use std::test::Fail;
 use tests_stores::again;
 use tests_stores::common::boxed;
 
-/// The header of a file whose first record is to have the gno 5.
+/// The header of a file whose first record must have the gno 5.
 const HEADER: [u8; 32] = [
     0x4d, 0x54, 0x52, 0x4c, 0x4f, 0x47, 0x30, 0x33, 0x6d, 0x74, 0x72, 0, 0, 0, 0x40, 0, 0x80, 0, 0,
     0, 0, 0, 0, 1, 0, 0, 0, 0, 0, 0, 0, 5,
 ];
 
-/// The moment behind the three calls that make a file, and the four that put a group on it.
+/// The moment after the three calls that make a file and the four that put a group on it.
 const AT_REST: usize = 7;
 
 /// The first gno of the file of these bytes, whether it is finished, and how many bytes are left of it.
@@ -33,7 +33,7 @@ fn opened(alloc: Global, header: &[u8], behind: &[u8]) -> Result<(u64, bool, u64
     }
 }
 
-/// A file that is finished by a closed gate, or by one behind which something stands; a header that is read in part.
+/// Catches a file that is finished by a closed gate, or by a gate with bytes after it, and a header that is read in part.
 #[test]
 fn a_file_ends_with_its_last_gate_again(rt: HostRuntime) -> Result<(), Fail> {
     let short = Err(LogFault::Codec(CodecFault::Short));
@@ -57,7 +57,7 @@ fn a_file_ends_with_its_last_gate_again(rt: HostRuntime) -> Result<(), Fail> {
     Ok(())
 }
 
-/// An open gate that finishes a log of an older form.
+/// Catches an open gate that finishes a log of an older form.
 #[test]
 fn older_forms_know_no_finished_log_again(rt: HostRuntime) -> Result<(), Fail> {
     for form in [b'1', b'2'] {
@@ -69,7 +69,7 @@ fn older_forms_know_no_finished_log_again(rt: HostRuntime) -> Result<(), Fail> {
     Ok(())
 }
 
-/// A finished file, without records, whose next record would have the gno 5.
+/// A finished file without records, whose next record would have the gno 5.
 fn finished(alloc: Global) -> Result<LogFile<MemoryDevice>, LogFault> {
     let mut bytes = Vec::with_capacity(alloc, 33)?;
     bytes.extend_from_slice(&HEADER)?;
@@ -77,7 +77,7 @@ fn finished(alloc: Global) -> Result<LogFile<MemoryDevice>, LogFault> {
     LogFile::open(alloc, MemoryDevice::of(bytes)).map_err(|e| e.0)
 }
 
-/// A group that is put behind the gate that finishes a file, or one that is told of as closed.
+/// Catches a group that is put after the gate that finishes a file, and such a gate that is printed as closed.
 #[test]
 fn a_finished_file_takes_nothing_more_again(rt: HostRuntime) -> Result<(), Fail> {
     let mut file = again!(LogFault::Memory => finished(rt.alloc()))?;
@@ -90,7 +90,7 @@ fn a_finished_file_takes_nothing_more_again(rt: HostRuntime) -> Result<(), Fail>
     Ok(())
 }
 
-/// Two devices, the last file's and the next one's, and why the log did not go on, where it did not.
+/// The devices of the last file and of the next one, and why the log did not continue, if it did not.
 #[derive(Drop)]
 struct Rotated {
     old: CrashDevice,
@@ -98,7 +98,7 @@ struct Rotated {
     fault: Option<LogFault>,
 }
 
-/// Goes on in a next file on a device.
+/// Continues the log in a next file on this device.
 fn rotate(log: LogFile<CrashDevice>, next: CrashDevice) -> Result<Rotated, Memory> {
     if log.form() != Form::Three {
         return Err(Memory);
@@ -119,7 +119,7 @@ fn rotate(log: LogFile<CrashDevice>, next: CrashDevice) -> Result<Rotated, Memor
     }
 }
 
-/// Why a call failed on a device of which no call was to fail: a `CrashDevice` that lacks memory says that it failed.
+/// Why a call failed on a device that should fail no call: if memory runs out, a `CrashDevice` reports that it failed.
 fn lacking(fault: LogFault) -> LogFault {
     match fault {
         LogFault::Device => LogFault::Memory,
@@ -127,7 +127,8 @@ fn lacking(fault: LogFault) -> LogFault {
     }
 }
 
-/// A file of one record, on a device whose `nth` call fails, behind those that are made here.
+/// A file of one record, on a device whose `nth` call fails. The calls that are made here are the first seven, and must
+/// succeed.
 fn of_one(alloc: Global, nth: u64) -> Result<LogFile<CrashDevice>, LogFault> {
     let device = CrashDevice::failing(alloc, nth);
     match LogFile::create_from(alloc, device, source(), 1) {
@@ -147,7 +148,7 @@ fn opened_on(alloc: Global, bytes: Vec<u8>) -> Result<Box<LogFile<MemoryDevice>>
     Ok(boxed(alloc, file)?)
 }
 
-/// Opens both files: the old one has its record, and where it is finished the next one goes on behind that.
+/// Opens both files. The old one has its record. If it is finished, the next one continues after that.
 fn open_both(rt: &(impl Abort + AllocGlobal), old: Vec<u8>, next: &[u8]) -> Result<(), Fail> {
     let alloc = rt.alloc();
     let file = opened_on(alloc, old)?;
@@ -162,7 +163,7 @@ fn open_both(rt: &(impl Abort + AllocGlobal), old: Vec<u8>, next: &[u8]) -> Resu
     Ok(())
 }
 
-/// Opens what a crash may have left at a moment of the old file, beside this content of the next one.
+/// Opens what a crash may have left of the old file at a moment, beside this content of the next one.
 fn open_olds(
     rt: &(impl Abort + AllocGlobal),
     old: &CrashDevice,
@@ -175,7 +176,7 @@ fn open_olds(
     Ok(())
 }
 
-/// The same, beside what a crash may have left at a moment of the next one.
+/// Like `open_olds`, but beside what a crash may have left of the next file at a moment.
 fn open_pairs(
     rt: &(impl Abort + AllocGlobal),
     rotated: &Rotated,
@@ -188,8 +189,8 @@ fn open_pairs(
     Ok(())
 }
 
-/// Opens what a crash may have left at each moment: as the next file is made the old one is at rest, and as that is finished the
-/// next one is.
+/// Opens what a crash may have left at each moment. While the next file is made, the old one is at rest; while the old
+/// one is finished, the next one is at rest.
 fn open_each_moment(rt: &(impl Abort + AllocGlobal), rotated: &Rotated) -> Result<(), Fail> {
     let (moments, made) = (rotated.old.moments(), rotated.next.moments());
     for next_moment in 0..made {
@@ -201,8 +202,8 @@ fn open_each_moment(rt: &(impl Abort + AllocGlobal), rotated: &Rotated) -> Resul
     Ok(())
 }
 
-/// A file that is finished before the next one is made and kept, or whose next one is not kept: on devices that fail nowhere, or at each
-/// call of the rotation.
+/// Catches a file that is finished before the next one is made and kept, or whose next one is not kept. The devices
+/// fail nowhere, or at one call of the rotation.
 #[test]
 fn what_a_crash_leaves_of_a_rotation(rt: HostRuntime) -> Result<(), Fail> {
     for (old, next) in [(0, 0), (8, 0), (9, 0), (0, 1), (0, 2), (0, 3)] {
@@ -219,7 +220,7 @@ fn what_a_crash_leaves_of_a_rotation(rt: HostRuntime) -> Result<(), Fail> {
     Ok(())
 }
 
-/// A log that goes on in a file that begins with another gno than the next.
+/// Catches a log that continues in a file whose first gno is not the next.
 #[test]
 fn a_log_goes_on_in_a_next_file(rt: HostRuntime) -> Result<(), Fail> {
     let log = of_one(rt.alloc(), 0)?;

@@ -7,7 +7,7 @@ use std::process::Abort;
 use std::test::Fail;
 use tests_stores::again;
 
-/// Feeds a piece, once more where memory lacked.
+/// Feeds a piece, and once more if that is refused.
 fn feed_again(
     stream: &mut Stream,
     piece: &[u8],
@@ -25,7 +25,7 @@ fn are_alike(some: &[Record], others: &[Record]) -> bool {
             .all(|(one, other)| same_records(one, other))
 }
 
-/// Feeds the pieces one behind the other. Each gives the records that are whole with it, and in the end these are the wanted ones.
+/// Feeds the pieces in order. Each gives the records that are whole with it, and in the end these are the wanted ones.
 fn is_whole_with_each(
     rt: &(impl Abort + AllocGlobal),
     version: Version,
@@ -45,7 +45,7 @@ fn is_whole_with_each(
     Ok(())
 }
 
-/// A record that a cut loses, gives twice or gives late.
+/// Catches a record that a cut loses, gives twice or gives late.
 #[test]
 fn two_records_cut_at_any_two_places(rt: HostRuntime) -> Result<(), Fail> {
     for version in FORMS {
@@ -64,7 +64,7 @@ fn two_records_cut_at_any_two_places(rt: HostRuntime) -> Result<(), Fail> {
     Ok(())
 }
 
-/// A stream that is left with half of a piece where memory lacks.
+/// Catches a stream that keeps half of a piece if memory runs out.
 #[test]
 fn all_records_byte_by_byte_again(rt: HostRuntime) -> Result<(), Fail> {
     for version in FORMS {
@@ -82,7 +82,7 @@ fn all_records_byte_by_byte_again(rt: HostRuntime) -> Result<(), Fail> {
     Ok(())
 }
 
-/// A stream that goes over what it holds with each piece: it would not end in time.
+/// Catches a stream that goes over all that it holds with each piece: it would not end in time.
 #[test]
 fn the_greatest_record_byte_by_byte(rt: HostRuntime) -> Result<(), Fail> {
     for version in FORMS {
@@ -98,7 +98,8 @@ fn the_greatest_record_byte_by_byte(rt: HostRuntime) -> Result<(), Fail> {
     Ok(())
 }
 
-/// A stream whose first length is too small by one, and whose second record, which ends behind `last`, has a flag without meaning.
+/// Feeds a first length that is too small by one, and then records. The second one, whose last byte is at `last`, has a
+/// flag without meaning.
 fn takes_nothing(
     rt: &(impl Abort + AllocGlobal),
     version: Version,
@@ -132,7 +133,7 @@ fn takes_nothing(
     Ok(())
 }
 
-/// A fault that comes before its bytes or after them, or that takes something of its piece.
+/// Catches a fault that is reported too early or too late, or that takes a part of its piece.
 #[test]
 fn faults_take_nothing_again(rt: HostRuntime) -> Result<(), Fail> {
     takes_nothing(&rt, Version::One, 39, 81, 144)?;

@@ -1,4 +1,4 @@
-//! The texts of faults that no log that is read can show.
+//! The texts of faults of devices, log files and records.
 
 use log_device::DeviceFault;
 use log_file::LogFault;
@@ -6,7 +6,7 @@ use record_codec::CodecFault;
 use std::test::Fail;
 use tests_stores::common::is_told;
 
-/// A wrong number, or another fault's name.
+/// Catches a wrong number, or another fault's name.
 #[test]
 fn faults_have_their_texts(rt: HostRuntime) -> Result<(), Fail> {
     let alloc = rt.alloc();

@@ -1,5 +1,4 @@
-//! Every event that is refused for want of memory is sent once more, and succeeds: the replies are those of a world that
-//! met no refusal.
+//! Each event that runs out of memory is sent once more, and succeeds: the replies are those of a world that met no refusal.
 
 ghost use Rattle.world.specs.Seen.{seen};
 ghost use Rattle.world.specs.State.{IsWorld};
@@ -21,7 +20,7 @@ use tests_stores::again;
 use tracker_trait::Tracker;
 use world::{Event, Reply, World};
 
-/// Sends a world what happens at its source and then at its replica, and compares what each event is answered.
+/// Sends a world the events at its source and then at its replica, and compares the replies.
 pub fn answer_all<S: RowStore + Drop, T: Tracker + Drop>(
     rt: &(impl Abort + AllocGlobal),
     mut world: InOne<S, T>,
@@ -48,7 +47,7 @@ fn answer_both<S: RowStore, T: Tracker, D: Device, R: RowStore>(
     answer_as_told(rt, alloc, world, &course.told)
 }
 
-/// Sends events, each once more where memory was refused, and compares what it is answered with what it is to be.
+/// Sends events, each once more if memory runs out, and compares each reply with the expected one.
 fn answer_as_told<S: RowStore, T: Tracker, D: Device, R: RowStore>(
     rt: &impl Abort,
     alloc: Global,
@@ -64,7 +63,7 @@ fn answer_as_told<S: RowStore, T: Tracker, D: Device, R: RowStore>(
     Ok(())
 }
 
-/// What one event is answered, as text, where memory was there.
+/// The reply to one event, as text, unless memory ran out.
 fn answer<S: RowStore, T: Tracker, D: Device, R: RowStore>(
     alloc: Global,
     world: &mut World<S, T, D, R>,
@@ -82,7 +81,7 @@ fn answer<S: RowStore, T: Tracker, D: Device, R: RowStore>(
     }
 }
 
-/// Whether memory lacked.
+/// Whether the reply is that memory ran out.
 fn lacks_memory(reply: &Reply) -> bool {
     matches!(
         reply,
@@ -93,12 +92,13 @@ fn lacks_memory(reply: &Reply) -> bool {
     )
 }
 
-/// A reply as text, once more where memory was refused.
+/// A reply as text, made once more if memory runs out.
 fn text_again(alloc: Global, reply: &Reply) -> Result<String, Memory> {
     Ok(again!(text(alloc, reply))?)
 }
 
-/// A reply as text: rows by their columns, stamps as pairs, ids and the log by their own texts, and all else as it is.
+/// A reply as text: rows by their columns, stamps as pairs, ids by their own text, the log in hexadecimal, and all else
+/// in its debug form.
 fn text(alloc: Global, reply: &Reply) -> Result<String, AllocError> {
     match reply {
         Reply::Seen { row: Some(row) } => format!(in alloc; "row {:?}", row.columns()),
@@ -119,7 +119,7 @@ fn text(alloc: Global, reply: &Reply) -> Result<String, AllocError> {
     }
 }
 
-/// The bytes of files, one behind the other.
+/// The bytes of files in hexadecimal, one file after another.
 fn hexadecimal(alloc: Global, files: &[Vec<u8>]) -> Result<String, AllocError> {
     let mut text = String::new(alloc);
     for file in files {

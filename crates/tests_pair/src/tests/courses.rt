@@ -1,4 +1,4 @@
-//! What happens in a world, step by step, and what each event is answered, also where it is sent again for want of memory.
+//! What happens in a world, step by step, and the reply to each event, also if it is sent again because memory ran out.
 
 ghost use Rattle.std.specs.Prelude.{IfOk};
 ghost use Rattle.world.specs.Seen.{seen};
@@ -22,42 +22,42 @@ use vector_store::VectorStore;
 use world::Event;
 use writeset_trackers::WriteSetTracker;
 
-/// A new world, made once more where memory is refused.
+/// A new world, made once more if memory runs out.
 fn world_again(alloc: Global) -> Result<InOne<BTreeStore, CommitOrder>, LogFault>
     ensures { IfOk result (λ world. IsWorld (λ rows. rows) (seen world)) }
 {
     again!(world(alloc))
 }
 
-/// The same of one whose replica commits in the order in which jobs are finished.
+/// Like `world_again`, but the replica commits in the order in which jobs finish.
 fn unordered_world_again(alloc: Global) -> Result<InOne<BTreeStore, CommitOrder>, LogFault>
     ensures { IfOk result (λ world. IsWorld (λ rows. rows) (seen world)) }
 {
     again!(unordered_world(alloc))
 }
 
-/// The same of one with kin.
+/// Like `world_again`, but with kin.
 fn world_of_kin_again(alloc: Global) -> Result<InOne<VectorStore, WriteSetTracker>, LogFault>
     ensures { IfOk result (λ world. IsWorld (λ rows. rows) (seen world)) }
 {
     again!(world_of_kin(alloc))
 }
 
-/// The same of one with unique columns.
+/// Like `world_again`, but with unique columns.
 fn world_of_values_again(alloc: Global) -> Result<InOne<VectorStore, WriteSetTracker>, LogFault>
     ensures { IfOk result (λ world. IsWorld (λ rows. rows) (seen world)) }
 {
     again!(world_of_values(alloc))
 }
 
-/// Catches what is left half done, in transactions that are one group and at a replica that publishes two as one.
+/// Catches what is left half done, in transactions that are one group and at a replica that publishes two commits at once.
 #[test]
 fn events_are_sent_again(rt: HostRuntime) -> Result<(), Fail> {
     let world = world_again(rt.alloc())?;
     answer_all(&rt, world, &two_at_the_source(), &two_at_the_replica())
 }
 
-/// Two sessions whose transactions are one group, one that is aborted, and one that deletes a row.
+/// Two sessions whose transactions are one group, one transaction that is aborted, and one that deletes a row.
 fn two_at_the_source() -> [Step; 14] {
     [
         Told(Event::Begin { session: 1 }, "Done"),
@@ -77,8 +77,8 @@ fn two_at_the_source() -> [Step; 14] {
     ]
 }
 
-/// The log of three records in two groups: magic, source, first gno, gate and length of the first group; of each record length and
-/// numbers, then flags and counts, then its changes; the second group; and the last gate.
+/// The log of three records in two groups: magic, source, first gno, gate and length of the first group; for each
+/// record its length and numbers, then flags and counts, then its changes; the second group; and the last gate.
 const LOG_OF_TWO_SESSIONS: &str = "\
     4d54524c4f473033\
     01010101010101010101010101010101\
@@ -97,8 +97,8 @@ const LOG_OF_TWO_SESSIONS: &str = "\
     030001000000000000000a\
     00";
 
-/// Their records at a replica of two workers: the last comes too early once, and two are published as one. It tells its ids while
-/// it has none, and behind its commits.
+/// Their records at a replica of two workers. The last one comes too early once, and two are published at once. The
+/// replica reports its ids while it has none, and after its commits.
 fn two_at_the_replica() -> [Step; 15] {
     [
         Told(Event::Executed, "executed []"),
@@ -122,8 +122,8 @@ fn two_at_the_replica() -> [Step; 15] {
     ]
 }
 
-/// Catches what is left half done where commits are not in the order of the log, and commits behind a gap that are not shown, or are
-/// counted as if there were none.
+/// Catches what is left half done if commits are not in log order, and commits past a gap that are not shown, or are
+/// counted as if there were no gap.
 #[test]
 fn events_out_of_order_are_sent_again(rt: HostRuntime) -> Result<(), Fail> {
     let world = unordered_world_again(rt.alloc())?;
@@ -143,8 +143,8 @@ fn three_at_the_source() -> [Step; 7] {
     ]
 }
 
-/// Their records at a replica of two workers that commits in the order in which jobs are finished: the second and then the third are
-/// published while the first is under way.
+/// Their records at a replica of two workers that commits in the order in which jobs finish. The second and then the
+/// third are published while the first is under way.
 fn three_behind_a_gap() -> [Step; 22] {
     [
         Takes(1, 3),
@@ -184,7 +184,7 @@ fn three_behind_a_gap() -> [Step; 22] {
     ]
 }
 
-/// Catches what is left half done where rows have parents or no keys, and a transaction that the history of written rows
+/// Catches what is left half done if rows have parents or no keys, and a transaction that the history of written rows
 /// notes twice.
 #[test]
 fn events_of_kin_are_sent_again(rt: HostRuntime) -> Result<(), Fail> {
@@ -194,11 +194,11 @@ fn events_of_kin_are_sent_again(rt: HostRuntime) -> Result<(), Fail> {
 
 /// At a source that goes by written rows, over a parent with its child:
 /// - Two transactions share no row, so the second's parent is not the first.
-/// - A parent is locked for its new child until that one's session gives up; it is deleted once its child is. Each transaction on
-///   kin has all before it as parents, and so has the one behind it.
-/// - A row without a key has the order of commits as its parent, and the row beside it in the group is behind the kin.
-/// - A transaction of five changes, which takes more room than the first, sets rows again: of those written since the kin the
-///   last is its parent, which is not the last transaction.
+/// - A parent is locked for its new child until the child's session aborts. It can be deleted once its child is. Each
+///   transaction on kin depends on all before it, and so does the one after it.
+/// - A row without a key has the order parent. The other row of its group has the last record on kin as its parent.
+/// - A transaction of five changes, which takes more room than the first, sets rows again. Its parent is the last one
+///   that wrote them since the kin, which is not the last transaction.
 fn kin_at_the_source() -> [Step; 37] {
     [
         Told(Event::Begin { session: 1 }, "Done"),
@@ -252,7 +252,7 @@ const LOG_OF_ONE_INSERT: &str = "\
     010001000000000000000a0200000000000000050000000000000006\
     00";
 
-/// The same records at a replica of one worker, who takes one job, and the next once it is committed.
+/// The same records at a replica of one worker, which takes one job, and the next once that is committed.
 fn kin_at_the_replica() -> [Step; 26] {
     [
         Told(Event::Executed, "executed []"),
@@ -287,7 +287,7 @@ fn kin_at_the_replica() -> [Step; 26] {
     ]
 }
 
-/// Catches what is left half done where rows give values of unique columns up and take them, and where children move.
+/// Catches what is left half done if rows give up and take values of unique columns, and if children move.
 #[test]
 fn events_of_values_are_sent_again(rt: HostRuntime) -> Result<(), Fail> {
     let world = world_of_values_again(rt.alloc())?;
@@ -299,12 +299,13 @@ fn events_of_values_are_sent_again(rt: HostRuntime) -> Result<(), Fail> {
     )
 }
 
-/// At a source that goes by written rows, over a row with the value 5 and two parents, of which one has a child with the value 7:
-/// - A value that a transaction gives up is locked until it is committed, and then another row takes it. Its parent is that
-///   transaction, which is not the last one.
+/// At a source that goes by written rows, over a row with the value 5 and two parents, one of them with a child with
+/// the value 7:
+/// - A value that a transaction gives up is locked until that is committed. Then another row takes it. The parent of
+///   this record is that transaction, which is not the last one.
 /// - A value that another row has is refused. Two rows swap theirs by way of a third value.
-/// - A child moves to the other parent, then takes another value. Its parents are locked, and then the one that it left is deleted,
-///   and the one that it has is not.
+/// - A child moves to the other parent and takes another value. Meanwhile its parents are locked. Then the one that it
+///   left is deleted, and the one that it has is not.
 fn values_at_the_source() -> [Step; 37] {
     [
         Told(Event::Begin { session: 1 }, "Done"),
@@ -347,7 +348,7 @@ fn values_at_the_source() -> [Step; 37] {
     ]
 }
 
-/// The log of its first record, with its mark behind the count of its refs.
+/// The log of its first record, with its mark after the count of its refs.
 const LOG_OF_ONE_DELETE: &str = "\
     4d54524c4f473033\
     01010101010101010101010101010101\
@@ -359,7 +360,7 @@ const LOG_OF_ONE_DELETE: &str = "\
     0001030001000000000000000a\
     00";
 
-/// The same records at a replica of two workers: the third, which takes the value that the first gave up, waits for that one.
+/// The same records at a replica of two workers. The third, which takes the value that the first gave up, waits for the first.
 fn values_at_the_replica() -> [Step; 26] {
     [
         Takes(1, 3),
@@ -407,7 +408,7 @@ fn see(session: u16, row: RowId) -> Event {
     Event::See { session, row }
 }
 
-/// The insert of a row of table 1 of this value alone.
+/// The insert of a row of table 1 with only this value.
 fn takes(key: i64, value: i64) -> Change {
     Change::Insert {
         row: row(key),

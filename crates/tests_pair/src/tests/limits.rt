@@ -1,5 +1,5 @@
-//! A log that is filled, through both sides: the last session, the most changes of a transaction, the widest row, the keys at both
-//! ends, three tables, and as many records as the log may have.
+//! A log that is filled, through both sides: the last session, the most changes of a transaction, the widest row, the
+//! least and the greatest key, three tables, and all the records that the log may have.
 
 use crate::tests::makers::{LIMIT, SOURCE, columns, insert, row};
 use crate::tests::one_thread::Rig;
@@ -36,7 +36,7 @@ where
     K: ReplicaNaming + Send + Sync,
     R: Threads + Wait + Abort + Sync,
 {
-    /// Session 256 fills the log, and the replica takes it; it answers the source's receipts.
+    /// Session 256 fills the log, and the replica takes it. Returns the source's receipts.
     pub fn fill(&self) -> Result<Vec<Receipt<J>>, Fail> {
         let (rt, source) = (self.rt, self.source);
         let mut seat = source.session(rt, 256)?;
@@ -54,7 +54,7 @@ where
         Ok(receipts)
     }
 
-    /// As many transactions as the log may have.
+    /// Commits all the transactions that the log may have.
     fn commit_all(&self, seat: &mut SessionSeat<J>) -> Result<Vec<Receipt<J>>, Fail> {
         let mut receipts = Vec::new(self.alloc);
         for gno in 1..=LIMIT {
@@ -66,8 +66,8 @@ where
         Ok(receipts)
     }
 
-    /// What the transaction of this number writes: rows at both ends; as many rows as it may; no row where one was; and then
-    /// column 15, again and again.
+    /// What the transaction of this number writes: rows at both ends; the most rows that it may; the delete of a row;
+    /// and then column 15, again and again.
     fn write_for(&self, seat: &mut SessionSeat<J>, gno: u64) -> Result<(), Fail> {
         let (rt, source) = (self.rt, self.source);
         source.begin(rt, seat)?;
@@ -84,7 +84,7 @@ where
         Ok(())
     }
 
-    /// 1024 rows, the first with a key below 0, and no more.
+    /// Writes 1024 rows, the first with a key below 0. One more is refused.
     fn write_most(&self, seat: &mut SessionSeat<J>) -> Result<(), Fail> {
         for key in -1..1023 {
             self.source.write(self.rt, seat, insert(key, key, 1))?;
@@ -94,7 +94,7 @@ where
         Ok(())
     }
 
-    /// The bytes of the log go to the replica, and it is told that no more come.
+    /// The bytes of the log go to the replica, and it learns that no more come.
     fn send_all(&self) -> Result<(), Fail> {
         let mut wire = Wire::new(self.alloc, Uuid::from_bytes(SOURCE));
         let mut bytes = Vec::with_capacity(self.alloc, 4096)?;
@@ -113,9 +113,9 @@ where
         Ok(())
     }
 
-    /// A worker applies it all, beside a reader that waits for the last commit.
+    /// A worker applies it all, while a reader waits for the last commit.
     fn apply_all(&self) -> Result<(), Fail> {
-        // The second closure is called first where no thread can be made.
+        // If no thread can be made, the second closure is called first.
         let (told, worked) = join(
             self.rt,
             || self.replica.wait_for(self.rt, LIMIT),
@@ -125,12 +125,12 @@ where
         self.read_all(told?)
     }
 
-    /// A worker's call, made again where it lacks memory: the reader would wait for ever else.
+    /// A worker's call, made again if it runs out of memory: otherwise the reader would wait forever.
     fn work(&self) -> Result<(), ReplicaFault> {
         again!(ReplicaFault::Memory => self.replica.worker(self.rt, self.alloc, &NoGate))
     }
 
-    /// What a reader sees of it, once it was told.
+    /// What a reader sees of it, once it has the notice.
     fn read_all(&self, told: Notice<K>) -> Result<(), Fail> {
         let mut reader = self.replica.seat(self.rt).ok_or("a seat")?;
         reader.learn(told);

@@ -28,7 +28,7 @@ use writeset_trackers::WriteSetTracker;
 /// The identifier of the source.
 pub const SOURCE: [u8; 16] = [1; 16];
 
-/// So many devices there are for the next files of a log.
+/// The number of devices for the next files of a log.
 const SPARE: usize = 15;
 
 /// Both sides in memory.
@@ -51,7 +51,7 @@ pub fn insert(key: i64, first: i64, second: i64) -> Change {
     insert_of(row(key), first, second)
 }
 
-/// An insert of any table's row.
+/// An insert of a row of any table.
 pub fn insert_of(row: RowId, first: i64, second: i64) -> Change {
     Change::Insert {
         row,
@@ -64,7 +64,7 @@ pub fn set(key: i64, value: i64) -> Change {
     set_of(row(key), 0, value)
 }
 
-/// A change of one column of any table's row.
+/// A change of one column of a row of any table.
 pub fn set_of(row: RowId, column: u8, value: i64) -> Change
     requires { column < 16 }
 {
@@ -74,7 +74,7 @@ pub fn set_of(row: RowId, column: u8, value: i64) -> Change
     }
 }
 
-/// How many records a log may have.
+/// The number of records that a log may have.
 pub const LIMIT: u64 = 66_000;
 
 /// Table 1, of two columns; table 2, of sixteen; and table 256, of one.
@@ -86,7 +86,7 @@ fn schema(alloc: Global) -> Result<Schema, LogFault> {
     Schema::new(tables).map_err(|_| LogFault::Memory)
 }
 
-/// What both sides are made of: ordered maps, parents by the commit order, and a log in memory.
+/// What both sides are made of: ordered maps, parents by commit order, and a log in memory.
 fn parts(alloc: Global) -> PairParts<BTreeStore, CommitOrder, MemoryDevice>
     ensures rows { result.rows ≡ empty }
     ensures copy { result.copy ≡ empty }
@@ -99,7 +99,7 @@ fn parts(alloc: Global) -> PairParts<BTreeStore, CommitOrder, MemoryDevice>
     }
 }
 
-/// New sides without rows, with two workers and commits in the order of the log.
+/// New sides without rows, with two workers and commits in log order.
 pub fn sides(alloc: Global) -> Result<InMemory, LogFault>
     ensures source { IfOk result (λ made.
         made.source ≡ new_source made.source.tables made.source.base made.source.limit made.source.kind) }
@@ -114,14 +114,14 @@ pub fn sides(alloc: Global) -> Result<InMemory, LogFault>
     }
 }
 
-/// The same as one world.
+/// Like `sides`, but as one world.
 pub fn world(alloc: Global) -> Result<InOne<BTreeStore, CommitOrder>, LogFault>
     ensures { IfOk result (λ world. IsWorld (λ rows. rows) (seen world)) }
 {
     world_in_memory(alloc, true)
 }
 
-/// The same, whose replica commits in the order in which jobs are finished.
+/// Like `world`, but its replica commits in the order in which jobs finish.
 pub fn unordered_world(alloc: Global) -> Result<InOne<BTreeStore, CommitOrder>, LogFault>
     ensures { IfOk result (λ world. IsWorld (λ rows. rows) (seen world)) }
 {
@@ -142,10 +142,10 @@ fn world_in_memory(
 /// A parent.
 pub const PARENT: RowId = RowId { table: 3, key: 1 };
 
-/// Another one.
+/// Another parent.
 pub const OTHER_PARENT: RowId = RowId { table: 3, key: 2 };
 
-/// A child of the first.
+/// A child of `PARENT`.
 pub const CHILD: RowId = RowId { table: 4, key: 9 };
 
 /// The parent and its child.
@@ -154,7 +154,7 @@ fn kin(alloc: Global) -> Result<Batch, Memory> {
     Batch::from_entries(Vec::from_slice(alloc, &rows)?).ok_or(Memory)
 }
 
-/// One world of a parent with its child, over tables with kin and one without keys, with one worker.
+/// A world of a parent with its child, over tables with kin and one without keys, with one worker.
 pub fn world_of_kin(alloc: Global) -> Result<InOne<VectorStore, WriteSetTracker>, LogFault>
     ensures { IfOk result (λ world. IsWorld (λ rows. rows) (seen world)) }
 {
@@ -172,14 +172,14 @@ fn valued(alloc: Global) -> Result<Batch, Memory> {
     Batch::from_entries(Vec::from_slice(alloc, &rows)?).ok_or(Memory)
 }
 
-/// One world of these rows, over tables with kin and with unique columns, with two workers.
+/// A world of these rows, over tables with kin and with unique columns, with two workers.
 pub fn world_of_values(alloc: Global) -> Result<InOne<VectorStore, WriteSetTracker>, LogFault>
     ensures { IfOk result (λ world. IsWorld (λ rows. rows) (seen world)) }
 {
     world_by_rows(alloc, unique_tables(alloc)?, valued(alloc)?, 2)
 }
 
-/// One world with vectors, and parents by the rows that were written.
+/// A world over vectors, with parents by the rows that were written.
 fn world_by_rows(
     alloc: Global,
     schema: Schema,
@@ -200,7 +200,7 @@ fn world_by_rows(
     world_of(alloc, schema, base, workers, true, parts, shown)
 }
 
-/// Both sides of these parts as one world, whose readers see the rows in a store of their own.
+/// Both sides of these parts as one world, whose readers see the rows in a separate store.
 fn world_of<S: RowStore + Drop, T: Tracker + Drop>(
     alloc: Global,
     schema: Schema,
@@ -227,7 +227,7 @@ fn world_of<S: RowStore + Drop, T: Tracker + Drop>(
     }
 }
 
-/// Devices for the next files of a log.
+/// The devices for the next files of a log.
 fn spare(alloc: Global) -> Result<VecDeque<MemoryDevice>, Memory>
     ensures { IfOk result (λ devices. length devices.items ≡ 15) }
 {

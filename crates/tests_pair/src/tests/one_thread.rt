@@ -1,5 +1,5 @@
-//! Both sides on one thread, call by call: two sessions whose transactions clash, a replica that is handed their records in
-//! wrong ways before the right one, and both sides compared in the end; and the same over a log that is filled (`limits`).
+//! Both sides on one thread, call by call: two sessions whose transactions clash, a replica that gets their records in wrong
+//! ways before the right one, and both sides compared in the end. It does the same over a log that is filled (`limits`).
 
 ghost use Rattle.replica_shared.specs.Names.{replica_names, IsNewReplica, OpensReplica};
 ghost use Rattle.std.specs.Prelude.{◌≡◌, None};
@@ -39,7 +39,7 @@ fn both_sides_on_one_thread(rt: HostRuntime) -> Result<(), Fail> {
     runs(&rt, rt.alloc(), Course::Clash)
 }
 
-/// Catches a call that gives up at a bound of the product, or does there what it does elsewhere.
+/// Catches a call that fails within the bounds of the product, or succeeds beyond them.
 #[test]
 fn a_log_is_filled(rt: HostRuntime) -> Result<(), Fail> {
     runs(&rt, rt.alloc(), Course::Limits)
@@ -50,7 +50,7 @@ fn a_log_is_filled(rt: HostRuntime) -> Result<(), Fail> {
 enum Course {
     /// Two transactions that clash.
     Clash,
-    /// As many as the log may have.
+    /// All the transactions that the log may have.
     Limits,
 }
 
@@ -115,7 +115,7 @@ fn over_source<J: SourceNaming + Send + Sync, R: Threads + Wait + Abort + Sync>(
     }
 }
 
-/// Opens the replica, with one seat. It answers the source's receipts, and the replica's core.
+/// Opens the replica, with one seat. Returns the source's receipts, and the replica's core.
 fn over_both<J, K, R>(
     rt: &R,
     alloc: Global,
@@ -173,7 +173,7 @@ pub struct Rig<'a, J: SourceNaming, K: ReplicaNaming, R: Wait> {
     pub alloc: Global,
     pub source: &'a Source<J>,
     pub replica: &'a Replica<K>,
-    /// Nothing is known of the replica's log before.
+    /// Nothing is known of the replica's log in advance.
     ghost free: { K.names.log ≡ None },
 }
 
@@ -183,7 +183,7 @@ where
     K: ReplicaNaming + Send + Sync,
     R: Threads + Wait + Abort + Sync,
 {
-    /// It answers the source's receipts.
+    /// Returns the source's receipts.
     fn run(&self, course: Course) -> Result<Vec<Receipt<J>>, Fail> {
         match course {
             Course::Clash => self.clash(),
@@ -262,8 +262,8 @@ where
         self.read_two()
     }
 
-    /// The second too early, the first, the first again, the second from another source, with a flag that lies, and with a parent
-    /// that does not cover the first, and the second.
+    /// Receives the second too early, the first, and the first again. Then it receives the second from another source,
+    /// with a false flag, with a parent that does not cover the first, and as it is.
     fn receive_two(&self, first: &Record, second: &Record) -> Result<(), Fail> {
         let mut lying = second.copy()?;
         lying.parent = 0;
@@ -286,7 +286,7 @@ where
         Ok(())
     }
 
-    /// A reader that learnt of commit 2 sees both commits, and so does the status.
+    /// A reader that learned of commit 2 sees both commits, and so does the status.
     fn read_two(&self) -> Result<(), Fail> {
         let mut reader = self.replica.seat(self.rt).ok_or("a seat")?;
         reader.learn(self.replica.wait_for(self.rt, 2)?);
@@ -300,7 +300,7 @@ where
         Ok(())
     }
 
-    /// So many are received, committed and published.
+    /// `count` records are received, committed and published.
     pub fn shows_all(&self, count: u64) {
         let all = Counts {
             received: count,

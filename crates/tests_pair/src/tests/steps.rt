@@ -4,21 +4,21 @@ use schema::Memory;
 use std::alloc::Global;
 use world::Event;
 
-/// What is sent to a world, and what it is answered.
+/// What is sent to a world, and its reply.
 #[derive(Drop)]
 pub enum Step {
-    /// An event, and its answer.
+    /// An event, and its reply.
     Told(Event, &'static str),
-    /// The sessions from the first number to the second prepare behind so many commits. They are one group, from the record of this number
-    /// on, each with this parent.
+    /// The sessions from the first number to the second prepare after this number of commits. They are one group, from
+    /// the record of this number on, each with this parent.
     Commits((u16, u16), u64, (u64, u64)),
     /// The replica accepts the records from this number to that.
     Takes(u64, u64),
-    /// The replica hands out the job of this number; it is finished, and committed.
+    /// The replica hands out the job of this number, which is finished and committed.
     Applies(u64),
 }
 
-/// Events, each with what it is answered.
+/// Events, each with its reply.
 #[derive(Drop)]
 pub struct Course {
     pub told: Vec<(Event, String)>,
@@ -59,7 +59,7 @@ impl Course {
         Ok(self.told.push((event, answer))?)
     }
 
-    /// Each of the sessions prepares behind so many commits.
+    /// Each of the sessions prepares after `commits` commits.
     fn prepare(&mut self, alloc: Global, sessions: (u16, u16), commits: u64) -> Result<(), Memory> {
         for session in sessions.0..=sessions.1 {
             let prepared = format!(in alloc; "Prepared {{ parent: {commits} }}")?;
@@ -68,7 +68,7 @@ impl Course {
         Ok(())
     }
 
-    /// Each of them is queued.
+    /// Each of the sessions is queued.
     fn queue(&mut self, alloc: Global, sessions: (u16, u16)) -> Result<(), Memory> {
         for session in sessions.0..=sessions.1 {
             self.tell(Event::Queue { session }, format!(in alloc; "Done")?)?;
@@ -76,7 +76,7 @@ impl Course {
         Ok(())
     }
 
-    /// All are flushed, synced and committed, with these stamps: the first one's gno, and the parent of each.
+    /// All are flushed, synced and committed, with these stamps: the first record's gno, and the parent of each.
     fn commit(
         &mut self,
         alloc: Global,

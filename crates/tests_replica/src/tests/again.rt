@@ -1,4 +1,4 @@
-//! Calls that were refused memory, and are made once more.
+//! Calls that ran out of memory, and are made once more.
 
 use crate::tests::makers::{Replica, replica_over, unordered_over};
 use crate::tests::steps::{
@@ -18,17 +18,17 @@ use tests_log::common::{marks_of, record_of};
 use tests_stores::again;
 use tests_stores::common::{insert, row, unique_tables};
 
-/// A replica of no rows, of tables with unique columns.
+/// A replica without rows, of tables with unique columns.
 fn new_replica(alloc: Global) -> Result<Box<Replica>, Memory> {
     replica_over(alloc, unique_tables(alloc)?, BTreeStore::new(alloc), 2)
 }
 
-/// The same, which commits in the order in which jobs are finished.
+/// Like `new_replica`, but it commits in the order in which jobs finish.
 fn new_unordered(alloc: Global) -> Result<Box<Replica>, Memory> {
     unordered_over(alloc, unique_tables(alloc)?, 2)
 }
 
-/// The record of this number that inserts the rows of these keys, and of no more, each with its key as its value.
+/// The record of this number that inserts the rows of the keys from `from` to below `to`, each with its key as its value.
 fn new_record(alloc: Global, gno: u64, from: i64, to: i64) -> Result<Record, Memory> {
     let (mut list, mut marks) = (Vec::new(alloc), Vec::new(alloc));
     for key in from..to {
@@ -40,7 +40,7 @@ fn new_record(alloc: Global, gno: u64, from: i64, to: i64) -> Result<Record, Mem
     Ok(Record { marks, ..plain })
 }
 
-/// Receives the record, once more where it is refused, which leaves the replica as it was.
+/// Receives the record, and once more if that is refused, which leaves the replica as it was.
 fn receive_again(rt: &impl Abort, replica: &mut Replica, next: &Record) {
     let before = replica.accepted().len();
     let first = receive(replica, next);
@@ -52,7 +52,7 @@ fn receive_again(rt: &impl Abort, replica: &mut Replica, next: &Record) {
     accepts(rt, replica, next);
 }
 
-/// Dispatches the record of this number, once more where it is refused, which leaves the worker free.
+/// Dispatches the record of this number, and once more if that is refused, which leaves the worker free.
 fn job_again(rt: &impl Abort, replica: &mut Replica, gno: u64) -> Result<Job, Fail> {
     match dispatch(replica) {
         Ok(Some(job)) => Ok(job),
@@ -64,7 +64,7 @@ fn job_again(rt: &impl Abort, replica: &mut Replica, gno: u64) -> Result<Job, Fa
     }
 }
 
-/// Finishes the job, and executes and finishes it once more where its result tells of memory that ran out.
+/// Finishes the job. If its result says that memory ran out, executes and finishes it once more.
 fn finish_again(rt: &(impl Abort + AllocGlobal), replica: &mut Replica, job: Job) {
     let Err((fault, done)) = finish(replica, executed(rt.alloc(), job)) else {
         return;
@@ -75,7 +75,8 @@ fn finish_again(rt: &(impl Abort + AllocGlobal), replica: &mut Replica, job: Job
     finishes(rt, replica, done, Ok(()));
 }
 
-/// Commits the record of this number, once more where it is refused, which leaves the rows and the waiting commits as they were.
+/// Commits the record of this number, and once more if that is refused, which leaves the rows and the waiting commits
+/// as they were.
 fn commit_again(rt: &impl Abort, replica: &mut Replica, gno: u64) {
     let before = (stored(replica, 10), waiting(replica));
     let first = commit_next(replica);
@@ -114,7 +115,7 @@ fn has_passed(rt: &impl Abort, replica: &Replica) {
     assert_eq!(rt; waiting(replica), (Some(1), 1));
 }
 
-/// A call that was refused memory and then answers otherwise than if it had not been.
+/// Catches a call that returns something else because an earlier try ran out of memory.
 #[test]
 fn refused_calls_are_made_again(rt: HostRuntime) -> Result<(), Fail> {
     let mut replica = new_replica(rt.alloc()).or_else(|_| new_replica(rt.alloc()))?;
@@ -123,7 +124,7 @@ fn refused_calls_are_made_again(rt: HostRuntime) -> Result<(), Fail> {
     Ok(())
 }
 
-/// The ids of what is committed are these; they are asked for once more where memory lacks.
+/// The ids of what is committed are these. They are asked for once more if memory runs out.
 fn tells_again(rt: &(impl Abort + AllocGlobal), replica: &Replica, ids: &str) -> Result<(), Fail> {
     let told = again!(ReplicaFault::Memory => replica.executed())?;
     let text = again!(format!(in rt.alloc(); "{told}"))?;
@@ -156,8 +157,8 @@ fn pass_in_turns_again(rt: &(impl Abort + AllocGlobal), replica: &mut Replica) -
     Ok(())
 }
 
-/// A commit out of turn, or the ids of such, that were refused memory and then are others than if they had not been: rows that are
-/// put before there is room for the number of their commit.
+/// Catches a commit out of turn, or the ids of such commits, that differ because an earlier try ran out of memory: rows
+/// that are put before there is room for the number of their commit.
 #[test]
 fn commits_out_of_turn_are_made_again(rt: HostRuntime) -> Result<(), Fail> {
     let mut replica = again!(new_unordered(rt.alloc()))?;

@@ -1,4 +1,4 @@
-//! A replica at its bounds, where a body that tells of memory too early is proved all the same.
+//! A replica at its bounds, where a body that reports out of memory too early would still be proved.
 
 use crate::tests::makers::{
     Entry, Replica, greatest, insert_of, replica, replica_of, row, rows_of_greatest, wide_id,
@@ -15,7 +15,7 @@ use std::process::Abort;
 use std::test::Fail;
 use store_trait::RowStore;
 
-/// The results of the records 1 to 64, which are received and dispatched; record 65 waits for a worker.
+/// The results of records 1 to 64, which are received and dispatched. Record 65 waits for a worker.
 pub fn all_busy(
     rt: &(impl Abort + AllocGlobal),
     replica: &mut Replica,
@@ -26,7 +26,7 @@ pub fn all_busy(
     Ok(results)
 }
 
-/// Finishes the results, the last one first; none is committed before the first is finished.
+/// Finishes the results, the last one first. None is committed before the first is finished.
 fn finish_backwards(
     rt: &impl Abort,
     replica: &mut Replica,
@@ -40,7 +40,7 @@ fn finish_backwards(
     Ok(())
 }
 
-/// The results come, and only then the commits, from the first on.
+/// All results come first, and then the commits, from the first on.
 fn turn_around(rt: &(impl Abort + AllocGlobal), replica: &mut Replica) -> Result<(), Fail> {
     let results = all_busy(rt, replica)?;
     finish_backwards(rt, replica, results)?;
@@ -50,7 +50,8 @@ fn turn_around(rt: &(impl Abort + AllocGlobal), replica: &mut Replica) -> Result
     runs(rt, replica, 65)
 }
 
-/// Memory told at the 64th job, or a result lost or committed early because it waits in the last places.
+/// Catches a false out of memory at the 64th job, or a result that is lost or committed early because it waits in the
+/// last places.
 #[test]
 fn sixty_four_results_come_backwards(rt: HostRuntime) -> Result<(), Fail> {
     let mut replica = replica(rt.alloc(), 64)?;
@@ -66,7 +67,8 @@ fn pass_three_hundred(rt: &(impl Abort + AllocGlobal), replica: &mut Replica) ->
     Ok(())
 }
 
-/// Memory told once the first room for records or for waiting commits is used up, or a commit that is not handed out.
+/// Catches a false out of memory once the first room for records or for waiting commits is used up, or a commit that is
+/// not handed out.
 #[test]
 fn three_hundred_commits_are_published_in_parts(rt: HostRuntime) -> Result<(), Fail> {
     let mut replica = replica(rt.alloc(), 1)?;
@@ -115,7 +117,7 @@ fn has_greatest(rt: &impl Abort, replica: &Replica) {
     assert_eq!(rt; stored(replica, 2047), (row(2047, 2047), 3072));
 }
 
-/// Memory told at 1024 changes, by the relay, the dispatch, the execution or the commit.
+/// Catches a false out of memory at 1024 changes, in the relay, the dispatch, the execution or the commit.
 #[test]
 fn the_greatest_record_is_committed(rt: HostRuntime) -> Result<(), Fail> {
     let mut replica = large_replica(rt.alloc())?;

@@ -1,4 +1,4 @@
-//! What a relay answers to records that are delivered, and the text of each fault.
+//! What a relay returns for records that are delivered, and the text of each fault.
 
 use crate::tests::makers::{family, id, insert, referring};
 use record_codec::Record;
@@ -18,9 +18,9 @@ type Answer = Result<Received, ReplicaFault>;
 enum Does {
     /// It inserts this row of table 1.
     Inserts(i64),
-    /// It inserts this row of table 1, and refers to the row 10.
+    /// It inserts this row of table 1, and refers to row 10.
     Refers(i64),
-    /// It updates the row 10 in this column.
+    /// It updates row 10 in this column.
     Updates(u8),
     /// It inserts a row of three columns into this table.
     Widens(u16),
@@ -28,7 +28,7 @@ enum Does {
     States(i64, i64),
 }
 
-/// Records that are delivered in this order, by number, parent and what they do, with the answer to each.
+/// Records that are delivered in this order, by number, parent and what they do, with the relay's result for each.
 fn worked() -> [(u64, u64, Does, Answer); 27] {
     let accepted = Ok(Received::Accepted);
     let skipped = Ok(Received::Skipped);
@@ -43,14 +43,14 @@ fn worked() -> [(u64, u64, Does, Answer); 27] {
         (2, 0, Does::Updates(1), uncovered),
         (2, 1, Does::Updates(1), accepted),
         (3, 0, Does::Inserts(11), accepted),
-        // All behind the parent are looked at, not the next alone; what does not conflict is no matter.
+        // All records past the parent are looked at, not only the next. Those that do not conflict do not matter.
         (4, 1, Does::Updates(0), uncovered),
         (4, 2, Does::Updates(0), accepted),
-        // A ref to a row that was written waits for that; two that refer to one row do not wait for each other.
+        // A ref to a row that was written waits for that write. Two refs to one row do not wait for each other.
         (5, 3, Does::Refers(12), uncovered),
         (5, 4, Does::Refers(12), accepted),
         (6, 4, Does::Refers(13), accepted),
-        // A write of a row that was referred to waits for that.
+        // A write of a row that was referred to waits for that ref.
         (7, 5, Does::Updates(0), uncovered),
         (7, 6, Does::Updates(0), accepted),
         // A mark waits for the last record that states it, and for no other.
@@ -60,7 +60,7 @@ fn worked() -> [(u64, u64, Does, Answer); 27] {
         (10, 0, Does::States(16, 6), accepted),
         (11, 8, Does::States(17, 5), uncovered),
         (11, 9, Does::States(17, 5), accepted),
-        // What no source writes is told before a repeat, and a repeat before its parent is looked at.
+        // What no source writes is refused before a repeat is skipped, and a repeat is skipped before its parent is looked at.
         (1, 1, Does::Inserts(10), malformed),
         (1, 0, Does::Widens(1), malformed),
         (1, 0, Does::Widens(3), malformed),
@@ -95,7 +95,7 @@ fn delivered(alloc: Global, gno: u64, parent: u64, does: Does) -> Result<Record,
     }
 }
 
-/// The record is received, and this is the answer.
+/// The record is received, with this result.
 fn receives(rt: &impl Abort, relay: &mut Relay, new: &Record, want: Answer) {
     assert_eq!(rt; relay.receive(source(), new), want, "at {}", new.gno);
 }
@@ -108,7 +108,7 @@ fn receives_all(rt: &(impl Abort + AllocGlobal), relay: &mut Relay) -> Result<()
     Ok(())
 }
 
-/// Another order of the refusals, or a parent that is compared with the wrong records, in the definition itself.
+/// Catches a definition with another order of refusals, or one that compares a parent with the wrong records.
 #[test]
 fn worked_deliveries_are_answered(rt: HostRuntime) -> Result<(), Memory> {
     let mut relay = Relay::new(rt.alloc(), family(rt.alloc())?, source());
@@ -117,7 +117,7 @@ fn worked_deliveries_are_answered(rt: HostRuntime) -> Result<(), Memory> {
     Ok(())
 }
 
-/// Two faults with one text, or a text that scripts and operators do not know.
+/// Catches two faults with one text, or a text that scripts and operators do not know.
 #[test]
 fn faults_have_their_texts(rt: HostRuntime) -> Result<(), Fail> {
     let texts = [

@@ -1,5 +1,5 @@
-//! A record of as many changes, refs and marks as there may be: each change moves a child row from one parent to another, and gives it
-//! another value.
+//! A record with all the changes, refs and marks that one may have. Each change moves a child row from one parent to
+//! another, and gives it another value.
 
 use crate::tests::makers::{RELATED, Replica, family, greatest, replica_over, rows_of_greatest};
 use crate::tests::steps::passes;
@@ -11,7 +11,7 @@ use std::test::Fail;
 use store_trait::RowStore;
 use tests_log::common::marks_of;
 
-/// The bytes of a record of 2048 refs, to the rows 0 to 2047, no marks and one delete.
+/// The bytes of a record with 2048 refs, to the rows 0 to 2047, no marks, and one delete.
 fn bytes_of_refs(alloc: Global) -> Result<Vec<u8>, Memory> {
     let mut bytes = Vec::new(alloc);
     bytes.extend_from_slice(&20_522u32.to_be_bytes())?;
@@ -25,13 +25,13 @@ fn bytes_of_refs(alloc: Global) -> Result<Vec<u8>, Memory> {
     Ok(bytes)
 }
 
-/// As many refs as a record may have.
+/// All the refs that a record may have.
 fn all_refs(alloc: Global) -> Result<Refs, Memory> {
     let (read, _) = decode(alloc, Version::Two, &bytes_of_refs(alloc)?).map_err(|_| Memory)?;
     read.refs.copy()
 }
 
-/// The values 0 to 2047 of the child rows.
+/// The marks of the values 0 to 2047 in the child table.
 fn all_marks(alloc: Global) -> Result<Marks, Memory> {
     let mut marks = Vec::new(alloc);
     for value in 0i64..2048 {
@@ -40,7 +40,8 @@ fn all_marks(alloc: Global) -> Result<Marks, Memory> {
     marks_of(alloc, &marks)
 }
 
-/// The record 1 that moves 1024 child rows, refers to the 1024 parents that they had and to those that they get, and has as many marks.
+/// Record 1, which moves 1024 child rows, refers to the 1024 parents that they had and to the 1024 that they get, and
+/// has 2048 marks.
 fn moves(alloc: Global) -> Result<Record, Memory> {
     let plain = greatest(alloc, 1024)?;
     let (refs, marks) = (all_refs(alloc)?, all_marks(alloc)?);
@@ -52,14 +53,14 @@ fn moves(alloc: Global) -> Result<Record, Memory> {
     })
 }
 
-/// A replica of the rows that it moves.
+/// A replica with the rows that this record moves.
 fn replica_of_moves(alloc: Global) -> Result<Box<Replica>, Memory> {
     let mut store = BTreeStore::new(alloc);
     store.put_all(&rows_of_greatest(alloc, None)?)?;
     replica_over(alloc, family(alloc)?, store, 1)
 }
 
-/// Whether the commit that waits leaves the 1024 rows.
+/// Whether the waiting commit leaves the 1024 rows.
 fn leaves_all(replica: &Replica) -> bool {
     match replica.pending().first() {
         Some(op) => op.batch().entries().len() == 1024,
@@ -67,7 +68,8 @@ fn leaves_all(replica: &Replica) -> bool {
     }
 }
 
-/// Memory told at 2048 refs and marks or at a job of 3072 rows, by the relay, the dispatch, the execution or the commit.
+/// Catches a false out of memory at 2048 refs and marks or at a job of 3072 rows, in the relay, the dispatch, the
+/// execution or the commit.
 #[test]
 fn the_greatest_moves_are_committed(rt: HostRuntime) -> Result<(), Fail> {
     let new = moves(rt.alloc())?;

@@ -1,4 +1,4 @@
-//! The schema, rows, changes, records, jobs and replicas that the tests are of.
+//! The schema, rows, changes, records and replicas of the tests.
 
 ghost use Rattle.std.specs.Prelude.{◌≤◌};
 
@@ -35,14 +35,14 @@ pub fn table(id: u16, columns: u8) -> Table {
     Table::new(id, columns, true)
 }
 
-/// The table 1 of two columns and the table 2 of sixteen.
+/// Table 1 of two columns, and table 2 of sixteen.
 pub fn schema(alloc: Global) -> Result<Schema, Memory> {
     let tables = vec![in alloc; table(1, 2), table(2, 16)]?;
     Schema::new(tables).map_err(|_| Memory)
 }
 
-/// The same tables, the one of sixteen columns being the child of the other: its column 0 names the parent row, and its last column
-/// is unique.
+/// The same tables, but the one of sixteen columns is a child of the other: its column 0 names the parent row, and its
+/// last column is unique.
 pub fn family(alloc: Global) -> Result<Schema, Memory> {
     let child = table(2, 16).with_unique(15).child_of(0, 1);
     Schema::new(vec![in alloc; table(1, 2), child]?).map_err(|_| Memory)
@@ -63,23 +63,23 @@ pub fn row(first: i64, second: i64) -> Option<Row> {
     Row::new(&[first, second])
 }
 
-/// The insert of the row as `[5, 6]`.
+/// The insert of the row of this key as `[5, 6]`.
 pub fn insert(key: i64) -> Result<Change, Memory> {
     common::insert(id(key), &[5, 6])
 }
 
-/// The record that inserts the row of this key, without a parent.
+/// The record of this number that inserts the row of this key, without a parent.
 pub fn insert_of(alloc: Global, gno: u64, key: i64) -> Result<Record, Memory> {
     record(alloc, gno, 0, insert(key)?)
 }
 
-/// The same record, which refers to the row 10.
+/// This record, but with a ref to row 10.
 pub fn referring(alloc: Global, new: Record) -> Result<Record, Memory> {
     let refs = Refs::from_rising(vec![in alloc; id(10)]?);
     Ok(Record { refs, ..new })
 }
 
-/// The record 1 that updates all columns of the rows 0 to 1023 of sixteen, each to its key and so much more.
+/// Record 1, which updates all columns of the rows 0 to 1023 of sixteen columns, each to its key plus `more`.
 pub fn greatest(alloc: Global, more: i64) -> Result<Record, Memory> {
     let mut list = Vec::new(alloc);
     for key in 0..1024i64 {
@@ -92,7 +92,7 @@ pub fn greatest(alloc: Global, more: i64) -> Result<Record, Memory> {
     record_of(alloc, 1, 0, list)
 }
 
-/// The rows that this record writes, with this in all columns, or else with their keys; and 2048 rows of two columns.
+/// The rows that `greatest` writes, with `wide` in all columns, or else with their keys; and 2048 rows of two columns.
 pub fn rows_of_greatest(alloc: Global, wide: Option<i64>) -> Result<Batch, Memory> {
     let mut entries = Vec::new(alloc);
     for key in 0..2048 {
@@ -104,7 +104,7 @@ pub fn rows_of_greatest(alloc: Global, wide: Option<i64>) -> Result<Batch, Memor
     Batch::from_entries(entries).ok_or(Memory)
 }
 
-/// A new replica of these tables and rows.
+/// A new replica of these tables and rows, which commits in log order if `preserve` is set.
 fn new_replica(
     alloc: Global,
     schema: Schema,
@@ -123,7 +123,7 @@ fn new_replica(
     }
 }
 
-/// A new replica of these tables and of the rows of this batch, whether they fit or not, which commits in the order of the log.
+/// A new replica of these tables and of the rows of this batch, whether they fit or not, which commits in log order.
 pub fn replica_loaded(
     alloc: Global,
     schema: Schema,
@@ -143,7 +143,7 @@ pub fn replica_loaded(
     }
 }
 
-/// A new replica of these tables and rows, which commits in the order of the log.
+/// A new replica of these tables and rows, which commits in log order.
 pub fn replica_over(
     alloc: Global,
     schema: Schema,
@@ -156,7 +156,7 @@ pub fn replica_over(
     new_replica(alloc, schema, store, workers, true)
 }
 
-/// The same of these rows.
+/// Like `replica_over`, but of the tables of `schema`.
 pub fn replica_of(alloc: Global, store: BTreeStore, workers: usize) -> Result<Box<Replica>, Memory>
     requires some { 1 ≤ workers }
     requires few { workers ≤ 64 }
@@ -164,7 +164,7 @@ pub fn replica_of(alloc: Global, store: BTreeStore, workers: usize) -> Result<Bo
     replica_over(alloc, schema(alloc)?, store, workers)
 }
 
-/// The same of no rows.
+/// Like `replica_of`, but without rows.
 pub fn replica(alloc: Global, workers: usize) -> Result<Box<Replica>, Memory>
     requires some { 1 ≤ workers }
     requires few { workers ≤ 64 }
@@ -172,7 +172,7 @@ pub fn replica(alloc: Global, workers: usize) -> Result<Box<Replica>, Memory>
     replica_of(alloc, BTreeStore::new(alloc), workers)
 }
 
-/// A new replica of these tables and no rows, which commits in the order in which jobs are finished.
+/// A new replica of these tables without rows, which commits in the order in which jobs finish.
 pub fn unordered_over(alloc: Global, schema: Schema, workers: usize) -> Result<Box<Replica>, Memory>
     requires some { 1 ≤ workers }
     requires few { workers ≤ 64 }
@@ -180,7 +180,7 @@ pub fn unordered_over(alloc: Global, schema: Schema, workers: usize) -> Result<B
     new_replica(alloc, schema, BTreeStore::new(alloc), workers, false)
 }
 
-/// The same of the tables of `schema`.
+/// Like `unordered_over`, but of the tables of `schema`.
 pub fn unordered(alloc: Global, workers: usize) -> Result<Box<Replica>, Memory>
     requires some { 1 ≤ workers }
     requires few { workers ≤ 64 }

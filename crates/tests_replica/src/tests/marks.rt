@@ -1,9 +1,9 @@
-//! The low-water mark of transactions that are committed out of turn, and the places of those behind it.
+//! The low-water mark of transactions that are committed out of turn, and the places of those past it.
 
 use scheduler::{AHEAD, Scheduler};
 use std::process::Abort;
 
-/// The transaction of this number is committed: one of those behind the mark for which there is a place.
+/// Commits the transaction of this number, which is past the mark and has a place.
 fn commit(rt: &impl Abort, scheduler: &mut Scheduler, gno: u64) {
     let low = scheduler.low_water();
     let is_near = low < gno && gno - low <= 4096;
@@ -11,7 +11,7 @@ fn commit(rt: &impl Abort, scheduler: &mut Scheduler, gno: u64) {
     scheduler.committed(gno);
 }
 
-/// Commits those from the first number up to the last.
+/// Commits the transactions from the first number up to the last.
 fn commit_all(rt: &impl Abort, scheduler: &mut Scheduler, first: u64, last: u64) {
     for gno in first..=last {
         commit(rt, scheduler, gno);
@@ -28,7 +28,7 @@ fn committed(scheduler: &Scheduler, gnos: [u64; 2]) -> [bool; 2] {
     gnos.map(|gno| scheduler.is_committed(gno))
 }
 
-/// A definition by which the mark counts what is committed, or passes over a gap.
+/// Catches a definition by which the mark counts commits, or passes over a gap.
 #[test]
 fn a_gap_holds_the_mark(rt: HostRuntime) {
     let mut scheduler = Scheduler::new();
@@ -45,7 +45,8 @@ fn a_gap_holds_the_mark(rt: HostRuntime) {
     assert_eq!(rt; scheduler.low_water(), 5);
 }
 
-/// A definition by which there is a place too few or too many, or by which one number is committed with another that has its place.
+/// Catches a definition with a place too few or too many, or one by which a commit also counts for another number with
+/// the same place.
 #[test]
 fn there_are_4096_places(rt: HostRuntime) {
     assert_eq!(rt; AHEAD, 4096);
@@ -60,7 +61,7 @@ fn there_are_4096_places(rt: HostRuntime) {
     assert_eq!(rt; scheduler.low_water(), 1);
 }
 
-/// A mark that stays within a gap that closed, or places that stay taken once it passed them.
+/// Catches a mark that stays at a gap that closed, or places that stay taken once the mark has passed them.
 #[test]
 fn the_mark_passes_4095_at_once(rt: HostRuntime) {
     let mut scheduler = Scheduler::new();

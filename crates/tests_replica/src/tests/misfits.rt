@@ -12,7 +12,7 @@ use store_trait::{Batch, RowStore};
 use tests_log::common::record;
 use tests_stores::common::update;
 
-/// A new replica of three rows: the second has too few columns, and the third no parent.
+/// A new replica of three rows. The second has too few columns, and the third has no parent.
 fn misfits(alloc: Global) -> Result<Box<Replica>, Memory> {
     let rows = vec![in alloc;
         (id(1), row(1, 1)),
@@ -23,7 +23,7 @@ fn misfits(alloc: Global) -> Result<Box<Replica>, Memory> {
     replica_loaded(alloc, family(alloc)?, &base, 1)
 }
 
-/// The record sets a column of the second row, and the others stay.
+/// The record sets a column of the second row, and the other rows stay.
 fn goes_on(rt: &(impl Abort + AllocGlobal), replica: &mut Replica) -> Result<(), Fail> {
     assert_eq!(rt; stored(replica, 2), (Row::new(&[5]), 3));
     let plain = record(rt.alloc(), 1, 0, update(id(2), 0, 7)?)?;
@@ -34,7 +34,7 @@ fn goes_on(rt: &(impl Abort + AllocGlobal), replica: &mut Replica) -> Result<(),
     Ok(())
 }
 
-/// A replica that is not made, or does not go on, where a row has other columns than its table, or lacks its parent.
+/// Catches a replica that is not made, or does not continue, if a row has other columns than its table, or lacks its parent.
 #[test]
 fn rows_need_not_fit(rt: HostRuntime) -> Result<(), Fail> {
     let mut replica = misfits(rt.alloc())?;

@@ -1,5 +1,4 @@
-//! Child rows and their parents: what comes of a job by the refs that its record states, and what a relay answers to flags
-//! and refs.
+//! Child rows and their parents: what the refs of a record make of its job, and what a relay returns for flags and refs.
 
 use crate::tests::makers::{PLAIN, RELATED};
 use crate::tests::steps::{Came, came_of, executed};
@@ -15,7 +14,7 @@ use tests_log::common::{record, source};
 use tests_stores::common::{insert, row, update};
 use uuid::Uuid;
 
-/// What a record does. The rows 1 and 2 of table 3 are there, and the row 9 of its child table 4, a child of row 1.
+/// What a record does. Rows 1 and 2 of table 3 are there, and row 9 of its child table 4, a child of row 1.
 #[derive(Clone, Copy, Debug)]
 enum Does {
     /// It inserts a row of table 1, which is neither a parent nor has one.
@@ -32,11 +31,11 @@ enum Does {
     Sets,
     /// It deletes the child row.
     DeletesChild,
-    /// It deletes the row 2 of table 3.
+    /// It deletes row 2 of table 3.
     DeletesParent,
 }
 
-/// Which rows of table 3 the record states as its refs, or a row of table 1.
+/// The refs of a record: rows of table 3, or a row of table 1.
 #[derive(Clone, Copy, Debug)]
 enum Names {
     Nothing,
@@ -101,7 +100,7 @@ fn three(alloc: Global) -> Result<Refs, Memory> {
     Ok(Refs::from_rising(rows))
 }
 
-/// The record of number 1 that does this, with these flags and refs.
+/// Record 1, which does this, with these flags and refs.
 fn record_of(alloc: Global, does: Does, flags: Flags, names: Names) -> Result<Record, Memory> {
     let plain = record(alloc, 1, 0, change_of(does)?)?;
     let refs = refs_of(alloc, names)?;
@@ -112,7 +111,7 @@ fn record_of(alloc: Global, does: Does, flags: Flags, names: Names) -> Result<Re
     })
 }
 
-/// The rows that a job has that looks at these rows of table 3.
+/// The rows of a job that looks at these rows of table 3.
 fn parents_there(alloc: Global, names: Names) -> Result<Vec<(RowId, Option<Row>)>, Memory> {
     let first = (row(3, 1), Some(row_of(0, 0)?));
     let second = (row(3, 2), Some(row_of(0, 0)?));
@@ -125,7 +124,7 @@ fn parents_there(alloc: Global, names: Names) -> Result<Vec<(RowId, Option<Row>)
     }
 }
 
-/// The rows that the record writes and refers to, as they are.
+/// The rows that the record writes and refers to, as they are before it.
 fn input_of(alloc: Global, does: Does, names: Names) -> Result<Batch, Memory> {
     let mut rows = parents_there(alloc, names)?;
     match does {
@@ -144,8 +143,8 @@ fn job_of(alloc: Global, does: Does, names: Names) -> Result<Job, Memory> {
     Ok(Job::new(1, rec, input, Holders::none(alloc), tables(alloc)?))
 }
 
-/// What comes of each job with the right refs, with one too few and with one too many. Where the row of a new parent is not
-/// among the refs the job has no copy of it, so that the change does not apply.
+/// What comes of each job with the right refs, with one too few, and with one too many. If the row of a new parent is
+/// not among the refs, the job has no copy of it, and the change does not apply.
 fn outcomes() -> [(Does, Names, Came); 17] {
     [
         (Does::InsertsChild(1), Names::First, Came::Output),
@@ -168,7 +167,7 @@ fn outcomes() -> [(Does, Names, Came); 17] {
     ]
 }
 
-/// Parent rows that are left out of the kin, or counted twice, in the definition itself.
+/// Catches a definition that leaves parent rows out of the kin, or counts them twice.
 #[test]
 fn refs_are_exactly_the_parents(rt: HostRuntime) -> Result<(), Memory> {
     for (does, names, want) in outcomes() {
@@ -183,7 +182,7 @@ const KEYLESS: Flags = Flags {
     missing_keys: true,
 };
 
-/// What a relay answers to each of these as its first record: whether it is accepted.
+/// Whether a relay accepts each of these as its first record.
 fn forms() -> [(Does, Flags, Names, bool); 19] {
     [
         (Does::Inserts, PLAIN, Names::Nothing, true),
@@ -196,22 +195,22 @@ fn forms() -> [(Does, Flags, Names, bool); 19] {
         (Does::InsertsChild(1), PLAIN, Names::First, false),
         (Does::InsertsChild(1), RELATED, Names::Second, false),
         (Does::InsertsChild(1), RELATED, Names::Three, true),
-        // A ref is of a table that is a parent, whatever the changes are.
+        // A ref is to a table that is a parent, whatever the changes are.
         (Does::InsertsChild(1), RELATED, Names::Other, false),
         (Does::Inserts, PLAIN, Names::Other, false),
         (Does::Inserts, PLAIN, Names::First, true),
-        // Of an update that names the parent column the new parent is known, and the old one is not.
+        // If an update names the parent column, the new parent is known, and the old one is not.
         (Does::Moves(2), RELATED, Names::Second, true),
         (Does::Moves(2), RELATED, Names::First, false),
         (Does::Moves(2), RELATED, Names::Nothing, false),
-        // Where a change gives its row no parent, none is known without the rows.
+        // If a change gives its row no parent, none is known without the rows.
         (Does::Sets, RELATED, Names::Nothing, true),
         (Does::DeletesChild, RELATED, Names::Nothing, true),
         (Does::DeletesParent, RELATED, Names::Nothing, true),
     ]
 }
 
-/// What a new relay of these tables answers to the record.
+/// What a new relay of these tables returns for the record.
 fn answer_to(
     alloc: Global,
     from: Uuid,
@@ -242,7 +241,7 @@ fn is_answered(
     Ok(())
 }
 
-/// Flags or refs that no source writes are taken, or those that it writes are refused, in the definition itself.
+/// Catches a definition that takes flags or refs that no source writes, or refuses those that it writes.
 #[test]
 fn flags_and_refs_are_judged_by_the_tables(rt: HostRuntime) -> Result<(), Memory> {
     for (does, flags, names, accepted) in forms() {

@@ -1,4 +1,4 @@
-//! What a replica is taken apart into, and another one over its rows.
+//! The parts that a replica is taken apart into, and another replica over its rows.
 
 use crate::tests::makers::{Replica, id, insert_of, replica_of, row};
 use crate::tests::steps::{accepts, passes, stored};
@@ -13,7 +13,7 @@ use store_trait::{Batch, RowStore, are_of_tables};
 use tests_log::common::source;
 use tests_stores::common::boxed;
 
-/// A new replica of the row 10.
+/// A new replica with row 10.
 fn of_one(alloc: Global) -> Result<Box<Replica>, Memory> {
     let rows = vec![in alloc; (id(10), row(1, 2))]?;
     let mut store = BTreeStore::new(alloc);
@@ -30,7 +30,7 @@ fn accepts_three(rt: &(impl Abort + AllocGlobal), replica: &mut Replica) -> Resu
     Ok(())
 }
 
-/// The parts are the batch of the first row, three records, and a store of three rows: what record 3 inserts is not there.
+/// The parts are the batch of the first row, three records, and a store of three rows, without the row that record 3 inserts.
 fn are_parts(rt: &impl Abort, base: &Batch, accepted: &[Record], store: &BTreeStore) {
     assert_eq!(rt; base.entries(), &[(id(10), row(1, 2))][..]);
     assert_eq!(rt; accepted.len(), 3);
@@ -62,7 +62,8 @@ fn begins_with_them(rt: &(impl Abort + AllocGlobal), replica: &mut Replica) -> R
     Ok(())
 }
 
-/// Parts that are not those of the replica: records that are lost where they are not committed, or rows without what was committed.
+/// Catches parts that are not those of the replica: records that are lost if they are not committed, or rows that lack
+/// what was committed.
 #[test]
 fn parts_make_another_replica(rt: HostRuntime) -> Result<(), Fail> {
     let mut replica = of_one(rt.alloc())?;

@@ -1,4 +1,4 @@
-//! Records that no source writes or that do not apply, and results that are handed in wrong: what the replica answers.
+//! Records that no source writes or that do not apply, and wrong results: what the replica returns.
 
 use crate::tests::makers::{
     PLAIN, RELATED, Replica, insert_of, replica, replica_over, schema, table,
@@ -28,7 +28,7 @@ fn tables(alloc: Global) -> Result<Schema, Memory> {
     Schema::new(list).map_err(|_| Memory)
 }
 
-/// A new replica of these tables, in which (3, 1) = [0] and its child (4, 9) = [1] are.
+/// A new replica of these tables, with (3, 1) = [0] and its child (4, 9) = [1].
 fn of_tables(alloc: Global) -> Result<Box<Replica>, Memory> {
     let base = vec![in alloc; (row(3, 1), Row::new(&[0])), (row(4, 9), Row::new(&[1]))]?;
     let mut store = BTreeStore::new(alloc);
@@ -76,19 +76,19 @@ fn record_of(alloc: Global, said: Said) -> Result<Record, Memory> {
 enum Handed {
     /// Its own.
     Own,
-    /// Its own, once one was taken.
+    /// Its own, after one was taken.
     Second,
-    /// Its own, once one was taken and committed.
+    /// Its own, after one was taken and committed.
     Late,
     /// One of this number.
     Numbered(u64),
     /// One over another row than (1, 10).
     OtherId,
-    /// One over (1, 10) with columns.
+    /// One over a row (1, 10) that is there.
     OtherRow,
 }
 
-/// What a record says, where it comes from, what is answered to it, and which result is handed in then, with its refusal.
+/// What a record says, its source, what the replica returns, and which result is handed in then, with its refusal.
 type Case = (
     Said,
     Uuid,
@@ -96,7 +96,7 @@ type Case = (
     Option<(Handed, ReplicaFault)>,
 );
 
-/// Records that lie, records that do not apply, and results that are not that of the job, for a new replica each.
+/// Records that lie, records that do not apply, and results that are not those of the job, each for a new replica.
 fn cases() -> [Case; 13] {
     let first = ([1, 1, 0], PLAIN, Does::Inserts);
     let (own, other) = (source(), Uuid::from_u128(1));
@@ -137,12 +137,12 @@ fn cases() -> [Case; 13] {
     ]
 }
 
-/// The rows of a job that looks at this one alone.
+/// The rows of a job that looks at only this one.
 fn input_of(alloc: Global, key: i64, there: Option<Row>) -> Result<Batch, Memory> {
     Batch::from_entries(vec![in alloc; (row(1, key), there)]?).ok_or(Memory)
 }
 
-/// The job whose result is handed in, where this one was dispatched.
+/// The job whose result is handed in, if this one was dispatched.
 fn handed_job(
     rt: &(impl Abort + AllocGlobal),
     replica: &mut Replica,
@@ -172,8 +172,8 @@ fn handed_job(
     }
 }
 
-/// Each call but those that only look at the replica is refused for the stop at this number: the record of this job, and a result of
-/// a number that was not dispatched, among them.
+/// Each call that can fail is refused for the stop at this number, also with the record of this job, or with a result
+/// of a number that was not dispatched.
 pub fn refuses_all(
     rt: &(impl Abort + AllocGlobal),
     replica: &mut Replica,
@@ -192,7 +192,7 @@ pub fn refuses_all(
     Ok(())
 }
 
-/// The record is answered so, and then the result.
+/// The replica returns this for the record, and then for the result.
 fn is_answered(
     rt: &(impl Abort + AllocGlobal),
     replica: &mut Replica,
@@ -213,8 +213,8 @@ fn is_answered(
     Ok(())
 }
 
-/// A lie that is believed, or that is told as another; a record that does not apply and does not stop the replica, or a call that
-/// passes over the stop; a result that is taken for one of a job that was handed out: in the definitions themselves.
+/// Catches definitions that believe a lie, or report it as another. Also: a record that does not apply and does not
+/// stop the replica, a call that ignores the stop, and a wrong result that is taken for one of a dispatched job.
 #[test]
 fn lying_records_and_results_are_refused(rt: HostRuntime) -> Result<(), Fail> {
     for case in cases() {
@@ -224,7 +224,7 @@ fn lying_records_and_results_are_refused(rt: HostRuntime) -> Result<(), Fail> {
     Ok(())
 }
 
-/// The result of this number, of a job that was not handed out, is refused.
+/// The result of this number, for a job that was not handed out, is refused.
 fn is_stranger(
     rt: &(impl Abort + AllocGlobal),
     replica: &mut Replica,
@@ -236,7 +236,7 @@ fn is_stranger(
     hands_in(rt, replica, Ok(job), Err(ReplicaFault::Stranger))
 }
 
-/// Of two records that were accepted none is dispatched, and then one.
+/// Two records are accepted. First neither is dispatched, and then one is.
 fn has_strangers(rt: &(impl Abort + AllocGlobal), replica: &mut Replica) -> Result<(), Fail> {
     accepts(rt, replica, &insert_of(rt.alloc(), 1, 10)?);
     accepts(rt, replica, &insert_of(rt.alloc(), 2, 11)?);
@@ -247,7 +247,7 @@ fn has_strangers(rt: &(impl Abort + AllocGlobal), replica: &mut Replica) -> Resu
     Ok(())
 }
 
-/// A result of a record that was accepted and not dispatched is told as one of a job, in the definitions themselves.
+/// Catches definitions by which a record that was accepted and not dispatched may have a result.
 #[test]
 fn results_before_their_dispatch_are_refused(rt: HostRuntime) -> Result<(), Fail> {
     let mut replica = replica(rt.alloc(), 2)?;

@@ -1,5 +1,5 @@
-//! The calls of a replica with what they are to answer. Each call stands in a function of its own, and a test lends its
-//! replica to the functions that do the steps: so few ways out of a test drop one.
+//! The calls of a replica, each with the result that it must return. Each call is in a separate function, to which a
+//! test lends its replica, so that few ways out of a test drop one.
 
 use crate::tests::makers::{Replica, id, insert_of};
 use executor::{Job, JobResult, Outcome, execute};
@@ -51,7 +51,7 @@ pub fn commit_next(replica: &mut Replica) -> Result<Option<u64>, ReplicaFault> {
     replica.commit_next()
 }
 
-/// Publishes up to this number, where so many are committed and no more published.
+/// Publishes up to this number, or returns `None` if fewer are committed or more are published.
 fn publish(replica: &mut Replica, upto: u64) -> Option<Result<u64, ReplicaFault>> {
     if replica.published() > upto || replica.committed() < upto {
         return None;
@@ -59,12 +59,12 @@ fn publish(replica: &mut Replica, upto: u64) -> Option<Result<u64, ReplicaFault>
     Some(replica.publish(upto))
 }
 
-/// The record is received, and accepted.
+/// The record is received and accepted.
 pub fn accepts(rt: &impl Abort, replica: &mut Replica, next: &Record) {
     assert_eq!(rt; receive(replica, next), Ok(Received::Accepted));
 }
 
-/// The job that is dispatched, which is of this number.
+/// Dispatches the next job, which is of this number.
 pub fn job(rt: &impl Abort, replica: &mut Replica, gno: u64) -> Result<Job, Fail> {
     let Some(job) = dispatch(replica)? else {
         return Err(Fail::new("a job is dispatched"));
@@ -73,7 +73,7 @@ pub fn job(rt: &impl Abort, replica: &mut Replica, gno: u64) -> Result<Job, Fail
     Ok(job)
 }
 
-/// The result is handed in, and this is the answer.
+/// The result is handed in, and the call returns `want`.
 pub fn finishes(
     rt: &impl Abort,
     replica: &mut Replica,
@@ -83,7 +83,7 @@ pub fn finishes(
     assert_eq!(rt; finish(replica, done).map_err(|refused| refused.0), want);
 }
 
-/// The result of this job is handed in, and this is the answer.
+/// The result of this job is handed in, and the call returns `want`.
 pub fn hands_in(
     rt: &(impl Abort + AllocGlobal),
     replica: &mut Replica,
@@ -108,14 +108,14 @@ pub fn publishes(
     assert_eq!(rt; publish(replica, upto), Some(want));
 }
 
-/// The record that is dispatched, which is of this number, is executed and finished.
+/// Dispatches the next record, which is of this number, executes it and finishes it.
 pub fn runs(rt: &(impl Abort + AllocGlobal), replica: &mut Replica, gno: u64) -> Result<(), Fail> {
     let done = executed(rt.alloc(), job(rt, replica, gno)?);
     finishes(rt, replica, done, Ok(()));
     Ok(())
 }
 
-/// The results of so many inserts, from record 1 on, each of the row whose key is its number; all are received and dispatched.
+/// The results of `count` inserts, from record 1 on, each of the row whose key is its number. All are received and dispatched.
 pub fn results_of(
     rt: &(impl Abort + AllocGlobal),
     replica: &mut Replica,
@@ -149,12 +149,12 @@ pub fn tells(rt: &(impl Abort + AllocGlobal), replica: &Replica, ids: &str) -> R
     Ok(())
 }
 
-/// The row of this key of table 1, and how many rows there are.
+/// The row of this key of table 1, and the number of rows.
 pub fn stored(replica: &Replica, key: i64) -> (Option<Row>, usize) {
     (replica.store().get(id(key)), replica.store().len())
 }
 
-/// The number of the commit that waits first, and how many wait.
+/// The number of the first waiting commit, and how many wait.
 pub fn waiting(replica: &Replica) -> (Option<u64>, usize) {
     let first = match replica.pending().first() {
         Some(Op::Commit { gno, .. }) => Some(*gno),

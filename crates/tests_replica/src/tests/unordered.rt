@@ -1,4 +1,4 @@
-//! A replica that commits in the order in which jobs are finished, not in that of the log.
+//! A replica that commits in the order in which jobs finish, not in log order.
 
 use crate::tests::bounds::all_busy;
 use crate::tests::makers::{Replica, id, insert_of, row, unordered};
@@ -14,7 +14,7 @@ use std::test::Fail;
 use tests_log::common::record;
 use tests_stores::common::update;
 
-/// The result that stands at this place is handed in.
+/// Hands in the result at this place.
 fn finish_at(
     rt: &impl Abort,
     replica: &mut Replica,
@@ -28,7 +28,7 @@ fn finish_at(
     Ok(())
 }
 
-/// The results of 4, 2 and 3 come while the job of record 1 is out, and then that of 1.
+/// The results of records 4, 2 and 3 come while the job of record 1 is out, and then its result.
 fn leaves_as_they_came(rt: &(impl Abort + AllocGlobal), replica: &mut Replica) -> Result<(), Fail> {
     let mut results = results_of(rt, replica, 4)?;
     for place in [3, 1, 1] {
@@ -48,14 +48,14 @@ fn leaves_as_they_came(rt: &(impl Abort + AllocGlobal), replica: &mut Replica) -
     Ok(())
 }
 
-/// Results that leave by their numbers, or ids and a mark that pass over a gap, in the definitions themselves.
+/// Catches definitions by which results leave by their numbers, or by which ids and a mark pass over a gap.
 #[test]
 fn results_leave_as_they_came(rt: HostRuntime) -> Result<(), Fail> {
     let mut replica = unordered(rt.alloc(), 4)?;
     leaves_as_they_came(&rt, &mut replica)
 }
 
-/// All of 64 results but the first are handed in and committed, the last one first.
+/// Of 64 results, all but the first are handed in and committed, the last one first.
 fn pass_behind_the_first(
     rt: &impl Abort,
     replica: &mut Replica,
@@ -69,7 +69,7 @@ fn pass_behind_the_first(
     Ok(())
 }
 
-/// The job of record 65 is handed out beside that of record 1, and finished before it.
+/// The job of record 65 is handed out while that of record 1 is out, and is finished before it.
 fn has_both_out(rt: &(impl Abort + AllocGlobal), replica: &mut Replica) -> Result<(), Fail> {
     let mut results = all_busy(rt, replica)?;
     pass_behind_the_first(rt, replica, &mut results)?;
@@ -86,14 +86,15 @@ fn has_both_out(rt: &(impl Abort + AllocGlobal), replica: &mut Replica) -> Resul
     Ok(())
 }
 
-/// A job of gno 65 that takes the place of that of gno 1, or a result lost because 64 places are not enough for both.
+/// Catches a job of gno 65 that takes the place of that of gno 1, or a result that is lost because 64 places are too
+/// few for both.
 #[test]
 fn the_jobs_1_and_65_are_out_at_once(rt: HostRuntime) -> Result<(), Fail> {
     let mut replica = unordered(rt.alloc(), 64)?;
     has_both_out(&rt, &mut replica)
 }
 
-/// Of records that are received the first updates a row that is not there; its job is handed out.
+/// Receives three records. The first updates a row that is not there, and its job is handed out.
 fn lie(rt: &(impl Abort + AllocGlobal), replica: &mut Replica) -> Result<Job, Fail> {
     let first = record(rt.alloc(), 1, 0, update(id(10), 0, 7)?)?;
     accepts(rt, replica, &first);
@@ -103,7 +104,7 @@ fn lie(rt: &(impl Abort + AllocGlobal), replica: &mut Replica) -> Result<Job, Fa
     job(rt, replica, 1)
 }
 
-/// The others are committed, one of them is published, and then the first stops the replica.
+/// The others are committed, one of them is published, and then the first record stops the replica.
 fn stop(rt: &(impl Abort + AllocGlobal), replica: &mut Replica) -> Result<Job, Fail> {
     let job = lie(rt, replica)?;
     runs(rt, replica, 2)?;
@@ -115,7 +116,7 @@ fn stop(rt: &(impl Abort + AllocGlobal), replica: &mut Replica) -> Result<Job, F
     Ok(job)
 }
 
-/// What was committed behind the record that does not apply is there, and nothing else.
+/// What was committed of the records after the one that does not apply is there, and nothing else.
 fn keeps_what_was_committed(rt: &impl Abort, replica: &Replica) {
     assert_eq!(rt; stored(replica, 3), (row(5, 6), 2));
     assert_eq!(rt; waiting(replica), (Some(3), 1));
@@ -131,8 +132,8 @@ fn stops_for_good(rt: &(impl Abort + AllocGlobal), replica: &mut Replica) -> Res
     Ok(())
 }
 
-/// A stop at another number than that of the record that does not apply, one that takes commits behind it back, or a call that passes
-/// over the stop.
+/// Catches a stop at another number than that of the record that does not apply, a stop that takes back commits of
+/// later records, or a call that ignores the stop.
 #[test]
 fn a_stop_keeps_the_commits_behind_it(rt: HostRuntime) -> Result<(), Fail> {
     let mut replica = unordered(rt.alloc(), 2)?;

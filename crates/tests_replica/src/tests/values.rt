@@ -1,4 +1,4 @@
-//! Values of unique columns: what becomes of a record by the marks that it states, and of a job by the holders that it has.
+//! Values of unique columns: what the marks of a record make of it, and what the holders of a job make of its result.
 
 use crate::tests::makers::{Entry, PLAIN, RELATED, Replica, replica_over};
 use crate::tests::steps::{
@@ -17,7 +17,7 @@ use store_trait::{Batch, RowStore};
 use tests_log::common::{marks_of, record};
 use tests_stores::common::{insert, row, unique_tables, update};
 
-/// A new replica in which (1, 10) = [5] and (2, 1) = [8, 7] are.
+/// A new replica with (1, 10) = [5] and (2, 1) = [8, 7].
 fn of_values(alloc: Global) -> Result<Box<Replica>, Memory> {
     let base = vec![in alloc;
         (row(1, 10), Row::new(&[5])),
@@ -39,7 +39,7 @@ enum Does {
     Deletes,
     /// It sets the other column of (2, 1).
     Sets,
-    /// It inserts (3, 1) = [5], of a table without a unique column.
+    /// It inserts (3, 1) = [5], into a table without a unique column.
     InsertsPlain,
 }
 
@@ -71,10 +71,10 @@ fn stating(alloc: Global, gno: u64, does: Does, marks: &[(u16, i64)]) -> Result<
     })
 }
 
-/// What a record does, the marks that it states, and what comes of it: `None` where it is malformed.
+/// What a record does, the marks that it states, and what comes of it: `None` if it is malformed.
 type Case = (Does, &'static [(u16, i64)], Option<Came>);
 
-/// Records with the right marks, and with others. Those without marks are of the first form too.
+/// Records with the right marks, and with others. A record without marks may also come in the first form.
 fn cases() -> [Case; 23] {
     let output = Some(Came::Output);
     let other = Some(Came::WrongRefs);
@@ -88,7 +88,7 @@ fn cases() -> [Case; 23] {
         (Does::Inserts(6), &[(1, 6), (9, 6)], None),
         // Another row has the value.
         (Does::Inserts(5), &[(1, 5)], Some(Came::Undefined)),
-        // Of an update that names the column the new value is known, and the old one is not.
+        // If an update names the column, the new value is known, and the old one is not.
         (Does::Moves(6), &[(1, 5), (1, 6)], output),
         (Does::Moves(6), &[(1, 5)], None),
         (Does::Moves(6), &[(1, 6)], other),
@@ -108,7 +108,7 @@ fn cases() -> [Case; 23] {
     ]
 }
 
-/// The record is accepted, and this comes of its job; so it is committed, or stops the replica.
+/// The record is accepted, and this comes of its job. Then it is committed, or stops the replica.
 fn comes_to(
     rt: &(impl Abort + AllocGlobal),
     replica: &mut Replica,
@@ -153,7 +153,7 @@ fn is_answered(
     Ok(())
 }
 
-/// Marks that are looked for where no value is given up or taken, or passed over where one is, in the definitions themselves.
+/// Catches definitions that look for marks although no value is given up or taken, or that pass over them although one is.
 #[test]
 fn marks_are_exactly_the_values(rt: HostRuntime) -> Result<(), Fail> {
     for case in cases() {
@@ -163,12 +163,12 @@ fn marks_are_exactly_the_values(rt: HostRuntime) -> Result<(), Fail> {
     Ok(())
 }
 
-/// The holder of one mark.
+/// One mark with its holder: the row of this key, or none.
 fn held(alloc: Global, mark: Mark, key: Option<i64>) -> Result<Holders, Memory> {
     Ok(Holders::from_rising(vec![in alloc; (mark, key)]?))
 }
 
-/// Results of the job with other holders than that of its mark are refused, and then its own is taken.
+/// Results of the job with wrong holders are refused, and then its own is taken.
 fn takes_its_own(rt: &(impl Abort + AllocGlobal), replica: &mut Replica) -> Result<(), Fail> {
     accepts(
         rt,
@@ -196,14 +196,14 @@ fn takes_its_own(rt: &(impl Abort + AllocGlobal), replica: &mut Replica) -> Resu
     Ok(())
 }
 
-/// A result that is taken for one of a job that was handed out, where its holders are others: in the definition itself.
+/// Catches a definition by which a result with other holders is taken for one of a dispatched job.
 #[test]
 fn results_of_other_holders_are_refused(rt: HostRuntime) -> Result<(), Fail> {
     let mut replica = of_values(rt.alloc())?;
     takes_its_own(&rt, &mut replica)
 }
 
-/// Record 1 deletes the row with the value 5 and does not state it, record 2 gives it to another row, and both jobs are out.
+/// Record 1 deletes the row with the value 5 without stating it. Record 2 gives the value to another row. Both jobs are out.
 fn two_liars(
     rt: &(impl Abort + AllocGlobal),
     replica: &mut Replica,
@@ -237,7 +237,7 @@ fn second_stops(rt: &(impl Abort + AllocGlobal), replica: &mut Replica) -> Resul
     Ok(())
 }
 
-/// A record that states too few marks, or one that stands on it, which is committed by whichever result comes first.
+/// Catches a record that states too few marks, or one that depends on it, that is committed, whichever result comes first.
 #[test]
 fn a_value_that_is_not_stated_stops(rt: HostRuntime) -> Result<(), Fail> {
     let mut replica = of_values(rt.alloc())?;
@@ -246,7 +246,7 @@ fn a_value_that_is_not_stated_stops(rt: HostRuntime) -> Result<(), Fail> {
     second_stops(&rt, &mut replica)
 }
 
-/// What comes of the insert of (3, 1) over these rows and holders, of a database or of none.
+/// What comes of the insert of (3, 1) over these rows and holders, whether a database has them or not.
 fn came_over(alloc: Global, rows: &[Entry], holders: Holders) -> Result<Came, Memory> {
     let rec = stating(alloc, 1, Does::InsertsPlain, &[])?;
     let input = Batch::from_entries(Vec::from_slice(alloc, rows)?).ok_or(Memory)?;
@@ -257,7 +257,7 @@ fn came_over(alloc: Global, rows: &[Entry], holders: Holders) -> Result<Came, Me
     Ok(came_of(&done))
 }
 
-/// Holders or missing rows that change what comes of a job over a table without a unique column.
+/// Catches holders or missing rows that change what comes of a job over a table without a unique column.
 #[test]
 fn values_of_other_tables_are_not_looked_at(rt: HostRuntime) -> Result<(), Fail> {
     let (five, six) = (Row::new(&[5]), Row::new(&[6]));

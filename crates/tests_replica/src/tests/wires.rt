@@ -1,4 +1,4 @@
-//! A wire and a replica of one's own: what becomes of the records that wait and of a piece, by each of the answers.
+//! A wire with its replica: what each result makes of the waiting records and of a piece.
 
 use crate::tests::makers::{Replica, insert_of, replica};
 use record_codec::{CodecFault, Version, encode};
@@ -15,11 +15,11 @@ use tests_log::common::{source, spelled};
 struct Case {
     /// The numbers of the records that wait.
     waiting: &'static [u64],
-    /// The numbers of the piece's records, and what stands behind them in it.
+    /// The numbers of the piece's records, and the bytes after them in the piece.
     piece: &'static [u64],
     behind: &'static [u8],
     answer: Result<u64, WireFault>,
-    /// The numbers of the records that are accepted then.
+    /// The numbers of the records that are accepted by then.
     accepted: &'static [u64],
     /// How many wait then.
     left: usize,
@@ -36,28 +36,28 @@ fn cases() -> [Case; 5] {
     };
     [
         all,
-        // Those that are skipped are counted too.
+        // Skipped records are counted too.
         Case {
             waiting: &[1, 1, 2],
             piece: &[2, 3],
             answer: Ok(5),
             ..all
         },
-        // Of a piece with a fault nothing is taken; those that waited are.
+        // If a piece has a fault, nothing of it is taken, but the waiting records are.
         Case {
             behind: &[0; 4],
             answer: Err(WireFault::Codec(CodecFault::BadLength)),
             accepted: &[1, 2],
             ..all
         },
-        // A refused record waits, and those behind it.
+        // A refused record waits, and so do those after it.
         Case {
             piece: &[3, 5, 6],
             answer: Err(WireFault::Replica(ReplicaFault::Gap)),
             left: 2,
             ..all
         },
-        // Where one that waited is refused again, the piece is not looked at.
+        // If a waiting record is refused again, the piece is not looked at.
         Case {
             waiting: &[1, 3, 4],
             piece: &[2],
@@ -79,7 +79,7 @@ fn bytes_of(alloc: Global, numbers: &[u64]) -> Result<Vec<u8>, Memory> {
     Ok(bytes)
 }
 
-/// A wire over which these bytes came; their records wait.
+/// A wire over which these bytes came. Their records wait.
 fn wire_of(alloc: Global, bytes: &[u8]) -> Result<Wire, CodecFault> {
     let mut wire = Wire::new(alloc, source());
     wire.gather(bytes)?;
@@ -94,7 +94,7 @@ fn accepted(alloc: Global, replica: &Replica) -> Result<Vec<u8>, Memory> {
     spelled(alloc, replica.accepted())
 }
 
-/// The piece is taken so behind the records that wait.
+/// The piece is taken like this, after the waiting records.
 fn is_taken(
     rt: &(impl Abort + AllocGlobal),
     replica: &mut Replica,
@@ -113,8 +113,8 @@ fn is_taken(
     Ok(())
 }
 
-/// Records that wait and are left out of the count, dropped, passed over or kept from a piece; a piece of which a part is taken; memory
-/// told where records wait.
+/// Catches waiting records that are not counted, dropped, passed over, or kept from a piece; a piece that is taken in
+/// part; a false out of memory if records wait.
 #[test]
 fn pieces_come_behind_records_that_wait(rt: HostRuntime) -> Result<(), Fail> {
     for case in cases() {

@@ -1,4 +1,4 @@
-//! What histories of written rows answer to a tracker that goes over a log.
+//! What histories of written rows return to a tracker that goes over a log.
 
 ghost use Rattle.std.specs.Prelude.{◌+◌, ◌<◌, ◌^◌, IfOk};
 ghost use Rattle.writeset_history.specs.History.{IsUpTo};
@@ -15,7 +15,7 @@ fn new_history(alloc: Global, limit: u32) -> Result<History, AllocError>
     again!(History::with_limit(alloc, limit))
 }
 
-/// Touches the digests by the number behind this one, and answers which number touched one of them last, or the start.
+/// Touches the digests with the number after `before`. Returns the last number that had touched one of them, or the start.
 fn touch(history: &mut History, digests: &[u64], before: u64) -> u64
     requires up_to { IsUpTo history.old before }
     requires fits { before + 1 < 2 ^ 64 }
@@ -33,10 +33,11 @@ fn touch(history: &mut History, digests: &[u64], before: u64) -> u64
     last
 }
 
-/// A transaction: its digests, and behind it what touched one of them last, the start and the number of digests.
+/// A transaction: its digests, and then the number that touched one of them last, and the start and the number of
+/// digests after it.
 type Touched<'a> = (&'a [u64], u64, u64, usize);
 
-/// Goes over the transactions with a new history.
+/// Goes over the transactions with a new history, and compares.
 fn follow(rt: &impl Abort, history: &mut History, log: &[Touched]) -> Result<(), Fail>
     requires { IsUpTo history.old 0 }
 {
@@ -52,8 +53,8 @@ fn follow(rt: &impl Abort, history: &mut History, log: &[Touched]) -> Result<(),
     Ok(())
 }
 
-/// Catches a history that forgets by the union of both sets, that keeps what a raised start forgot, that counts a digest twice,
-/// and a probe that ends too early: in the third log the slots 14, 15 and 0 of 16 are the homes of two, five and one digest.
+/// Catches a history that forgets by the union of both sets, keeps what a raised start forgot, or counts a digest twice, and
+/// a probe that ends too early. In the third log, the slots 14, 15 and 0 of 16 are the homes of two, five and one digest.
 #[test]
 fn worked_logs_again(rt: HostRuntime) -> Result<(), Fail> {
     let tight: [Touched; 4] = [

@@ -7,12 +7,12 @@ use std::test::Fail;
 use tests_stores::again;
 use tests_stores::common::{boxed, row};
 
-/// A table of no locks.
+/// A table without locks.
 fn new_table(alloc: Global) -> Result<Box<LockTable>, Memory> {
     Ok(boxed(alloc, LockTable::new(alloc)?)?)
 }
 
-/// Catches a definition of clashes that has the two modes in each other's place, or that forgets whose a lock is.
+/// Catches a definition of clashes that swaps the two modes, or forgets whose a lock is.
 #[test]
 fn two_clash_unless_both_share(rt: HostRuntime) -> Result<(), Fail> {
     let mut locks = new_table(rt.alloc())?;
@@ -35,7 +35,8 @@ fn two_clash_unless_both_share(rt: HostRuntime) -> Result<(), Fail> {
     Ok(())
 }
 
-/// Catches a `take_all` that takes some where one clashes, or a row's lock that is a mark's; and marks that outlive their session.
+/// Catches a `take_all` that takes some locks although one clashes, or that mixes up the locks of rows and marks, and
+/// marks that outlive their session.
 #[test]
 fn values_are_locked_with_their_rows(rt: HostRuntime) -> Result<(), Fail> {
     let mut locks = new_table(rt.alloc())?;
@@ -71,7 +72,7 @@ fn values_are_locked_with_their_rows(rt: HostRuntime) -> Result<(), Fail> {
     Ok(())
 }
 
-/// The rows of a transaction of 1024 changes that refer to 2048 rows.
+/// The rows of a transaction with 1024 changes and 2048 refs.
 fn longest_list(alloc: Global) -> Result<Vec<(RowId, Mode)>, Fail> {
     let mut list = again!(Vec::with_capacity(alloc, 3072))?;
     for key in 0..3072 {
@@ -85,7 +86,7 @@ fn longest_list(alloc: Global) -> Result<Vec<(RowId, Mode)>, Fail> {
     Ok(list)
 }
 
-/// As many values of unique columns as 1024 changes may have.
+/// All the values of unique columns that 1024 changes may have.
 fn most_marks(alloc: Global) -> Result<Vec<Mark>, Fail> {
     let mut list = again!(Vec::with_capacity(alloc, 2048))?;
     for value in 0..2048 {
@@ -94,7 +95,7 @@ fn most_marks(alloc: Global) -> Result<Vec<Mark>, Fail> {
     Ok(list)
 }
 
-/// Catches a `take_all` that gives up at long lists, or for good once it was refused memory.
+/// Catches a `take_all` that fails at long lists, or for good once memory ran out.
 #[test]
 fn the_longest_lists_are_taken_again(rt: HostRuntime) -> Result<(), Fail> {
     let mut locks = again!(new_table(rt.alloc()))?;
@@ -110,7 +111,7 @@ fn the_longest_lists_are_taken_again(rt: HostRuntime) -> Result<(), Fail> {
     Ok(())
 }
 
-/// Catches a `take` that gives up where many hold the row.
+/// Catches a `take` that fails if many sessions hold the row.
 #[test]
 fn all_sessions_share_a_row_again(rt: HostRuntime) -> Result<(), Fail> {
     let mut locks = again!(new_table(rt.alloc()))?;
@@ -121,7 +122,7 @@ fn all_sessions_share_a_row_again(rt: HostRuntime) -> Result<(), Fail> {
     Ok(())
 }
 
-/// Catches a text that no clause fixes.
+/// Catches a wrong text: no clause fixes the texts.
 #[test]
 fn texts_of_lock_faults(rt: HostRuntime) -> Result<(), Fail> {
     for (fault, text) in [

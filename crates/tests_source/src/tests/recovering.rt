@@ -22,7 +22,7 @@ use tests_stores::common::{boxed, insert, row, unique_tables, update};
 use tracker_trait::{Resumable, Tracker};
 use writeset_trackers::{WriteSetSession, WriteSetTracker};
 
-/// A tracker of which one can be made that has seen no transaction.
+/// A tracker that the tests can make anew.
 trait Fresh: Resumable {
     fn fresh(alloc: Global) -> Result<Self, Memory>
         ensures { IfOk result (λ tracker. (ts : List Table) → Self.agrees tracker ts []) };
@@ -57,7 +57,7 @@ fn one_parent(alloc: Global) -> Result<BTreeStore, Memory> {
     Ok(store)
 }
 
-/// A source of that row, of these tables.
+/// A source of that row, with these tables.
 fn source<T: Fresh + Drop>(alloc: Global, schema: &Schema) -> Result<Box<Source<T>>, Memory>
     ensures { IfOk result (λ made. made.value.tables ≡ schema.now) }
 {
@@ -88,7 +88,7 @@ fn rows_of<T: Tracker>(
     Ok(store)
 }
 
-/// The same records, in memory of their own.
+/// A copy of these records.
 fn copies(alloc: Global, log: &[Record]) -> Result<Vec<Record>, Memory>
     ensures { IfOk result (λ copied. copied.items ≡ log.now) }
 {
@@ -99,7 +99,7 @@ fn copies(alloc: Global, log: &[Record]) -> Result<Vec<Record>, Memory>
     Ok(copied)
 }
 
-/// A source that goes on from the log of this one, all of which is committed. Its tracker is new.
+/// A source that goes on from the log of this one, with a new tracker. All of the log is committed.
 fn recovered<T: Fresh + Drop>(
     alloc: Global,
     schema: &Schema,
@@ -126,7 +126,7 @@ fn commit<T: Tracker>(source: &mut Source<T>) -> Result<(), SourceFault>
     Ok(())
 }
 
-/// Commits a child of the first row, and behind it a group of two transactions.
+/// Commits a child of the first row, and then a group of two transactions.
 fn commit_three<T: Tracker>(source: &mut Source<T>) -> Result<(), Fail>
     ensures { OnOk result (source.new.tables ≡ source.old.tables) }
 {
@@ -149,7 +149,7 @@ fn look_at_three<T: Tracker>(rt: &impl Abort, source: &Source<T>) -> Result<(), 
     Ok(())
 }
 
-/// Session 1 changes the row that session 2 inserted, and then inserts a row that none wrote.
+/// Session 1 changes the row that session 2 inserted, and then inserts a row that no record wrote.
 fn commit_two_more<T: Tracker>(source: &mut Source<T>) -> Result<(), Fail> {
     enqueue(source, 1, update(row(2, 10), 0, 2)?)?;
     commit(source)?;
@@ -158,7 +158,7 @@ fn commit_two_more<T: Tracker>(source: &mut Source<T>) -> Result<(), Fail> {
     Ok(())
 }
 
-/// Behind the log of another source the next two transactions get these parents.
+/// After the log of another source, the next two transactions get these parents.
 fn goes_on<T: Fresh + Drop>(
     rt: &(impl Abort + AllocGlobal),
     parents: [u64; 2],
@@ -183,14 +183,15 @@ fn goes_on_by_commit_order_again(rt: HostRuntime) -> Result<(), Fail> {
     goes_on::<CommitOrder>(&rt, [3, 4])
 }
 
-/// Catches a tracker that does not see the log: who wrote the row last, and that the first record has a parent row, behind which
-/// each transaction waits.
+/// Catches a tracker that does not see the log: which record wrote the row last, and that the first record has a parent
+/// row, so that each later transaction waits for it.
 #[test]
 fn goes_on_by_rows_again(rt: HostRuntime) -> Result<(), Fail> {
     goes_on::<WriteSetTracker>(&rt, [2, 1])
 }
 
-/// Catches a session that waits for a record of the same number before the restart, or not for its own behind it.
+/// Catches a session that waits for a record that the session of this number wrote before the restart, or that does not
+/// wait for its own after it.
 #[test]
 fn goes_on_by_session_again(rt: HostRuntime) -> Result<(), Fail> {
     goes_on::<WriteSetSession>(&rt, [2, 4])
@@ -210,7 +211,7 @@ fn begins<T: Fresh + Drop>(rt: &(impl Abort + AllocGlobal)) -> Result<(), Fail> 
     Ok(())
 }
 
-/// Catches numbers that do not begin with 1 where there is no record to go on from.
+/// Catches numbers that do not begin with 1 if there is no record to go on from.
 #[test]
 fn begins_at_no_record_again(rt: HostRuntime) -> Result<(), Fail> {
     begins::<CommitOrder>(&rt)?;

@@ -1,4 +1,4 @@
-//! The texts of a source's faults, and a group that is made where each call that was refused memory is made again.
+//! The texts of a source's faults, and a group for which each call that runs out of memory is made again.
 
 ghost use Rattle.std.specs.Prelude.{◌≡◌, IfOk, IfSome, OnOk};
 ghost use Rattle.source_core.specs.Calls.{Flushes};
@@ -17,7 +17,7 @@ use tests_stores::again;
 use tests_stores::common::{boxed, insert, row, unique_tables};
 use tracker_trait::Tracker;
 
-/// Catches a text that no clause fixes.
+/// Catches a wrong text: no clause fixes the texts.
 #[test]
 fn texts_of_source_faults(rt: HostRuntime) -> Result<(), Fail> {
     for (fault, text) in [
@@ -46,7 +46,7 @@ fn texts_of_source_faults(rt: HostRuntime) -> Result<(), Fail> {
 
 type Source = SourceCore<BTreeStore, CommitOrder>;
 
-/// A source of no rows, of tables with unique columns.
+/// A source without rows, of tables with unique columns.
 fn source(alloc: Global) -> Result<Box<Source>, Memory> {
     let schema = unique_tables(alloc)?;
     let store = BTreeStore::new(alloc);
@@ -101,7 +101,7 @@ fn sync_two(source: &mut Source) -> Result<(), Fail> {
     Ok(())
 }
 
-/// Commits the group, and looks at what its sessions are told.
+/// Commits the group, and looks at the receipts of its sessions.
 fn commit_two(rt: &impl Abort, source: &mut Source) -> Result<(), Fail> {
     let given = again!(source.commit())?;
     let [first, second] = given.as_slice() else {
@@ -112,7 +112,7 @@ fn commit_two(rt: &impl Abort, source: &mut Source) -> Result<(), Fail> {
     Ok(())
 }
 
-/// Catches a call that gives up for good once it was refused memory, or that keeps half of what it was to do.
+/// Catches a call that fails for good once memory ran out, or that keeps half of what it should do.
 #[test]
 fn a_group_is_made_again(rt: HostRuntime) -> Result<(), Fail> {
     let mut source = again!(source(rt.alloc()))?;

@@ -37,7 +37,7 @@ fn footprint(
     Ok(Footprint::new(schema, writes, refs, marks))
 }
 
-/// Whether the transaction writes rows of the schema's tables, and refers to rows only where it is foreign-key related.
+/// Whether the transaction writes rows of the schema's tables, and refers to rows only if it has the foreign key flag.
 fn is_of_tables(schema: &Schema, t: &Footprint) -> bool
     ensures known { IsTrue result → list_all (λ r. is_some (table_at schema.now r.table)) t.now.writes ≡ true }
     ensures refs { IsTrue result → t.now.flags.fk ≡ false → t.now.refs ≡ [] }
@@ -51,7 +51,7 @@ fn are_known(schema: &Schema, rows: &[RowId]) -> bool
     rows.iter().all(|r| schema.table(r.table).is_some())
 }
 
-/// Stamps the transaction behind the log, all of which is committed, and puts it there under the parent that is given back.
+/// Stamps the transaction after the log, which is all committed, and appends it with the parent that is returned.
 fn log_next<T: Tracker>(
     _schema: &Schema,
     tracker: &mut T,
@@ -79,10 +79,10 @@ fn log_next<T: Tracker>(
     parent
 }
 
-/// A transaction: its session, its rows, those that it refers to and its marks, and behind these the parent that it gets.
+/// A transaction: its session, its rows, those that it refers to, its marks, and the parent that it gets.
 type Step<'a> = (u16, &'a [RowId], &'a [RowId], &'a [Mark], u64);
 
-/// Gives each transaction its parent, and compares.
+/// Gives each transaction its parent, and compares it with the wanted one.
 fn follow<T: Tracker>(
     rt: &impl Abort,
     alloc: Global,
@@ -150,8 +150,9 @@ fn parents_by_commit_order_again(rt: HostRuntime) -> Result<(), Fail> {
     follow(&rt, rt.alloc(), &mut CommitOrder, &schema, &steps)
 }
 
-/// Catches definitions that differ from MySQL's: a history that is emptied one digest too early or too late, counts a digest that
-/// it has as none, or is emptied before it is asked; digests of rows by other bits; a child or a keyless row that no other waits for.
+/// Catches definitions that differ from MySQL's: a history that is emptied one digest too early or too late, is emptied
+/// before it is asked, or does not count a digest that it already has. Also: digests of rows by other bits, and a child
+/// or a keyless row that no other waits for.
 #[test]
 fn parents_by_rows_again(rt: HostRuntime) -> Result<(), Fail> {
     let schema = again!(five_tables(rt.alloc()))?;
@@ -198,7 +199,7 @@ fn parents_by_rows_again(rt: HostRuntime) -> Result<(), Fail> {
     Ok(())
 }
 
-/// Catches a session that is taken for its neighbour, or for the other bound.
+/// Catches a session that is taken for its neighbour, or for the one at the other bound.
 #[test]
 fn parents_by_session_again(rt: HostRuntime) -> Result<(), Fail> {
     let schema = again!(five_tables(rt.alloc()))?;
@@ -214,7 +215,7 @@ fn parents_by_session_again(rt: HostRuntime) -> Result<(), Fail> {
     follow(&rt, rt.alloc(), &mut tracker, &schema, &steps)
 }
 
-/// The tracker gives each step its parent over a schema with unique columns.
+/// The tracker gives each step its parent, over a schema with unique columns.
 fn follow_values<T: Tracker>(
     rt: &(impl Abort + AllocGlobal),
     mut tracker: T,
@@ -228,7 +229,7 @@ where
     follow(rt, rt.alloc(), &mut tracker, &schema, steps)
 }
 
-/// Catches a tracker that does not look at marks: the row 11 takes the value that the row 10 gave up.
+/// Catches a tracker that does not look at marks: row 11 takes the value that row 10 gave up.
 #[test]
 fn parents_by_values_again(rt: HostRuntime) -> Result<(), Fail> {
     let five = [Mark::new(1, 5)];
@@ -243,7 +244,7 @@ fn parents_by_values_again(rt: HostRuntime) -> Result<(), Fail> {
     Ok(())
 }
 
-/// Catches a mark whose digest is not one with that of a row: that of (1, 0) is the row (1, -1)'s.
+/// Catches a mark that does not share its digest with a row: mark (1, 0) has the digest of row (1, -1).
 #[test]
 fn parents_by_one_digest_again(rt: HostRuntime) -> Result<(), Fail> {
     let (seven, zero) = ([Mark::new(1, 7)], [Mark::new(1, 0)]);

@@ -1,4 +1,4 @@
-//! Worked digests, and a write set as large as a transaction may make it.
+//! Worked digests, and the largest write set that a transaction may make.
 
 use log_index::{Footprint, MarkSet, Rows};
 use schema::{Mark, Memory, RowId};
@@ -8,7 +8,7 @@ use tests_stores::again;
 use tests_stores::common::{five_tables, row};
 use write_set::{WriteSet, digests};
 
-/// The copy of the write set of these rows and marks, where table 5 is keyless.
+/// A copy of the write set of these rows and marks. Table 5 is keyless.
 fn set_of(alloc: Global, rows: Vec<RowId>, marks: Vec<Mark>) -> Result<WriteSet, Memory> {
     let schema = again!(five_tables(alloc))?;
     let (writes, refs) = (Rows::new(rows), Rows::new(Vec::new(alloc)));
@@ -17,8 +17,8 @@ fn set_of(alloc: Global, rows: Vec<RowId>, marks: Vec<Mark>) -> Result<WriteSet,
     again!(set.copy())
 }
 
-/// Catches a definition of digests by other bits of the key or of the table's id, one that orders them by their sign, and one
-/// that has rows of a keyless or of an unknown table.
+/// Catches a definition of digests by other bits of the key or of the table's id, one that orders them by their sign,
+/// and one that includes rows of a keyless or an unknown table.
 #[test]
 fn worked_digests_again(rt: HostRuntime) -> Result<(), Fail> {
     let rows = [
@@ -40,7 +40,8 @@ fn worked_digests_again(rt: HostRuntime) -> Result<(), Fail> {
     Ok(())
 }
 
-/// Catches a mark's digest that is not the complement of its row's, and a digest that a row and a mark share and that is there twice.
+/// Catches a mark's digest that is not the complement of its row's, and a digest that is there twice because a row and
+/// a mark share it.
 #[test]
 fn worked_digests_of_marks_again(rt: HostRuntime) -> Result<(), Fail> {
     let marks = [

@@ -1,4 +1,5 @@
-//! The schema, rows, changes, batches and stores that the tests are of. Where its columns are not given, a row has 16 of one value.
+//! The schema, rows, changes, batches and stores of the tests. If the columns of a row are not given, it has 16 columns
+//! with one value.
 
 ghost use Rattle.std.specs.Prelude.{◌≤◌, ◌<◌, length};
 
@@ -8,10 +9,10 @@ use schema::{Memory, RowId, Schema, Table};
 use std::alloc::Global;
 use store_trait::{Batch, RowStore};
 
-/// A row by its id, or that there is none.
+/// The id of a row, and the row, or `None` if it is not there.
 pub type Entry = (RowId, Option<Row>);
 
-/// A table of 16 columns. Where it has a parent, the last column names its row.
+/// A table of 16 columns. If it has a parent, the last column names the parent row.
 pub fn table(id: u16, parent: Option<u16>) -> Table {
     let table = Table::new(id, 16, true);
     match parent {
@@ -25,7 +26,7 @@ pub fn four_tables(alloc: Global) -> Result<Schema, Memory> {
     four(alloc, table(1, None), table(2, Some(1)))
 }
 
-/// The same, where the first column of table 1 and the last one of its child are unique.
+/// Like `four_tables`, but the first column of table 1 and the last one of its child are unique.
 pub fn four_unique(alloc: Global) -> Result<Schema, Memory> {
     four(
         alloc,
@@ -90,7 +91,7 @@ pub fn store(alloc: Global, entries: &[Entry]) -> Result<BTreeStore, Memory> {
     Ok(store)
 }
 
-/// Of each of these tables, in order, the rows of so many keys, half of them below 0. Each column is the row's key.
+/// The rows of `keys` keys in each of these tables, in order. Half of the keys are below 0. Each column is the row's key.
 pub fn many_rows(alloc: Global, tables: &[u16], keys: u16) -> Result<Batch, Memory> {
     let mut entries = Vec::new(alloc);
     let half = i64::from(keys) / 2;

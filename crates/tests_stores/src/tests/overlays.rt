@@ -15,7 +15,7 @@ use std::process::Abort;
 use std::test::Fail;
 use store_trait::{Batch, holder_of};
 
-/// Whether the parent and the value that the change gives its row stand, as the transaction sees the rows.
+/// Whether the parent that the change gives its row is there, and the value is free, as the transaction sees the rows.
 fn stands(
     pending: &Pending,
     schema: &Schema,
@@ -31,8 +31,8 @@ fn stands(
         && value_holds(pending, schema, change, step.takes, holder)
 }
 
-/// What is pending of the changes, step by step, or `None` where one of them does not apply behind those before it; each call is
-/// made again where memory lacked.
+/// What is pending after the changes, one by one, or `None` if one of them does not apply after those before it. A call
+/// that runs out of memory is made once more.
 fn ran(
     alloc: Global,
     schema: &Schema,
@@ -52,8 +52,8 @@ fn ran(
     Ok(Some(pending))
 }
 
-/// Whether the changes leave this over the rows, or where it is `None` one of them does not apply; each call is made again
-/// where memory lacked.
+/// Whether the changes leave `want` over the rows or, if that is `None`, one of them does not apply. A call that runs out
+/// of memory is made once more.
 fn leaves(
     alloc: Global,
     schema: &Schema,
@@ -68,10 +68,10 @@ fn leaves(
     Ok(want.is_some_and(|want| batch.entries() == want))
 }
 
-/// A list of changes, and what they leave, or `None` where one of them does not apply.
+/// A list of changes, and what they leave, or `None` if one of them does not apply.
 type Case<'a> = (&'a [Change], Option<&'a [Entry]>);
 
-/// Over these rows the changes of each case leave what it says.
+/// Checks that the changes of each case leave over these rows what the case says.
 fn all_leave(
     rt: &(impl Abort + AllocGlobal),
     schema: &Schema,
@@ -86,8 +86,8 @@ fn all_leave(
     Ok(())
 }
 
-/// A parent that is looked for among the committed rows alone, or asked for where the change gives none. Row 1 of table 1 is
-/// committed, with a child, and row 5 is not.
+/// Catches a parent that is looked for only among the committed rows, or asked for although the change gives none. Row 1
+/// of table 1 is committed and has a child. Row 5 is not committed.
 #[test]
 fn children_have_the_parents_that_are_seen(rt: HostRuntime) -> Result<(), Fail> {
     let schema = four_tables(rt.alloc())?;
@@ -103,7 +103,7 @@ fn children_have_the_parents_that_are_seen(rt: HostRuntime) -> Result<(), Fail> 
             &[insert(1, 5, 0), update(2, 9, 15, 5), update(2, 9, 15, 1)],
             Some(&[set(1, 5, 0), set(2, 9, 1)]),
         ),
-        // A parent that is deleted is asked for where the update names its column, and only there.
+        // A deleted parent is asked for if the update names its column, and only then.
         (&[delete(1, 1), update(2, 9, 15, 1)], None),
         (
             &[delete(1, 1), update(2, 9, 0, 1)],
@@ -113,23 +113,24 @@ fn children_have_the_parents_that_are_seen(rt: HostRuntime) -> Result<(), Fail> 
     all_leave(&rt, &schema, &[set(1, 1, 0), set(2, 9, 1)], &cases)
 }
 
-/// The row of table 1 with this value alone.
+/// The row of table 1 that has only this value.
 fn has(key: i64, value: i64) -> Entry {
     given(1, key, &[value])
 }
 
-/// Its insert.
+/// The insert of that row.
 fn adds(key: i64, value: i64) -> Change {
     insert_of(1, key, &[value])
 }
 
-/// The update that gives it this value.
+/// The update that gives the row this value.
 fn moves(key: i64, value: i64) -> Change {
     update(1, key, 0, value)
 }
 
-/// A value that is looked for among the committed rows alone, in the own row, in another table or column, where a row is removed
-/// or has it no more, or where the change gives none.
+/// Catches a value that is looked for only among the committed rows, in the row itself, or in another table or column.
+/// Also one that is found in a row that was removed or has it no more, or that is looked for although the change gives
+/// none.
 #[test]
 fn values_are_free_where_none_is_seen(rt: HostRuntime) -> Result<(), Fail> {
     let schema = unique_tables(rt.alloc())?;
@@ -157,7 +158,7 @@ fn values_are_free_where_none_is_seen(rt: HostRuntime) -> Result<(), Fail> {
             &[moves(10, 7), moves(11, 5), moves(10, 6)],
             Some(&[has(10, 6), has(11, 5)]),
         ),
-        // The own row is no other one.
+        // The row itself does not count as another one.
         (&[moves(10, 5)], Some(&[has(10, 5)])),
         (&[delete(1, 10), adds(10, 5)], Some(&[has(10, 5)])),
         // What the transaction itself took, and what it gave up again.
@@ -179,7 +180,7 @@ fn values_are_free_where_none_is_seen(rt: HostRuntime) -> Result<(), Fail> {
     all_leave(&rt, &schema, &rows, &cases)
 }
 
-/// So many inserts into table 1 and, behind each, of its child into table 2, from the greatest key down.
+/// `keys` inserts into table 1, each followed by the insert of its child into table 2, from the greatest key down.
 fn inserts(alloc: Global, keys: u16) -> Result<Vec<Change>, Memory> {
     let mut changes = Vec::new(alloc);
     for below in 1..=keys {
@@ -190,14 +191,15 @@ fn inserts(alloc: Global, keys: u16) -> Result<Vec<Change>, Memory> {
     Ok(changes)
 }
 
-/// Whether the most changes of a transaction leave these rows, where there were none.
+/// Whether the greatest number of changes of a transaction leaves these rows, over a store without rows.
 fn most_leave(alloc: Global, schema: &Schema, rows: &Batch) -> Result<bool, Memory> {
     let changes = again!(inserts(alloc, 512))?;
     let store = BTreeStore::new(alloc);
     leaves(alloc, schema, &store, &changes, Some(rows.entries()))
 }
 
-/// A step or a batch that gives up, at the most changes of a transaction or where memory lacked once.
+/// Catches a step or a batch that gives up, at the greatest number of changes of a transaction or after memory ran out
+/// once.
 #[test]
 fn most_changes_are_run_again(rt: HostRuntime) -> Result<(), Fail> {
     let alloc = rt.alloc();
@@ -208,7 +210,7 @@ fn most_changes_are_run_again(rt: HostRuntime) -> Result<(), Fail> {
     Ok(())
 }
 
-/// A step that leaves this of a row, and takes it from a parent.
+/// A step that leaves this of a row, and takes the row from a parent.
 fn step_of(entry: &Entry) -> Step {
     Step {
         left: entry.1,
@@ -219,7 +221,7 @@ fn step_of(entry: &Entry) -> Step {
     }
 }
 
-/// Two changes of a row, room for the first of which is taken before, and each call again where memory lacked.
+/// Pushes two changes of a row. Room for the first one is taken before. A call that runs out of memory is made once more.
 fn push_again(pending: Pending, entry: &Entry) -> Result<Pending, Memory> {
     let change = Change::Delete { row: entry.0 };
     let step = step_of(entry);
@@ -243,7 +245,7 @@ fn pushed_again(alloc: Global, rows: &Batch) -> Result<Pending, Memory> {
     Ok(pending)
 }
 
-/// A push that gives up where there are many, or changes that are left otherwise where memory lacked once.
+/// Catches a push that gives up if there are many, and changes that are left otherwise after memory ran out once.
 #[test]
 fn many_changes_are_pushed_again(rt: HostRuntime) -> Result<(), Fail> {
     let alloc = rt.alloc();

@@ -1,4 +1,4 @@
-//! Batches, operations and stores of rows. What is tested of a store is tested of each.
+//! Batches, operations and stores of rows. What is tested of one store is tested of each.
 
 use crate::again;
 use crate::common::unique_tables;
@@ -12,7 +12,7 @@ use std::test::Fail;
 use store_trait::{Batch, Op, RowStore, fits, holder, run, snapshot};
 use vector_store::VectorStore;
 
-/// Whether these rows, put into a store of none, fit the schema.
+/// Whether these rows fit the schema, once they are put into a store without rows.
 fn rows_fit<S: RowStore + Drop>(
     alloc: Global,
     schema: &Schema,
@@ -23,7 +23,7 @@ fn rows_fit<S: RowStore + Drop>(
     Ok(fits(schema, &store))
 }
 
-/// Whether each of these lists of rows fits the schema, in either store.
+/// Checks for each of these lists of rows whether it fits the schema, in both stores.
 fn all_fit(
     rt: &(impl Abort + AllocGlobal),
     schema: &Schema,
@@ -38,7 +38,7 @@ fn all_fit(
     Ok(())
 }
 
-/// A rule of rows that is not the one meant: a parent in another table or of another key, a column too few, no table.
+/// Catches a wrong rule for rows: a parent in another table or with another key, a column too few, no table.
 #[test]
 fn rows_fit_their_schema(rt: HostRuntime) -> Result<(), Fail> {
     let schema = four_tables(rt.alloc())?;
@@ -52,7 +52,8 @@ fn rows_fit_their_schema(rt: HostRuntime) -> Result<(), Fail> {
     all_fit(&rt, &schema, &cases)
 }
 
-/// A rule of values that is not the one meant: of two tables, of another column, of neighbours alone, or of a table without it.
+/// Catches a wrong rule for unique values: across two tables, of another column, only between neighbours, or for a table
+/// that has none.
 #[test]
 fn values_fit_their_schema(rt: HostRuntime) -> Result<(), Fail> {
     let schema = unique_tables(rt.alloc())?;
@@ -71,8 +72,8 @@ fn values_fit_their_schema(rt: HostRuntime) -> Result<(), Fail> {
     all_fit(&rt, &schema, &cases)
 }
 
-/// Whether each value of a column of a table is held so in a store of no rows into which these rows are put: a table, a column,
-/// a value, and the key.
+/// Whether each value has the holder that `held` says, in a store without rows into which these rows are put. `held`
+/// lists a table, a column, a value, and the key.
 fn are_held<S: RowStore + Drop>(
     mut store: S,
     rows: &Batch,
@@ -85,7 +86,7 @@ fn are_held<S: RowStore + Drop>(
     )
 }
 
-/// A holder in another column or table, or of the greatest key.
+/// Catches a holder in another column or table, or one with the greatest key.
 #[test]
 fn values_have_their_holders(rt: HostRuntime) -> Result<(), Fail> {
     let entries = [
@@ -108,7 +109,8 @@ fn values_have_their_holders(rt: HostRuntime) -> Result<(), Fail> {
     Ok(())
 }
 
-/// Whether all batches are put into a store of no rows, where a run that stops at a refusal goes on once, and leave so many rows.
+/// Whether all batches are put into a store without rows, and leave `left` rows. A run that stops at a refusal goes on
+/// once.
 fn run_again<S: RowStore + Drop>(mut store: S, batches: &[Batch], left: usize) -> bool {
     let mut put = run(&mut store, batches);
     if put < batches.len() {
@@ -117,8 +119,8 @@ fn run_again<S: RowStore + Drop>(mut store: S, batches: &[Batch], left: usize) -
     put == batches.len() && store.len() == left
 }
 
-/// For each key five batches: two rows that are new, no row, one of the two removed, the same removed again, and the
-/// other overwritten beside a row that is not there and is removed.
+/// For each key five batches: two new rows; no row; the removal of one of the two; the same removal again; and that
+/// removal beside an overwriting of the other row.
 fn many_batches(alloc: Global, keys: i64) -> Result<Vec<Batch>, Memory> {
     let mut batches = Vec::new(alloc);
     for key in 0..keys {
@@ -131,7 +133,7 @@ fn many_batches(alloc: Global, keys: i64) -> Result<Vec<Batch>, Memory> {
     Ok(batches)
 }
 
-/// A batch that is refused in a long run, for what is in it or where memory lacked once.
+/// Catches a batch of a long run that is refused, for what is in it or after memory ran out once.
 #[test]
 fn three_hundred_batches_are_put_again(rt: HostRuntime) -> Result<(), Fail> {
     let alloc = rt.alloc();
@@ -141,7 +143,8 @@ fn three_hundred_batches_are_put_again(rt: HostRuntime) -> Result<(), Fail> {
     Ok(())
 }
 
-/// What is read of a store of no rows into which the rows are put, and once more over themselves, each again where memory lacked.
+/// What is read of a store without rows into which the rows are put twice. A call that runs out of memory is made once
+/// more.
 fn stored_again<S: RowStore + Drop>(
     alloc: Global,
     mut store: S,
@@ -165,8 +168,8 @@ fn copied_again(rows: Batch) -> Result<Op, Memory> {
     again!(commit.copy())
 }
 
-/// Whether the rows of so many keys in four tables are the same once they were put into each store, read of it and copied, each again where
-/// memory lacked.
+/// Whether the rows of `keys` keys in four tables stay the same when they are put into each store, read from it and
+/// copied. A call that runs out of memory is made once more.
 fn are_kept_again(alloc: Global, keys: u16) -> Result<bool, Memory> {
     let rows = again!(many_rows(alloc, &[1, 2, 3, 256], keys))?;
     let in_tree = copied_again(stored_again(alloc, BTreeStore::new(alloc), &rows)?)?;
@@ -174,14 +177,14 @@ fn are_kept_again(alloc: Global, keys: u16) -> Result<bool, Memory> {
     Ok(same_rows(in_tree.batch(), &rows) && same_rows(&in_vector, &rows))
 }
 
-/// A put, a snapshot or a copy that gives up, where there are many rows or where memory lacked once.
+/// Catches a put, a snapshot or a copy that gives up, if there are many rows or after memory ran out once.
 #[test]
 fn two_thousand_rows_are_put_again(rt: HostRuntime) -> Result<(), Fail> {
     assert!(rt; are_kept_again(rt.alloc(), 500)?);
     Ok(())
 }
 
-/// The same where there are more rows than a number of 16 bits counts.
+/// Like `two_thousand_rows_are_put_again`, but with more rows than a number of 16 bits counts.
 #[test]
 fn more_rows_than_65536(rt: HostRuntime) -> Result<(), Fail> {
     assert!(rt; are_kept_again(rt.alloc(), 17_000)?);

@@ -12,7 +12,7 @@ fn fault(alloc: Global, tables: &[Table]) -> Result<Option<SchemaFault>, Memory>
     Ok(Schema::new(Vec::from_slice(alloc, tables)?).err())
 }
 
-/// A rule of parents or of unique columns that is not the one meant, or faults that are told in another order.
+/// Catches a wrong rule for parents or unique columns, and faults that are reported in another order.
 #[test]
 fn first_fault_of_a_list(rt: HostRuntime) -> Result<(), Fail> {
     let (top, child) = (table(1, None), table(3, Some(1)));
@@ -49,7 +49,7 @@ fn tables_to(alloc: Global, last: u16) -> Result<Vec<Table>, Memory> {
     Ok(tables)
 }
 
-/// A copy that gives up, at the most tables or where memory lacked once.
+/// Catches a copy that gives up, at the greatest number of tables or after memory ran out once.
 #[test]
 fn most_tables_are_copied_again(rt: HostRuntime) -> Result<(), Fail> {
     let tables = again!(tables_to(rt.alloc(), 256))?;
@@ -60,7 +60,7 @@ fn most_tables_are_copied_again(rt: HostRuntime) -> Result<(), Fail> {
     Ok(())
 }
 
-/// Another text: no clause says what is printed.
+/// Catches another text: no contract says what is printed.
 #[test]
 fn faults_are_told_by_number_and_name(rt: HostRuntime) -> Result<(), Fail> {
     assert!(rt; is_told(rt.alloc(), &SchemaFault::Count, "B1 Count")?);
