@@ -73,7 +73,7 @@ pub record LogParts : Type 0 where
 
 -- its parts
 abbrev pub parts_at : LogParts → Parts
-parts_at n = parts_of n.tables n.rows n.index n.children n.base n.limit n.log n.end n.end n.entries n.places n.stages n.locks
+parts_at n = parts_of n.tables n.rows n.index n.children n.base n.limit n.log n.end n.end n.entries n.places n.stages n.locks true 0
 
 no_held : (held : Pending → Holding) → replicate 256 (held none_pending) ≡ map held (map pending_in (replicate 256 None))
 no_held held = sym (ap (map held) (mapped pending_in 256 None) ∙ mapped held 256 none_pending)
@@ -118,6 +118,7 @@ holds_at n IsSo so =
       };
       waits = record { syncing = sym left; committing = sym (drop_all n.end (take n.end owners) (omega (arith, length-take-le n.end owners (omega (arith, many))))) };
       tracked = so;
+      kept = record { within = omega arith; none = λ _. refl };
     })
 
 pub view_at : (n : LogParts) (kind : Kind) → source_of (parts_at n) kind false ≡ source_at n.tables n.base n.limit kind n.log

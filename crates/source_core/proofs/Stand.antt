@@ -154,6 +154,27 @@ is_sound p kind halted core = record {
 pub sound_as : (p : Parts) (kind : Kind) (halted : Bool) (s : Source) → source_of p kind halted ≡ s → IsCore p → IsSound s
 sound_as p kind halted s is core = subst (λ (x : Source). IsSound x) is (is_sound p kind halted core)
 
+-- what is kept of the log changes nothing else
+pub core_keeping : (p : Parts) → IsCore p → (keeps : Bool) (gone : ℕ) → IsCore (record p { keeps = keeps; gone = gone })
+core_keeping p core keeps gone = record {
+  logged = core.logged;
+  stored = core.stored;
+  few = core.few;
+  bound = core.bound;
+  synced_within = core.synced_within;
+  committed_within = core.committed_within;
+  grouped = core.grouped;
+  sessions = core.sessions;
+  locks = core.locks;
+  no_clash = core.no_clash;
+  no_mark_clash = core.no_mark_clash;
+  applies = core.applies;
+  stands = core.stands;
+  flushed = core.flushed;
+  queued = core.queued;
+  distinct = core.distinct;
+}
+
 -- a session's transaction, as callers see it
 pub open_at : (p : Parts) (kind : Kind) (halted : Bool) (i session : ℕ) → i + 1 ≡ session → open_of (source_of p kind halted) session ≡ option_map open_view (placed p.places i)
 open_at p kind halted i session is =

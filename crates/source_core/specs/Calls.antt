@@ -244,3 +244,8 @@ receipts s = receipts_for (drop s.committed (take s.synced s.owners)) (drop s.co
 
 abbrev pub halted : Source → Source
 halted s = record s { halted = true }
+
+-- let_go: from now on committed records may go
+
+abbrev pub letting_go : Source → Source
+letting_go s = record s { keeps = false }

@@ -17,6 +17,7 @@ use Rattle.overlay.specs.Follows.{Follows}
 use Rattle.record_codec.specs.declared.records.Record.{Record}
 use Rattle.record_codec.specs.Log.{after, place_of, touched, IsLegalLog, AreShaped}
 use Rattle.log_index.specs.declared.Entry.{Entry as Seen}
+use Rattle.gone_records.specs.Going.{MayBeGone}
 use Rattle.commit_stages.specs.Queues.{Queues, AreSizes, no_queues}
 use Rattle.row_index.specs.Keys.{Keys, Indexes}
 use Rattle.row_index.specs.Counts.{Counts, CountsChildren}
@@ -57,9 +58,12 @@ pub record Parts : Type 0 where
   -- the sessions that wait, by what they wait for
   pub stages : Queues
   pub locks : AllLocks
+  -- whether all records are kept, and how many of the first are gone
+  pub keeps : Bool
+  pub gone : ℕ
 
-abbrev pub parts_of : List Table → Database → Keys → Counts → List Entry → ℕ → List Record → ℕ → ℕ → List Seen → List (Option Transaction) → Queues → AllLocks → Parts
-parts_of ts rows index children base limit log synced_ committed_ entries places stages locks = record {
+abbrev pub parts_of : List Table → Database → Keys → Counts → List Entry → ℕ → List Record → ℕ → ℕ → List Seen → List (Option Transaction) → Queues → AllLocks → Bool → ℕ → Parts
+parts_of ts rows index children base limit log synced_ committed_ entries places stages locks keeps gone = record {
   tables = ts;
   rows = rows;
   index = index;
@@ -74,6 +78,8 @@ parts_of ts rows index children base limit log synced_ committed_ entries places
   places = places;
   stages = stages;
   locks = locks;
+  keeps = keeps;
+  gone = gone;
 }
 
 abbrev pub source_of : Parts → Kind → Bool → Source
@@ -90,6 +96,7 @@ source_of p kind halted = record {
   queue = p.stages.flush;
   group_sizes = p.stages.sizes;
   halted = halted;
+  keeps = p.keeps;
 }
 
 -- the transaction in a place, counted from 0
@@ -250,6 +257,7 @@ pub record Holds (p : Parts) (IsSo : Type 0) : Type 0 where
   pub core : IsCore p
   pub waits : Wait p.stages p.owners p.synced p.committed
   pub tracked : IsSo
+  pub kept : MayBeGone p.keeps p.gone p.committed
 
 -- the transaction in another phase
 abbrev pub with_phase : Phase → Transaction → Transaction

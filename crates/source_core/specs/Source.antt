@@ -1,5 +1,5 @@
 -- What a source is seen as.
-use Rattle.std.specs.Prelude.{◌≡◌, ℕ, ℤ, ◌-◌, ◌<◌, ◌≤◌, ◌^◌, Bool, false, ◌&&◌, nat_le, List, [], ◌∷◌, map, take, length, replicate, slice_index_or, Option, None, IsSome, option_and_then}
+use Rattle.std.specs.Prelude.{◌≡◌, ℕ, ℤ, ◌-◌, ◌<◌, ◌≤◌, ◌^◌, Bool, true, false, ◌&&◌, nat_le, List, [], ◌∷◌, map, take, length, replicate, slice_index_or, Option, None, IsSome, option_and_then}
 use Rattle.std.specs.Option.{option_map_or}
 use Rattle.std.specs.List.{list_all}
 use Rattle.std.specs.FinMap.{empty, get}
@@ -47,6 +47,8 @@ pub record Source : Type 0 where
   -- how many records each unsynced group has, the oldest group first
   pub group_sizes : List ℕ
   pub halted : Bool
+  -- whether it keeps all records; else the committed ones may be gone
+  pub keeps : Bool
 
 -- what a source begins with: the tables, and the rows as the batch that loads them
 pub record Start : Type 0 where
@@ -132,6 +134,7 @@ new_source ts base limit kind = record {
   queue = [];
   group_sizes = [];
   halted = false;
+  keeps = true;
 }
 
 -- whether each change is of a table of the schema that has the columns that it gives or names
