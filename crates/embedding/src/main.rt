@@ -174,7 +174,7 @@ fn compare<J: SourceNaming>(
     let (receipts, mut told) = met?;
     told.sum = sum(replica.store())?;
     let source = source.end(&receipts);
-    told.is_beginning = begins(&source, replica);
+    told.is_beginning = begins(&source, replica) == Some(true);
     Ok(told)
 }
 

@@ -52,7 +52,7 @@ fn show_replica<W: Write>(
         &opened.log.records(alloc)?,
         replica,
     )?;
-    let is_beginning = begins(&opened.core, replica);
+    let is_beginning = begins(&opened.core, replica) == Some(true);
     writeln!(out, "{} commits at the replica", replica.committed())?;
     writeln!(out, "a beginning of the source's log: {is_beginning}")?;
     Ok(out.flush()?)

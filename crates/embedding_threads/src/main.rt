@@ -151,7 +151,7 @@ fn compare<J: SourceNaming>(
 ) -> Result<Told, Trouble> {
     let (receipts, mut told) = met?;
     let source = source.end(&receipts);
-    told.is_beginning = begins(&source, replica);
+    told.is_beginning = begins(&source, replica) == Some(true);
     Ok(told)
 }
 

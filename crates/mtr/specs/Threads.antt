@@ -67,6 +67,8 @@ pub record IsEnded {S T : Type 0} (plan : Plan) (e : Ended S T) : Type 0 where
   pub within : commits_in shown ≤ length e.replica.commits
   pub counted : e.replica.published ≡ commits_in shown
   pub told : All (λ v. AreTold e.replica.preserve shown v.items) e.readings.items
+  -- both keep all records
+  pub keep : (e.source.keeps ≡ true) × (e.replica.keeps ≡ true)
 
 -- a reader read a hundred times at least
 abbrev pub has_read : List Shown → Bool

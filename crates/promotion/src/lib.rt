@@ -70,7 +70,7 @@ where
         Err(fault) => return Err((fault, replica)),
     };
     let behind = replica.committed();
-    let (_schema, _base, _accepted, store) = replica.into_parts();
+    let store = replica.into_rows();
     let source = SourceCore::opened(opening, store, tracker, max_records);
     Ok(Promoted {
         source,

@@ -123,6 +123,7 @@ module _ {names : ReplicaNames} {preserve : Bool} {known : Option (List Op)} {s 
           number = t.number;
           in_order = λ kept. (whole.in_order (t.named.3 ∙ kept)).ops;
           of_log = subst (λ (q : Replica). IsOfLog names.log q.accepted) g.is of_log;
+          keeps = t.keeps;
         };
         kept = h.kept;
         line = h.line;

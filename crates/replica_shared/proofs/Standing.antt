@@ -110,6 +110,7 @@ module _ {names : ReplicaNames} {preserve : Bool} {r : Replica} {p : Publishing}
     number = t.number;
     in_order = λ kept. (sound.in_order (t.named.3 ∙ kept)).ops;
     of_log = t.of_log;
+    keeps = t.keeps;
   }
     where
       one : List Record
@@ -211,6 +212,7 @@ module _ {names : ReplicaNames} {preserve : Bool} {r : Replica} {p : Publishing}
     number = (let number = t.number in omega (arith, length-append p.waiting (op ∷ [])));
     in_order = t.in_order;
     of_log = t.of_log;
+    keeps = t.keeps;
   }
 
   -- ---- what is published
@@ -272,6 +274,7 @@ new_stands {names = names} {preserve = preserve} is none = record {
   number = sym (ap (λ (q : Publishing). commits_in q.published + length q.waiting) is);
   in_order = λ kept. first;
   of_log = none_of_log names.log;
+  keeps = refl;
 }
   where
     first : (n : ℕ) → n ≤ 0 → operations names.tables names.base [] n ≡ operations_in_order names.tables names.base [] n

@@ -128,7 +128,7 @@ impl<S: RowStore + Drop, J: ReplicaNaming> Coordinator<S, J> {
         ensures { result ≡ is_ended self.now }
     {
         self.closed
-            && self.core.committed() == self.core.accepted().len() as u64
+            && self.core.committed() == self.core.received()
             && self.core.published() == self.core.committed()
     }
 
@@ -169,7 +169,7 @@ fn store_words<S: RowStore>(rt: &impl Wait, core: &ReplicaCore<S>, status: &mut 
     ensures sound { IsSound core.now }
 {
     let counts = Counts {
-        received: core.accepted().len() as u64,
+        received: core.received(),
         committed: core.committed(),
         published: core.published(),
     };

@@ -449,6 +449,7 @@ impl<S: RowStore + Drop, J: ReplicaNaming> SharedReplica<S, J> {
             (operations result.0.tables result.0.base (ran result.0) (length result.0.commits)) }
         ensures shown { result.0.published ≡ commits_in result.1.published }
         ensures accepted { IsOfLog J.names.log result.0.accepted }
+        ensures keeps { result.0.keeps ≡ true }
     {
         let SharedReplica {
             lock,

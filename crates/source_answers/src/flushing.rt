@@ -1,6 +1,6 @@
 //! A flush, and the stamps in its reply.
 
-ghost use Rattle.std.specs.Prelude.{◌≡◌, ◌≤◌, ◌+◌, ◌-◌, [], length, map, drop, vec_capacity, IfOk};
+ghost use Rattle.std.specs.Prelude.{◌≡◌, ◌≤◌, [], length, map, vec_capacity, IfOk};
 ghost use Rattle.world.specs.Legal.{stamp_of};
 ghost use Rattle.source_answers.specs.Answers.{Answers};
 
@@ -22,15 +22,13 @@ fn room_for_stamps(alloc: Global, count: usize) -> Result<Vec<(u64, u64)>, Memor
     Ok(Vec::with_capacity(alloc, count)?)
 }
 
-/// The stamps of the records from this number on, put into an empty list that has room for them.
-fn stamps_from(mut list: Vec<(u64, u64)>, log: &[Record], first: u64) -> Stamps
+/// The stamps of the records, put into an empty list that has room for them.
+fn stamps_of(mut list: Vec<(u64, u64)>, records: &[Record]) -> Stamps
     requires empty { list.items ≡ [] }
-    requires some { 1 ≤ first }
-    requires there { first ≤ length log.now + 1 }
-    requires room { length log.now - (first - 1) ≤ vec_capacity list }
-    ensures { result ≡ map stamp_of (drop (first - 1) log.now) }
+    requires room { length records.now ≤ vec_capacity list }
+    ensures { result ≡ map stamp_of records.now }
 {
-    for made in &log[(first - 1) as usize..] {
+    for made in records {
         list.push((made.sequence, made.parent)).unwrap();
     }
     Stamps::new(list)
@@ -57,7 +55,7 @@ pub(crate) fn flush<S: RowStore, T: Tracker, D: Device>(
     match source.flush() {
         Ok(Some((first, _))) => Reply::Flushed {
             first,
-            stamps: stamps_from(list, source.source().log(), first),
+            stamps: stamps_of(list, source.source().log_past(first - 1)),
         },
         Ok(None) => Reply::Nothing,
         Err(fault) => Reply::Source(fault),

@@ -2,7 +2,7 @@
 use Rattle.std.proofs.Common.{◌≡◌, ◌∙◌, sym, ap, subst, refl, ℕ, zero, suc, ◌+◌, ◌<◌, ◌≤◌, ◌^◌, List, [], ◌∷◌, length, map, take, drop, replicate, Option, Some, None, arith}
 use Rattle.std.specs.FinMap.{empty}
 use Rattle.std.specs.Option.{option_map}
-use Rattle.std.proofs.Common.{eqb, false}
+use Rattle.std.proofs.Common.{eqb, true, false}
 use Rattle.std.specs.List.{IsDistinct}
 use Rattle.std.proofs.lemmas.List.{length-map, length-take-le, take_all, drop_all}
 use Rattle.log_index.specs.declared.Entry.{Entry as Seen}

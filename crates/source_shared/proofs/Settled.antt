@@ -111,7 +111,7 @@ next_waits base tables s h = of s.unsynced refl where
 pub sessions_settled : (base : List Entry) (tables : List Table) (s : State) (sessions : List (Option Open)) (queue : List ℕ) → IsSettled base tables s
     → IsSettled base tables (record s { core = record s.core { sessions = sessions; queue = queue } })
 sessions_settled base tables s sessions queue h =
-    record { base_is = h.base_is; tables_is = h.tables_is; flushed = h.flushed; ready = h.ready; out = h.out; receipts = h.receipts; watch = h.watch; calm = h.calm }
+    record { base_is = h.base_is; tables_is = h.tables_is; keeps = h.keeps; flushed = h.flushed; ready = h.ready; out = h.out; receipts = h.receipts; watch = h.watch; calm = h.calm }
 
 -- the source is halted
 pub failed_settled : (base : List Entry) (tables : List Table) (s : State) → IsSettled base tables s → IsSettled base tables (failed s)
@@ -119,6 +119,7 @@ failed_settled base tables s h =
     record {
       base_is = h.base_is;
       tables_is = h.tables_is;
+      keeps = h.keeps;
       flushed = h.flushed;
       ready = IfSome_then s.home h.ready (λ t ready e. absurd cc);
       out = h.out;
@@ -146,6 +147,7 @@ emptied base tables s k h =
     record {
       base_is = h.base_is;
       tables_is = h.tables_is;
+      keeps = h.keeps;
       flushed = h.flushed;
       ready = h.ready;
       out = h.out;
@@ -159,7 +161,7 @@ emptied base tables s k h =
 -- the writer is here, and ready unless the source is halted
 home_settled : (base : List Entry) (tables : List Table) (s : State) (t : Tail) → (s.core.halted ≡ false → IsReady s.core.synced t) → IsSettled base tables s → IsSettled base tables (with_home t s)
 home_settled base tables s t ready h =
-    record { base_is = h.base_is; tables_is = h.tables_is; flushed = h.flushed; ready = ready; out = tt; receipts = h.receipts; watch = h.watch; calm = h.calm }
+    record { base_is = h.base_is; tables_is = h.tables_is; keeps = h.keeps; flushed = h.flushed; ready = ready; out = tt; receipts = h.receipts; watch = h.watch; calm = h.calm }
 
 -- the writer that is here is ready, unless the source is halted
 pub ready_here : (base : List Entry) (tables : List Table) (s : State) (t : Tail) → s.home ≡ Some t → s.core.halted ≡ false → IsSettled base tables s → IsReady s.core.synced t
@@ -179,6 +181,7 @@ flushed_settled base tables s c group sound f h =
     (record {
       base_is = h.base_is;
       tables_is = h.tables_is;
+      keeps = h.keeps;
       flushed = subst (λ (l : List ℕ). IsFlushedOf (core.log ++ f.records) core.synced l s.kept (s.unsynced ++ group ∷ [])) (sym (group_is_counted core c group sound f) ∙ sizes)
           (flushed_more core.log core.synced core.group_sizes s.kept s.unsynced h.flushed f.records group (group_ends core c group sound f).0 f.version f.group_of);
       ready = h.ready;
@@ -265,6 +268,7 @@ module _ (base : List Entry) (tables : List Table) (s : State) (t : Tail) (group
       (record {
         base_is = h.base_is;
         tables_is = h.tables_is;
+        keeps = h.keeps;
         flushed =
             subst
             (λ (rs : List Record). IsFlushedOf s.core.log group.last (drop 1 s.core.group_sizes)
@@ -287,6 +291,7 @@ given_settled base tables s c places history is placed long history_is h =
     (record {
       base_is = h.base_is;
       tables_is = h.tables_is;
+      keeps = h.keeps;
       flushed = h.flushed;
       ready = h.ready;
       out = h.out;
@@ -388,6 +393,7 @@ new_settled log past s t core sound holds home kept halves new =
     record {
       base_is = refl;
       tables_is = refl;
+      keeps = ap (λ (c : Source). c.keeps) core;
       flushed = flushed;
       ready =
           rw home

@@ -176,6 +176,8 @@ NoneSleepsWithEnd s = (place : ℕ) → slice_index_or s.watch.sleeping place fa
 pub record IsSettled (base : List Entry) (tables : List Table) (s : State) : Type 0 where
   pub base_is : s.core.base ≡ base
   pub tables_is : s.core.tables ≡ tables
+  -- it keeps all records
+  pub keeps : s.core.keeps ≡ true
   pub flushed : IsFlushedOf s.core.log s.core.synced s.core.group_sizes s.kept s.unsynced
   -- what writes the last one, where it is here, is behind the synced records
   pub ready : IfSome s.home (λ t. s.core.halted ≡ false → IsReady s.core.synced t)

@@ -21,7 +21,6 @@ pub mod Publish
 pub mod LawsReplies
 pub mod LawsSteps
 pub mod LawsCommits
-pub mod LawsFlags
 pub mod LawsRuns
 pub mod LawsHalts
 pub mod LawsSides

@@ -2,7 +2,8 @@
 use Rattle.std.specs.Prelude.{◌≡◌, ℕ, List, [], ◌∷◌, length}
 use Rattle.rows.specs.Database.{Database}
 use Rattle.source_core.specs.Source.{new_source}
-use Rattle.replica_core.specs.Calls.{new_over}
+use Rattle.source_core.specs.Calls.{letting_go}
+use Rattle.replica_core.specs.Calls.{new_over, letting_go as replica_letting_go}
 use Rattle.log_file.specs.Log.{IsNew}
 use Rattle.log_set.specs.Set.{SetOn, IsNewSet}
 use Rattle.log_set.specs.Crash.{SetIsKept}
@@ -29,10 +30,10 @@ setup_of w = record {
       w.replica.preserve;
 }
 
--- a new log on the first of 16 devices, and a new source and a new replica over one schema and equal rows, which readers see
+-- a new log on the first of 16 devices, and a new source and a new replica over one schema and equal rows, which readers see; both let records go
 pub record IsFresh {D R : Type 0} (contents : R → Database) (w : World D R) : Type 0 where
-  pub source : w.source ≡ new_source w.source.tables w.source.base w.source.limit w.source.kind
-  pub replica : w.replica ≡ new_over w.source.tables w.wire.log.head.source w.source.base w.replica.workers w.replica.preserve
+  pub source : w.source ≡ letting_go (new_source w.source.tables w.source.base w.source.limit w.source.kind)
+  pub replica : w.replica ≡ replica_letting_go (new_over w.source.tables w.wire.log.head.source w.source.base w.replica.workers w.replica.preserve)
   pub jobs : w.jobs ≡ []
   pub log : IsNew w.wire.log
   pub firsts : w.wire.firsts ≡ 1 ∷ []

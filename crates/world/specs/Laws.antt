@@ -23,7 +23,7 @@ use Rattle.world.specs.declared.events.Event.{Event}
 use Rattle.world.specs.declared.events.Event.TheVariants as events
 use Rattle.world.specs.declared.events.Reply.{Reply}
 use Rattle.world.specs.declared.events.Reply.TheVariants as replies
-use Rattle.world.specs.Past.{Past, is_failure, flushed, synced, source_committed, accepted, dispatched, commits, replica_committed, finished, under_way, published}
+use Rattle.world.specs.Past.{Past, is_failure, flushed, synced, source_committed, accepted, dispatched, commits, replica_committed, finished, published}
 use Rattle.world.specs.Legal.{Setup, rows_after, is_out, is_commit, is_source_memory, is_replica_memory, is_codec_memory, is_log_memory, AreLegal}
 
 -- these pairs, and behind them those of the events and their replies, the newest first
@@ -140,18 +140,6 @@ abbrev pub EachCommitOnce : Type 0
 EachCommitOnce = (setup : Setup) (log : List Record) (events_ : List Event) (replies_ : List Reply) → AreLegal setup log events_ replies_ →
     (before later gno : ℕ) → before < later → slice_get replies_ before ≡ Some (replies.Commit gno) →
     slice_get replies_ later ≡ Some (replies.Commit gno) → ⊥
-
--- So many records are dispatched and not committed as there are flags. A job is out exactly where its record is one of these and its flag
--- is not set, and the next record's job is finished exactly where the first flag is set.
-pub record GoesByFlags (past : Past) : Type 0 where
-  pub each : replica_committed past + length (under_way past) ≡ dispatched past
-  pub out : (gno : ℕ) → is_out past gno ≡ (nat_lt (replica_committed past) gno && not (slice_index_or (under_way past) (gno - replica_committed past - 1) true))
-  pub next : has_gno (finished past) (replica_committed past + 1) ≡ slice_index_or (under_way past) 0 false
-
--- In the order of the log the replica's jobs are finished, and its records committed, as one flag for each of them tells.
-abbrev pub OrderGoesByFlags : Type 0
-OrderGoesByFlags = (setup : Setup) (log : List Record) (events_ : List Event) (replies_ : List Reply) → AreLegal setup log events_ replies_ →
-    setup.preserve ≡ true → (moment : ℕ) → GoesByFlags (past_at events_ replies_ moment)
 
 -- No call of the replica is refused but for a gap, at a delivery, or for want of memory: it never stops.
 abbrev pub RefusesOnlyGaps : Type 0

@@ -71,6 +71,7 @@ source_at setup log past = record {
   queue = queue past;
   group_sizes = map size_between (unsynced past);
   halted = halted past;
+  keeps = false;
 }
 
 -- the replica
@@ -88,6 +89,7 @@ replica_at setup log past = record {
   finished = finished past;
   workers = setup.workers;
   stopped = None;
+  keeps = false;
 }
 
 -- the source's first cause of refusal, and else this reply

@@ -153,17 +153,6 @@ finished (pair ∷ past) = elim pair.1 [
   | _ ↦ finished past
 ]
 
--- for each record dispatched and not committed at the replica, in log order, whether its result was taken, where commits are in the order
--- of the log
-abbrev pub under_way : Past → List Bool
-under_way [] = []
-under_way (pair ∷ past) = elim pair.1 [
-  | replies.Job gno ↦ under_way past ++ false ∷ []
-  | replies.Finished gno ↦ slice_set (under_way past) (gno - replica_committed past - 1) true
-  | replies.Commit gno ↦ drop 1 (under_way past)
-  | _ ↦ under_way past
-]
-
 -- the number of commits published at the replica
 abbrev pub published : Past → ℕ
 published [] = 0

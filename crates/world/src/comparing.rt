@@ -1,6 +1,6 @@
 //! Whether a replica has what its source's log says.
 
-ghost use Rattle.std.specs.Prelude.{◌≡◌, ◌↔◌, IsTrue};
+ghost use Rattle.std.specs.Prelude.{◌≡◌, ◌↔◌, IsTrue, IfSome, IsSome, true};
 ghost use mathlib.Core.List.{IsPrefix};
 ghost use Rattle.std.specs.List.{AllByRecursion};
 ghost use Rattle.std.specs.FinMap.{get as row_of};
@@ -16,15 +16,21 @@ use store_trait::{Batch, RowStore};
 use tracker_trait::Tracker;
 
 /// Whether both sides began with the same rows, and the records that the replica accepted are a prefix of the source's
-/// log. It takes no memory. With n initial rows, it takes the time of 2n look-ups among them, and of comparing the
-/// accepted records.
+/// log. None if one of the two lets records go. It takes no memory. With n initial rows, it takes the time of 2n look-ups
+/// among them, and of comparing the accepted records.
 pub fn begins<S: RowStore, T: Tracker, R: RowStore>(
     source: &SourceCore<S, T>,
     replica: &ReplicaCore<R>,
-) -> bool
-    ensures { IsTrue result ↔ ((loaded source.now.base ≡ loaded replica.now.base) × IsPrefix replica.now.accepted source.now.log) }
+) -> Option<bool>
+    ensures both { IfSome result (λ begins. IsTrue begins
+        ↔ ((loaded source.now.base ≡ loaded replica.now.base) × IsPrefix replica.now.accepted source.now.log)) }
+    ensures none { IsSome result ↔ ((source.now.keeps ≡ true) × (replica.now.keeps ≡ true)) }
 {
-    load_alike(source.base(), replica.base()) && is_beginning(replica.accepted(), source.log())
+    if source.keeps() && replica.keeps() {
+        Some(load_alike(source.base(), replica.base()) && is_beginning(replica.accepted(), source.log()))
+    } else {
+        None
+    }
 }
 
 /// Whether two batches load the same rows into an empty store.

@@ -12,7 +12,6 @@ ghost use Rattle.world.specs.Laws.{
   CommittedAreSynced,
   EachCommitOnceInOrder,
   EachCommitOnce,
-  OrderGoesByFlags,
   NothingUnsyncedIsAccepted,
   RefusesOnlyGaps,
   OperationsLeaveRows,
@@ -72,12 +71,6 @@ pub fn each_commit_once_in_order()
 /// In any order, it commits no record twice.
 pub fn each_commit_once()
     ensures { EachCommitOnce }
-{}
-
-/// In log order, each record that is dispatched and not committed has a flag. The flags decide which job is out, and
-/// whether the next record may be committed.
-pub fn order_goes_by_flags()
-    ensures { OrderGoesByFlags }
 {}
 
 /// The replica accepts a record only if it is synced at the source, and only the next one.

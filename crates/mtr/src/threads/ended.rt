@@ -1,6 +1,8 @@
 //! Both sides as they ended, and whether they agree.
 
-ghost use Rattle.std.specs.Prelude.{◌≡◌, true};
+ghost use Rattle.std.specs.Prelude.{◌≡◌, ◌↔◌, IsTrue, true};
+ghost use mathlib.Core.List.{IsPrefix};
+ghost use Rattle.store_trait.specs.Operation.{loaded};
 ghost use Rattle.std.specs.List.{list_all};
 ghost use Rattle.mtr.specs.Options.{IsInRange};
 ghost use Rattle.mtr.specs.Threads.{IsLast, IsEnded, Holds, TookPart, are_within, has_read};
@@ -58,14 +60,26 @@ impl<S: RowStore, T: Tracker> Ended<S, T> {
         let published = self.published;
         if self.took_part(plan)
             && self.replica.published() == published
-            && begins(&self.source, &self.replica)
+            && self.begins()
             && are_all_within(&self.readings, published)
         {
-            prove!(self.replica.accepted().len() <= self.source.log().len());
+            prove!(self.replica.received() <= self.source.flushed());
             let log = last_gno(&self.receipts);
             Verdict::Equal { log, published }
         } else {
             Verdict::Different
+        }
+    }
+
+    // Whether both sides began with the same rows, and what the replica accepted is a prefix of the source's log.
+    fn begins(&self) -> bool
+        requires { (self.now.source.keeps ≡ true) × (self.now.replica.keeps ≡ true) }
+        ensures { IsTrue result
+            ↔ ((loaded self.now.source.base ≡ loaded self.now.replica.base) × IsPrefix self.now.replica.accepted self.now.source.log) }
+    {
+        match begins(&self.source, &self.replica) {
+            Some(begins) => begins,
+            None => false,
         }
     }
 

@@ -1,6 +1,6 @@
 //! The two sides, from their opening to their end.
 
-ghost use Rattle.std.specs.Prelude.{◌≡◌, None, All, IfOk};
+ghost use Rattle.std.specs.Prelude.{◌≡◌, None, All, IfOk, true};
 ghost use Rattle.source_core.specs.Source.{new_source};
 ghost use Rattle.log_file.specs.Log.{IsNew};
 ghost use Rattle.mtr.specs.Options.{AreSides, IsInRange};
@@ -233,6 +233,7 @@ fn end_source<S: NewStore, T: Tracker + Drop + Send + Sync, J: SourceNaming>(
 ) -> Result<(SourceCore<S, T>, Vec<Given>), AllocError>
     ensures tables { IfOk result (λ ended. ended.0.tables ≡ J.tables) }
     ensures base { IfOk result (λ ended. ended.0.base ≡ J.base) }
+    ensures keeps { IfOk result (λ ended. ended.0.keeps ≡ true) }
     ensures receipts { IfOk result (λ ended. All (IsCommitted ended.0) ended.1.items) }
 {
     let core = source.end(&receipts);

@@ -74,7 +74,7 @@ impl<S: RowStore + Drop, J: ReplicaNaming> Coordinator<S, J> {
         ensures takes { TakesAndSettles self.old wire.old piece.now result wire.new self.new }
         ensures named { IsReplicaOf J.names J.preserve self.old.core }
     {
-        let before = self.accepted();
+        let before = self.core.received();
         let taken = self.take_piece(rt, wire, piece);
         let settled = self.settle_past(rt, before);
         told_of(taken, settled)
@@ -86,7 +86,7 @@ impl<S: RowStore + Drop, J: ReplicaNaming> Coordinator<S, J> {
         ensures takes { HandsAndSettles self.old wire.old result wire.new self.new }
         ensures named { IsReplicaOf J.names J.preserve self.old.core }
     {
-        let before = self.accepted();
+        let before = self.core.received();
         let taken = self.hand_waiting(rt, wire);
         let settled = self.settle_past(rt, before);
         told_of(taken, settled)
@@ -104,9 +104,9 @@ impl<S: RowStore + Drop, J: ReplicaNaming> Coordinator<S, J> {
         ensures left { self.new ≡ left_by_take self.old self.new.core }
         ensures named { IsReplicaOf J.names J.preserve self.old.core }
     {
-        let before = self.core.accepted().len();
+        let before = self.core.received();
         let taken = wire.take(&mut self.core, piece);
-        if before < self.core.accepted().len() {
+        if before < self.core.received() {
             store_words(rt, &self.core, &mut self.status);
             self.behind = true;
         }
@@ -120,9 +120,9 @@ impl<S: RowStore + Drop, J: ReplicaNaming> Coordinator<S, J> {
         ensures left { self.new ≡ left_by_take self.old self.new.core }
         ensures named { IsReplicaOf J.names J.preserve self.old.core }
     {
-        let before = self.core.accepted().len();
+        let before = self.core.received();
         let handed = wire.hand(&mut self.core);
-        if before < self.core.accepted().len() {
+        if before < self.core.received() {
             store_words(rt, &self.core, &mut self.status);
             self.behind = true;
         }
@@ -133,23 +133,16 @@ impl<S: RowStore + Drop, J: ReplicaNaming> Coordinator<S, J> {
     }
 
     // Does all that can be done, if more than `before` records were accepted.
-    fn settle_past(&mut self, rt: &impl Wait, before: usize) -> Result<(), ReplicaFault>
+    fn settle_past(&mut self, rt: &impl Wait, before: u64) -> Result<(), ReplicaFault>
         requires runs { before < length self.old.core.accepted → self.old.core.stopped ≡ None }
         ensures none { length self.old.core.accepted ≤ before → (result ≡ Ok tt) × (self.new ≡ self.old) }
         ensures some { before < length self.old.core.accepted → SettlesOrLacks self.old result self.new }
     {
-        if before < self.accepted() {
+        if before < self.core.received() {
             self.settle(rt)
         } else {
             Ok(())
         }
-    }
-
-    // How many records were accepted.
-    fn accepted(&self) -> usize
-        ensures { result ≡ length self.now.core.accepted }
-    {
-        self.core.accepted().len()
     }
 }
 

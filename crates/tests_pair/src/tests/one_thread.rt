@@ -102,7 +102,7 @@ fn over_source<J: SourceNaming + Send + Sync, R: Threads + Wait + Abort + Sync>(
     match over_both::<J, Brand, R>(rt, alloc, course, &source, replica, publication) {
         Ok((receipts, core)) => {
             let source = source.end(&receipts);
-            let is_beginning = begins(&source, &core);
+            let is_beginning = begins(&source, &core) == Some(true);
             drop(source);
             drop(core);
             assert!(rt; is_beginning);

@@ -113,7 +113,7 @@ fn receives_all(rt: &(impl Abort + AllocGlobal), relay: &mut Relay) -> Result<()
 fn worked_deliveries_are_answered(rt: HostRuntime) -> Result<(), Memory> {
     let mut relay = Relay::new(rt.alloc(), family(rt.alloc())?, source());
     receives_all(&rt, &mut relay)?;
-    assert_eq!(rt; relay.accepted().len(), 11);
+    assert_eq!(rt; relay.count(), 11);
     Ok(())
 }
 

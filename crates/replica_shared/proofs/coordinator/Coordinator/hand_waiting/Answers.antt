@@ -14,4 +14,4 @@ invariant_of-self g c =
 
 pub invariant_of-self-else-before-accepted : goal.invariant_of-self-else-before-accepted
 invariant_of-self-else-before-accepted g c =
-    whole_same c.self.invariant (same_core _ _ _ _ (hands_on_grow _ _ _ _ _ c.hand-handed.ensures.hands) c.accepted-before.ensures c.accepted.ensures c.if-before-accepted.false)
+    whole_same c.self.invariant (same_core _ _ _ _ (hands_on_grow _ _ _ _ _ c.hand-handed.ensures.hands) c.received-before.ensures c.received.ensures c.if-before-received.false)

@@ -12,3 +12,6 @@ returns-clause-within g c = published_within c.end.ensures.together.stand
 
 pub returns-clause-accepted : goal.returns-clause-accepted
 returns-clause-accepted g c = c.end.ensures.together.stand.of_log
+
+pub returns-clause-keeps : goal.returns-clause-keeps
+returns-clause-keeps g c = c.end.ensures.together.stand.keeps

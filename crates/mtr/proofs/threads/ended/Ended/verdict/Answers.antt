@@ -10,7 +10,7 @@ pub returns-then-are_all_within : goal.returns-then-are_all_within
 returns-then-are_all_within g c =
     let e = c.args.self.now in
     let told = c.begins.ensures.0 c.if-begins.true in
-    equal_sides c.args.plan.now e c.requires.ended c.log.ensures.sound c.published.ensures.sound
+    equal_sides c.args.plan.now e c.requires.ended c.flushed.ensures.sound c.published.ensures.sound
     (record {
       took_part = c.took_part.ensures.yes c.if-took_part.true;
       counted = sym c.published.ensures.value ∙ c.if-published.true;
