@@ -58,26 +58,26 @@ take_front [] rest new = refl
 take_front (r ∷ front) rest new = ap (λ l. r ∷ l) (take_front front rest new)
 
 -- what is answered to a record whose number is this
-answered : (ts : List Table) (source : List ℕ) (accepted front : List Record) (n : ℕ) (new : Record) →
+answered : (ts : List Table) (source : List ℕ) (accepted front : List Record) (n gone : ℕ) (new : Record) →
     length accepted ≡ n → IsAcceptable ts front new → (length front ≡ n → accepted ≡ front) →
-    received (record { tables = ts; source = source; accepted = accepted }) source new ≡ by_number new.gno n
-answered ts source accepted front n new long is same =
+    received (record { tables = ts; source = source; accepted = accepted; gone = gone }) source new ≡ by_number new.gno n
+answered ts source accepted front n gone new long is same =
     elim (cases_lt n new.gno) [
       | inl lt ↦
           elim (cases_eq new.gno (n + 1)) [
             | inl e ↦
                 let here : IsAcceptable ts accepted new = subst (λ (l : List Record). IsAcceptable ts l new) (sym (same (omega (arith, is.gno)))) is in
-                acceptable_is_accepted (record { tables = ts; source = source; accepted = accepted }) source new refl here ∙ sym (at_next new.gno n e)
+                acceptable_is_accepted (record { tables = ts; source = source; accepted = accepted; gone = gone }) source new refl here ∙ sym (at_next new.gno n e)
             | inr ne ↦
-                is_gap (record { tables = ts; source = source; accepted = accepted }) source new refl (well_formed_record ts front new is) (omega arith)
+                is_gap (record { tables = ts; source = source; accepted = accepted; gone = gone }) source new refl (well_formed_record ts front new is) (omega arith)
                 ∙ sym (past_next new.gno n (omega arith))
           ]
       | inr le ↦
-          is_skipped (record { tables = ts; source = source; accepted = accepted }) source new refl (well_formed_record ts front new is) (omega arith) ∙ sym (at_most new.gno n le)
+          is_skipped (record { tables = ts; source = source; accepted = accepted; gone = gone }) source new refl (well_formed_record ts front new is) (omega arith) ∙ sym (at_most new.gno n le)
     ]
 
 pub receives_of_log : ReceivesOfLog
-receives_of_log ts base source log n place new legal shaped few le at =
+receives_of_log ts base source log n gone place new legal shaped few le at =
     let w = split_at log place new at in
     let is = legal_is_acceptable ts base log legal shaped few w.0 new w.1 w.2 in
-    answered ts source (take n log) w.0 n new (omega (arith, length-take n log)) is (λ e. ap (take n) w.2 ∙ ap (λ k. take k (w.0 ++ new ∷ w.1)) (sym e) ∙ take_front w.0 w.1 new)
+    answered ts source (take n log) w.0 n gone new (omega (arith, length-take n log)) is (λ e. ap (take n) w.2 ∙ ap (λ k. take k (w.0 ++ new ∷ w.1)) (sym e) ∙ take_front w.0 w.1 new)

@@ -6,3 +6,4 @@ pub mod Acceptable
 pub mod Last
 pub mod Judged
 pub mod Legal
+pub mod Parts

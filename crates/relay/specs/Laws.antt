@@ -41,9 +41,9 @@ AcceptableStatesGiven = (ts : List Table) (log : List Record) (new : Record) →
 abbrev pub LegalIsAcceptable : Type 0
 LegalIsAcceptable = (ts : List Table) (base : Database) (log : List Record) → IsLegalLog ts base log → AreShaped ts log → length log < 2 ^ 63 → AreAcceptable ts log
 
--- Of such a log a relay that accepted the first n records accepts the next, skips those before and takes no other.
+-- Of such a log a relay that accepted the first n records, and keeps them or not, accepts the next, skips those before and takes no other.
 abbrev pub ReceivesOfLog : Type 0
-ReceivesOfLog = (ts : List Table) (base : Database) (source : List ℕ) (log : List Record) (n place : ℕ) (new : Record) →
+ReceivesOfLog = (ts : List Table) (base : Database) (source : List ℕ) (log : List Record) (n gone place : ℕ) (new : Record) →
     IsLegalLog ts base log → AreShaped ts log → length log < 2 ^ 63 → n ≤ length log → slice_get log place ≡ Some new →
-    received (record { tables = ts; source = source; accepted = take n log }) source new
+    received (record { tables = ts; source = source; accepted = take n log; gone = gone }) source new
     ≡ (if nat_le new.gno n then Ok Skipped else if new.gno == n + 1 then Ok Accepted else Err Gap)

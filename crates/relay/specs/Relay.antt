@@ -1,5 +1,5 @@
 -- What a relay is seen as, and which records it accepts.
-use Rattle.std.specs.Prelude.{◌≡◌, ℕ, ◌+◌, ◌<◌, ◌^◌, Bool, true, not, ◌&&◌, ◌||◌, ◌==◌, nat_le, nat_lt, if◌then◌else◌, List, [], ◌∷◌, ◌++◌, length, map, Result, Ok, Err}
+use Rattle.std.specs.Prelude.{◌≡◌, ℕ, ◌+◌, ◌<◌, ◌≤◌, ◌^◌, max, Bool, true, not, ◌&&◌, ◌||◌, ◌==◌, nat_le, nat_lt, if◌then◌else◌, List, [], ◌∷◌, ◌++◌, length, map, Result, Ok, Err}
 use Rattle.std.specs.List.{list_all}
 use Rattle.std.specs.Str.{bytes_eq}
 use Rattle.schema.specs.declared.Table.{Table}
@@ -20,6 +20,8 @@ pub record Relay : Type 0 where
   pub source : List ℕ
   -- the records accepted, in order
   pub accepted : List Record
+  -- how many of the first of them are not kept any more
+  pub gone : ℕ
 
 -- Whether a source of these tables may write such changes, flags, refs and marks, whatever the rows are: each change is of a
 -- table, and of columns that the table has; the flags are those of the tables that the changes write; each ref is of a table
@@ -61,6 +63,13 @@ with_accepted r new = record r { accepted = r.accepted ++ new ∷ [] }
 abbrev pub left_by_receive : Relay → Record → Received → Relay
 left_by_receive r new Accepted = with_accepted r new
 left_by_receive r new Skipped = r
+
+-- Nothing changes but for what is kept: of the first records at most so many more are gone.
+pub record LetsGo (upto : ℕ) (old new : Relay) : Type 0 where
+  pub tables : new.tables ≡ old.tables
+  pub source : new.source ≡ old.source
+  pub accepted : new.accepted ≡ old.accepted
+  pub within : new.gone ≤ max old.gone upto
 
 -- A record that may stand behind these: the next number, as gno and as sequence number; a parent below it that covers them;
 -- each change of a table, and of columns that the table has; the flags of the tables that they write; refs to rows of parent

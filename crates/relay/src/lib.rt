@@ -5,15 +5,18 @@
 //! accepted before. So whatever is received, many workers may apply the records that it keeps. It does not look at what a
 //! record's changes do to the rows.
 //!
+//! It lets the first records go once it is told that nobody asks for them. Contracts speak of all accepted records, kept
+//! or not.
+//!
 //! Beside the records it keeps the set of their ids, which shows whether a record came before. It also keeps which record
 //! touched each row last, and which stated each mark last (`touches`), so no parent is judged by a walk over the records.
-//! The crate uses `record_codec` for records, `gtid_set` for ids, and `row_map`.
+//! The crate uses `record_codec` for records, `gone_records` for those that are gone, `gtid_set` for ids, and `row_map`.
 #![tactic(auto)]
 
 ghost use Rattle.std.specs.Prelude.{◌≡◌, ◌⊎◌, ◌+◌, ◌-◌, ◌^◌, ◌<◌, ◌≤◌, IfOk, IfErr, OnOk, OnErr, IsErrOf, [], Ok, Err, false};
-ghost use Rattle.std.specs.Prelude.{nat_le, length, vec_len, vec_capacity};
+ghost use Rattle.std.specs.Prelude.{nat_le, length, drop, vec_len, vec_capacity};
 ghost use Rattle.gtid_set.specs.Ids.{first_ids};
-ghost use Rattle.relay.specs.Relay.{is_malformed as malformed, received, with_accepted, left_by_receive, AreAcceptable};
+ghost use Rattle.relay.specs.Relay.{is_malformed as malformed, received, with_accepted, left_by_receive, LetsGo, AreAcceptable};
 
 mod form;
 mod ids;
@@ -21,6 +24,7 @@ mod judging;
 pub mod laws;
 mod touches;
 
+use gone_records::Gone;
 use gtid_set::GtidSet;
 use ids::add_next;
 use judging::is_malformed;
@@ -117,7 +121,9 @@ impl<T: Drop> From<AllocFailed<T>> for ReplicaFault {
 pub struct Relay {
     schema: Schema,
     source: Uuid,
-    accepted: Vec<Record>,
+    gone: Gone,
+    /// The accepted records that are not gone.
+    kept: Vec<Record>,
     /// The ids of the accepted records.
     ids: GtidSet,
     touches: Touches,
@@ -125,24 +131,29 @@ pub struct Relay {
 
 impl Model for Relay {
     ghost use Rattle.relay.specs.Relay.{Relay};
-    ghost use Rattle.relay.specs.Kept.{IsKept};
+    ghost use Rattle.std.specs.Prelude.{◌++◌, length};
 
     ghost Value = { Relay };
 
-    ghost view = { λ r. record { tables = r.schema; source = r.source; accepted = r.accepted.items } };
+    ghost view = { λ r.
+        record { tables = r.schema; source = r.source; accepted = r.gone ++ r.kept.items; gone = length r.gone } };
 
-    ghost invariant = { λ r. IsKept r.schema r.source r.accepted.items r.ids r.touches.rows.map r.touches.marks.map };
+    ghost use Rattle.relay.specs.Kept.{IsKept};
+
+    ghost invariant = { λ r.
+        IsKept r.schema r.source (r.gone ++ r.kept.items) r.ids r.touches.rows.map r.touches.marks.map };
 }
 
 impl Relay {
     /// A relay that has accepted nothing. It takes no memory.
     pub fn new(alloc: Global, schema: Schema, source: Uuid) -> Relay
-        ensures { result ≡ record { tables = schema; source = source; accepted = [] } }
+        ensures { result ≡ record { tables = schema; source = source; accepted = []; gone = 0 } }
     {
         Relay {
             schema,
             source,
-            accepted: Vec::new(alloc),
+            gone: Gone::none(),
+            kept: Vec::new(alloc),
             ids: GtidSet::new(alloc),
             touches: Touches::new(alloc),
         }
@@ -220,18 +231,12 @@ impl Relay {
         ensures ok { OnOk result (self.new ≡ with_accepted self.old new) }
         ensures err { OnErr result (self.new ≡ self.old) }
     {
-        let taken = take_room(
-            &mut self.touches,
-            &mut self.accepted,
-            &mut self.ids,
-            from,
-            &new,
-        );
+        let taken = take_room(&mut self.touches, &mut self.kept, &mut self.ids, from, &new);
         if let Err(fault) = taken {
             return Err((fault.into(), new));
         }
         self.touches.note(&new);
-        self.accepted.push_reserved(new);
+        self.kept.push_reserved(new);
         Ok(Received::Accepted)
     }
 
@@ -248,7 +253,7 @@ impl Relay {
         if self.has_received(new) {
             return Ok(Received::Skipped);
         }
-        if new.gno != self.accepted.len() as u64 + 1 {
+        if new.gno != self.count() + 1 {
             return Err(ReplicaFault::Gap);
         }
         if !self.touches.are_behind(new) {
@@ -265,12 +270,30 @@ impl Relay {
         self.ids.has_number(new.gno)
     }
 
-    /// The accepted records, in order, the record of number 1 first.
-    pub fn accepted(&self) -> &[Record]
-        ensures value { result.now ≡ self.now.accepted }
+    /// The accepted records after the first `count`, in order. No more may be gone than these.
+    pub fn past(&self, count: u64) -> &[Record]
+        requires kept { self.now.gone ≤ count }
+        requires within { count ≤ length self.now.accepted }
+        ensures value { result.now ≡ drop count self.now.accepted }
+    {
+        self.gone.past(&self.kept, count)
+    }
+
+    /// The number of accepted records, kept or not. It takes no memory, and constant time.
+    pub fn count(&self) -> u64
+        ensures value { result ≡ length self.now.accepted }
         ensures valid { AreAcceptable self.now.tables self.now.accepted }
     {
-        &self.accepted
+        self.gone.count() + self.kept.len() as u64
+    }
+
+    /// Lets the records up to this number go: they are freed if they are at least half of those that are kept. Which
+    /// records are accepted does not depend on it. It takes no memory. The time is constant for each record on the whole.
+    pub fn let_go(&mut self, upto: u64)
+        requires { upto ≤ length self.old.accepted }
+        ensures { LetsGo upto self.old self.new }
+    {
+        self.gone.let_go(&mut self.kept, upto);
     }
 
     /// The tables of the source.
@@ -287,19 +310,16 @@ impl Relay {
         self.source
     }
 
-    /// The tables of the source, and the accepted records in order, without a copy. The time is that of freeing what the
-    /// relay keeps of their rows and marks.
+    /// The tables of the source, and the accepted records in order, without a copy, if none is gone. The time is that of
+    /// freeing what the relay keeps of their rows and marks.
     pub fn into_parts(self) -> (Schema, Vec<Record>)
+        requires { self.gone ≡ 0 }
         ensures tables { result.0 ≡ self.tables }
         ensures accepted { result.1.items ≡ self.accepted }
         ensures valid { AreAcceptable self.tables self.accepted }
     {
-        let Relay {
-            schema,
-            accepted,
-            ..
-        } = self;
-        (schema, accepted)
+        let Relay { schema, kept, .. } = self;
+        (schema, kept)
     }
 }
 
