@@ -32,7 +32,7 @@ use Rattle.commit_order.proofs.Lines.{gnos_of, turn_has, turn_waits, turn_is_nex
 use Rattle.gapped.proofs.Choosing.{no_commits, commits_are_within, length_records_at}
 use Rattle.replica_core.specs.Replica.{Replica, low_water, ran, job_of, waiting, commits_from}
 use Rattle.replica_core.specs.Sound.{IsSound, IsUnderWay, IsEligible, ShowsGapped}
-use Rattle.replica_core.specs.Calls.{new_over, with_accepted, dispatched_next, with_finished, stopped_at, with_commit, with_published}
+use Rattle.replica_core.specs.Calls.{new_over, letting_go, with_accepted, dispatched_next, with_finished, stopped_at, with_commit, with_published}
 use Rattle.replica_core.specs.Core.{IsTaken, IsLogKept, IsCounted, ArePartsOf, kept_of, place_in}
 use Rattle.replica_core.specs.declared.dispatching.HandedOut.{HandedOut}
 use Rattle.replica_core.proofs.Commits.{one_commit_each}
@@ -158,9 +158,10 @@ module _ {r : Replica} {marks : Marks} {line : Line} {handed : List HandedOut} {
   kept_stays now stays =
       h.kept ∙ same_each (λ gno. option_map kept_of (job_of r gno)) (λ gno. option_map kept_of (job_of now gno)) r.out (λ gno has. ap (option_map kept_of) (sym (stays gno has)))
 
-  -- what is dispatched, out, finished, published or stopped changes nothing of the log that is kept, but for the operations
-  log_with : {published dispatched : ℕ} {out finished : List ℕ} {stopped : Option ℕ} {left : List Op} → published ≤ length r.commits →
-      left ≡ waiting (record r { published = published }) → IsLogKept (record r { published = published; dispatched = dispatched; out = out; finished = finished; stopped = stopped }) rows keys left
+  -- what is dispatched, out, finished, published, stopped or may go changes nothing of the log that is kept, but for the operations
+  log_with : {published dispatched : ℕ} {out finished : List ℕ} {stopped : Option ℕ} {keeps : Bool} {left : List Op} → published ≤ length r.commits →
+      left ≡ waiting (record r { published = published }) →
+      IsLogKept (record r { published = published; dispatched = dispatched; out = out; finished = finished; stopped = stopped; keeps = keeps }) rows keys left
   log_with few are = record {
     acceptable = h.log.acceptable;
     commits = h.log.commits;
@@ -172,8 +173,8 @@ module _ {r : Replica} {marks : Marks} {line : Line} {handed : List HandedOut} {
   }
 
   -- nor of what was eligible
-  eligible_with : {published dispatched : ℕ} {out finished : List ℕ} {stopped : Option ℕ} {gno : ℕ} {rec : Record} → IsEligible r gno rec →
-      IsEligible (record r { published = published; dispatched = dispatched; out = out; finished = finished; stopped = stopped }) gno rec
+  eligible_with : {published dispatched : ℕ} {out finished : List ℕ} {stopped : Option ℕ} {keeps : Bool} {gno : ℕ} {rec : Record} → IsEligible r gno rec →
+      IsEligible (record r { published = published; dispatched = dispatched; out = out; finished = finished; stopped = stopped; keeps = keeps }) gno rec
   eligible_with is = record { parent = is.parent; near = is.near }
 
   -- ---- one more record accepted
@@ -283,10 +284,10 @@ module _ {r : Replica} {marks : Marks} {line : Line} {handed : List HandedOut} {
         results = all_with_result (λ other. IsTaken (job_of r other.job.gno) other) line result h.results taken;
       }
 
-  -- ---- a stop, or more published
+  -- ---- a stop, more published, or fewer kept
 
-  kept_beside : {published : ℕ} {stopped : Option ℕ} {left : List Op} → IsLogKept (record r { published = published; stopped = stopped }) rows keys left →
-      ArePartsOf (record r { published = published; stopped = stopped }) marks line handed rows keys left
+  kept_beside : {published : ℕ} {stopped : Option ℕ} {keeps : Bool} {left : List Op} → IsLogKept (record r { published = published; stopped = stopped; keeps = keeps }) rows keys left →
+      ArePartsOf (record r { published = published; stopped = stopped; keeps = keeps }) marks line handed rows keys left
   kept_beside log = record {
     set_up = h.set_up;
     log = log;
@@ -300,6 +301,9 @@ module _ {r : Replica} {marks : Marks} {line : Line} {handed : List HandedOut} {
 
   pub kept_stopped : (gno : ℕ) → ArePartsOf (stopped_at r gno) marks line handed rows keys ops
   kept_stopped gno = kept_beside (log_with h.log.published h.log.ops_are)
+
+  pub kept_letting_go : ArePartsOf (letting_go r) marks line handed rows keys ops
+  kept_letting_go = kept_beside (log_with h.log.published h.log.ops_are)
 
   -- an operation waits for each commit that is not published
   pub length_ops : length ops ≡ length r.commits - r.published

@@ -1,13 +1,25 @@
 -- Lists of numbers, and of what has a number each.
-use Rattle.std.proofs.Common.{◌≡◌, ◌∙◌, sym, ap, refl, true≢false, ℕ, suc, ◌+◌, Bool, true, ◌||◌, not, cond, eqb, inl, inr, List, [], ◌∷◌, ◌++◌, map, take, drop, Some, arith, slice_get}
+use Rattle.std.proofs.Common.{◌≡◌, ◌∙◌, sym, ap, refl, true≢false, ℕ, zero, suc, ◌+◌, ◌<◌, Bool, true, ◌||◌, not, cond, eqb, inl, inr, List, [], ◌∷◌, ◌++◌, map, length, take, drop, Option, Some, arith, slice_get}
 use Rattle.std.specs.List.{AllByRecursion, position_or_len, remove}
 use Rattle.std.proofs.lemmas.Bool.{cases_Bool, eqb-true}
-use Rattle.std.proofs.lemmas.List.{map-append, take-map, drop-map}
+use Rattle.std.proofs.lemmas.List.{map-append, take-map, drop-map, length-drop}
 use Rattle.executor.specs.Job.{Finished}
 use Rattle.scheduler.specs.Gnos.{has_gno}
 use Rattle.scheduler.proofs.Gnos.{has_gno_first, has_gno_behind}
 use Rattle.commit_order.proofs.Lines.{gnos_of}
 use Rattle.replica_core.specs.Core.{place_in}
+
+-- what is found first behind so many
+first_past : {X : Type 0} (xs : List X) (n : ℕ) → slice_get (drop n xs) 0 ≡ slice_get xs n
+first_past xs zero = refl
+first_past [] (suc n) = refl
+first_past (x ∷ xs) (suc n) = first_past xs n
+
+pub found_past : {X : Type 0} (xs : List X) (n count : ℕ) (past : List X) (found : Option X) → count ≡ n → past ≡ drop count xs → found ≡ slice_get past 0 → slice_get xs n ≡ found
+found_past xs n count past found same is at = ap (slice_get xs) (sym same) ∙ sym (first_past xs count) ∙ sym (at ∙ ap (λ l. slice_get l 0) is)
+
+pub within_past : {X : Type 0} (xs : List X) (count : ℕ) (past : List X) → count < length xs → past ≡ drop count xs → 0 < length past
+within_past xs count past within is = omega (arith, within, ap length is, length-drop count xs)
 
 -- what is the same of each of the numbers
 pub same_each : {X : Type 0} (f g : ℕ → X) (gnos : List ℕ) → ((gno : ℕ) → has_gno gnos gno ≡ true → f gno ≡ g gno) → map f gnos ≡ map g gnos

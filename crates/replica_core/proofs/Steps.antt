@@ -1,12 +1,13 @@
 -- What a replica keeps, as each call leaves its parts.
-use Rattle.std.proofs.Common.{◌≡◌, ◌∙◌, sym, ap, subst, refl, ℕ, ◌+◌, ◌-◌, ◌<◌, ◌≤◌, ◌^◌, ◌⊎◌, ◌↔◌, inl, inr, Bool, true, false, not, true≢false, ◌&&◌, ◌||◌, eqb, List, [], ◌∷◌, ◌++◌, map, length}
+use Rattle.std.proofs.Common.{◌≡◌, ◌∙◌, sym, ap, subst, refl, ℕ, ◌+◌, ◌-◌, ◌<◌, ◌≤◌, ◌^◌, max, ◌⊎◌, ◌↔◌, inl, inr, Bool, true, false, not, true≢false, ◌&&◌, ◌||◌, eqb, List, [], ◌∷◌, ◌++◌, map, length}
 use Rattle.std.proofs.Common.{drop, Option, Some, None, is_some, Result, Ok, Err, IfOk, OnErr, IsErrOf, IsErrAnd, arith, slice_get, get_or, if◌then◌else◌, nat_le, nat_lt}
 use Rattle.std.specs.List.{position_or_len, remove}
 use Rattle.std.specs.Map.{keys_of}
 use Rattle.std.specs.Option.{option_and_then, option_map, option_map_or, option_or}
 use Rattle.std.proofs.lemmas.Bool.{and_parts, or_cases, cases_Bool, cases_lt, ltb-true, leb-true, le-leb}
 use Rattle.std.proofs.lemmas.Option.{none-some, same_Some, option_and_then_some, slice_get-map, slice_get_within, slice_get_read}
-use Rattle.std.proofs.lemmas.List.{length-map, length-take-le, length_push}
+use Rattle.std.proofs.lemmas.List.{length-map, length_push}
+use Rattle.schema.specs.declared.Memory.{Memory}
 use Rattle.schema.specs.declared.Table.{Table}
 use Rattle.schema.proofs.Telling.{not_some}
 use Rattle.schema.proofs.Lists.{option_map_or_true, get_within}
@@ -26,36 +27,30 @@ use Rattle.relay.specs.declared.Received.{Received}
 use Rattle.relay.specs.declared.Received.TheVariants.{Accepted, Skipped}
 use Rattle.relay.specs.Relay as relay
 use Rattle.relay.specs.Relay.{IsAcceptable, AreAcceptable}
-use Rattle.relay.proofs.Acceptable.{next_is_acceptable}
+use Rattle.relay.proofs.Acceptable.{next_is_acceptable, few_acceptable}
 use Rattle.relay.proofs.Judged.{accepts_the_acceptable}
 use Rattle.row_index.specs.Keys.{Keys, Indexes, marks_at, moved}
+use Rattle.gone_records.specs.Going.{MayBeGone}
 use Rattle.scheduler.specs.Gnos.{has_gno, first_gnos}
 use Rattle.scheduler.specs.Marks.{Marks, is_committed, none_committed}
-use Rattle.scheduler.proofs.Gnos.{first_gnos-next, below_low, low_is_few, AreDistinct_front}
+use Rattle.scheduler.proofs.Gnos.{first_gnos-next, has_gno_front, low_of_more, below_low, low_is_few, AreDistinct_front}
 use Rattle.commit_order.specs.Turns.{Line, no_turns, entered, with_result, turn, passed}
 use Rattle.commit_order.proofs.Lines.{turn_has, turn_waits, turn_free, turn_kept}
 use Rattle.replica_core.specs.Replica.{Replica, low_water, job_over, job_of}
 use Rattle.replica_core.specs.Sound.{IsUnderWay, ShowsGapped}
-use Rattle.replica_core.specs.Calls.{new_over, relay_of, is_near, is_eligible, finish_fault, dispatched_next, with_finished, next_commit, with_commit, with_published}
+use Rattle.replica_core.specs.Calls.{new_over, letting_go, relay_of, is_near, is_eligible, finish_fault, dispatched_next, with_finished, next_commit, with_commit, with_published}
 use Rattle.replica_core.specs.declared.dispatching.HandedOut.{HandedOut}
-use Rattle.replica_core.specs.Core.{ArePartsOf, IsTaken, Parts, commits_seen, seen_as, kept_of, turn_rows, CommitsTurn, LeavesTurn, TakesTurn, IsJudged, place_in}
-use Rattle.replica_core.proofs.Apart.{place_acceptable}
+use Rattle.replica_core.specs.Core.{Holds, ArePartsOf, IsTaken, Parts, commits_seen, seen_as, kept_of, turn_rows, CommitsTurn, LeavesTurn, TakesTurn, IsJudged, place_in}
 use Rattle.replica_core.proofs.Jobs.{job_at, job_is_of_its_record}
 use Rattle.replica_core.proofs.InOrder.{low_in_order}
 use Rattle.replica_core.proofs.Lists.{place-map, place_there}
-use Rattle.replica_core.proofs.Kept.{IsNext, shows_gapped, finished_under_way, kept_new, kept_accepted, kept_dispatched, kept_finished, kept_committed, next_in_turn, kept_published, out_under_way}
+use Rattle.replica_core.proofs.Kept.{IsNext, shows_gapped, finished_under_way, kept_new, kept_accepted, kept_dispatched, kept_finished, kept_committed, next_in_turn, kept_published, kept_letting_go, out_under_way}
 
 -- ---- numbers fit
 
 -- the numbers of accepted records are below 2 ^ 63, so there are fewer
 pub few_accepted : (ts : List Table) (log : List Record) → AreAcceptable ts log → length log < 2 ^ 63
-few_accepted ts [] h = omega arith
-few_accepted ts (x ∷ xs) h =
-    let last = get_within (x ∷ xs) (length xs) (omega arith) in
-    let is = place_acceptable ts (x ∷ xs) (length xs) last.0 h last.1 in
-    let number : last.0.gno ≡ length xs + 1 = is.gno ∙ ap (λ n. n + 1) (length-take-le (length xs) (x ∷ xs) (omega arith)) in
-    let bound = is.bound in
-    omega arith
+few_accepted = few_acceptable
 
 -- ---- answers
 
@@ -99,6 +94,9 @@ out_from r gno is = (no_cause r.stopped (nat_le 1 gno && nat_le gno r.dispatched
 abbrev with_relay : Replica → relay.Relay → Replica
 with_relay r v = record r { tables = v.tables; source = v.source; accepted = v.accepted }
 
+abbrev relay_with : Replica → ℕ → relay.Relay
+relay_with r gone = record (relay_of r) { gone = gone }
+
 abbrev pub with_parts : Replica → Marks → List ℕ → Line → Replica
 with_parts r marks order line = record r {
   preserve = line.preserve;
@@ -107,6 +105,15 @@ with_parts r marks order line = record r {
   out = line.out;
   finished = map (λ (result : Finished). result.job.gno) line.done;
 }
+
+-- a relay that lets records go is seen as before
+pub gone_seen : (r : Replica) {gone upto : ℕ} {left : relay.Relay} → relay.LetsGo upto (relay_with r gone) left → with_relay r left ≡ r
+gone_seen r goes = λ i. record r { tables = goes.tables i; source = goes.source i; accepted = goes.accepted i }
+
+-- and none is gone that is past the mark
+still_within : (keeps : Bool) (gone low low_then gone_then : ℕ) → MayBeGone keeps gone low → low ≤ low_then → gone_then ≤ max gone (if keeps then 0 else low_then) → MayBeGone keeps gone_then low_then
+still_within true gone low low_then gone_then kept rises goes = let none = kept.none refl in record { within = omega arith; none = λ _. omega arith }
+still_within false gone low low_then gone_then kept rises goes = let within = kept.within in record { within = omega arith; none = λ keeps. cc }
 
 none_seen : (preserve : Bool) → commits_seen preserve 0 [] ≡ []
 none_seen true = refl
@@ -146,14 +153,14 @@ pub record AreNew (preserve : Bool) (marks : Marks) (order : List ℕ) (line : L
 
 module _ (v : relay.Relay) (base : List Entry) (workers : ℕ) (preserve : Bool) (marks : Marks) (order : List ℕ) (line : Line) (handed : List HandedOut) (rows : Database) (keys : Keys)
     (ops : List Op) where
-  pub new_seen : AreNew preserve marks order line handed ops → v.accepted ≡ [] → seen_as v base marks order 0 line workers None ≡ new_over v.tables v.source base workers preserve
+  pub new_seen : AreNew preserve marks order line handed ops → v.accepted ≡ [] → seen_as v base marks order 0 line workers None true ≡ new_over v.tables v.source base workers preserve
   new_seen are none =
       rw (are.marks_are, are.order_is, are.line_is, none)
       (ap (λ (l : List ℕ). record (new_over v.tables v.source base workers preserve) { commits = l; dispatched = length l + 0 }) (none_seen preserve))
 
   pub new_kept : AreNew preserve marks order line handed ops → v.accepted ≡ [] → NoValueTwice v.tables rows → loaded base ≡ rows →
       (NoValueTwice v.tables (loaded base) → Indexes v.tables (loaded base) keys) → 1 ≤ workers → workers ≤ 64 →
-      ArePartsOf (seen_as v base marks order 0 line workers None) marks line handed rows keys ops
+      ArePartsOf (seen_as v base marks order 0 line workers None true) marks line handed rows keys ops
   new_kept are none apart loads indexed some few =
       subst (λ (q : Replica). ArePartsOf q marks line handed rows keys ops) (sym (new_seen are none))
       (rw (are.marks_are, are.line_is, are.handed_is, are.ops_are) (kept_new v.tables v.source base workers preserve rows keys apart loads indexed some few))
@@ -181,16 +188,33 @@ any_order true false true false h = refl
 module _ {r : Replica} {marks : Marks} {line : Line} {handed : List HandedOut} {rows : Database} {keys : Keys} {ops : List Op} (h : ArePartsOf r marks line handed rows keys ops) where
   -- ---- receive
 
-  -- whatever is refused, and whether the record is given back with it
-  pub received_kept : {E : Type 0} (from : List ℕ) (new : Record) (result : Result Received E) (left : relay.Relay) → IfOk result (λ answer. relay.received (relay_of r) from new ≡ Ok answer) →
-      IfOk result (λ answer. left ≡ relay.left_by_receive (relay_of r) new answer) → OnErr result (left ≡ relay_of r) →
-      ArePartsOf (with_relay r left) marks line handed rows keys ops
-  received_kept from new (Err refused) left answer ok err = subst (λ (v : relay.Relay). ArePartsOf (with_relay r v) marks line handed rows keys ops) (sym err) h
-  received_kept from new (Ok Skipped) left answer ok err = subst (λ (v : relay.Relay). ArePartsOf (with_relay r v) marks line handed rows keys ops) (sym ok) h
-  received_kept from new (Ok Accepted) left answer ok err =
-      let next : IsAcceptable r.tables r.accepted new = ((accepts_the_acceptable (relay_of r) from new).0 answer).1 in
-      subst (λ (v : relay.Relay). ArePartsOf (with_relay r v) marks line handed rows keys ops) (sym ok)
-      (kept_accepted h new (next_is_acceptable r.tables r.accepted new h.log.acceptable next))
+  -- whatever is refused, and whether the record is given back with it; no more records are gone then
+  pub received_kept : {E : Type 0} {gone : ℕ} (from : List ℕ) (new : Record) (result : Result Received E) (left : relay.Relay) → MayBeGone r.keeps gone marks.low →
+      IfOk result (λ answer. relay.received (relay_with r gone) from new ≡ Ok answer) →
+      IfOk result (λ answer. left ≡ relay.left_by_receive (relay_with r gone) new answer) → OnErr result (left ≡ relay_with r gone) →
+      Holds (with_relay r left) left.gone marks line handed rows keys ops
+  received_kept from new (Err refused) left kept answer ok err =
+      subst (λ (v : relay.Relay). Holds (with_relay r v) v.gone marks line handed rows keys ops) (sym err) (record { parts = h; kept = kept })
+  received_kept from new (Ok Skipped) left kept answer ok err =
+      subst (λ (v : relay.Relay). Holds (with_relay r v) v.gone marks line handed rows keys ops) (sym ok) (record { parts = h; kept = kept })
+  received_kept {gone = gone} from new (Ok Accepted) left kept answer ok err =
+      let next : IsAcceptable r.tables r.accepted new = ((accepts_the_acceptable (relay_with r gone) from new).0 answer).1 in
+      subst (λ (v : relay.Relay). Holds (with_relay r v) v.gone marks line handed rows keys ops) (sym ok)
+      (record { parts = kept_accepted h new (next_is_acceptable r.tables r.accepted new h.log.acceptable next); kept = kept })
+
+  -- ---- let_go
+
+  -- that committed records may go changes nothing else
+  pub let_go_kept : {gone : ℕ} → MayBeGone r.keeps gone marks.low → Holds (letting_go r) gone marks line handed rows keys ops
+  let_go_kept kept = record { parts = kept_letting_go h; kept = record { within = kept.within; none = λ keeps. cc } }
+
+  -- and some of them went
+  pub gone_then : {gone low : ℕ} → MayBeGone r.keeps gone low → low ≤ marks.low → (left : relay.Relay) → relay.LetsGo (if r.keeps then 0 else marks.low) (relay_with r gone) left →
+      Holds (with_relay r left) left.gone marks line handed rows keys ops
+  gone_then {gone = gone} {low = low} kept rises left goes = record {
+    parts = subst (λ (q : Replica). ArePartsOf q marks line handed rows keys ops) (sym (gone_seen r goes)) h;
+    kept = still_within r.keeps gone low marks.low left.gone kept rises goes.within;
+  }
 
   -- ---- dispatch
 
@@ -204,6 +228,10 @@ module _ {r : Replica} {marks : Marks} {line : Line} {handed : List HandedOut} {
       let low = h.counted.low in
       let counted = h.counted.counted in
       omega arith
+
+  -- so what is not dispatched is kept
+  pub gone_dispatched : {gone : ℕ} → MayBeGone r.keeps gone marks.low → gone ≤ r.dispatched
+  gone_dispatched kept = let few = kept.within in let low = low_dispatched in omega arith
 
   pub low_in_turn : r.preserve ≡ true → marks.low ≡ length r.commits
   low_in_turn preserve = h.counted.low ∙ low_in_order r (h.counted.in_turn preserve)
@@ -245,6 +273,18 @@ module _ {r : Replica} {marks : Marks} {line : Line} {handed : List HandedOut} {
         | inr near ↦ leb-true (r.dispatched + 1) (low_water r + 4096) near
       ] in
       (found.0, record { got = found.1; parent = leb-true found.0.parent (low_water r) found.2; free = free; near = near })
+
+  pub eligible_within : is_eligible r ≡ true → r.dispatched < length r.accepted
+  eligible_within is = let next = eligible_next is in slice_get_within r.accepted r.dispatched next.0 next.1.got
+
+  -- its job is made of its record
+  pub made_of_next : (made : Result Job Memory) (count : ℕ) (next : Record) (schema : List Table) → count ≡ r.dispatched → slice_get r.accepted r.dispatched ≡ Some next → schema ≡ r.tables →
+      IfOk made (λ job. job ≡ job_over schema (count + 1) next rows) → IfOk made (λ job. job_of r (r.dispatched + 1) ≡ Some job)
+  made_of_next (Err lacks) count next schema number got tables is = tt
+  made_of_next (Ok job) count next schema number got tables is =
+      let place : (r.dispatched + 1) - 1 ≡ r.dispatched = omega arith in
+      job_at r (r.dispatched + 1) next rows (ap (slice_get r.accepted) place ∙ got) h.log.rows_are
+      ∙ (λ i. Some (job_over (sym tables i) (sym number i + 1) next rows)) ∙ ap Some (sym is)
 
   pub dispatched_kept : (job : Job) (line_then : Line) (handed_then : List HandedOut) → is_eligible r ≡ true → job_of r (r.dispatched + 1) ≡ Some job →
       line_then ≡ entered line job.gno → handed_then ≡ handed ++ kept_of job ∷ [] → ArePartsOf (dispatched_next r) marks line_then handed_then rows keys ops
@@ -307,6 +347,17 @@ module _ {r : Replica} {marks : Marks} {line : Line} {handed : List HandedOut} {
               ap (λ (j : Job). j.schema) (sym made_is) ∙ sym tables,
             ),
       )
+
+  -- it is past the mark, so its record is kept
+  pub record_kept : {gone : ℕ} (gno : ℕ) → MayBeGone r.keeps gone marks.low → has_gno r.out gno ≡ true → gone ≤ gno - 1
+  record_kept gno kept out =
+      let under = out_under_way h gno out in
+      let few = kept.within in
+      let low = h.counted.low in
+      elim (cases_lt marks.low gno) [
+        | inl past ↦ omega arith
+        | inr before ↦ absurd (true≢false (sym (below_low r.commits gno under.0 (omega arith)) ∙ under.2))
+      ]
 
   -- its record is one of those accepted
   pub record_within : (gno : ℕ) → has_gno r.out gno ≡ true → gno - 1 < length r.accepted
@@ -489,6 +540,14 @@ module _ {r : Replica} {marks : Marks} {handed : List HandedOut} {gno : ℕ} {ol
       ShowsGapped (with_parts r marks_then new.order new.line) (length (commits_seen new.line.preserve marks_then.low new.order))
   committed_gapped seen =
       shows_gapped (committed_kept seen) (length (commits_seen new.line.preserve marks_then.low new.order)) (omega arith)
+
+  -- the mark goes no lower
+  pub mark_rises : marks.low ≤ marks_then.low
+  mark_rises =
+      let low = h.counted.low in
+      let low_then = committed_step.counted.low in
+      let more = low_of_more r.commits (r.commits ++ gno ∷ []) (λ g _ has. has_gno_front r.commits (gno ∷ []) g has) in
+      omega arith
 
 -- what is looked up in a list
 pub got_there : {X : Type 0} (xs : List X) (n : ℕ) (x : X) → n < length xs → x ≡ get_or xs n x → slice_get xs n ≡ Some x

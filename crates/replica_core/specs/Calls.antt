@@ -1,5 +1,5 @@
 -- What each call of a replica answers, and what it leaves.
-use Rattle.std.specs.Prelude.{◌≡◌, ℕ, ◌+◌, ◌-◌, Bool, false, not, ◌&&◌, ◌||◌, ◌==◌, nat_le, nat_lt, if◌then◌else◌, List, [], ◌∷◌, ◌++◌, length, slice_get, Option, Some, None, Result, Ok, Err}
+use Rattle.std.specs.Prelude.{◌≡◌, ℕ, ◌+◌, ◌-◌, Bool, true, false, not, ◌&&◌, ◌||◌, ◌==◌, nat_le, nat_lt, if◌then◌else◌, List, [], ◌∷◌, ◌++◌, length, slice_get, Option, Some, None, Result, Ok, Err}
 use Rattle.std.specs.Option.{option_map_or, option_or}
 use Rattle.schema.specs.declared.Table.{Table}
 use Rattle.gtid_set.specs.Ids.{Ids, IsSet, first_ids}
@@ -12,7 +12,7 @@ use Rattle.executor.specs.declared.Outcome.{Outcome}
 use Rattle.executor.specs.declared.Outcome.TheVariants as outcomes
 use Rattle.executor.specs.Job.{Finished}
 use Rattle.relay.specs.declared.ReplicaFault.{ReplicaFault}
-use Rattle.relay.specs.declared.ReplicaFault.TheVariants.{Gap, ForeignSource, Malformed, BadParent, Stopped, Stranger, Double, WrongInput, Memory}
+use Rattle.relay.specs.declared.ReplicaFault.TheVariants.{Stopped, Stranger, Double, Memory}
 use Rattle.relay.specs.declared.Received.{Received}
 use Rattle.relay.specs.declared.Received.TheVariants.{Accepted, Skipped}
 use Rattle.relay.specs.Relay as relay
@@ -34,7 +34,13 @@ new_over ts source base workers preserve = record {
   finished = [];
   workers = workers;
   stopped = None;
+  keeps = true;
 }
+
+-- let_go: from now on committed records may go
+
+abbrev pub letting_go : Replica → Replica
+letting_go r = record r { keeps = false }
 
 -- where the replica is stopped, every call answers so
 abbrev pub stop_fault : Replica → Option ReplicaFault
@@ -44,10 +50,10 @@ stop_fault r = option_map_or (λ gno. Some (Stopped gno)) r.stopped None
 abbrev pub unless_stopped : {T : Type 0} → Replica → T → Result T ReplicaFault
 unless_stopped r answer = option_map_or (λ gno. Err (Stopped gno)) r.stopped (Ok answer)
 
--- receive: what its relay does with the record
+-- receive: what its relay does with the record, however many it keeps
 
 abbrev pub relay_of : Replica → relay.Relay
-relay_of r = record { tables = r.tables; source = r.source; accepted = r.accepted }
+relay_of r = record { tables = r.tables; source = r.source; accepted = r.accepted; gone = 0 }
 
 abbrev pub received : Replica → List ℕ → Record → Result Received ReplicaFault
 received r from new = option_map_or (λ gno. Err (Stopped gno)) r.stopped (relay.received (relay_of r) from new)

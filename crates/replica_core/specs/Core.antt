@@ -27,6 +27,7 @@ use Rattle.row_index.specs.Keys.{Keys, Indexes, marks_at, moved}
 use Rattle.scheduler.specs.Gnos.{has_gno, low_of, first_gnos, AreDistinct}
 use Rattle.scheduler.specs.Marks.{Marks, is_committed}
 use Rattle.gapped.specs.Gapped.{AreCommits}
+use Rattle.gone_records.specs.Going.{MayBeGone}
 use Rattle.commit_order.specs.Turns.{Line, turn, passed}
 use Rattle.replica_core.specs.declared.dispatching.HandedOut.{HandedOut}
 use Rattle.replica_core.specs.Replica.{Replica, working_rows, waiting, job_of}
@@ -38,8 +39,8 @@ abbrev pub commits_seen : Bool → ℕ → List ℕ → List ℕ
 commits_seen preserve low order = if preserve then first_gnos low else order
 
 -- a replica of these parts
-abbrev pub seen_as : relay.Relay → List Entry → Marks → List ℕ → ℕ → Line → ℕ → Option ℕ → Replica
-seen_as received base marks order published line workers stopped = record {
+abbrev pub seen_as : relay.Relay → List Entry → Marks → List ℕ → ℕ → Line → ℕ → Option ℕ → Bool → Replica
+seen_as received base marks order published line workers stopped keeps = record {
   tables = received.tables;
   source = received.source;
   base = base;
@@ -52,6 +53,7 @@ seen_as received base marks order published line workers stopped = record {
   finished = map (λ (result : Finished). result.job.gno) line.done;
   workers = workers;
   stopped = stopped;
+  keeps = keeps;
 }
 
 -- the result is of this job, and an output came of it
@@ -115,6 +117,11 @@ pub record ArePartsOf (r : Replica) (marks : Marks) (line : Line) (handed : List
   pub eligible : AreEligible r
   pub kept : map Some handed ≡ map (λ gno. option_map kept_of (job_of r gno)) r.out
   pub results : AllByRecursion (λ (result : Finished). IsTaken (job_of r result.job.gno) result) line.done
+
+-- And this many of the first accepted records are gone: none past the mark, since only those up to it are not asked for any more.
+pub record Holds (r : Replica) (gone : ℕ) (marks : Marks) (line : Line) (handed : List HandedOut) (rows : Database) (keys : Keys) (ops : List Op) : Type 0 where
+  pub parts : ArePartsOf r marks line handed rows keys ops
+  pub kept : MayBeGone r.keeps gone marks.low
 
 -- ---- the next commit
 

@@ -38,6 +38,8 @@ pub record Replica : Type 0 where
   pub workers : ℕ
   -- the record that could not be applied
   pub stopped : Option ℕ
+  -- whether it keeps all accepted records; else those up to the low-water mark may be gone
+  pub keeps : Bool
 
 -- the low-water mark: all up to it are committed, and the next is not
 abbrev pub low_water : Replica → ℕ

@@ -1,13 +1,15 @@
-//! The next commit, and what is then taken off.
+//! The next commit, what is then taken off, and what may go.
 
 ghost use Rattle.std.specs.Prelude.{◌≡◌, ◌≤◌, length, drop, is_some, if◌then◌else◌};
 ghost use Rattle.std.specs.Option.{option_map};
+ghost use Rattle.relay.specs.Relay.{LetsGo};
 ghost use Rattle.commit_order.specs.Turns.{turn, passed};
 ghost use Rattle.replica_core.specs.Core.{turn_output, turn_rows, parts_of, TakesTurn};
 
 use crate::stored::Stored;
 use commit_order::Turns;
 use executor::Outcome;
+use relay::Relay;
 use schema::{Memory, Schema};
 use store_trait::{Batch, Op, RowStore};
 
@@ -70,4 +72,14 @@ pub fn drop_first<T: Drop>(list: &mut Vec<T>, count: usize)
     ensures { list.new.items ≡ drop count list.old.items }
 {
     list.drain(..count);
+}
+
+/// Lets the accepted records up to this number go, unless all are to be kept.
+pub fn let_go(keeps: bool, relay: &mut Relay, upto: u64)
+    requires { upto ≤ length relay.old.accepted }
+    ensures { LetsGo (if keeps then 0 else upto) relay.old relay.new }
+{
+    if !keeps {
+        relay.let_go(upto);
+    }
 }

@@ -6,7 +6,8 @@
 //! record `Replica` of `specs/Replica.antt`. Its store contains the database after the committed records. Its index has
 //! the holder of each value of a unique column there. Its waiting operations are the commits after the published ones. So
 //! no call walks a table: a job's holders are looked up. `specs/Calls.antt` defines what each call returns and leaves,
-//! and `specs/Sound.antt` what is true of every replica.
+//! and `specs/Sound.antt` what is true of every replica. It keeps all accepted records, or lets those up to the
+//! low-water mark go (`gone_records`); contracts speak of all of them.
 //!
 //! Nothing that is received is trusted. The parent of each accepted record covers those before it (`relay`), and a record
 //! is handed out once all up to its parent are committed. So no two records under way conflict: the commit of one does
@@ -30,7 +31,7 @@ ghost use Rattle.scheduler.specs.Gnos.{has_gno};
 ghost use Rattle.replica_core.specs.Replica.{low_water, working_rows, waiting, job_of};
 ghost use Rattle.replica_core.specs.Sound.{IsSound, ShowsGapped};
 ghost use Rattle.replica_core.specs.Core.{IsJudged, place_in};
-ghost use Rattle.replica_core.specs.Calls.{new_over, unless_stopped, received, left_by_receive, is_eligible, next_job, dispatched_next};
+ghost use Rattle.replica_core.specs.Calls.{new_over, letting_go, unless_stopped, received, left_by_receive, is_eligible, next_job, dispatched_next};
 ghost use Rattle.replica_core.specs.Calls.{finish_fault, IsHandedOut, taken_as, with_finished, left_by_fault, next_commit, with_commit};
 ghost use Rattle.replica_core.specs.Calls.{with_published, stop_fault, AreExecuted, executed_ids};
 
@@ -42,7 +43,7 @@ mod stored;
 mod wire;
 
 use commit_order::{PLACES, Turns};
-use committing::{commit_turn, drop_first};
+use committing::{commit_turn, drop_first, let_go};
 use dispatching::{HandedOut, job_over, place_kept, refuse_finish, refuse_stopped};
 use executor::{Job, JobResult, Outcome};
 use gtid_set::GtidSet;
@@ -63,6 +64,8 @@ pub use wire::{Wire, WireFault};
 #[derive(Drop)]
 pub struct ReplicaCore<S: RowStore> {
     relay: Relay,
+    /// Whether all accepted records stay.
+    keeps: bool,
     base: Batch,
     stored: Stored<S>,
     scheduler: Scheduler,
@@ -79,16 +82,16 @@ pub struct ReplicaCore<S: RowStore> {
 
 impl<S: RowStore> Model for ReplicaCore<S> {
     ghost use Rattle.replica_core.specs.Replica.{Replica};
-    ghost use Rattle.replica_core.specs.Core.{seen_as, ArePartsOf};
+    ghost use Rattle.replica_core.specs.Core.{seen_as, Holds};
 
     ghost Value = { Replica };
 
     ghost view = { λ c.
-        seen_as c.relay c.base c.scheduler c.order.items c.published c.turns c.workers c.stopped };
+        seen_as c.relay c.base c.scheduler c.order.items c.published c.turns c.workers c.stopped c.keeps };
 
     ghost invariant = { λ c.
-        ArePartsOf (seen_as c.relay c.base c.scheduler c.order.items c.published c.turns c.workers c.stopped)
-        c.scheduler c.turns c.handed.items (S.contents c.stored.store) c.stored.index.map c.waiting.items };
+        Holds (seen_as c.relay c.base c.scheduler c.order.items c.published c.turns c.workers c.stopped c.keeps)
+        c.relay.gone c.scheduler c.turns c.handed.items (S.contents c.stored.store) c.stored.index.map c.waiting.items };
 }
 
 impl<S: RowStore> ReplicaCore<S> {
@@ -128,6 +131,7 @@ impl<S: RowStore> ReplicaCore<S> {
         let handed = Vec::with_capacity(alloc, PLACES)?;
         Ok(ReplicaCore {
             relay: Relay::new(alloc, schema, source),
+            keeps: true,
             base,
             stored: Stored { store, index },
             scheduler: Scheduler::new(),
@@ -262,7 +266,7 @@ impl<S: RowStore> ReplicaCore<S> {
     /// them is also looked up in the store, and each value that they had or then have costs expected constant time. The
     /// memory is that of putting the rows, of one more operation, and of these values; none for them if no table has a
     /// unique column. If the order of the log is not kept, it takes eight bytes more. All of it is taken before a row
-    /// changes.
+    /// changes. A replica that lets committed records go then frees some of them, in constant time for each on the whole.
     pub fn commit_next(&mut self) -> Result<Option<u64>, ReplicaFault>
         ensures answer { IsErrOf result ReplicaFault.Memory
             ⊎ (result ≡ unless_stopped self.old (next_commit self.old)) }
@@ -287,6 +291,7 @@ impl<S: RowStore> ReplicaCore<S> {
             return Ok(None);
         };
         self.scheduler.committed(gno);
+        let_go(self.keeps, &mut self.relay, self.scheduler.low_water());
         Ok(Some(gno))
     }
 
@@ -327,11 +332,27 @@ impl<S: RowStore> ReplicaCore<S> {
         &self.base
     }
 
-    /// The accepted records, in order, the record of number 1 first.
+    /// The accepted records, in order, the record of number 1 first, of a replica that keeps them all.
     pub fn accepted(&self) -> &[Record]
+        requires { self.now.keeps ≡ true }
         ensures { result.now ≡ self.now.accepted }
     {
-        self.relay.accepted()
+        self.relay.past(0)
+    }
+
+    /// The number of accepted records, kept or not. It takes no memory, and constant time.
+    pub fn received(&self) -> u64
+        ensures { result ≡ length self.now.accepted }
+    {
+        self.relay.count()
+    }
+
+    /// Lets committed records go: from the next commit on those up to the low-water mark are freed. All else stays as it
+    /// is. It takes no memory.
+    pub fn let_go(&mut self)
+        ensures { self.new ≡ letting_go self.old }
+    {
+        self.keeps = false;
     }
 
     /// The number of committed records. It takes no memory, and constant time.
@@ -426,10 +447,11 @@ impl<S: RowStore> ReplicaCore<S> {
         &self.stored.store
     }
 
-    /// All that another core over the same rows is made of, without a copy. These are the tables, the rows before the
-    /// first commit, as `base` has them, the accepted records in order, committed or not, and the store with the working
-    /// rows. The time is that of freeing what else the replica keeps.
+    /// All that another core over the same rows is made of, without a copy, of a replica that keeps all records. These
+    /// are the tables, the rows before the first commit, as `base` has them, the accepted records in order, committed or
+    /// not, and the store with the working rows. The time is that of freeing what else the replica keeps.
     pub fn into_parts(self) -> (Schema, Batch, Vec<Record>, S)
+        requires { self.keeps ≡ true }
         ensures tables { result.0 ≡ self.tables }
         ensures base { result.1 ≡ self.base }
         ensures accepted { result.2.items ≡ self.accepted }
@@ -445,6 +467,16 @@ impl<S: RowStore> ReplicaCore<S> {
         } = self;
         let (schema, accepted) = relay.into_parts();
         (schema, base, accepted, stored.into_store())
+    }
+
+    /// The store with the working rows, without a copy, whether or not the replica keeps all records. The time is that of
+    /// freeing what else the replica keeps.
+    pub fn into_rows(self) -> S
+        ensures rows { working_rows self ≡ Some (S.contents result) }
+        ensures apart { NoValueTwice self.tables (S.contents result) }
+        ensures sound { IsSound self }
+    {
+        self.stored.into_store()
     }
 
     /// The identifier of the source whose records it takes.
@@ -467,7 +499,7 @@ impl<S: RowStore> ReplicaCore<S> {
         ensures { result ≡ is_eligible self.now }
     {
         let dispatched = self.dispatched();
-        match self.relay.accepted().get(dispatched as usize) {
+        match self.relay.past(dispatched).first() {
             Some(next) => {
                 self.scheduler.eligible(dispatched + 1, next.parent)
                     && self.turns.len() < self.workers
@@ -489,7 +521,7 @@ impl<S: RowStore> ReplicaCore<S> {
         ensures { IfOk result (λ job. job_of self.now (self.now.dispatched + 1) ≡ Some job) }
     {
         let dispatched = self.dispatched();
-        let next = &self.relay.accepted()[dispatched as usize];
+        let next = &self.relay.past(dispatched)[0];
         let alloc = *self.waiting.allocator();
         job_over(
             alloc,
@@ -520,7 +552,7 @@ impl<S: RowStore> ReplicaCore<S> {
         requires at { place ≡ place_in self.now.out job.now.gno }
         ensures { IsTrue result ↔ (job_of self.now job.now.gno ≡ Some job.now) }
     {
-        let rec = &self.relay.accepted()[(job.gno - 1) as usize];
+        let rec = &self.relay.past(job.gno - 1)[0];
         let kept = &self.handed[place];
         job.is_of(rec, &kept.input, &kept.holders, self.relay.schema())
     }

@@ -1,6 +1,5 @@
-use Rattle.std.proofs.Common.{ap, length, List, arith}
+use Rattle.std.proofs.Common.{arith}
 use Rattle.std.proofs.lemmas.List.{length-append}
-use Rattle.relay.specs.Relay.{Relay}
 use Rattle.relay.proofs.Acceptable.{few_acceptable}
 use Rattle.relay.proofs.Relay.count.Goals as goal
 

@@ -1,8 +1,15 @@
 use Rattle.std.proofs.Common.{◌≡◌, ◌∙◌, sym, ◌++◌, false, true, arith}
 use Rattle.std.proofs.lemmas.Grind.{common_steps}
 use Rattle.relay.specs.Relay.{is_covered}
+use Rattle.relay.proofs.Acceptable.{few_acceptable}
 use Rattle.relay.proofs.Last.{behind_covers}
 use Rattle.relay.proofs.Relay.judge.Goals as goal
+
+pub overflow_add-count : goal.overflow_add-count
+overflow_add-count c =
+    let few = few_acceptable _ _ c.count.ensures.valid in
+    let count = c.count.ensures.value in
+    record { fits = omega arith }
 
 pub returns-then-not-are_behind : goal.returns-then-not-are_behind
 returns-then-not-are_behind c =

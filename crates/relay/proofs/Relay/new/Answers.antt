@@ -1,6 +1,5 @@
-use Rattle.std.proofs.Common.{◌∙◌, ap, sym, subst, List, [], ◌++◌, length}
+use Rattle.std.proofs.Common.{sym, subst, List, ◌++◌}
 use Rattle.record_codec.specs.declared.records.Record.{Record}
-use Rattle.relay.specs.Relay.{Relay}
 use Rattle.relay.specs.Kept.{IsKept}
 use Rattle.relay.proofs.Last.{none_kept}
 use Rattle.relay.proofs.Relay.new.Goals as goal

@@ -13,7 +13,7 @@ returns-then-preserve-clause-value g c =
     ∙ ap (λ (r : Replica). length r.commits) c.self.view_is
 
 pub returns-then-preserve-clause-sound : goal.returns-then-preserve-clause-sound
-returns-then-preserve-clause-sound g c = sound_as_seen c.self.invariant c.self.view_is
+returns-then-preserve-clause-sound g c = sound_as_seen c.self.invariant.parts c.self.view_is
 
 pub returns-else-preserve-clause-sound : goal.returns-else-preserve-clause-sound
-returns-else-preserve-clause-sound g c = sound_as_seen c.self.invariant c.self.view_is
+returns-else-preserve-clause-sound g c = sound_as_seen c.self.invariant.parts c.self.view_is

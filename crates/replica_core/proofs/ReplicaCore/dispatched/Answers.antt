@@ -7,7 +7,7 @@ use Rattle.replica_core.proofs.ReplicaCore.dispatched.Goals as goal
 pub overflow_add-result : goal.overflow_add-result
 overflow_add-result g c =
     let was = c.self.inside in
-    let few = few_dispatched c.self.invariant in
+    let few = few_dispatched c.self.invariant.parts in
     let committed : c.committed.result ≡ length (commits_seen was.turns.preserve was.scheduler.low was.order.items) =
     c.committed.ensures.value ∙ ap (λ (r : Replica). length r.commits) (sym c.self.view_is) in
     record { fits = omega arith }

@@ -1,4 +1,4 @@
-use Rattle.std.proofs.Common.{◌∙◌, ◌<◌, sym, ap, subst, length, ℕ, List, true, arith}
+use Rattle.std.proofs.Common.{◌∙◌, ◌<◌, sym, ap, subst, length, ℕ, List, arith}
 use Rattle.scheduler.specs.Gnos.{first_gnos}
 use Rattle.gtid_set.specs.Ids.{Ids, first_ids}
 use Rattle.replica_core.specs.Replica.{Replica}
@@ -32,20 +32,20 @@ returns-then-preserve-clause-ok g c =
 
 pub committed_ids-requires-clause-low : goal.committed_ids-requires-clause-low
 committed_ids-requires-clause-low g c =
-    let low = low_dispatched c.self.invariant in
+    let low = low_dispatched c.self.invariant.parts in
     let count = c.dispatched.ensures ∙ ap (λ (r : Replica). r.dispatched) (sym c.self.view_is) in
     omega arith
 
 pub committed_ids-requires-clause-few : goal.committed_ids-requires-clause-few
 committed_ids-requires-clause-few g c =
-    let few = few_dispatched c.self.invariant in
+    let few = few_dispatched c.self.invariant.parts in
     let count = c.dispatched.ensures ∙ ap (λ (r : Replica). r.dispatched) (sym c.self.view_is) in
     omega arith
 
 pub returns-in_err-committed_ids-clause-memory : goal.returns-in_err-committed_ids-clause-memory
 returns-in_err-committed_ids-clause-memory g c = λ _. (
   sym (ap (λ (r : Replica). r.stopped) c.self.view_is) ∙ not_stopped c.self.inside.stopped _ c.in_ok-refuse_stopped.ensures,
-  subst (λ (r : Replica). 0 < length r.commits) c.self.view_is (some_commit _ _ c.self.invariant.counted.marked c.in_err-committed_ids.ensures.memory),
+  subst (λ (r : Replica). 0 < length r.commits) c.self.view_is (some_commit _ _ c.self.invariant.parts.counted.marked c.in_err-committed_ids.ensures.memory),
 )
 
 pub returns-clause-ok : goal.returns-clause-ok
@@ -53,5 +53,5 @@ returns-clause-ok g c =
     let count = c.dispatched.ensures ∙ ap (λ (r : Replica). r.dispatched) (sym c.self.view_is) in
     let source = c.source-source.ensures ∙ ap (λ (r : Replica). r.source) (sym c.self.view_is) in
     subst (λ (r : Replica). AreExecuted r c.in_ok-committed_ids.field-0) c.self.view_is
-    (executed_is _ c.self.inside.scheduler c.in_ok-committed_ids.field-0 c.self.invariant.counted
+    (executed_is _ c.self.inside.scheduler c.in_ok-committed_ids.field-0 c.self.invariant.parts.counted
     (subst (λ (p : List ℕ × ℕ). AreMarked p.0 c.self.inside.scheduler p.1 c.in_ok-committed_ids.field-0) (λ i. (source i, count i)) c.in_ok-committed_ids.ensures.ok))

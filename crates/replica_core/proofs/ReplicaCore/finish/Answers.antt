@@ -11,38 +11,42 @@ pub remove-requires : goal.remove-requires
 remove-requires g c =
     let judged = subst (λ (r : Replica). IsJudged r c.args.done (Ok c.in-Ok.place)) (sym c.self.view_is) c.in-Ok.ensures in
     subst (λ (n : ℕ). c.in-Ok.place < n) (sym c.self.inside.handed.ok.0)
-    (judged_within c.self.invariant c.args.done c.in-Ok.place judged)
+    (judged_within c.self.invariant.parts c.args.done c.in-Ok.place judged)
 
 pub invariant_of-self : goal.invariant_of-self
 invariant_of-self g c =
     let was = c.self.inside in
     let judged = subst (λ (r : Replica). IsJudged r c.args.done (Ok c.in-Ok.place)) (sym c.self.view_is) c.in-Ok.ensures in
-    parts_kept was.order.items
-    (finished_kept c.self.invariant c.args.done c.in-Output.field-0 c.in-Ok.place c.finish.new.self c.remove.new.self.items judged
-    c.outcome.ensures.valid (sym c.outcome.ensures.value ∙ c.in-Output.is) c.finish.ensures c.remove.ensures.items)
-    (ap (λ (line : Line). commits_seen line.preserve was.scheduler.low was.order.items) c.finish.ensures)
+    record {
+      parts =
+          parts_kept was.order.items
+          (finished_kept c.self.invariant.parts c.args.done c.in-Output.field-0 c.in-Ok.place c.finish.new.self c.remove.new.self.items judged
+          c.outcome.ensures.valid (sym c.outcome.ensures.value ∙ c.in-Output.is) c.finish.ensures c.remove.ensures.items)
+          (ap (λ (line : Line). commits_seen line.preserve was.scheduler.low was.order.items) c.finish.ensures);
+      kept = c.self.invariant.kept;
+    }
 
 pub invariant_of-self-in-Undefined : goal.invariant_of-self-in-Undefined
-invariant_of-self-in-Undefined g c = kept_stopped c.self.invariant c.gno.result
+invariant_of-self-in-Undefined g c = record { parts = kept_stopped c.self.invariant.parts c.gno.result; kept = c.self.invariant.kept }
 
 pub returns-in-Output-clause-ok : goal.returns-in-Output-clause-ok
 returns-in-Output-clause-ok g c =
     let was = c.self.inside in
     let judged = subst (λ (r : Replica). IsJudged r c.args.done (Ok c.in-Ok.place)) (sym c.self.view_is) c.in-Ok.ensures in
     as_parts was.order.items
-    (finished_kept c.self.invariant c.args.done c.in-Output.field-0 c.in-Ok.place c.finish.new.self c.remove.new.self.items judged
+    (finished_kept c.self.invariant.parts c.args.done c.in-Output.field-0 c.in-Ok.place c.finish.new.self c.remove.new.self.items judged
     c.outcome.ensures.valid (sym c.outcome.ensures.value ∙ c.in-Output.is) c.finish.ensures c.remove.ensures.items)
     (ap (λ (line : Line). commits_seen line.preserve was.scheduler.low was.order.items) c.finish.ensures)
     ∙ ap (λ (r : Replica). with_finished r c.args.done.job.gno) c.self.view_is
 
 pub returns-in-Err-clause-sound : goal.returns-in-Err-clause-sound
-returns-in-Err-clause-sound g c = sound_as_seen c.self.invariant c.self.view_is
+returns-in-Err-clause-sound g c = sound_as_seen c.self.invariant.parts c.self.view_is
 
 pub returns-in-Output-clause-sound : goal.returns-in-Output-clause-sound
-returns-in-Output-clause-sound g c = sound_as_seen c.self.invariant c.self.view_is
+returns-in-Output-clause-sound g c = sound_as_seen c.self.invariant.parts c.self.view_is
 
 pub returns-in-Memory-clause-sound : goal.returns-in-Memory-clause-sound
-returns-in-Memory-clause-sound g c = sound_as_seen c.self.invariant c.self.view_is
+returns-in-Memory-clause-sound g c = sound_as_seen c.self.invariant.parts c.self.view_is
 
 pub returns-in-Undefined-clause-sound : goal.returns-in-Undefined-clause-sound
-returns-in-Undefined-clause-sound g c = sound_as_seen c.self.invariant c.self.view_is
+returns-in-Undefined-clause-sound g c = sound_as_seen c.self.invariant.parts c.self.view_is

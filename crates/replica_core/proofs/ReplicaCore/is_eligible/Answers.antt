@@ -1,10 +1,35 @@
-use Rattle.std.proofs.Common.{◌∙◌, sym, ap, ℕ, ◌+◌, ◌&&◌, nat_le, nat_lt, length, slice_get}
-use Rattle.std.proofs.lemmas.Option.{slice_get_past}
+use Rattle.std.proofs.Common.{◌∙◌, sym, ap, ℕ, ◌+◌, ◌&&◌, nat_le, nat_lt, length, Some, None, arith}
 use Rattle.replica_core.specs.Replica.{Replica}
 use Rattle.replica_core.specs.Calls.{is_eligible}
 use Rattle.replica_core.specs.Core.{seen_as}
-use Rattle.replica_core.proofs.Steps.{eligible_seen, not_eligible, got_there, stays_false}
+use Rattle.replica_core.proofs.Lists.{found_past}
+use Rattle.replica_core.proofs.Steps.{gone_dispatched, few_dispatched, eligible_seen, not_eligible, stays_false}
 use Rattle.replica_core.proofs.ReplicaCore.is_eligible.Goals as goal
+
+pub past-requires-clause-kept : goal.past-requires-clause-kept
+past-requires-clause-kept g c =
+    let few = gone_dispatched c.self.invariant.parts c.self.invariant.kept in
+    let count = c.dispatched-dispatched.ensures ∙ ap (λ (r : Replica). r.dispatched) (sym c.self.view_is) in
+    omega arith
+
+pub overflow_add-dispatched : goal.overflow_add-dispatched
+overflow_add-dispatched g c =
+    let few = few_dispatched c.self.invariant.parts in
+    let count = c.dispatched-dispatched.ensures ∙ ap (λ (r : Replica). r.dispatched) (sym c.self.view_is) in
+    record { fits = omega arith }
+
+pub returns-then-eligible : goal.returns-then-eligible
+returns-then-eligible g c =
+    let was = c.self.inside in
+    let next = c.in-Some.next.now in
+    let free = nat_lt (length was.turns.out + length was.turns.done) was.workers in
+    let count = c.dispatched-dispatched.ensures ∙ ap (λ (r : Replica). r.dispatched) (sym c.self.view_is) in
+    let got = found_past was.relay.accepted _ _ c.past.result.now (Some next) count c.past.ensures.value c.in-Some.ensures.value in
+    ap (λ (n : ℕ). nat_lt n was.workers) c.len.ensures.value
+    ∙ ap (λ b. b && free)
+    (sym c.if-eligible.true ∙ c.eligible.ensures ∙ ap (λ (n : ℕ). nat_le next.parent was.scheduler.low && nat_le (n + 1) (was.scheduler.low + 4096)) count)
+    ∙ eligible_seen c.self.invariant.parts next got
+    ∙ ap is_eligible c.self.view_is
 
 pub returns-else-eligible : goal.returns-else-eligible
 returns-else-eligible g c =
@@ -12,17 +37,15 @@ returns-else-eligible g c =
     let next = c.in-Some.next.now in
     let free = nat_lt (length was.turns.out + length was.turns.done) was.workers in
     let count = c.dispatched-dispatched.ensures ∙ ap (λ (r : Replica). r.dispatched) (sym c.self.view_is) in
-    let found = c.in-Some.ensures.lookup in
-    let got = (λ i. slice_get (sym c.accepted.ensures.value i) (sym count i)) ∙ got_there c.accepted.result.now c.dispatched-dispatched.result next found.3.0 found.1 in
+    let got = found_past was.relay.accepted _ _ c.past.result.now (Some next) count c.past.ensures.value c.in-Some.ensures.value in
     stays_false c.eligible.result free c.if-eligible.false
     ∙ ap (λ b. b && free) (c.eligible.ensures ∙ ap (λ (n : ℕ). nat_le next.parent was.scheduler.low && nat_le (n + 1) (was.scheduler.low + 4096)) count)
-    ∙ eligible_seen c.self.invariant next got
+    ∙ eligible_seen c.self.invariant.parts next got
     ∙ ap is_eligible c.self.view_is
 
 pub returns-in-None : goal.returns-in-None
 returns-in-None g c =
     let count = c.dispatched-dispatched.ensures ∙ ap (λ (r : Replica). r.dispatched) (sym c.self.view_is) in
-    let none = slice_get_past c.accepted.result.now c.dispatched-dispatched.result c.in-None.ensures.lookup.3 in
     let was : Replica = seen_as c.self.inside.relay c.self.inside.base c.self.inside.scheduler c.self.inside.order.items c.self.inside.published c.self.inside.turns c.self.inside.workers
-    c.self.inside.stopped in
-    not_eligible was ((λ i. slice_get (sym c.accepted.ensures.value i) (sym count i)) ∙ none) ∙ ap is_eligible c.self.view_is
+    c.self.inside.stopped c.self.inside.keeps in
+    not_eligible was (found_past was.accepted _ _ c.past.result.now None count c.past.ensures.value c.in-None.ensures.value) ∙ ap is_eligible c.self.view_is

@@ -13,7 +13,7 @@ pub is_handed_out-requires-clause-at : goal.is_handed_out-requires-clause-at
 is_handed_out-requires-clause-at g c =
     c.place_kept-place.ensures
     ∙ (λ i. position_or_len (λ (k : HandedOut). eqb k.gno (c.gno-2.ensures i)) (c.deref.ensures.value i))
-    ∙ place_seen c.self.invariant c.args.done.now.job.gno
+    ∙ place_seen c.self.invariant.parts c.args.done.now.job.gno
     ∙ ap (λ (r : Replica). place_in r.out c.args.done.now.job.gno) c.self.view_is
     ∙ ap (λ (j : Job). place_in c.args.self.now.out j.gno) (sym c.job.ensures)
 
@@ -28,7 +28,7 @@ returns-then-is_handed_out g c = (
   ap (λ (j : Job). job_of c.args.self.now j.gno) (sym c.job.ensures) ∙ c.is_handed_out.ensures.0 c.if-is_handed_out.true ∙ ap (λ (j : Job). Some j) c.job.ensures,
   c.place_kept-place.ensures
       ∙ (λ i. position_or_len (λ (k : HandedOut). eqb k.gno (c.gno-2.ensures i)) (c.deref.ensures.value i))
-      ∙ place_seen c.self.invariant c.args.done.now.job.gno
+      ∙ place_seen c.self.invariant.parts c.args.done.now.job.gno
       ∙ ap (λ (r : Replica). place_in r.out c.args.done.now.job.gno) c.self.view_is,
 )
 

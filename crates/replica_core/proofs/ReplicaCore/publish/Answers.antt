@@ -1,4 +1,4 @@
-use Rattle.std.proofs.Common.{◌≡◌, ◌-◌, ◌≤◌, length, ap, arith}
+use Rattle.std.proofs.Common.{◌≡◌, ◌≤◌, length, ap, arith}
 use Rattle.replica_core.specs.Replica.{Replica}
 use Rattle.replica_core.proofs.Kept.{length_ops, shows_gapped}
 use Rattle.replica_core.proofs.Steps.{published_kept}
@@ -7,7 +7,7 @@ use Rattle.replica_core.proofs.ReplicaCore.publish.Goals as goal
 pub drop_first-requires : goal.drop_first-requires
 drop_first-requires g c =
     let was = c.self.inside in
-    let count = length_ops c.self.invariant in
+    let count = length_ops c.self.invariant.parts in
     let committed = ap (λ (r : Replica). length r.commits) c.self.view_is in
     omega (arith, c.requires.done)
 
@@ -17,9 +17,12 @@ invariant_of-self g c =
     let committed = ap (λ (r : Replica). length r.commits) c.self.view_is in
     let published : was.published ≡ c.args.self.now.published = ap (λ (r : Replica). r.published) c.self.view_is in
     let later : was.published ≤ c.args.upto = omega (arith, c.requires.later) in
-    published_kept c.self.invariant c.args.upto c.drop_first.new.list.items later (omega (arith, c.requires.done)) c.drop_first.ensures
+    record {
+      parts = published_kept c.self.invariant.parts c.args.upto c.drop_first.new.list.items later (omega (arith, c.requires.done)) c.drop_first.ensures;
+      kept = c.self.invariant.kept;
+    }
 
 pub returns-clause-gapped : goal.returns-clause-gapped
 returns-clause-gapped g c =
     let committed = ap (λ (r : Replica). length r.commits) c.self.view_is in
-    shows_gapped (invariant_of-self g c) c.args.upto (omega (arith, c.requires.done))
+    shows_gapped (invariant_of-self g c).parts c.args.upto (omega (arith, c.requires.done))

@@ -4,10 +4,10 @@ use Rattle.replica_core.proofs.ReplicaCore.receive_own.Goals as goal
 
 pub invariant_of-self : goal.invariant_of-self
 invariant_of-self g c =
-    received_kept c.self.invariant _ _ c.receive_own.result c.receive_own.new.self c.receive_own.ensures.answer c.receive_own.ensures.ok c.receive_own.ensures.err
+    received_kept c.self.invariant.parts _ _ c.receive_own.result c.receive_own.new.self c.self.invariant.kept c.receive_own.ensures.answer c.receive_own.ensures.ok c.receive_own.ensures.err
 
 pub returns-in-Ok-clause-sound : goal.returns-in-Ok-clause-sound
-returns-in-Ok-clause-sound g c = sound_as_seen c.self.invariant c.self.view_is
+returns-in-Ok-clause-sound g c = sound_as_seen c.self.invariant.parts c.self.view_is
 
 pub returns-in-Err-clause-sound : goal.returns-in-Err-clause-sound
-returns-in-Err-clause-sound g c = sound_as_seen c.self.invariant c.self.view_is
+returns-in-Err-clause-sound g c = sound_as_seen c.self.invariant.parts c.self.view_is
