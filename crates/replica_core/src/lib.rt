@@ -347,6 +347,13 @@ impl<S: RowStore> ReplicaCore<S> {
         self.relay.count()
     }
 
+    /// Whether it keeps all accepted records.
+    pub fn keeps(&self) -> bool
+        ensures { result ≡ self.now.keeps }
+    {
+        self.keeps
+    }
+
     /// Lets committed records go: from the next commit on those up to the low-water mark are freed. All else stays as it
     /// is. It takes no memory.
     pub fn let_go(&mut self)
