@@ -5,8 +5,7 @@
 //! accepted before. So whatever is received, many workers may apply the records that it keeps. It does not look at what a
 //! record's changes do to the rows.
 //!
-//! It lets the first records go once it is told that nobody asks for them. Contracts speak of all accepted records, kept
-//! or not.
+//! `let_go` frees the first records, which nobody asks for any more. Contracts speak of all accepted records, kept or not.
 //!
 //! Beside the records it keeps the set of their ids, which shows whether a record came before. It also keeps which record
 //! touched each row last, and which stated each mark last (`touches`), so no parent is judged by a walk over the records.

@@ -1,6 +1,6 @@
 -- What a replica keeps, as each call leaves its parts.
-use Rattle.std.proofs.Common.{◌≡◌, ◌∙◌, sym, ap, subst, refl, ℕ, ◌+◌, ◌-◌, ◌<◌, ◌≤◌, ◌^◌, max, ◌⊎◌, ◌↔◌, inl, inr, Bool, true, false, not, true≢false, ◌&&◌, ◌||◌, eqb, List, [], ◌∷◌, ◌++◌, map, length}
-use Rattle.std.proofs.Common.{drop, Option, Some, None, is_some, Result, Ok, Err, IfOk, OnErr, IsErrOf, IsErrAnd, arith, slice_get, get_or, if◌then◌else◌, nat_le, nat_lt}
+use Rattle.std.proofs.Common.{◌≡◌, ◌∙◌, sym, ap, subst, refl, ℕ, ◌+◌, ◌-◌, ◌<◌, ◌≤◌, ◌^◌, max, ◌⊎◌, ◌↔◌, inl, inr, Bool, true, false, not, true≢false, ◌&&◌, ◌||◌, eqb, List, [], ◌∷◌, ◌++◌, map}
+use Rattle.std.proofs.Common.{length, drop, Option, Some, None, is_some, Result, Ok, Err, IfOk, OnErr, IsErrOf, IsErrAnd, arith, slice_get, get_or, if◌then◌else◌, nat_le, nat_lt}
 use Rattle.std.specs.List.{position_or_len, remove}
 use Rattle.std.specs.Map.{keys_of}
 use Rattle.std.specs.Option.{option_and_then, option_map, option_map_or, option_or}
@@ -44,7 +44,8 @@ use Rattle.replica_core.specs.Core.{Holds, ArePartsOf, IsTaken, Parts, commits_s
 use Rattle.replica_core.proofs.Jobs.{job_at, job_is_of_its_record}
 use Rattle.replica_core.proofs.InOrder.{low_in_order}
 use Rattle.replica_core.proofs.Lists.{place-map, place_there}
-use Rattle.replica_core.proofs.Kept.{IsNext, shows_gapped, finished_under_way, kept_new, kept_accepted, kept_dispatched, kept_finished, kept_committed, next_in_turn, kept_published, kept_letting_go, out_under_way}
+use Rattle.replica_core.proofs.Kept.{IsNext, shows_gapped, finished_under_way, kept_new, kept_accepted, kept_dispatched, kept_finished, kept_committed, next_in_turn}
+use Rattle.replica_core.proofs.Kept.{kept_published, kept_letting_go, out_under_way}
 
 -- ---- numbers fit
 

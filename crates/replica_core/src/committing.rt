@@ -74,7 +74,7 @@ pub fn drop_first<T: Drop>(list: &mut Vec<T>, count: usize)
     list.drain(..count);
 }
 
-/// Lets the accepted records up to this number go, unless all are to be kept.
+/// Lets the accepted records up to this number go, unless all are kept.
 pub fn let_go(keeps: bool, relay: &mut Relay, upto: u64)
     requires { upto ≤ length relay.old.accepted }
     ensures { LetsGo (if keeps then 0 else upto) relay.old relay.new }

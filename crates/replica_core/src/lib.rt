@@ -31,7 +31,8 @@ ghost use Rattle.scheduler.specs.Gnos.{has_gno};
 ghost use Rattle.replica_core.specs.Replica.{low_water, working_rows, waiting, job_of};
 ghost use Rattle.replica_core.specs.Sound.{IsSound, ShowsGapped};
 ghost use Rattle.replica_core.specs.Core.{IsJudged, place_in};
-ghost use Rattle.replica_core.specs.Calls.{new_over, letting_go, unless_stopped, received, left_by_receive, is_eligible, next_job, dispatched_next};
+ghost use Rattle.replica_core.specs.Calls.{new_over, letting_go, unless_stopped, received, left_by_receive, is_eligible};
+ghost use Rattle.replica_core.specs.Calls.{next_job, dispatched_next};
 ghost use Rattle.replica_core.specs.Calls.{finish_fault, IsHandedOut, taken_as, with_finished, left_by_fault, next_commit, with_commit};
 ghost use Rattle.replica_core.specs.Calls.{with_published, stop_fault, AreExecuted, executed_ids};
 

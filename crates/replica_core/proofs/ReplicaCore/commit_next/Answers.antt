@@ -6,7 +6,8 @@ use Rattle.replica_core.specs.Replica.{Replica}
 use Rattle.replica_core.specs.Calls.{next_commit, unless_stopped, with_commit}
 use Rattle.replica_core.specs.Sound.{ShowsGapped}
 use Rattle.replica_core.proofs.Kept.{sound_as_seen}
-use Rattle.replica_core.proofs.Steps.{not_stopped, commits_of, leaves_of, none_next, next_some, still_gapped, turn_next, turn_later, turn_near, committed_kept, committed_seen, committed_gapped, gone_then, gone_seen, mark_rises, low_dispatched}
+use Rattle.replica_core.proofs.Steps.{not_stopped, commits_of, leaves_of, none_next, next_some, still_gapped, turn_next}
+use Rattle.replica_core.proofs.Steps.{turn_later, turn_near, committed_kept, committed_seen, committed_gapped, gone_then, gone_seen, mark_rises, low_dispatched}
 use Rattle.replica_core.proofs.ReplicaCore.commit_next.Goals as goal
 
 pub returns-in_err-refuse_stopped-clause-sound : goal.returns-in_err-refuse_stopped-clause-sound
@@ -49,7 +50,8 @@ went g c = subst (λ (n : ℕ). LetsGo (if c.self.inside.keeps then 0 else n) c.
 
 pub let_go-requires : goal.let_go-requires
 let_go-requires g c =
-    let kept = committed_kept c.committed.new.self c.self.invariant.parts (commits_of _ _ _ _ _ _ c.schema.ensures c.in-Some.is c.in_ok-gno.ensures) c.committed.ensures.exact c.committed.ensures.greatest refl in
+    let put = commits_of _ _ _ _ _ _ c.schema.ensures c.in-Some.is c.in_ok-gno.ensures in
+    let kept = committed_kept c.committed.new.self c.self.invariant.parts put c.committed.ensures.exact c.committed.ensures.greatest refl in
     let low = low_dispatched kept in
     let all = kept.within in
     omega (arith, c.low_water.ensures.value)

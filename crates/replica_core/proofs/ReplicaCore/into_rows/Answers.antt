@@ -8,7 +8,8 @@ use Rattle.replica_core.proofs.ReplicaCore.into_rows.Goals as goal
 pub returns-clause-apart : goal.returns-clause-apart
 returns-clause-apart g c =
     rw c.into_store.ensures
-    (subst (λ (r : Replica). NoValueTwice r.tables (g.S.RowStore.contents c.self.inside.stored.store)) c.self.view_is (rows_apart _ _ (stands c.self.invariant.parts) c.self.invariant.parts.log.rows_are))
+    (subst (λ (r : Replica). NoValueTwice r.tables (g.S.RowStore.contents c.self.inside.stored.store)) c.self.view_is
+    (rows_apart _ _ (stands c.self.invariant.parts) c.self.invariant.parts.log.rows_are))
 
 pub returns-clause-sound : goal.returns-clause-sound
 returns-clause-sound g c = sound_as_seen c.self.invariant.parts c.self.view_is
