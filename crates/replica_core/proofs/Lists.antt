@@ -1,5 +1,6 @@
 -- Lists of numbers, and of what has a number each.
-use Rattle.std.proofs.Common.{◌≡◌, ◌∙◌, sym, ap, refl, true≢false, ℕ, zero, suc, ◌+◌, ◌<◌, Bool, true, ◌||◌, not, cond, eqb, inl, inr, List, [], ◌∷◌, ◌++◌, map, length, take, drop, Option, Some, arith, slice_get}
+use Rattle.std.proofs.Common.{◌≡◌, ◌∙◌, sym, ap, refl, true≢false, ℕ, zero, suc, ◌+◌, ◌<◌, Bool, true, ◌||◌, not}
+use Rattle.std.proofs.Common.{cond, eqb, inl, inr, List, [], ◌∷◌, ◌++◌, map, length, take, drop, Option, Some, arith, slice_get}
 use Rattle.std.specs.List.{AllByRecursion, position_or_len, remove}
 use Rattle.std.proofs.lemmas.Bool.{cases_Bool, eqb-true}
 use Rattle.std.proofs.lemmas.List.{map-append, take-map, drop-map, length-drop}

@@ -92,7 +92,18 @@ module _ {names : ReplicaNames} {preserve : Bool} {known : Option (List Op)} {s 
   whole_dispatched behind running free one =
       let t = h.stand in
       rw one.left record {
-        stand = record { named = t.named; within = t.within; history = t.history; begins = t.begins; shown = t.shown; words = t.words; number = t.number; in_order = t.in_order; of_log = t.of_log; keeps = t.keeps };
+        stand = record {
+          named = t.named;
+          within = t.within;
+          history = t.history;
+          begins = t.begins;
+          shown = t.shown;
+          words = t.words;
+          number = t.number;
+          in_order = t.in_order;
+          of_log = t.of_log;
+          keeps = t.keeps;
+        };
         kept = h.kept;
         line = next_in_line s.core s.outlet one.job one.is_next h.line free;
         claims = h.claims;
