@@ -17,7 +17,7 @@ use record_codec::{Record, same_records};
 use recovery::RecoveredLog;
 use rows::Row;
 use schema::{RowId, Schema};
-use script_text::printing::write_columns;
+use script_text::heads::write_columns;
 use std::alloc::Global;
 use std::fs::File;
 use std::io;

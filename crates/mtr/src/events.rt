@@ -12,10 +12,9 @@ use log_device::Device;
 use schema::Memory;
 use script_text::command::keep;
 use script_text::kept::KeptEvent;
-use script_text::printing::write_reply;
+use script_text::printing::put_reply;
 use script_text::words::Words;
 use std::alloc::Global;
-use std::io;
 use std::marker::Model;
 use store_trait::RowStore;
 use tracker_trait::Tracker;
@@ -75,7 +74,7 @@ impl Piece {
         alloc: Global,
         world: &mut World<S, T, D, R>,
         text: &mut Vec<u8>,
-    ) -> io::Result<()>
+    ) -> Result<(), Memory>
         requires { IsWorld R.contents (seen world.old) }
         ensures goes_on { OnOk result (GoesOn R.contents (seen world.old) (seen world.new) self.now (Some text.old.items)
             (Some text.new.items)) }
@@ -92,7 +91,7 @@ fn run_all<S: RowStore, T: Tracker, D: Device, R: RowStore>(
     kept: &[KeptEvent],
     columns: &[i64],
     text: &mut Vec<u8>,
-) -> io::Result<()>
+) -> Result<(), Memory>
     requires world { IsWorld R.contents (seen world.old) }
     requires whole { AreWhole kept.now columns.now }
     ensures goes_on { OnOk result (GoesOn R.contents (seen world.old) (seen world.new) (events_of kept.now columns.now)
@@ -116,7 +115,7 @@ fn run_kept<S: RowStore, T: Tracker, D: Device, R: RowStore>(
     kept: KeptEvent,
     columns: &[i64],
     text: &mut Vec<u8>,
-) -> io::Result<()>
+) -> Result<(), Memory>
     requires world { IsWorld R.contents (seen world.old) }
     requires whole { IsWhole kept }
     requires width { length columns.now ≡ width_of kept }
@@ -139,13 +138,13 @@ fn run_event<S: RowStore, T: Tracker, D: Device, R: RowStore>(
     world: &mut World<S, T, D, R>,
     event: &Event,
     text: &mut Vec<u8>,
-) -> io::Result<()>
+) -> Result<(), Memory>
     requires { IsWorld R.contents (seen world.old) }
     ensures goes_on { OnOk result (GoesOn R.contents (seen world.old) (seen world.new) (event.now ∷ []) (Some text.old.items)
         (Some text.new.items)) }
     ensures world { IsWorld R.contents (seen world.new) }
 {
-    write_reply(text, &world.step(alloc, event))
+    put_reply(text, &world.step(alloc, event))
 }
 
 /// All events, in order, in pieces. The memory of a piece is freed once its events have run.

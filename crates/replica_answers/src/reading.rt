@@ -279,7 +279,7 @@ impl<K: ReplicaNaming, E: Write> Asked<'_, K, E> {
         match command {
             Command::Skipped => Ok(()),
             Command::Help => Ok(tell_help(out)?),
-            Command::Read(row) => tell_read(seat, row, out),
+            Command::Read(row) => tell_read(self.alloc, seat, row, out),
             Command::Executed => self.tell_executed(rt, out),
             Command::Status => Ok(self.tell_status(rt, out)?),
             Command::Wait(gno) => {
@@ -296,7 +296,7 @@ impl<K: ReplicaNaming, E: Write> Asked<'_, K, E> {
     {
         let published = self.replica.status(rt).published.min(i64::MAX as u64);
         let ids = GtidSet::first(self.alloc, self.source, published)?;
-        write_reply(out, &Reply::Executed(ids))?;
+        write_reply(self.alloc, out, &Reply::Executed(ids))?;
         Ok(())
     }
 
@@ -363,6 +363,7 @@ impl<K: ReplicaNaming, E: Write> Asked<'_, K, E> {
 /// Writes the row as the published commits leave it, and how many these are. They begin with all that the seat saw or
 /// learnt.
 fn tell_read<K: ReplicaNaming, W: Write>(
+    alloc: Global,
     seat: &mut Seat<K>,
     row: RowId,
     out: &mut W,
@@ -380,7 +381,7 @@ fn tell_read<K: ReplicaNaming, W: Write>(
         more: answer.more,
         row: answer.row,
     };
-    write_reply(out, &reply)?;
+    write_reply(alloc, out, &reply)?;
     Ok(())
 }
 

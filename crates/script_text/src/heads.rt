@@ -2,9 +2,9 @@
 
 ghost use Rattle.std.specs.Prelude.{◌∷◌, OnOk};
 ghost use Rattle.std.specs.Io.KnownBytes.{Appends};
+ghost use Rattle.script_text.specs.Printing.{columns_text};
 ghost use Rattle.script_text.specs.Heads.{kind_word, unique_words, parent_words, behind_spaces, table_line, base_line};
 
-use crate::printing::write_columns;
 use rows::Row;
 use schema::{RowId, Table};
 use std::io;
@@ -58,4 +58,14 @@ pub fn write_base<W: Write>(out: &mut W, row: RowId, values: &Row) -> io::Result
     write!(out, "base {} {}", row.table, row.key)?;
     write_columns(out, values)?;
     writeln!(out)
+}
+
+/// Writes the columns of a row, each after a space.
+pub fn write_columns<W: Write>(out: &mut W, row: &Row) -> io::Result<()>
+    ensures { OnOk result (Appends (W.contents out.old) (W.contents out.new) (columns_text row.now)) }
+{
+    for column in row.columns() {
+        write!(out, " {column}")?;
+    }
+    Ok(())
 }

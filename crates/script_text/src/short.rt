@@ -1,18 +1,16 @@
 //! Short texts that are built from their end.
 
 ghost use Rattle.std.specs.Prelude.{◌≡◌, ◌+◌, ◌≤◌, ◌++◌, [], length, OnOk};
-ghost use Rattle.std.specs.Fmt.{decimal};
-ghost use Rattle.std.specs.Io.KnownBytes.{Appends};
+ghost use Rattle.std.specs.Fmt.{decimal, signed_decimal};
 
 use itoa::write_digits;
-use std::io;
-use std::io::Write;
+use schema::Memory;
 use std::marker::Model;
 
 /// The most bytes of a short text.
 const ROOM: usize = 80;
 
-/// A short text. It is built from its end, and written by one call.
+/// A short text. It is built from its end, and put at the end of another text by one call.
 #[derive(Drop)]
 pub struct Short {
     bytes: [u8; ROOM],
@@ -62,10 +60,22 @@ impl Short {
         self.start = write_digits(n, &mut self.bytes, self.start);
     }
 
-    /// Writes the text.
-    pub fn write<W: Write>(&self, out: &mut W) -> io::Result<()>
-        ensures { OnOk result (Appends (W.contents out.old) (W.contents out.new) self.now) }
+    /// Puts a number in front, with its sign if it is negative.
+    #[inline(always)]
+    pub fn put_signed(&mut self, n: i64)
+        requires { 21 + length self.old ≤ 80 }
+        ensures { self.new ≡ signed_decimal n ++ self.old }
     {
-        out.write_all(&self.bytes[self.start..])
+        self.put_number(n.unsigned_abs());
+        if n < 0 {
+            self.put("-");
+        }
+    }
+
+    /// Puts it at the end of another text.
+    pub fn put_into(&self, out: &mut Vec<u8>) -> Result<(), Memory>
+        ensures { OnOk result (out.new.items ≡ out.old.items ++ self.now) }
+    {
+        Ok(out.extend_from_slice(&self.bytes[self.start..])?)
     }
 }
