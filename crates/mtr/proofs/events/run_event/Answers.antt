@@ -5,5 +5,5 @@ use Rattle.mtr.proofs.events.run_event.Goals as goal
 
 pub returns-clause-goes_on : goal.returns-clause-goes_on
 returns-clause-goes_on g c =
-    goes_one g.R.RowStore.contents (seen c.args.world.now) (seen c.step.new.self) c.args.event.now c.step.result (Some c.args.text.now.items) (Some c.write_reply.new.out.items) c.write_reply.result
-    c.step.ensures.goes_on c.write_reply.ensures
+    goes_one g.R.RowStore.contents (seen c.args.world.now) (seen c.step.new.self) c.args.event.now c.step.result (Some c.args.text.now.items) (Some c.put_reply.new.out.items) c.put_reply.result
+    c.step.ensures.goes_on c.put_reply.ensures

@@ -1,4 +1,4 @@
-use Rattle.std.proofs.Common.{◌≡◌, ◌∙◌, sym, ap, subst, ℕ, List, ◌∷◌, ◌++◌, map, Vec, Global}
+use Rattle.std.proofs.Common.{◌≡◌, ◌∙◌, sym, ap, subst, ℕ, List, ◌∷◌, ◌++◌, map, Vec, Global, Some}
 use Rattle.std.specs.List.{flat_map}
 use Rattle.std.specs.Prelude.{OnOk}
 use Rattle.std.specs.Io.KnownBytes.{Appends}
@@ -6,7 +6,7 @@ use Rattle.std.proofs.lemmas.List.Folds.{flat_map-map}
 use Rattle.script_text.specs.HexText.{hex_text}
 use Rattle.script_text.specs.Printing.{further_file, files_text}
 use Rattle.script_text.proofs.Pieces.{then_text}
-use Rattle.script_text.proofs.printing.write_files.Goals as goal
+use Rattle.script_text.proofs.printing.put_files.Goals as goal
 
 -- the first file, and the others behind it
 files_joined : {V : Type 0} (bytes : V → List ℕ) (first : V) (further : List V)
@@ -14,13 +14,12 @@ files_joined : {V : Type 0} (bytes : V → List ℕ) (first : V) (further : List
 files_joined bytes first further = ap (λ text. hex_text (bytes first) ++ text) (sym (flat_map-map further_file bytes further))
 
 pub returns : goal.returns
-returns g c =
-    let contents = g.W.Write.contents in
+returns c =
     let first = c.in-Some.first.now in
     let further = c.in-Some.further.now in
-    subst (λ text. OnOk c.write_further.result (Appends (contents c.args.out.now) (contents c.write_further.new.out) text))
+    subst (λ text. OnOk c.put_further.result (Appends (Some c.args.out.now.items) (Some c.put_further.new.out.items) text))
     (files_joined (λ (file : Vec ℕ Global). file.items) first further
     ∙ ap (λ files. files_text (map (λ (file : Vec ℕ Global). file.items) files)) (sym c.in-Some.ensures.cases.0))
-    (then_text c.write_further.result (contents c.args.out.now) (contents c.write_hex.new.out) (contents c.write_further.new.out) (hex_text first.items)
+    (then_text c.put_further.result (Some c.args.out.now.items) (Some c.put_hex.new.out.items) (Some c.put_further.new.out.items) (hex_text first.items)
     (flat_map (λ (file : Vec ℕ Global). further_file file.items) further)
-    (rw c.deref.ensures.value at c.in_ok-write_hex.ensures.text) c.write_further.ensures)
+    (rw c.deref.ensures.value at c.in_ok-put_hex.ensures.text) c.put_further.ensures)
