@@ -27,7 +27,10 @@ pub fn begins<S: RowStore, T: Tracker, R: RowStore>(
     ensures none { IsSome result ↔ ((source.now.keeps ≡ true) × (replica.now.keeps ≡ true)) }
 {
     if source.keeps() && replica.keeps() {
-        Some(load_alike(source.base(), replica.base()) && is_beginning(replica.accepted(), source.log()))
+        Some(
+            load_alike(source.base(), replica.base())
+                && is_beginning(replica.accepted(), source.log()),
+        )
     } else {
         None
     }
