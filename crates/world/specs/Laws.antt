@@ -1,7 +1,7 @@
 -- What an operator may rely on in each run with legal replies. A place is the index of an event and of its reply, from
 -- 0 on; a moment n is when the first n events are answered.
 use mathlib.Core.List.{IsPrefix}
-use Rattle.std.specs.Prelude.{◌≡◌, ℕ, ℤ, ◌+◌, ◌-◌, ◌<◌, ◌≤◌, Bool, true, false, not, ◌&&◌, ◌||◌, nat_lt, List, [], ◌∷◌, length, map, take, slice_get, slice_index_or, count_by, Option, Some}
+use Rattle.std.specs.Prelude.{◌≡◌, ℕ, ℤ, ◌+◌, ◌<◌, ◌≤◌, Bool, true, false, ◌||◌, List, [], ◌∷◌, length, map, take, slice_get, count_by, Option, Some}
 use Rattle.std.specs.Prelude.{option_and_then, ◌⊎◌}
 use Rattle.std.specs.List.{list_any}
 use Rattle.std.specs.FinMap.{get}
@@ -23,8 +23,8 @@ use Rattle.world.specs.declared.events.Event.{Event}
 use Rattle.world.specs.declared.events.Event.TheVariants as events
 use Rattle.world.specs.declared.events.Reply.{Reply}
 use Rattle.world.specs.declared.events.Reply.TheVariants as replies
-use Rattle.world.specs.Past.{Past, is_failure, flushed, synced, source_committed, accepted, dispatched, commits, replica_committed, finished, published}
-use Rattle.world.specs.Legal.{Setup, rows_after, is_out, is_commit, is_source_memory, is_replica_memory, is_codec_memory, is_log_memory, AreLegal}
+use Rattle.world.specs.Past.{Past, is_failure, flushed, synced, source_committed, accepted, dispatched, commits, replica_committed, published}
+use Rattle.world.specs.Legal.{Setup, rows_after, is_commit, is_source_memory, is_replica_memory, is_codec_memory, is_log_memory, AreLegal}
 
 -- these pairs, and behind them those of the events and their replies, the newest first
 abbrev pub pairs_after : Past → List Event → List Reply → Past
