@@ -64,7 +64,8 @@ impl Short {
     #[inline(always)]
     pub fn put_signed(&mut self, n: i64)
         requires { 21 + length self.old ≤ 80 }
-        ensures { self.new ≡ signed_decimal n ++ self.old }
+        ensures text { self.new ≡ signed_decimal n ++ self.old }
+        ensures few { length self.new ≤ 21 + length self.old }
     {
         self.put_number(n.unsigned_abs());
         if n < 0 {

@@ -8,7 +8,7 @@ pub loop-column-init : goal.loop-column-init
 loop-column-init g c = Appends-nil _
 
 pub loop-column-preserved : goal.loop-column-preserved
-loop-column-preserved g c = piece_more column_text _ c.loop-column.column-index _ _ _ _ _ c.loop-column-test.true refl c.loop-column.invariant c.in_ok-write_fmt.ensures
+loop-column-preserved g c = piece_more column_text _ c.loop-column.column-index _ _ _ _ _ c.loop-column-test.true refl c.loop-column.invariant c.in_ok-write.ensures.bytes
 
 pub returns : goal.returns
 returns g c =
