@@ -42,9 +42,9 @@ receive_grows r then new Accepted is = record { more = new ∷ []; is = is }
 receive_grows r then new Skipped is = record { more = []; is = is ∙ ap (λ (l : List Record). record r { accepted = l }) (sym (append-nil r.accepted)) }
 
 -- where no more are accepted than before, nothing changed
-pub same_core : (r then : Replica) (before after : List Record) → Grows r then → before ≡ r.accepted → after ≡ then.accepted → length after ≤ length before → then ≡ r
+pub same_core : (r then : Replica) (before after : ℕ) → Grows r then → before ≡ length r.accepted → after ≡ length then.accepted → after ≤ before → then ≡ r
 same_core r then before after grows was is few =
-    not_more r then grows (subst (λ (l : List Record). length then.accepted ≤ length l) was (subst (λ (l : List Record). length l ≤ length before) is few))
+    not_more r then grows (subst (λ n. length then.accepted ≤ n) was (subst (λ n. n ≤ before) is few))
 
 -- where a record was taken the replica ran
 runs : (stopped : Option ℕ) (answer : Result Received ReplicaFault) → IsOk (option_map_or (λ gno. Err (faults.Stopped gno)) stopped answer) → stopped ≡ None
@@ -169,7 +169,7 @@ takes_and_settles s mid then old new piece taken answer takes past = record {
   some = λ more. subst (λ (x : State). SettlesOrLacks x past.settled then) past.left (past.some (subst (λ n. n < length mid.core.accepted) (sym past.was) more));
   none = λ few.
       let is = past.none (subst (λ n. length mid.core.accepted ≤ n) (sym past.was) few) in
-      let same = same_core s.core mid.core s.core.accepted mid.core.accepted (takes_grow old new s.core mid.core piece taken takes) refl refl few in
+      let same = same_core s.core mid.core (length s.core.accepted) (length mid.core.accepted) (takes_grow old new s.core mid.core piece taken takes) refl refl few in
       (is.0, is.1 ∙ past.left ∙ left_same s mid.core same);
   told = past.told;
 }

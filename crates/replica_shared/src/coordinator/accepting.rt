@@ -132,13 +132,13 @@ impl<S: RowStore + Drop, J: ReplicaNaming> Coordinator<S, J> {
         }
     }
 
-    // Does all that can be done, if more than `before` records were accepted.
-    fn settle_past(&mut self, rt: &impl Wait, before: u64) -> Result<(), ReplicaFault>
-        requires runs { before < length self.old.core.accepted → self.old.core.stopped ≡ None }
-        ensures none { length self.old.core.accepted ≤ before → (result ≡ Ok tt) × (self.new ≡ self.old) }
-        ensures some { before < length self.old.core.accepted → SettlesOrLacks self.old result self.new }
+    // Does all that can be done, if more than `count` records were accepted.
+    fn settle_past(&mut self, rt: &impl Wait, count: u64) -> Result<(), ReplicaFault>
+        requires runs { count < length self.old.core.accepted → self.old.core.stopped ≡ None }
+        ensures none { length self.old.core.accepted ≤ count → (result ≡ Ok tt) × (self.new ≡ self.old) }
+        ensures some { count < length self.old.core.accepted → SettlesOrLacks self.old result self.new }
     {
-        if before < self.core.received() {
+        if count < self.core.received() {
             self.settle(rt)
         } else {
             Ok(())

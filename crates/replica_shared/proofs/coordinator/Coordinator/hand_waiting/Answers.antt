@@ -12,6 +12,6 @@ invariant_of-self g c =
     whole_grown c.self.invariant (hands_on_grow _ _ _ _ _ hands) (hands_of_log _ _ _ _ _ _ hands c.requires.known c.self.invariant.stand.of_log)
     c.store_words.ensures.sound c.store_words.ensures.stored
 
-pub invariant_of-self-else-before-accepted : goal.invariant_of-self-else-before-accepted
-invariant_of-self-else-before-accepted g c =
+pub invariant_of-self-else-before-received : goal.invariant_of-self-else-before-received
+invariant_of-self-else-before-received g c =
     whole_same c.self.invariant (same_core _ _ _ _ (hands_on_grow _ _ _ _ _ c.hand-handed.ensures.hands) c.received-before.ensures c.received.ensures c.if-before-received.false)

@@ -12,6 +12,6 @@ invariant_of-self g c =
     whole_grown c.self.invariant (takes_grow _ _ _ _ _ _ takes) (takes_of_log _ _ _ _ _ _ _ takes c.requires.known c.self.invariant.stand.of_log)
     c.store_words.ensures.sound c.store_words.ensures.stored
 
-pub invariant_of-self-else-before-accepted : goal.invariant_of-self-else-before-accepted
-invariant_of-self-else-before-accepted g c =
+pub invariant_of-self-else-before-received : goal.invariant_of-self-else-before-received
+invariant_of-self-else-before-received g c =
     whole_same c.self.invariant (same_core _ _ _ _ (takes_grow _ _ _ _ _ _ c.take-taken.ensures) c.received-before.ensures c.received.ensures c.if-before-received.false)
