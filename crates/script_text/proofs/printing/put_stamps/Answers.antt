@@ -12,5 +12,6 @@ loop-sequence-preserved c =
 
 pub returns : goal.returns
 returns c =
-    let all = pieces_all stamp_text c.args.stamps.now c.loop-sequence.sequence-index (Some c.args.out.now.items) (Some c.loop-sequence.out.items) c.loop-sequence-test.false c.loop-sequence.invariant in
+    let all = pieces_all stamp_text c.args.stamps.now c.loop-sequence.sequence-index (Some c.args.out.now.items) (Some c.loop-sequence.out.items)
+    c.loop-sequence-test.false c.loop-sequence.invariant in
     then_text c.put.result (Some c.args.out.now.items) (Some c.loop-sequence.out.items) (Some c.put.new.out.items) (stamps_text c.args.stamps.now) (10 ∷ []) all c.put.ensures
