@@ -1,4 +1,5 @@
-//! The texts of a source's faults, and a group for which each call that runs out of memory is made again.
+//! The texts of a source's faults, a group for which each call that runs out of memory is made again, and a source that
+//! lets committed records go.
 
 ghost use Rattle.std.specs.Prelude.{◌≡◌, IfOk, IfSome, OnOk};
 ghost use Rattle.source_core.specs.Calls.{Flushes};
@@ -81,7 +82,7 @@ fn flush<T: Tracker>(source: &mut SourceCore<BTreeStore, T>) -> Result<Option<Gr
 pub(super) fn sync<T: Tracker>(source: &mut SourceCore<BTreeStore, T>) -> Result<(), SourceFault>
     ensures { OnOk result (source.new.tables ≡ source.old.tables) }
 {
-    source.log();
+    source.flushed();
     if source.busy() {
         return Err(SourceFault::Exhausted);
     }
@@ -118,4 +119,43 @@ fn a_group_is_made_again(rt: HostRuntime) -> Result<(), Fail> {
     let mut source = again!(source(rt.alloc()))?;
     sync_two(&mut source)?;
     commit_two(&rt, &mut source)
+}
+
+/// Flushes and syncs the one queued transaction at a source whose records are all committed. Its record has this number.
+fn sync_one(rt: &impl Abort, source: &mut Source, gno: u64) -> Result<(), Fail> {
+    let before = source.flushed();
+    assert!(rt; !source.busy());
+    let group = flush(source)?.ok_or("a group")?;
+    let [only] = source.log_past(before) else {
+        panic!(rt; "not one record");
+    };
+    assert_eq!(rt; (only.gno, only.parent), (gno, before));
+    source.synced(group)?;
+    Ok(())
+}
+
+/// Commits 40 transactions. From the number `from` on the source lets records go.
+fn lets_go(rt: &impl Abort, source: &mut Source, from: u64) -> Result<(), Fail> {
+    for gno in 1..=40u64 {
+        if gno == from {
+            source.let_go();
+        }
+        let key = gno.cast_signed();
+        enqueue(source, 1, insert(row(2, key), &[5, key])?)?;
+        sync_one(rt, source, gno)?;
+        assert_eq!(rt; source.commit_all(), Ok(Some((gno, gno))));
+        assert_eq!(rt; (source.flushed(), source.keeps()), (gno, gno < from));
+    }
+    assert_eq!(rt; source.log().len(), 0);
+    Ok(())
+}
+
+/// Catches a call that asks for a record that is gone, or that counts only the records that are kept.
+#[test]
+fn committed_records_go(rt: HostRuntime) -> Result<(), Fail> {
+    for from in [1, 20] {
+        let mut source = source(rt.alloc())?;
+        lets_go(&rt, &mut source, from)?;
+    }
+    Ok(())
 }
