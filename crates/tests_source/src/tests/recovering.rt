@@ -107,7 +107,8 @@ fn recovered<T: Fresh + Drop>(
 ) -> Result<Box<Source<T>>, Memory>
     requires { source.now.tables ≡ schema.now }
 {
-    if source.busy() || !source.keeps() || source.flushed() > 256 {
+    let (keeps, count) = (source.keeps(), source.flushed());
+    if source.busy() || !keeps || count > 256 {
         return Err(Memory);
     }
     let log = copies(alloc, source.log())?;
