@@ -1,5 +1,5 @@
 -- Where there are no gaps the commits are those from 1 to their number, in whichever order, and leave the first so many records.
-use Rattle.std.proofs.Common.{◌≡◌, ◌∙◌, sym, ap, subst, ℕ, ◌+◌, ◌<◌, ◌≤◌, true, inl, inr, leb, List, [], ◌∷◌, ◌++◌, length, length-append, Some, Option, IfSome, arith}
+use Rattle.std.proofs.Common.{◌≡◌, ◌∙◌, sym, ap, subst, ℕ, ◌<◌, ◌≤◌, true, inl, inr, leb, List, [], ◌∷◌, ◌++◌, length, length-append, Some, Option, IfSome, arith}
 use Rattle.std.proofs.lemmas.Bool.{cases_lt, and_from, and_parts, and_right, le-leb, lt-leb, leb-true, false_from_ne_true}
 use Rattle.schema.specs.declared.Table.{Table}
 use Rattle.rows.specs.Database.{Database}

@@ -94,7 +94,7 @@ fn refused(
 fn begins<T: Tracker>(rt: &impl Abort, made: &Life<T>, behind: u64, columns: &[i64]) {
     assert_eq!(rt; (made.identifier, made.behind), (other_name(), behind));
     assert_eq!(rt; made.source.rows().get(ten()), Row::new(columns));
-    assert_eq!(rt; made.source.log().len(), 0);
+    assert_eq!(rt; made.source.flushed(), 0);
 }
 
 /// Session 1 sets column 0 of row 10 to 9, and sees both columns.

@@ -42,13 +42,13 @@ fn new_record(alloc: Global, gno: u64, from: i64, to: i64) -> Result<Record, Mem
 
 /// Receives the record, and once more if that is refused, which leaves the replica as it was.
 fn receive_again(rt: &impl Abort, replica: &mut Replica, next: &Record) {
-    let before = replica.accepted().len();
+    let before = replica.received();
     let first = receive(replica, next);
     if first == Ok(Received::Accepted) {
         return;
     }
     assert_eq!(rt; first, Err(ReplicaFault::Memory));
-    assert_eq!(rt; replica.accepted().len(), before);
+    assert_eq!(rt; replica.received(), before);
     accepts(rt, replica, next);
 }
 

@@ -1,13 +1,19 @@
-//! A replica at its bounds, where a body that reports out of memory too early would still be proved.
+//! A replica at its bounds, where a body that reports out of memory too early would still be proved, and one that lets
+//! committed records go.
+
+ghost use Rattle.std.specs.Prelude.{◌<◌};
 
 use crate::tests::makers::{
-    Entry, Replica, greatest, insert_of, replica, replica_of, row, rows_of_greatest, wide_id,
+    Entry, Replica, greatest, insert_of, replica, replica_of, row, rows_of_greatest, unordered,
+    wide_id,
 };
 use crate::tests::steps::{
-    accepts, commits, dispatch, finishes, passes, publishes, results_of, runs, stored, waiting,
+    accepts, commits, dispatch, executed, finishes, job, passes, publishes, receive, results_of,
+    runs, stored, waiting,
 };
 use btree_store::BTreeStore;
 use executor::JobResult;
+use relay::Received;
 use rows::Row;
 use schema::Memory;
 use std::alloc::Global;
@@ -79,6 +85,58 @@ fn three_hundred_commits_are_published_in_parts(rt: HostRuntime) -> Result<(), F
     publishes(&rt, &mut replica, 300, Ok(300));
     assert_eq!(rt; waiting(&replica), (None, 0));
     Ok(())
+}
+
+/// The two records after the first `before` are out at once, and the second is finished first.
+fn pass_two(rt: &(impl Abort + AllocGlobal), replica: &mut Replica, before: u64) -> Result<(), Fail>
+    requires { before < 300 }
+{
+    let (first, second) = (before + 1, before + 2);
+    for gno in [first, second] {
+        accepts(rt, replica, &insert_of(rt.alloc(), gno, gno.cast_signed())?);
+    }
+    let early = job(rt, replica, first)?;
+    runs(rt, replica, second)?;
+    finishes(rt, replica, executed(rt.alloc(), early), Ok(()));
+    let (one, other) = if replica.preserve() {
+        (first, second)
+    } else {
+        (second, first)
+    };
+    commits(rt, replica, Some(one));
+    commits(rt, replica, Some(other));
+    publishes(rt, replica, second, Ok(second));
+    Ok(())
+}
+
+/// From these commits on it lets records go. Its numbers are those of a replica that keeps all.
+fn lets_go(rt: &(impl Abort + AllocGlobal), replica: &mut Replica, from: u64) -> Result<(), Fail> {
+    for pair in 0..100u64 {
+        let before = pair * 2;
+        if before == from {
+            replica.let_go();
+        }
+        pass_two(rt, replica, before)?;
+        assert_eq!(rt;
+            (replica.received(), replica.keeps()),
+            (before + 2, before < from)
+        );
+        assert_eq!(rt;
+            receive(replica, &insert_of(rt.alloc(), 1, 1)?),
+            Ok(Received::Skipped)
+        );
+    }
+    assert_eq!(rt; stored(replica, 200), (row(5, 6), 200));
+    Ok(())
+}
+
+/// Catches a call that asks for a record that is gone, in either order, or that counts only the records that are kept.
+#[test]
+fn committed_records_go(rt: HostRuntime) -> Result<(), Fail> {
+    let mut ordered = replica(rt.alloc(), 2)?;
+    lets_go(&rt, &mut ordered, 0)?;
+    let mut other = unordered(rt.alloc(), 2)?;
+    lets_go(&rt, &mut other, 100)
 }
 
 /// A replica of the rows that the greatest record writes, and of 2048 others.

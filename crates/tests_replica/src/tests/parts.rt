@@ -41,6 +41,7 @@ fn are_parts(rt: &impl Abort, base: &Batch, accepted: &[Record], store: &BTreeSt
 
 /// Another replica over the rows of this one.
 fn made_again(rt: &(impl Abort + AllocGlobal), replica: Replica) -> Result<Box<Replica>, Memory> {
+    assert!(rt; replica.keeps());
     let (schema, base, accepted, store) = replica.into_parts();
     are_parts(rt, &base, &accepted, &store);
     if are_of_tables(&schema, &store) {
@@ -54,7 +55,7 @@ fn made_again(rt: &(impl Abort + AllocGlobal), replica: Replica) -> Result<Box<R
 /// It begins with these rows, and takes records from the first on.
 fn begins_with_them(rt: &(impl Abort + AllocGlobal), replica: &mut Replica) -> Result<(), Fail> {
     assert_eq!(rt;
-        (replica.base().entries().len(), replica.accepted().len()),
+        (replica.base().entries().len(), replica.received()),
         (3, 0)
     );
     passes(rt, replica, &insert_of(rt.alloc(), 1, 3)?)?;

@@ -90,8 +90,9 @@ fn take(wire: &mut Wire, replica: &mut Replica, piece: &[u8]) -> Result<u64, Wir
     wire.take(replica, piece)
 }
 
-fn accepted(alloc: Global, replica: &Replica) -> Result<Vec<u8>, Memory> {
-    spelled(alloc, replica.accepted())
+fn accepted(rt: &(impl Abort + AllocGlobal), replica: &Replica) -> Result<Vec<u8>, Memory> {
+    assert!(rt; replica.keeps());
+    spelled(rt.alloc(), replica.accepted())
 }
 
 /// The piece is taken like this, after the waiting records.
@@ -107,7 +108,7 @@ fn is_taken(
     assert_eq!(rt; wire.waiting().len(), case.left, "{case:?}");
     let wanted = bytes_of(rt.alloc(), case.accepted)?;
     assert!(rt;
-        accepted(rt.alloc(), replica)?.as_slice() == wanted.as_slice(),
+        accepted(rt, replica)?.as_slice() == wanted.as_slice(),
         "{case:?}"
     );
     Ok(())

@@ -107,10 +107,11 @@ fn recovered<T: Fresh + Drop>(
 ) -> Result<Box<Source<T>>, Memory>
     requires { source.now.tables ≡ schema.now }
 {
-    let log = copies(alloc, source.log())?;
-    if source.busy() || log.len() > 256 {
+    let (keeps, count) = (source.keeps(), source.flushed());
+    if source.busy() || !keeps || count > 256 {
         return Err(Memory);
     }
+    let log = copies(alloc, source.log())?;
     let store = rows_of(alloc, schema, source)?;
     let (schema, base) = (schema.copy()?, source.base().copy()?);
     let core = SourceCore::recovered(alloc, schema, base, store, log, T::fresh(alloc)?, 256)?;

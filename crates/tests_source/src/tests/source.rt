@@ -1,7 +1,8 @@
-//! The texts of a source's faults, and a group for which each call that runs out of memory is made again.
+//! The texts of a source's faults, a group for which each call that runs out of memory is made again, and a source that
+//! lets committed records go.
 
-ghost use Rattle.std.specs.Prelude.{◌≡◌, IfOk, IfSome, OnOk};
-ghost use Rattle.source_core.specs.Calls.{Flushes};
+ghost use Rattle.std.specs.Prelude.{◌≡◌, ◌≤◌, length, IfOk, IfSome, OnOk};
+ghost use Rattle.source_core.specs.Calls.{Flushes, IsOldest};
 
 use btree_store::BTreeStore;
 use commit_order_tracker::CommitOrder;
@@ -77,18 +78,29 @@ fn flush<T: Tracker>(source: &mut SourceCore<BTreeStore, T>) -> Result<Option<Gr
     again!(source.flush())
 }
 
-/// Flushes and syncs what is queued at a source whose records are all committed.
-pub(super) fn sync<T: Tracker>(source: &mut SourceCore<BTreeStore, T>) -> Result<(), SourceFault>
-    ensures { OnOk result (source.new.tables ≡ source.old.tables) }
+/// Flushes what is queued at a source whose records are all committed. The group may then be synced.
+fn flush_idle<T: Tracker>(source: &mut SourceCore<BTreeStore, T>) -> Result<Group, SourceFault>
+    ensures tables { OnOk result (source.new.tables ≡ source.old.tables) }
+    ensures oldest { IfOk result (λ group. IsOldest source.new group) }
+    ensures committed { OnOk result (source.new.committed ≤ length source.old.log) }
+    ensures longer { OnOk result (length source.old.log ≤ length source.new.log) }
 {
-    source.log();
+    source.flushed();
     if source.busy() {
         return Err(SourceFault::Exhausted);
     }
     match flush(source)? {
-        Some(group) => source.synced(group),
+        Some(group) => Ok(group),
         None => Err(SourceFault::NotPrepared),
     }
+}
+
+/// Flushes and syncs what is queued at a source whose records are all committed.
+pub(super) fn sync<T: Tracker>(source: &mut SourceCore<BTreeStore, T>) -> Result<(), SourceFault>
+    ensures { OnOk result (source.new.tables ≡ source.old.tables) }
+{
+    let group = flush_idle(source)?;
+    source.synced(group)
 }
 
 /// Makes a group of a transaction of session 3 and one of session 256.
@@ -118,4 +130,42 @@ fn a_group_is_made_again(rt: HostRuntime) -> Result<(), Fail> {
     let mut source = again!(source(rt.alloc()))?;
     sync_two(&mut source)?;
     commit_two(&rt, &mut source)
+}
+
+/// Flushes and syncs the one queued transaction at a source whose records are all committed. Its record has this number.
+fn sync_one(rt: &impl Abort, source: &mut Source, gno: u64) -> Result<(), Fail> {
+    let before = source.flushed();
+    let group = flush_idle(source)?;
+    let [only] = source.log_past(before) else {
+        panic!(rt; "not one record");
+    };
+    assert_eq!(rt; (only.gno, only.parent), (gno, before));
+    source.synced(group)?;
+    Ok(())
+}
+
+/// Commits 40 transactions. From the number `from` on the source lets records go.
+fn lets_go(rt: &impl Abort, source: &mut Source, from: u64) -> Result<(), Fail> {
+    for gno in 1..=40u64 {
+        if gno == from {
+            source.let_go();
+        }
+        let key = gno.cast_signed();
+        enqueue(source, 1, insert(row(2, key), &[5, key])?)?;
+        sync_one(rt, source, gno)?;
+        assert_eq!(rt; source.commit_all(), Ok(Some((gno, gno))));
+        assert_eq!(rt; (source.flushed(), source.keeps()), (gno, gno < from));
+    }
+    assert_eq!(rt; source.log().len(), 0);
+    Ok(())
+}
+
+/// Catches a call that asks for a record that is gone, or that counts only the records that are kept.
+#[test]
+fn committed_records_go(rt: HostRuntime) -> Result<(), Fail> {
+    for from in [1, 20] {
+        let mut source = source(rt.alloc())?;
+        lets_go(&rt, &mut source, from)?;
+    }
+    Ok(())
 }
