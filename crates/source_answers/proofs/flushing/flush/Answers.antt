@@ -6,6 +6,11 @@ use Rattle.world.specs.Legal.{stamp_of}
 use Rattle.source_answers.proofs.Answered.{waits_behind, flush_waits}
 use Rattle.source_answers.proofs.flushing.flush.Goals as goal
 
+pub overflow_sub-first : goal.overflow_sub-first
+overflow_sub-first g c =
+    let w = rw c.in-Ok-Some.field-0-is at c.in-Ok-Some.ensures.group in
+    omega (arith, (waits_behind _ _ _ _ _ c.in-Ok-Some.ensures.sound w).0)
+
 pub log_past-requires-clause-kept : goal.log_past-requires-clause-kept
 log_past-requires-clause-kept g c =
     let w = rw c.in-Ok-Some.field-0-is at c.in-Ok-Some.ensures.group in
