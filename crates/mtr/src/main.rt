@@ -1,7 +1,8 @@
 //! The program `mtr` runs a script over one source and one replica, and prints the reply to each event. It also runs a
 //! source and a replica in many threads and compares them, or prints the records of a log file.
 //!
-//! - `command_line` reads what the words ask for. `serve` does it, over any reader and two writers.
+//! - `command_line` reads what the words ask for; the texts are in `help`. `serve` does it, over any reader and two
+//!   writers.
 //! - To run a script, `script` reads all of it, by the lines of `script_text`. `pair` makes the two sides, with the
 //!   chosen store and tracker (`any_store`, and the crate `any_tracker`). So nothing is done before everything is read
 //!   and checked.
@@ -16,6 +17,7 @@ mod command_line;
 mod decode;
 mod ending;
 mod events;
+mod help;
 mod hex;
 mod options;
 mod pair;

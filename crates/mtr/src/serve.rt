@@ -7,9 +7,10 @@ ghost use Rattle.mtr.specs.Options.{IsInRange, AreSides, kind_for};
 ghost use Rattle.mtr.specs.Pair.{PrintsText};
 
 use crate::any_store::AnyStore;
-use crate::command_line::{NOT_UTF8, asked};
+use crate::command_line::asked;
 use crate::decode::decode;
 use crate::ending::{Ending, Stop};
+use crate::help::NOT_UTF8;
 use crate::options::{LineFault, Options, Plan, Sides};
 use crate::pair::devices_in_memory;
 use crate::run::run_text;

@@ -1,7 +1,8 @@
 //! The program's work, over a reader and two writers.
 
-use crate::command_line::{LineFault, NOT_UTF8, Work, asked, words_behind};
+use crate::command_line::{LineFault, Work, asked, words_behind};
 use crate::feeding::feed;
+use crate::help::NOT_UTF8;
 use crate::sourcing::source;
 use log_tools::{Ending, Stop, StopAt, check, decode, diff, make, rows};
 use replica_answers::replica;

@@ -4,7 +4,7 @@ ghost use Rattle.std.specs.Prelude.{◌≡◌, length, OnOk};
 ghost use Rattle.std.specs.Io.KnownBytes.{Appends};
 ghost use Rattle.replica_answers.specs.Conversation.{TellsPromoted, UnlessLost, promoted_text};
 
-use crate::reading::{Wish, says_nothing, wish_in};
+use crate::commands::{Wish, says_nothing, wish_in};
 use crate::replicating::ending_of;
 use btree_store::BTreeStore;
 use log_tools::{Ending, Lines, Stop, make_over};
