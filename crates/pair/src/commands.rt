@@ -19,7 +19,7 @@ pub fn command<'a>(alloc: Global) -> Result<Command<'a>, AllocError> {
 /// The program, without subcommands.
 fn program<'a>(alloc: Global) -> Result<Command<'a>, AllocError> {
     Command::new(alloc, "pair")
-        .about("A source and a replica in processes of their own, over a log in files")
+        .about("A source and a replica in separate processes, over a log in files")
         .after_help(MORE)
         .version(VERSION)
         .propagate_version(true)
@@ -54,7 +54,7 @@ fn with_rows<'a>(alloc: Global, command: Command<'a>) -> Result<Command<'a>, All
 
 fn make_command<'a>(alloc: Global) -> Result<Command<'a>, AllocError> {
     Command::new(alloc, "make")
-        .about("Makes a log, over the tables and rows on standard input, or of a feed")
+        .about("Makes a log, over the tables and rows on standard input, or from a feed")
         .after_help(MORE_OF_MAKE)
         .arg(prefix_word(alloc))?
         .arg(
@@ -62,7 +62,7 @@ fn make_command<'a>(alloc: Global) -> Result<Command<'a>, AllocError> {
                 .long("source")
                 .value_name("ID")
                 .help(
-                    "The log's identifier, as 3e11fa47-71ca-11e1-9e33-c80aa9429562; one at random without it",
+                    "The log's identifier, as 3e11fa47-71ca-11e1-9e33-c80aa9429562; without it, one at random",
                 ),
         )
 }
@@ -83,14 +83,14 @@ fn source_command<'a>(alloc: Global) -> Result<Command<'a>, AllocError> {
             "BYTES",
             "1073741824",
             i64::MAX,
-            "Once the last file has so many bytes, the log goes on in a next one",
+            "Once the last file has this number of bytes, the log continues in a next one",
         ))
 }
 
 /// `source`, with only its log and its tracker.
 fn source_of_tracker<'a>(alloc: Global) -> Result<Command<'a>, AllocError> {
     Command::new(alloc, "source")
-        .about("A source over a log, which goes on where that ends and answers each line at once")
+        .about("A source that continues a log and replies to each line at once")
         .after_help(MORE_OF_SOURCE)
         .arg(prefix_word(alloc))?
         .arg(tracker_option(alloc, &["commit-order", "writeset", "writeset-session"]))
@@ -119,7 +119,7 @@ fn feed_command<'a>(alloc: Global) -> Result<Command<'a>, AllocError> {
 
 fn replica_command<'a>(alloc: Global) -> Result<Command<'a>, AllocError> {
     Command::new(alloc, "replica")
-        .about("A replica that follows a feed, and answers each line at once")
+        .about("A replica that follows a feed and replies to each line at once")
         .after_help(MORE_OF_REPLICA)
         .arg(log_word(
             alloc,
@@ -132,14 +132,14 @@ fn replica_command<'a>(alloc: Global) -> Result<Command<'a>, AllocError> {
                 .long("workers")
                 .value_name("N")
                 .default_value("4")
-                .help("So many workers execute records, 1 to 64")
+                .help("The number of workers that execute records, 1 to 64")
                 .value_parser(value_parser!(usize).range(1..=64)),
         )?
         .arg(
             Arg::new(alloc, "source")
                 .long("source")
                 .value_name("ID")
-                .help("Refuses the wire of another source than this one"),
+                .help("Refuses the wire of any other source"),
         )
 }
 
@@ -172,7 +172,7 @@ fn number_option<'a>(
 
 fn check_command<'a>(alloc: Global) -> Result<Command<'a>, AllocError> {
     Command::new(alloc, "check")
-        .about("Tells what a log's files hold, and whether a source would go on from them")
+        .about("Says what a log's files hold, and whether a source would continue from them")
         .after_help(MORE_OF_CHECK)
         .arg(prefix_word(alloc))
 }
@@ -195,7 +195,7 @@ fn rows_command<'a>(alloc: Global) -> Result<Command<'a>, AllocError> {
         .about("Prints the tables and the rows that a log leaves")
         .after_help(MORE_OF_ROWS)
         .arg(prefix_word(alloc))?
-        .arg(upto_option(alloc, "After how many records; after all without it"))
+        .arg(upto_option(alloc, "After how many records; without it, after all"))
 }
 
 fn diff_command<'a>(alloc: Global) -> Result<Command<'a>, AllocError> {
@@ -211,7 +211,7 @@ fn diff_command<'a>(alloc: Global) -> Result<Command<'a>, AllocError> {
         .arg(log_word(alloc, "other", "B", "The path of the other log's files"))?
         .arg(upto_option(
             alloc,
-            "After how many records; after as many as both have without it",
+            "After how many records; without it, after as many as both have",
         ))
 }
 
