@@ -4,3 +4,4 @@ mod limits;
 mod makers;
 mod one_thread;
 mod steps;
+mod values;

@@ -22,7 +22,7 @@ use tests_stores::common::{five_tables, unique_tables};
 use tracker_trait::Tracker;
 use uuid::Uuid;
 use vector_store::VectorStore;
-use world::{Pair, PairParts, World, pair_of};
+use world::{Event, Pair, PairParts, World, pair_of};
 use writeset_trackers::WriteSetTracker;
 
 /// The identifier of the source.
@@ -236,4 +236,24 @@ fn spare(alloc: Global) -> Result<VecDeque<MemoryDevice>, Memory>
         devices.push_back(MemoryDevice::new(alloc))?;
     }
     Ok(devices)
+}
+
+/// Another child of the parent.
+pub const SIBLING: RowId = RowId { table: 4, key: 8 };
+
+/// A row without a key.
+pub const KEYLESS: RowId = RowId { table: 5, key: 1 };
+
+/// The session writes this.
+pub fn write(session: u16, change: Change) -> Event {
+    Event::Write { session, change }
+}
+
+/// The session looks at this row.
+pub fn see(session: u16, row: RowId) -> Event {
+    Event::See { session, row }
+}
+
+pub fn delete(row: RowId) -> Change {
+    Change::Delete { row }
 }
