@@ -91,7 +91,8 @@ fn ended<D: Device + Drop>(life: Box<Life<D>>) -> Result<Vec<D>, Fail>
     Ok(devices)
 }
 
-/// Catches a life that numbers anew, or gives a transaction a parent only from this life, and a rotated file that is forgotten.
+/// Catches a life that numbers anew, or gives a transaction a parent only from this life, and a rotated file that is
+/// forgotten; also committed records that are kept beside the log.
 #[test]
 fn lives_go_on(rt: HostRuntime) -> Result<(), Fail> {
     let alloc = rt.alloc();
@@ -103,11 +104,13 @@ fn lives_go_on(rt: HostRuntime) -> Result<(), Fail> {
     };
     assert!(rt; files == 2);
     assert!(rt; commit(&mut life, 12)? == (3, 2));
+    assert!(rt; life.source().log().is_empty());
     let Ok(mut next) = next_life(alloc, 256, source(), ended(life)?)? else {
         return Err(Memory)?;
     };
     assert!(rt; next.count() == 3);
     assert!(rt; commit(&mut next, 13)? == (4, 3));
+    assert!(rt; next.source().log().is_empty());
     Ok(())
 }
 
