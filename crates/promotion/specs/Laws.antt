@@ -5,6 +5,7 @@ use Rattle.rows.specs.Database.{Database}
 use Rattle.record_codec.specs.declared.records.Record.{Record}
 use Rattle.store_trait.specs.Operation.{loaded}
 use Rattle.record_codec.specs.Log.{after, IsLegalLog}
+use Rattle.moved_numbers.specs.Moved.{behind}
 use Rattle.gapped.specs.Gapped.{gapped}
 use Rattle.replica_core.specs.Replica.{Replica, ran, rows_at}
 use Rattle.replica_core.specs.Sound.{IsSound}
@@ -22,11 +23,7 @@ GappedLeadsOn = (r : Replica) (seen : ℕ) (rows : Database) → IsSound r → H
 
 -- ---- both logs as one
 
--- the record, counted past so many others
-abbrev pub behind : ℕ → Record → Record
-behind n next = record next { gno = n + next.gno; sequence = n + next.sequence; parent = n + next.parent }
-
--- the old log, and the new one behind it
+-- the old log, and the new one behind it, with its numbers moved
 abbrev pub joined : List Record → List Record → List Record
 joined old new = old ++ map (behind (length old)) new
 
