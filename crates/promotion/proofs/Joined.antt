@@ -1,5 +1,5 @@
 -- The new log behind the old one.
-use Rattle.std.proofs.Common.{◌≡◌, ◌∙◌, ap, ◌++◌, length, map, take}
+use Rattle.std.proofs.Common.{◌∙◌, ap, ◌++◌, length, map, take}
 use Rattle.std.proofs.Math.Seq.{take-append-add}
 use Rattle.std.proofs.lemmas.List.{take-map}
 use Rattle.record_codec.specs.Log.{after}
