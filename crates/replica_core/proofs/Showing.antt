@@ -62,15 +62,12 @@ state_now r h = ran_is_gapped r.tables (loaded r.base) r.accepted r.commits h.ap
 
 -- the records in the order of their commits leave the working rows
 pub rows_of_ran : (r : Replica) (rows : Database) → Stands r → working_rows r ≡ Some rows → after r.tables (loaded r.base) (ran r) ≡ Some rows
-rows_of_ran r rows h is =
-    let state = state_now r h in
-    state.ran ∙ sym state.rows ∙ is
+rows_of_ran r rows h is = let state = state_now r h in state.ran ∙ sym state.rows ∙ is
 
 -- where no two rows of a table have one value in its unique column
 pub rows_apart : (r : Replica) (rows : Database) → Stands r → working_rows r ≡ Some rows → NoValueTwice r.tables rows
 rows_apart r rows h is =
-    let state = state_now r h in
-    subst (NoValueTwice r.tables) (same_Some state.left rows (sym state.rows ∙ is)) state.apart
+    let state = state_now r h in subst (NoValueTwice r.tables) (same_Some state.left rows (sym state.rows ∙ is)) state.apart
 
 -- each commit is of an accepted record
 pub commits_within : (r : Replica) → Stands r → AreWithin r.commits r.accepted

@@ -1,7 +1,6 @@
 use Rattle.std.proofs.Common.{◌≡◌, ◌≤◌, length, ap, arith}
 use Rattle.replica_core.specs.Replica.{Replica}
-use Rattle.replica_core.proofs.Kept.{length_ops, shows_gapped}
-use Rattle.replica_core.proofs.Steps.{published_kept}
+use Rattle.replica_core.proofs.Kept.{length_ops, kept_published, shows_gapped}
 use Rattle.replica_core.proofs.ReplicaCore.publish.Goals as goal
 
 pub drop_first-requires : goal.drop_first-requires
@@ -18,7 +17,7 @@ invariant_of-self g c =
     let published : was.published ≡ c.args.self.now.published = ap (λ (r : Replica). r.published) c.self.view_is in
     let later : was.published ≤ c.args.upto = omega (arith, c.requires.later) in
     record {
-      parts = published_kept c.self.invariant.parts c.args.upto c.drop_first.new.list.items later (omega (arith, c.requires.done)) c.drop_first.ensures;
+      parts = rw c.drop_first.ensures (kept_published c.self.invariant.parts c.args.upto later (omega (arith, c.requires.done)));
       kept = c.self.invariant.kept;
     }
 
