@@ -1,6 +1,6 @@
 -- What a replica keeps, at each of its steps.
 use Rattle.std.proofs.Common.{◌≡◌, ◌∙◌, sym, ap, subst, refl, true≢false, ℕ, ◌+◌, ◌-◌, ◌<◌, ◌≤◌, Bool, true, false, ◌&&◌, ◌||◌, nat_le, eqb, if◌then◌else◌, inl, inr, List, [], ◌∷◌, ◌++◌, map, length}
-use Rattle.std.proofs.Common.{drop, Option, Some, arith, slice_get}
+use Rattle.std.proofs.Common.{◌^◌, drop, Option, Some, arith, slice_get}
 use Rattle.std.specs.List.{remove}
 use Rattle.std.specs.Map.{keys_of}
 use Rattle.std.specs.Option.{option_map}
@@ -21,23 +21,24 @@ use Rattle.executor.specs.declared.Outcome.TheVariants.{Output}
 use Rattle.row_index.specs.Keys.{Keys, Indexes, marks_at, moved}
 use Rattle.row_index.proofs.Keys.{keys_follow}
 use Rattle.relay.specs.Relay.{AreAcceptable}
-use Rattle.relay.proofs.Acceptable.{empty_is_acceptable}
+use Rattle.relay.proofs.Acceptable.{empty_is_acceptable, few_acceptable}
 use Rattle.scheduler.specs.Gnos.{has_gno, without, first_gnos, AreDistinct}
 use Rattle.scheduler.specs.Marks.{Marks, is_committed, none_committed}
 use Rattle.scheduler.proofs.Gnos.{has_gno_front, has_gno_behind, distinct_apart_behind, AreDistinct_behind, has_gno-without_same, has_gno_of_without, length-without, distinct_entered, has_gno_entered}
-use Rattle.scheduler.proofs.Gnos.{distinct_moved_behind, has_gno_moved_behind, distinct_moved_front, has_gno_moved_front, first_gnos-next}
+use Rattle.scheduler.proofs.Gnos.{distinct_moved_behind, has_gno_moved_behind, distinct_moved_front, has_gno_moved_front, first_gnos-next, low_is_few, AreDistinct_front}
 use Rattle.scheduler.proofs.Marks.{none_is_committed, low_of_marks, marks_of_more}
 use Rattle.commit_order.specs.Turns.{Line, no_turns, entered, with_result, turn, passed}
 use Rattle.commit_order.proofs.Lines.{gnos_of, turn_has, turn_waits, turn_is_next, gnos-with_result, gnos-passed, all_with_result, all_passed}
+use Rattle.gone_records.specs.Going.{MayBeGone}
 use Rattle.gapped.proofs.Choosing.{no_commits, commits_are_within, length_records_at}
 use Rattle.replica_core.specs.Replica.{Replica, low_water, ran, job_of, waiting, commits_from}
 use Rattle.replica_core.specs.Sound.{IsSound, IsUnderWay, IsEligible, ShowsGapped}
 use Rattle.replica_core.specs.Calls.{new_over, letting_go, with_accepted, dispatched_next, with_finished, stopped_at, with_commit, with_published}
-use Rattle.replica_core.specs.Core.{IsTaken, IsLogKept, IsCounted, ArePartsOf, kept_of, place_in}
+use Rattle.replica_core.specs.Core.{Holds, IsTaken, IsLogKept, IsCounted, ArePartsOf, kept_of, place_in}
 use Rattle.replica_core.specs.declared.dispatching.HandedOut.{HandedOut}
 use Rattle.replica_core.proofs.Commits.{one_commit_each}
 use Rattle.replica_core.proofs.Showing.{Stands, numbered_of, rows_of_ran, published_is_gapped}
-use Rattle.replica_core.proofs.InOrder.{in_order_of}
+use Rattle.replica_core.proofs.InOrder.{in_order_of, low_in_order}
 use Rattle.replica_core.proofs.Jobs.{StepsOn, commit_step, AcceptsOn, accept_step}
 use Rattle.replica_core.proofs.Lists.{same_each, all_each, remove-map}
 
@@ -118,9 +119,17 @@ module _ {r : Replica} {marks : Marks} {line : Line} {handed : List HandedOut} {
     in_order = λ preserve. in_order_of r stands (h.counted.in_turn preserve);
   }
 
-  -- as what it is seen as
-  pub sound_as_seen : {now : Replica} → r ≡ now → IsSound now
-  sound_as_seen is = subst IsSound is kept_sound
+  few_dispatched : r.dispatched < 2 ^ 63
+  few_dispatched = omega (arith, few_acceptable r.tables r.accepted h.log.acceptable, h.within)
+
+  pub low_dispatched : marks.low ≤ r.dispatched
+  low_dispatched = omega (arith, low_is_few r.commits (AreDistinct_front r.commits (r.out ++ r.finished) h.counted.distinct), h.counted.low, h.counted.counted)
+
+  low_in_turn : r.preserve ≡ true → marks.low ≡ length r.commits
+  low_in_turn preserve = h.counted.low ∙ low_in_order r (h.counted.in_turn preserve)
+
+  pub holds : {gone : ℕ} → MayBeGone r.keeps gone marks.low → Holds r gone marks line handed rows keys ops
+  holds kept = record { parts = h; kept = kept; sound = kept_sound; fits = few_dispatched; low_within = low_dispatched; low_in_turn = low_in_turn }
 
   -- ---- which records are where
 

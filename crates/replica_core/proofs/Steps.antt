@@ -33,7 +33,7 @@ use Rattle.row_index.specs.Keys.{Keys, Indexes, marks_at, moved}
 use Rattle.gone_records.specs.Going.{MayBeGone}
 use Rattle.scheduler.specs.Gnos.{has_gno, first_gnos}
 use Rattle.scheduler.specs.Marks.{Marks, is_committed, none_committed}
-use Rattle.scheduler.proofs.Gnos.{first_gnos-next, low_rises, below_low, low_is_few, AreDistinct_front}
+use Rattle.scheduler.proofs.Gnos.{first_gnos-next, low_rises, below_low}
 use Rattle.commit_order.specs.Turns.{Line, no_turns, entered, with_result, turn, passed}
 use Rattle.commit_order.proofs.Lines.{turn_has, turn_waits, turn_free, turn_kept}
 use Rattle.replica_core.specs.Replica.{Replica, low_water, job_over, job_of}
@@ -44,7 +44,7 @@ use Rattle.replica_core.specs.Core.{Holds, ArePartsOf, IsTaken, Parts, commits_s
 use Rattle.replica_core.proofs.Jobs.{job_at, job_is_of_its_record}
 use Rattle.replica_core.proofs.InOrder.{low_in_order}
 use Rattle.replica_core.proofs.Lists.{place-map, place_there}
-use Rattle.replica_core.proofs.Kept.{IsNext, shows_gapped, finished_under_way, kept_new, kept_accepted, kept_dispatched, kept_finished, kept_committed, next_in_turn}
+use Rattle.replica_core.proofs.Kept.{holds, IsNext, shows_gapped, finished_under_way, kept_new, kept_accepted, kept_dispatched, kept_finished, kept_committed, next_in_turn}
 use Rattle.replica_core.proofs.Kept.{out_under_way}
 
 -- ---- numbers fit
@@ -178,39 +178,23 @@ module _ {r : Replica} {marks : Marks} {line : Line} {handed : List HandedOut} {
       IfOk result (λ answer. left ≡ relay.left_by_receive (relay_with r gone) new answer) → OnErr result (left ≡ relay_with r gone) →
       Holds (with_relay r left) left.gone marks line handed rows keys ops
   received_kept from new (Err refused) left kept answer ok err =
-      subst (λ (v : relay.Relay). Holds (with_relay r v) v.gone marks line handed rows keys ops) (sym err) (record { parts = h; kept = kept })
+      subst (λ (v : relay.Relay). Holds (with_relay r v) v.gone marks line handed rows keys ops) (sym err) (holds h kept)
   received_kept from new (Ok Skipped) left kept answer ok err =
-      subst (λ (v : relay.Relay). Holds (with_relay r v) v.gone marks line handed rows keys ops) (sym ok) (record { parts = h; kept = kept })
+      subst (λ (v : relay.Relay). Holds (with_relay r v) v.gone marks line handed rows keys ops) (sym ok) (holds h kept)
   received_kept {gone = gone} from new (Ok Accepted) left kept answer ok err =
       let next : IsAcceptable r.tables r.accepted new = ((accepts_the_acceptable (relay_with r gone) from new).0 answer).1 in
       subst (λ (v : relay.Relay). Holds (with_relay r v) v.gone marks line handed rows keys ops) (sym ok)
-      (record { parts = kept_accepted h new (next_is_acceptable r.tables r.accepted new h.log.acceptable next); kept = kept })
+      (holds (kept_accepted h new (next_is_acceptable r.tables r.accepted new h.log.acceptable next)) kept)
 
   -- ---- let_go
 
   -- some of them went
   pub gone_then : {gone low : ℕ} → MayBeGone r.keeps gone low → low ≤ marks.low → (left : relay.Relay) → relay.LetsGo (if r.keeps then 0 else marks.low) (relay_with r gone) left →
       Holds (with_relay r left) left.gone marks line handed rows keys ops
-  gone_then {gone = gone} {low = low} kept rises left goes = record {
-    parts = subst (λ (q : Replica). ArePartsOf q marks line handed rows keys ops) (sym (gone_seen r goes)) h;
-    kept = still_within r.keeps gone low marks.low left.gone kept rises goes.within;
-  }
+  gone_then {gone = gone} {low = low} kept rises left goes =
+      holds (subst (λ (q : Replica). ArePartsOf q marks line handed rows keys ops) (sym (gone_seen r goes)) h) (still_within r.keeps gone low marks.low left.gone kept rises goes.within)
 
   -- ---- dispatch
-
-  pub few_dispatched : r.dispatched < 2 ^ 63
-  few_dispatched = omega (arith, few_accepted r.tables r.accepted h.log.acceptable, h.within)
-
-  -- the mark is not above them, and in the order of the log it is the number of the commits
-  pub low_dispatched : marks.low ≤ r.dispatched
-  low_dispatched = omega (arith, low_is_few r.commits (AreDistinct_front r.commits (r.out ++ r.finished) h.counted.distinct), h.counted.low, h.counted.counted)
-
-  -- so what is not dispatched is kept
-  pub gone_dispatched : {gone : ℕ} → MayBeGone r.keeps gone marks.low → gone ≤ r.dispatched
-  gone_dispatched kept = omega (arith, kept.within, low_dispatched)
-
-  pub low_in_turn : r.preserve ≡ true → marks.low ≡ length r.commits
-  low_in_turn preserve = h.counted.low ∙ low_in_order r (h.counted.in_turn preserve)
 
   -- in the order of the log a place is near wherever a worker is free
   near_in_order : r.preserve ≡ true → r.dispatched - length r.commits < r.workers → r.dispatched + 1 ≤ low_water r + 4096

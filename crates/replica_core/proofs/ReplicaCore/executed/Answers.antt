@@ -5,7 +5,7 @@ use Rattle.replica_core.specs.Replica.{Replica}
 use Rattle.replica_core.specs.Calls.{AreExecuted}
 use Rattle.replica_core.specs.Core.{AreMarked}
 use Rattle.replica_core.proofs.Marked.{executed_is, executed_in_order, some_commit}
-use Rattle.replica_core.proofs.Steps.{few_accepted, few_dispatched, low_dispatched}
+use Rattle.replica_core.proofs.Steps.{few_accepted}
 use Rattle.replica_core.proofs.ReplicaCore.executed.Goals as goal
 
 pub first-requires : goal.first-requires
@@ -22,18 +22,6 @@ returns-then-preserve-clause-ok g c =
     subst (λ (ids : Ids). AreExecuted c.args.self.now ids) (sym (c.in_ok-first.ensures.value ∙ ap (λ (s : List ℕ). first_ids s c.committed.result) source))
     (executed_in_order c.args.self.now c.committed.result ((sound.in_order preserve).commits ∙ ap first_gnos (sym count)) (sym count)
     (omega (arith, few_accepted _ _ sound.accepted, sound.dispatched, sound.counted, count)))
-
-pub committed_ids-requires-clause-low : goal.committed_ids-requires-clause-low
-committed_ids-requires-clause-low g c =
-    let low = low_dispatched c.self.invariant.parts in
-    let count = c.dispatched.ensures ∙ ap (λ (r : Replica). r.dispatched) (sym c.self.view_is) in
-    omega arith
-
-pub committed_ids-requires-clause-few : goal.committed_ids-requires-clause-few
-committed_ids-requires-clause-few g c =
-    let few = few_dispatched c.self.invariant.parts in
-    let count = c.dispatched.ensures ∙ ap (λ (r : Replica). r.dispatched) (sym c.self.view_is) in
-    omega arith
 
 pub returns-in_err-committed_ids-clause-memory : goal.returns-in_err-committed_ids-clause-memory
 returns-in_err-committed_ids-clause-memory g c = λ _. (

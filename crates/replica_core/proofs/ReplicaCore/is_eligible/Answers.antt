@@ -1,22 +1,10 @@
-use Rattle.std.proofs.Common.{◌∙◌, sym, ap, refl, ℕ, nat_lt, true, false, Some, None, arith}
+use Rattle.std.proofs.Common.{◌∙◌, sym, ap, refl, ℕ, nat_lt, true, false, Some, None}
 use Rattle.replica_core.specs.Replica.{Replica}
 use Rattle.replica_core.specs.Calls.{is_eligible}
 use Rattle.replica_core.specs.Core.{seen_as}
 use Rattle.replica_core.proofs.Lists.{found_past}
-use Rattle.replica_core.proofs.Steps.{gone_dispatched, few_dispatched, eligible_seen, not_eligible}
+use Rattle.replica_core.proofs.Steps.{eligible_seen, not_eligible}
 use Rattle.replica_core.proofs.ReplicaCore.is_eligible.Goals as goal
-
-pub past-requires-clause-kept : goal.past-requires-clause-kept
-past-requires-clause-kept g c =
-    let few = gone_dispatched c.self.invariant.parts c.self.invariant.kept in
-    let count = c.dispatched-dispatched.ensures ∙ ap (λ (r : Replica). r.dispatched) (sym c.self.view_is) in
-    omega arith
-
-pub overflow_add-dispatched : goal.overflow_add-dispatched
-overflow_add-dispatched g c =
-    let few = few_dispatched c.self.invariant.parts in
-    let count = c.dispatched-dispatched.ensures ∙ ap (λ (r : Replica). r.dispatched) (sym c.self.view_is) in
-    record { fits = omega arith }
 
 pub returns-then-eligible : goal.returns-then-eligible
 returns-then-eligible g c =

@@ -4,20 +4,8 @@ use Rattle.executor.specs.declared.Job.{Job}
 use Rattle.replica_core.specs.Replica.{Replica, job_of}
 use Rattle.replica_core.specs.Calls.{is_eligible}
 use Rattle.replica_core.proofs.Lists.{found_past, within_past}
-use Rattle.replica_core.proofs.Steps.{gone_dispatched, few_dispatched, eligible_within, made_of_next}
+use Rattle.replica_core.proofs.Steps.{eligible_within, made_of_next}
 use Rattle.replica_core.proofs.ReplicaCore.next_job.Goals as goal
-
-pub past-requires-clause-kept : goal.past-requires-clause-kept
-past-requires-clause-kept g c =
-    let few = gone_dispatched c.self.invariant.parts c.self.invariant.kept in
-    let count = c.dispatched-dispatched.ensures ∙ ap (λ (r : Replica). r.dispatched) (sym c.self.view_is) in
-    omega arith
-
-pub overflow_add-dispatched : goal.overflow_add-dispatched
-overflow_add-dispatched g c =
-    let few = few_dispatched c.self.invariant.parts in
-    let count = c.dispatched-dispatched.ensures ∙ ap (λ (r : Replica). r.dispatched) (sym c.self.view_is) in
-    record { fits = omega arith }
 
 pub returns : goal.returns
 returns g c =
