@@ -1,7 +1,7 @@
 -- A record looks at no row that the records between its parent and itself write, and has no mark that they state: they conflict with it
 -- nowhere.
-use Rattle.std.proofs.Common.{◌≡◌, ◌∙◌, sym, ap, refl, ℕ, zero, suc, ◌+◌, ◌<◌, ◌≤◌, true, false, true≢false, List, [], ◌∷◌, ◌++◌, map, length, take, drop, Some, option_and_then, arith, add-zero}
-use Rattle.std.proofs.Common.{slice_get, get_or}
+use Rattle.std.proofs.Common.{◌≡◌, ◌∙◌, sym, ap, subst, refl, ℕ, zero, suc, ◌+◌, ◌<◌, ◌≤◌, true, false, true≢false, List, [], ◌∷◌, ◌++◌, map, length, take, drop, Some, option_and_then, arith}
+use Rattle.std.proofs.Common.{add-zero, slice_get, get_or}
 use Rattle.std.specs.List.{AllByRecursion}
 use Rattle.std.specs.Option.{option_map}
 use Rattle.std.specs.FinMap.{get}
@@ -49,10 +49,7 @@ covers_at : (past : List (ℕ × Touched)) (rows : Touched) (parent i number : �
     slice_get past i ≡ Some (number, before) → conflicts before rows ≡ true → number ≤ parent
 covers_at [] rows parent i number before h got is = absurd (none-some (number, before) got)
 covers_at (p ∷ past) rows parent zero number before h got is =
-    let same : p ≡ (number, before) = same_Some p (number, before) got in
-    let bound : p.0 ≤ parent = h.0 (ap (λ (q : ℕ × Touched). conflicts q.1 rows) same ∙ is) in
-    let first : p.0 ≡ number = ap (λ (q : ℕ × Touched). q.0) same in
-    omega arith
+    let same = same_Some p (number, before) got in subst (λ (q : ℕ × Touched). q.0 ≤ parent) same (h.0 (ap (λ (q : ℕ × Touched). conflicts q.1 rows) same ∙ is))
 covers_at (p ∷ past) rows parent (suc i) number before h got is = covers_at past rows parent i number before h.1 got is
 
 -- a record conflicts with none that stands between its parent and itself
@@ -93,8 +90,7 @@ all_between P (x ∷ xs) (suc c) (suc n) each = all_between P xs c n (λ i y low
 pub rows_stay : (r : Replica) (k j d : ℕ) (rec : Record) (a b : Database) → AreAcceptable r.tables r.accepted →
     slice_get r.accepted j ≡ Some rec → rec.parent ≤ k → k + d ≤ j → rows_at r k ≡ Some a → rows_at r (k + d) ≡ Some b → AgreeOn (rows_of rec) a b
 rows_stay r k j zero rec a b h got parent within is_a is_b q looks =
-    let same : Some a ≡ Some b = sym is_a ∙ ap (rows_at r) (sym (add-zero k)) ∙ is_b in
-    ap (λ (db : Database). get db q) (same_Some a b same)
+    ap (λ (db : Database). get db q) (same_Some a b (sym is_a ∙ ap (rows_at r) (sym (add-zero k)) ∙ is_b))
 rows_stay r k j (suc d) rec a b h got parent within is_a is_b q looks =
     let n = k + d in
     let lt : j < length r.accepted = slice_get_within r.accepted j rec got in
@@ -110,15 +106,14 @@ rows_stay r k j (suc d) rec a b h got parent within is_a is_b q looks =
     ∙ sym (changes_only_writes r.tables before.changes mid b q last (not_written before rec q apart looks)))
 
 -- the records behind the first k lead from the database after these to those at a later place
+pub part_behind : (xs : List Record) (k n : ℕ) → k ≤ n → take k xs ++ drop k (take n xs) ≡ take n xs
+part_behind xs k n behind = ap (λ l. l ++ drop k (take n xs)) (sym (take-take k n xs behind)) ∙ take-append-drop k (take n xs)
+
 pub leads : (r : Replica) (k n : ℕ) (a b : Database) → k ≤ n → rows_at r k ≡ Some a → rows_at r n ≡ Some b → after r.tables a (drop k (take n r.accepted)) ≡ Some b
 leads r k n a b behind is_a is_b =
-    let front = take k r.accepted in
     let part = drop k (take n r.accepted) in
-    let whole : front ++ part ≡ take n r.accepted =
-    ap (λ l. l ++ part) (sym (take-take k n r.accepted behind)) ∙ take-append-drop k (take n r.accepted) in
-    ap (option_and_then (λ db. after r.tables db part)) (sym is_a)
-    ∙ sym (after-append r.tables (loaded r.base) front part)
-    ∙ ap (after r.tables (loaded r.base)) whole ∙ is_b
+    ap (option_and_then (λ db. after r.tables db part)) (sym is_a) ∙ sym (after-append r.tables (loaded r.base) (take k r.accepted) part)
+    ∙ ap (after r.tables (loaded r.base)) (part_behind r.accepted k n behind) ∙ is_b
 
 -- no two rows of a table have one value in its unique column, wherever the accepted records lead
 pub apart_at : (r : Replica) (n : ℕ) (db : Database) → NoValueTwice r.tables (loaded r.base) → rows_at r n ≡ Some db → NoValueTwice r.tables db

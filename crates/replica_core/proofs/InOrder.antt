@@ -1,6 +1,6 @@
 -- Commits in the order of the log: those from 1 to their number.
 use Rattle.std.proofs.Common.{◌≡◌, ◌∙◌, sym, ap, subst, ℕ, zero, suc, ◌+◌, ◌-◌, ◌<◌, ◌≤◌, List, [], ◌∷◌, ◌++◌, length, take, drop, Some, arith, slice_get}
-use Rattle.std.proofs.lemmas.List.{take-take, take-append-drop}
+use Rattle.std.proofs.lemmas.List.{take-append-drop}
 use Rattle.schema.proofs.Lists.{get_within}
 use Rattle.rows.specs.Database.{Database}
 use Rattle.rows.specs.Frame.{AgreeOn}
@@ -25,7 +25,7 @@ use Rattle.replica_core.specs.Calls.{with_commit}
 use Rattle.replica_core.specs.Laws.{JobAgrees, LegalStatesUpTo, JobStaysInOrder}
 use Rattle.replica_core.proofs.Commits.{ops_in_order}
 use Rattle.replica_core.proofs.Showing.{Stands, numbered, commits_within, commits_state_marks, sound_stands}
-use Rattle.replica_core.proofs.Apart.{place_acceptable, rows_stay, apart_at, holders_stay}
+use Rattle.replica_core.proofs.Apart.{place_acceptable, rows_stay, apart_at, part_behind, holders_stay}
 use Rattle.replica_core.proofs.Jobs.{job_at, JobParts, job_parts}
 
 -- the mark is then the number of the commits
@@ -57,9 +57,7 @@ ran_in_order r h is = ap (records_at r.accepted) is ∙ records_of_first r.accep
 module _ (r : Replica) (h : Stands r) (ordered : r.commits ≡ first_gnos (length r.commits)) where
   parent_is_committed : (gno : ℕ) (rec : Record) → IsUnderWay r gno → slice_get r.accepted (gno - 1) ≡ Some rec → rec.parent ≤ length r.commits
   parent_is_committed gno rec under got =
-      let parent = (h.eligible gno rec under.0 under.1 got).parent in
-      let low = low_in_order r ordered in
-      omega arith
+      omega (arith, (h.eligible gno rec under.0 under.1 got).parent, low_in_order r ordered)
 
   -- these rows are then those after the first so many accepted records
   now : (rows : Database) → working_rows r ≡ Some rows → rows_at r (length r.commits) ≡ Some rows
@@ -114,8 +112,7 @@ job_agrees r gno n job db sound preserve under low high is rows_are stated =
     let parts = job_parts r gno job is in
     let made = job_over r.tables gno parts.rec parts.rows in
     let its : job_of r gno ≡ Some made = is ∙ ap Some parts.job_is in
-    let here = place_acceptable r.tables r.accepted (gno - 1) parts.rec sound.accepted parts.got in
-    let gives = acceptable_states_given r.tables (take (gno - 1) r.accepted) parts.rec here in
+    let gives = acceptable_states_given r.tables (take (gno - 1) r.accepted) parts.rec (place_acceptable r.tables r.accepted (gno - 1) parts.rec sound.accepted parts.got) in
     subst (λ (j : Job). Agrees j db) (sym parts.job_is)
     (handed_agrees made db gives (apart_at r n db sound.apart rows_are)
     (in_order.jobs gno n made db under low high its rows_are)
@@ -125,13 +122,10 @@ job_agrees r gno n job db sound preserve under low high is rows_are stated =
 pub legal_states_up_to : LegalStatesUpTo
 legal_states_up_to r n legal behind rows is =
     let k = length r.commits in
-    let front = take k r.accepted in
-    let part = drop k (take n r.accepted) in
-    let whole : front ++ part ≡ take n r.accepted =
-    ap (λ l. l ++ part) (sym (take-take k n r.accepted behind)) ∙ take-append-drop k (take n r.accepted) in
     let beginning = beginning_is_legal r.tables (loaded r.base) (take n r.accepted) (drop n r.accepted)
     (subst (IsLegalLog r.tables (loaded r.base)) (sym (take-append-drop n r.accepted)) legal) in
-    legal_states_marks r.tables (loaded r.base) rows front part (subst (IsLegalLog r.tables (loaded r.base)) (sym whole) beginning) is
+    legal_states_marks r.tables (loaded r.base) rows (take k r.accepted) (drop k (take n r.accepted))
+    (subst (IsLegalLog r.tables (loaded r.base)) (sym (part_behind r.accepted k n behind)) beginning) is
 
 pub job_stays_in_order : JobStaysInOrder
 job_stays_in_order r gno leaves sound preserve under later applies stated =

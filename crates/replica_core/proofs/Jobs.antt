@@ -3,10 +3,8 @@ use Rattle.std.proofs.Common.{◌≡◌, ◌∙◌, sym, ap, subst, refl, ℕ, s
 use Rattle.std.specs.Option.{option_and_then, option_map}
 use Rattle.std.proofs.lemmas.Option.{none-some, same_Some, option_and_then_some}
 use Rattle.std.proofs.lemmas.List.{drop-append-le}
-use Rattle.schema.specs.declared.Table.{Table}
-use Rattle.schema.specs.Rows.{SameRows}
 use Rattle.schema.proofs.Lists.{get_front, get_within}
-use Rattle.rows.specs.Database.{Database, effect, writes, kin, marks, NoValueTwice}
+use Rattle.rows.specs.Database.{Database, effect, writes, NoValueTwice}
 use Rattle.rows.proofs.Effect.{values_stay_apart}
 use Rattle.store_trait.specs.Batch.{Entry, IsRising, rows_in, put_batch}
 use Rattle.store_trait.specs.Operation.{loaded}
@@ -19,14 +17,14 @@ use Rattle.record_codec.proofs.Numbered.{numbered-append}
 use Rattle.executor.specs.declared.Job.{Job}
 use Rattle.executor.specs.declared.Outcome.TheVariants.{Output}
 use Rattle.executor.specs.Job.{Finished, IsResult, Agrees}
-use Rattle.executor.specs.Laws.{IsGood, LeavesThere, LooksAlike}
+use Rattle.executor.specs.Laws.{IsGood, LeavesThere}
 use Rattle.executor.proofs.Handed.{same_handed_over, handed_agrees}
 use Rattle.executor.proofs.Elsewhere.{output_is_good, output_is_there}
 use Rattle.relay.proofs.Stated.{acceptable_states_given}
 use Rattle.scheduler.specs.Gnos.{has_gno}
 use Rattle.scheduler.proofs.Gnos.{low_is_low, low_rises}
 use Rattle.gapped.specs.Gapped.{AreCommits}
-use Rattle.gapped.specs.Laws.{Waits, CommitsOne}
+use Rattle.gapped.specs.Laws.{Waits}
 use Rattle.gapped.proofs.Choosing.{number_at, longer_log, records_at_pushed, records_at_longer, length_records_at, commits_longer}
 use Rattle.gapped.proofs.Waiters.{eligible_waits, waiting_looks_alike}
 use Rattle.gapped.proofs.Committing.{commit_leaves}
@@ -89,26 +87,21 @@ pub waits_of : (r : Replica) (gno : ℕ) (rec : Record) → Stands r → IsUnder
 waits_of r gno rec h under got =
     let parts = split r.accepted (gno - 1) rec got in
     let parent = (h.eligible gno rec under.0 under.1 got).parent in
-    let front = take (gno - 1) r.accepted in
-    let rest = drop (suc (gno - 1)) r.accepted in
     record {
-      front = front;
-      rest = rest;
+      front = take (gno - 1) r.accepted;
+      rest = drop (suc (gno - 1)) r.accepted;
       split = parts;
       new = ap (has_gno r.commits) (number_there r gno rec h under.0 got) ∙ under.2;
-      chosen_ = eligible_waits r.tables r.accepted front rest rec r.commits (low_water r) h.acceptable parts parent (low_is_low r.commits);
+      chosen_ = eligible_waits r.tables r.accepted _ _ rec r.commits (low_water r) h.acceptable parts parent (low_is_low r.commits);
     }
 
 -- its job may be of the working rows
 pub job_agrees_of : (r : Replica) (gno : ℕ) (job : Job) (rows : Database) → Stands r → job_of r gno ≡ Some job → working_rows r ≡ Some rows → Agrees job rows
 job_agrees_of r gno job rows h is rows_are =
     let parts = job_parts r gno job is in
-    let same : parts.rows ≡ rows = same_Some parts.rows rows (sym parts.rows_are ∙ rows_are) in
-    let here = place_acceptable r.tables r.accepted (gno - 1) parts.rec h.acceptable parts.got in
-    let gives = acceptable_states_given r.tables (take (gno - 1) r.accepted) parts.rec here in
-    let apart = rows_apart r parts.rows h parts.rows_are in
-    let its = handed_agrees (job_over r.tables gno parts.rec parts.rows) parts.rows gives apart refl refl in
-    subst (λ (x : Job × Database). Agrees x.0 x.1) (λ i. (sym parts.job_is i, same i)) its
+    let gives = acceptable_states_given r.tables (take (gno - 1) r.accepted) parts.rec (place_acceptable r.tables r.accepted (gno - 1) parts.rec h.acceptable parts.got) in
+    let its = handed_agrees (job_over r.tables gno parts.rec parts.rows) parts.rows gives (rows_apart r parts.rows h parts.rows_are) refl refl in
+    subst (λ (x : Job × Database). Agrees x.0 x.1) (λ i. (sym parts.job_is i, same_Some parts.rows rows (sym parts.rows_are ∙ rows_are) i)) its
 
 pub job_agrees_now : JobAgreesNow
 job_agrees_now r gno job rows sound under is rows_are = job_agrees_of r gno job rows (sound_stands r sound) is rows_are
@@ -116,23 +109,15 @@ job_agrees_now r gno job rows sound under is rows_are = job_agrees_of r gno job 
 -- ---- one more commit
 
 -- a record under way that is good over the working rows is one more commit, and these are then what it leaves
-record Leaves (r : Replica) (gno : ℕ) (leaves : Database) : Type 0 where
-  commits : AreCommits r.tables (loaded r.base) r.accepted (r.commits ++ gno ∷ [])
-  rows_are : working_rows (with_commit r gno) ≡ Some leaves
-
-leaves_of : (r : Replica) (gno : ℕ) (rec : Record) (rows : Database) → Stands r → IsUnderWay r gno →
-    slice_get r.accepted (gno - 1) ≡ Some rec → working_rows r ≡ Some rows → (good : IsGood r.tables rec rows) → Leaves r gno good.leaves
+leaves_of : (r : Replica) (gno : ℕ) (rec : Record) (rows : Database) → Stands r → IsUnderWay r gno → slice_get r.accepted (gno - 1) ≡ Some rec → working_rows r ≡ Some rows →
+    (good : IsGood r.tables rec rows) → AreCommits r.tables (loaded r.base) r.accepted (r.commits ++ gno ∷ []) × (working_rows (with_commit r gno) ≡ Some good.leaves)
 leaves_of r gno rec rows h under got rows_are good =
     let output = (output_is_good r.tables rec rows).1 good in
-    let one : CommitsOne r.tables (loaded r.base) r.accepted r.commits rec rows output.0 =
-    commit_leaves r.tables (loaded r.base) r.accepted r.commits rec rows output.0 h.apart (numbered r h) h.commits
-    (waits_of r gno rec h under got) rows_are output.1 in
-    let same : one.good.leaves ≡ good.leaves = same_Some one.good.leaves good.leaves (sym one.good.applies ∙ good.applies) in
-    let number = number_there r gno rec h under.0 got in
-    record {
-      commits = subst (λ n. AreCommits r.tables (loaded r.base) r.accepted (r.commits ++ n ∷ [])) number one.are;
-      rows_are = ap (λ n. working_rows (with_commit r n)) (sym number) ∙ one.rows_are ∙ ap Some same;
-    }
+    let one = commit_leaves r.tables (loaded r.base) r.accepted r.commits rec rows output.0 h.apart (numbered r h) h.commits (waits_of r gno rec h under got) rows_are output.1 in
+    let number = number_there r gno rec h under.0 got in (
+      subst (λ n. AreCommits r.tables (loaded r.base) r.accepted (r.commits ++ n ∷ [])) number one.are,
+      ap (λ n. working_rows (with_commit r n)) (sym number) ∙ one.rows_are ∙ sym one.good.applies ∙ good.applies,
+    )
 
 -- what it leaves looks alike to each other record under way, so the job of that one stays
 pub job_stays_of : (r : Replica) (gno other : ℕ) (rec : Record) (rows : Database) → Stands r → IsUnderWay r gno → IsUnderWay r other → (gno ≡ other → ⊥) →
@@ -140,18 +125,13 @@ pub job_stays_of : (r : Replica) (gno other : ℕ) (rec : Record) (rows : Databa
 job_stays_of r gno other rec rows h under under_other apart got rows_are good = by (slice_get r.accepted (gno - 1)) refl
   where
     by : (o : Option Record) → slice_get r.accepted (gno - 1) ≡ o → job_of (with_commit r other) gno ≡ job_of r gno
-    by None is =
-        ap (option_and_then (λ (x : Record). option_map (job_over r.tables gno x) (working_rows (with_commit r other)))) is
-        ∙ sym (ap (option_and_then (λ (x : Record). option_map (job_over r.tables gno x) (working_rows r))) is)
+    by None is = rw is
     by (Some mine) is =
-        let number : rec.gno ≡ other = number_there r other rec h under_other.0 got in
-        let its : mine.gno ≡ gno = number_there r gno mine h under.0 is in
-        let alike : LooksAlike r.tables mine rows good.leaves =
-        waiting_looks_alike r.tables r.accepted r.commits rec mine rows (rows_apart r rows h rows_are) (numbered r h)
-        (waits_of r other rec h under_other got) (waits_of r gno mine h under is) (λ e. apart (sym its ∙ sym e ∙ number)) good in
+        let apart_too = λ (e : rec.gno ≡ mine.gno). apart (sym (number_there r gno mine h under.0 is) ∙ sym e ∙ number_there r other rec h under_other.0 got) in
+        let alike = waiting_looks_alike r.tables r.accepted r.commits rec mine rows (rows_apart r rows h rows_are) (numbered r h)
+        (waits_of r other rec h under_other got) (waits_of r gno mine h under is) apart_too good in
         let same = same_handed_over r.tables mine rows good.leaves alike in
-        let leaves = leaves_of r other rec rows h under_other got rows_are good in
-        job_at (with_commit r other) gno mine good.leaves is leaves.rows_are
+        job_at (with_commit r other) gno mine good.leaves is (leaves_of r other rec rows h under_other got rows_are good).1
         ∙ (λ i. Some (record { gno = gno; rec = mine; input = sym same.input i; holders = sym same.holders i; schema = r.tables }))
         ∙ sym (job_at r gno mine rows is rows_are)
 
@@ -161,11 +141,6 @@ job_stays r gno other rec rows sound = job_stays_of r gno other rec rows (sound_
 -- The commit of a record under way, whose result is an output: it is one more, its batch puts the rows that the commits leave then,
 -- and it is the last of the operations; each other job under way stays, and each record dispatched stays eligible.
 pub record StepsOn (r : Replica) (gno : ℕ) (rows : Database) (left : List Entry) : Type 0 where
-  pub rec : Record
-  pub got : slice_get r.accepted (gno - 1) ≡ Some rec
-  pub good : IsGood r.tables rec rows
-  pub left_is : left ≡ rows_in (writes rec.changes) good.leaves
-  pub put : put_batch left rows ≡ good.leaves
   pub commits : AreCommits r.tables (loaded r.base) r.accepted (r.commits ++ gno ∷ [])
   pub rows_are : working_rows (with_commit r gno) ≡ Some (put_batch left rows)
   pub rising : IsRising left
@@ -179,10 +154,8 @@ pub record StepsOn (r : Replica) (gno : ℕ) (rows : Database) (left : List Entr
 eligible_then : (r : Replica) (gno : ℕ) → AreEligible r → AreEligible (with_commit r gno)
 eligible_then r gno eligible number rec low high got =
     let before = eligible number rec low high got in
-    let parent = before.parent in
-    let near = before.near in
     let rises : low_water r ≤ low_water (with_commit r gno) = low_rises r.commits (gno ∷ []) in
-    record { parent = omega arith; near = omega arith }
+    record { parent = omega (arith, before.parent); near = omega (arith, before.near) }
 
 -- the operations that wait then
 waits_then : (r : Replica) (gno : ℕ) (rec : Record) (rows leaves : Database) → Stands r → 1 ≤ gno →
@@ -200,59 +173,26 @@ waits_then r gno rec rows leaves h low got rows_are applies earlier =
     ∙ ap (λ n. so_far ++ Commit n its ∷ []) (number_there r gno rec h low got) in
     ap (drop r.published) more ∙ drop-append-le r.published so_far (Commit gno its ∷ []) (omega arith)
 
--- the record of a result that is an output is good over the working rows
-record GoodHere (r : Replica) (gno : ℕ) (rows : Database) (left : List Entry) : Type 0 where
-  rec : Record
-  got : slice_get r.accepted (gno - 1) ≡ Some rec
-  good : IsGood r.tables rec rows
-  left_is : left ≡ rows_in (writes rec.changes) good.leaves
-
-good_here : (r : Replica) (gno : ℕ) (result : Finished) (rows : Database) (left : List Entry) → Stands r → working_rows r ≡ Some rows →
-    job_of r gno ≡ Some result.job → IsResult result → result.outcome ≡ Output left → GoodHere r gno rows left
-good_here r gno result rows left h rows_are handed came output =
-    let parts = job_parts r gno result.job handed in
-    let agrees = job_agrees_of r gno result.job rows h handed rows_are in
-    let there : LeavesThere result.job.schema result.job.rec rows left = output_is_there result rows left came agrees output in
-    let tables : result.job.schema ≡ r.tables = ap (λ (j : Job). j.schema) parts.job_is in
-    let of : result.job.rec ≡ parts.rec = ap (λ (j : Job). j.rec) parts.job_is in
-    let both : (result.job.schema, result.job.rec) ≡ (r.tables, parts.rec) = λ i. (tables i, of i) in
-    record {
-      rec = parts.rec;
-      got = parts.got;
-      good = record {
-        leaves = there.after_;
-        applies = subst (λ (x : List Table × Record). effect x.0 x.1.changes rows ≡ Some there.after_) both there.applies;
-        refs = subst (λ (x : List Table × Record). SameRows x.1.refs (kin x.0 x.1.changes rows)) both there.refs;
-        marks = subst (λ (x : List Table × Record). SameRows x.1.marks (marks x.0 x.1.changes rows)) both there.marks;
-      };
-      left_is = there.rows ∙ ap (λ (x : Record). rows_in (writes x.changes) there.after_) of;
-    }
-
 pub commit_step : (r : Replica) (gno : ℕ) (result : Finished) (rows : Database) (left : List Entry) → Stands r → IsUnderWay r gno → working_rows r ≡ Some rows →
     job_of r gno ≡ Some result.job → IsResult result → result.outcome ≡ Output left → StepsOn r gno rows left
 commit_step r gno result rows left h under rows_are handed came output =
-    let here = good_here r gno result rows left h rows_are handed came output in
-    let rec = here.rec in
-    let leaves = here.good.leaves in
-    let put : put_batch left rows ≡ leaves =
-    ap (λ b. put_batch b rows) here.left_is ∙ put_batch-writes r.tables rec.changes rows leaves here.good.applies in
+    let parts = job_parts r gno result.job handed in
+    let there = subst (λ (job : Job). LeavesThere job.schema job.rec rows left) parts.job_is
+    (output_is_there result rows left came (job_agrees_of r gno result.job rows h handed rows_are) output) in
+    let rec = parts.rec in
+    let leaves = there.after_ in
+    let good : IsGood r.tables rec rows = record { leaves = leaves; applies = there.applies; refs = there.refs; marks = there.marks } in
+    let put : put_batch left rows ≡ leaves = ap (λ b. put_batch b rows) there.rows ∙ put_batch-writes r.tables rec.changes rows leaves there.applies in
     let apart = rows_apart r rows h rows_are in
-    let then = leaves_of r gno rec rows h under here.got rows_are here.good in
+    let then = leaves_of r gno rec rows h under parts.got rows_are good in
     record {
-      rec = rec;
-      got = here.got;
-      good = here.good;
-      left_is = here.left_is;
-      put = put;
-      commits = then.commits;
-      rows_are = then.rows_are ∙ ap Some (sym put);
-      rising = subst IsRising (sym here.left_is) (rows_in_rise (writes rec.changes) leaves);
+      commits = then.0;
+      rows_are = then.1 ∙ ap Some (sym put);
+      rising = subst IsRising (sym there.rows) (rows_in_rise (writes rec.changes) leaves);
       apart = apart;
-      apart_then = subst (NoValueTwice r.tables) (sym put) (values_stay_apart r.tables rec.changes rows leaves apart here.good.applies);
-      ops = λ earlier.
-          waits_then r gno rec rows leaves h under.0 here.got rows_are here.good.applies earlier
-          ∙ ap (λ b. waiting r ++ Commit gno b ∷ []) (sym here.left_is);
-      jobs = λ other its apart_from. job_stays_of r other gno rec rows h its under apart_from here.got rows_are here.good;
+      apart_then = subst (NoValueTwice r.tables) (sym put) (values_stay_apart r.tables rec.changes rows leaves apart there.applies);
+      ops = λ earlier. waits_then r gno rec rows leaves h under.0 parts.got rows_are there.applies earlier ∙ ap (λ b. waiting r ++ Commit gno b ∷ []) (sym there.rows);
+      jobs = λ other its apart_from. job_stays_of r other gno rec rows h its under apart_from parts.got rows_are good;
       eligible = eligible_then r gno h.eligible;
     }
 
@@ -262,30 +202,25 @@ commit_step r gno result rows left h under rows_are handed came output =
 pub record AcceptsOn (r : Replica) (new : Record) : Type 0 where
   pub commits : AreCommits r.tables (loaded r.base) (r.accepted ++ new ∷ []) r.commits
   pub rows : working_rows (with_accepted r new) ≡ working_rows r
-  pub ran_ : ran (with_accepted r new) ≡ ran r
   pub ops : waiting (with_accepted r new) ≡ waiting r
   pub jobs : (gno : ℕ) → 1 ≤ gno → gno ≤ length r.accepted → job_of (with_accepted r new) gno ≡ job_of r gno
   pub eligible : r.dispatched ≤ length r.accepted → AreEligible (with_accepted r new)
 
 pub accept_step : (r : Replica) (new : Record) → Stands r → new.gno ≡ length r.accepted + 1 → AcceptsOn r new
 accept_step r new h next =
-    let number : new.gno ≡ 1 + length r.accepted = omega arith in
-    let all : AreNumbered 1 (r.accepted ++ new ∷ []) = numbered-append 1 r.accepted (new ∷ []) (numbered r h) (number, tt) in
+    let all : AreNumbered 1 (r.accepted ++ new ∷ []) = numbered-append 1 r.accepted (new ∷ []) (numbered r h) (omega arith, tt) in
     let within = commits_within r h in
     let same : working_rows (with_accepted r new) ≡ working_rows r =
     ap (after r.tables (loaded r.base)) (longer_log r.accepted (new ∷ []) r.commits all (λ gno is. (within gno is).1)) in
-    let same_ran : ran (with_accepted r new) ≡ ran r = records_at_longer r.accepted (new ∷ []) r.commits within in
     let front : (gno : ℕ) → 1 ≤ gno → gno ≤ length r.accepted → slice_get (r.accepted ++ new ∷ []) (gno - 1) ≡ slice_get r.accepted (gno - 1) =
     λ gno low high. get_front r.accepted (new ∷ []) (gno - 1) (omega arith) in
     record {
       commits = commits_longer r.tables (loaded r.base) r.accepted (new ∷ []) r.commits all h.commits;
       rows = same;
-      ran_ = same_ran;
-      ops = ap (λ l. drop r.published (commits_from r.tables (loaded r.base) l)) same_ran;
+      ops = ap (λ l. drop r.published (commits_from r.tables (loaded r.base) l)) (records_at_longer r.accepted (new ∷ []) r.commits within);
       jobs = λ gno low high i. option_and_then (λ (x : Record). option_map (job_over r.tables gno x) (same i)) (front gno low high i);
       eligible = λ within_all gno rec low high got.
-          let before = h.eligible gno rec low high (sym (front gno low (omega arith)) ∙ got) in
-          record { parent = before.parent; near = before.near };
+          let before = h.eligible gno rec low high (sym (front gno low (omega arith)) ∙ got) in record { parent = before.parent; near = before.near };
     }
 
 pub job_stays_behind : JobStaysBehind
@@ -294,9 +229,4 @@ job_stays_behind r gno new sound next low high = (accept_step r new (sound_stand
 -- ---- nothing else changes a job
 
 pub others_leave_jobs : OthersLeaveJobs
-others_leave_jobs r gno = record {
-  dispatched = refl;
-  finished = λ other. refl;
-  published = λ upto. refl;
-  stopped = λ at. refl;
-}
+others_leave_jobs r gno = record { dispatched = refl; finished = λ other. refl; published = λ upto. refl; stopped = λ at. refl }

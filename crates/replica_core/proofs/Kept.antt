@@ -1,6 +1,6 @@
 -- What a replica keeps, at each of its steps.
 use Rattle.std.proofs.Common.{◌≡◌, ◌∙◌, sym, ap, subst, refl, true≢false, ℕ, ◌+◌, ◌-◌, ◌<◌, ◌≤◌, Bool, true, false, ◌&&◌, ◌||◌, nat_le, eqb, if◌then◌else◌, inl, inr, List, [], ◌∷◌, ◌++◌, map, length}
-use Rattle.std.proofs.Common.{drop, Option, Some, arith, slice_get}
+use Rattle.std.proofs.Common.{◌^◌, drop, Option, Some, arith, slice_get}
 use Rattle.std.specs.List.{remove}
 use Rattle.std.specs.Map.{keys_of}
 use Rattle.std.specs.Option.{option_map}
@@ -21,23 +21,24 @@ use Rattle.executor.specs.declared.Outcome.TheVariants.{Output}
 use Rattle.row_index.specs.Keys.{Keys, Indexes, marks_at, moved}
 use Rattle.row_index.proofs.Keys.{keys_follow}
 use Rattle.relay.specs.Relay.{AreAcceptable}
-use Rattle.relay.proofs.Acceptable.{empty_is_acceptable}
+use Rattle.relay.proofs.Acceptable.{empty_is_acceptable, few_acceptable}
 use Rattle.scheduler.specs.Gnos.{has_gno, without, first_gnos, AreDistinct}
 use Rattle.scheduler.specs.Marks.{Marks, is_committed, none_committed}
 use Rattle.scheduler.proofs.Gnos.{has_gno_front, has_gno_behind, distinct_apart_behind, AreDistinct_behind, has_gno-without_same, has_gno_of_without, length-without, distinct_entered, has_gno_entered}
-use Rattle.scheduler.proofs.Gnos.{distinct_moved_behind, has_gno_moved_behind, distinct_moved_front, has_gno_moved_front, first_gnos-next}
+use Rattle.scheduler.proofs.Gnos.{distinct_moved_behind, has_gno_moved_behind, distinct_moved_front, has_gno_moved_front, first_gnos-next, low_is_few, AreDistinct_front}
 use Rattle.scheduler.proofs.Marks.{none_is_committed, low_of_marks, marks_of_more}
 use Rattle.commit_order.specs.Turns.{Line, no_turns, entered, with_result, turn, passed}
 use Rattle.commit_order.proofs.Lines.{gnos_of, turn_has, turn_waits, turn_is_next, gnos-with_result, gnos-passed, all_with_result, all_passed}
+use Rattle.gone_records.specs.Going.{MayBeGone}
 use Rattle.gapped.proofs.Choosing.{no_commits, commits_are_within, length_records_at}
 use Rattle.replica_core.specs.Replica.{Replica, low_water, ran, job_of, waiting, commits_from}
 use Rattle.replica_core.specs.Sound.{IsSound, IsUnderWay, IsEligible, ShowsGapped}
 use Rattle.replica_core.specs.Calls.{new_over, letting_go, with_accepted, dispatched_next, with_finished, stopped_at, with_commit, with_published}
-use Rattle.replica_core.specs.Core.{IsTaken, IsLogKept, IsCounted, ArePartsOf, kept_of, place_in}
+use Rattle.replica_core.specs.Core.{Holds, IsTaken, IsLogKept, IsCounted, ArePartsOf, kept_of, place_in}
 use Rattle.replica_core.specs.declared.dispatching.HandedOut.{HandedOut}
 use Rattle.replica_core.proofs.Commits.{one_commit_each}
 use Rattle.replica_core.proofs.Showing.{Stands, numbered_of, rows_of_ran, published_is_gapped}
-use Rattle.replica_core.proofs.InOrder.{in_order_of}
+use Rattle.replica_core.proofs.InOrder.{in_order_of, low_in_order}
 use Rattle.replica_core.proofs.Jobs.{StepsOn, commit_step, AcceptsOn, accept_step}
 use Rattle.replica_core.proofs.Lists.{same_each, all_each, remove-map}
 
@@ -82,8 +83,8 @@ kept_new ts source base workers preserve rows keys values_apart loads indexed so
     counted = refl;
     busy = omega arith;
     distinct = tt;
-    each = λ gno. none_between gno;
-    marked = λ gno low. none_is_committed gno ∙ no_low gno low;
+    each = λ gno. grind (arith, nat_tests);
+    marked = λ gno low. none_is_committed gno ∙ grind (arith, nat_tests);
     low = refl;
     in_turn = λ _. refl;
   };
@@ -94,12 +95,6 @@ kept_new ts source base workers preserve rows keys values_apart loads indexed so
   where
     apart : NoValueTwice ts (loaded base)
     apart = subst (NoValueTwice ts) (sym loads) values_apart
-
-    none_between : (gno : ℕ) → false ≡ (nat_le 1 gno && nat_le gno 0)
-    none_between gno = grind (arith, nat_tests)
-
-    no_low : (gno : ℕ) → 1 ≤ gno → nat_le gno 0 ≡ false
-    no_low gno low = grind (arith, nat_tests)
 
 module _ {r : Replica} {marks : Marks} {line : Line} {handed : List HandedOut} {rows : Database} {keys : Keys} {ops : List Op} (h : ArePartsOf r marks line handed rows keys ops) where
   pub stands : Stands r
@@ -124,17 +119,23 @@ module _ {r : Replica} {marks : Marks} {line : Line} {handed : List HandedOut} {
     in_order = λ preserve. in_order_of r stands (h.counted.in_turn preserve);
   }
 
-  -- as what it is seen as
-  pub sound_as_seen : {now : Replica} → r ≡ now → IsSound now
-  sound_as_seen is = subst IsSound is kept_sound
+  few_dispatched : r.dispatched < 2 ^ 63
+  few_dispatched = omega (arith, few_acceptable r.tables r.accepted h.log.acceptable, h.within)
+
+  pub low_dispatched : marks.low ≤ r.dispatched
+  low_dispatched = omega (arith, low_is_few r.commits (AreDistinct_front r.commits (r.out ++ r.finished) h.counted.distinct), h.counted.low, h.counted.counted)
+
+  low_in_turn : r.preserve ≡ true → marks.low ≡ length r.commits
+  low_in_turn preserve = h.counted.low ∙ low_in_order r (h.counted.in_turn preserve)
+
+  pub holds : {gone : ℕ} → MayBeGone r.keeps gone marks.low → Holds r gone marks line handed rows keys ops
+  holds kept = record { parts = h; kept = kept; sound = kept_sound; fits = few_dispatched; low_within = low_dispatched; low_in_turn = low_in_turn }
 
   -- ---- which records are where
 
   -- each that is committed, out or finished was dispatched
   dispatched_has : (gno : ℕ) → has_gno (r.commits ++ (r.out ++ r.finished)) gno ≡ true → (1 ≤ gno) × (gno ≤ r.dispatched)
-  dispatched_has gno has =
-      let both = and_parts (nat_le 1 gno) (nat_le gno r.dispatched) (sym (h.counted.each gno) ∙ has) in
-      (leb-true 1 gno both.0, leb-true gno r.dispatched both.1)
+  dispatched_has gno has = let both = and_parts (nat_le 1 gno) (nat_le gno r.dispatched) (sym (h.counted.each gno) ∙ has) in (leb-true 1 gno both.0, leb-true gno r.dispatched both.1)
 
   -- and those that are out or finished are not committed
   under_way : (gno : ℕ) → has_gno (r.out ++ r.finished) gno ≡ true → IsUnderWay r gno
@@ -182,8 +183,7 @@ module _ {r : Replica} {marks : Marks} {line : Line} {handed : List HandedOut} {
   pub kept_accepted : (new : Record) → AreAcceptable r.tables (r.accepted ++ new ∷ []) → ArePartsOf (with_accepted r new) marks line handed rows keys ops
   kept_accepted new acceptable =
       let step : AcceptsOn r new = accept_step r new stands (acceptable r.accepted new [] refl).gno in
-      let stays : (gno : ℕ) → IsUnderWay r gno → job_of (with_accepted r new) gno ≡ job_of r gno = λ gno under.
-      step.jobs gno under.0 (let high = under.1 in let all = h.within in omega arith) in
+      let stays = λ (gno : ℕ) (under : IsUnderWay r gno). step.jobs gno under.0 (omega (arith, under.1, h.within)) in
       record {
         set_up = h.set_up;
         log = record {
@@ -196,7 +196,7 @@ module _ {r : Replica} {marks : Marks} {line : Line} {handed : List HandedOut} {
           ops_are = h.log.ops_are ∙ sym step.ops;
         };
         turned = h.turned;
-        within = (let all = h.within in omega (arith, length_push r.accepted new));
+        within = omega (arith, h.within, length_push r.accepted new);
         counted = h.counted;
         eligible = step.eligible h.within;
         kept = kept_stays (with_accepted r new) (λ gno has. stays gno (out_under_way gno has));
@@ -212,17 +212,15 @@ module _ {r : Replica} {marks : Marks} {line : Line} {handed : List HandedOut} {
   kept_dispatched rec job next made =
       let gno = r.dispatched + 1 in
       let within : r.dispatched < length r.accepted = slice_get_within r.accepted r.dispatched rec next.got in
-      let counted = h.counted.counted in
       let new : has_gno (r.commits ++ (r.out ++ r.finished)) gno ≡ false = h.counted.each gno ∙ past_all r.dispatched in
-      let as_before = λ (number : ℕ). option_map kept_of (job_of r number) in
       record {
         set_up = h.set_up;
         log = log_with h.log.published h.log.ops_are;
         turned = record { preserve = h.turned.preserve; next = h.turned.next; out = ap (λ (l : List ℕ). l ++ gno ∷ []) h.turned.out; done = h.turned.done };
         within = omega arith;
         counted = record {
-          counted = omega (arith, length_push r.out gno);
-          busy = (let free = next.free in omega (arith, length_push r.out gno));
+          counted = omega (arith, h.counted.counted, length_push r.out gno);
+          busy = omega (arith, h.counted.counted, next.free, length_push r.out gno);
           distinct = distinct_entered r.commits r.out r.finished gno h.counted.distinct new;
           each = λ other. has_gno_entered r.commits r.out r.finished gno other ∙ ap (λ (b : Bool). b || eqb gno other) (h.counted.each other) ∙ up_to_next r.dispatched other;
           marked = h.counted.marked;
@@ -231,18 +229,15 @@ module _ {r : Replica} {marks : Marks} {line : Line} {handed : List HandedOut} {
         };
         eligible = λ other rec' low high got. elim (cases_lt r.dispatched other) [
           | inl last ↦
-              let place : other - 1 ≡ r.dispatched = omega arith in
-              let same : rec ≡ rec' = same_Some rec rec' (sym next.got ∙ ap (slice_get r.accepted) (sym place) ∙ got) in
-              let parent : rec.parent ≡ rec'.parent = ap (λ (x : Record). x.parent) same in
-              let below = next.parent in
-              let near = next.near in
-              record { parent = omega arith; near = omega arith }
+              let place : r.dispatched ≡ other - 1 = omega arith in
+              let same = same_Some rec rec' (sym next.got ∙ ap (slice_get r.accepted) place ∙ got) in
+              record { parent = subst (λ (x : Record). x.parent ≤ low_water r) same next.parent; near = omega (arith, next.near) }
           | inr old ↦ eligible_with (h.eligible other rec' low old got)
         ];
         kept =
             map-append Some handed (kept_of job ∷ [])
             ∙ (λ i. h.kept i ++ option_map kept_of (sym made i) ∷ [])
-            ∙ sym (map-append as_before r.out (gno ∷ []));
+            ∙ sym (map-append (λ number. option_map kept_of (job_of r number)) r.out (gno ∷ []));
         results = h.results;
       }
 
@@ -252,11 +247,7 @@ module _ {r : Replica} {marks : Marks} {line : Line} {handed : List HandedOut} {
       IsTaken (job_of r result.job.gno) result → ArePartsOf (with_finished r result.job.gno) marks (with_result line result) (remove handed place) rows keys ops
   kept_finished result place out at taken =
       let gno = result.job.gno in
-      let counted = h.counted.counted in
-      let busy = h.counted.busy in
-      let fewer = length-without gno r.out out in
-      let more = length_push r.finished gno in
-      let as_before = λ (number : ℕ). option_map kept_of (job_of r number) in
+      let moved : length (without gno r.out) + length (r.finished ++ gno ∷ []) ≡ length r.out + length r.finished = omega (arith, length-without gno r.out out, length_push r.finished gno) in
       record {
         set_up = h.set_up;
         log = log_with h.log.published h.log.ops_are;
@@ -268,8 +259,8 @@ module _ {r : Replica} {marks : Marks} {line : Line} {handed : List HandedOut} {
         };
         within = h.within;
         counted = record {
-          counted = omega arith;
-          busy = omega arith;
+          counted = omega (arith, h.counted.counted);
+          busy = omega (arith, h.counted.busy);
           distinct = distinct_moved_behind r.commits r.out r.finished gno h.counted.distinct out;
           each = λ other. has_gno_moved_behind r.commits r.out r.finished gno other out ∙ h.counted.each other;
           marked = h.counted.marked;
@@ -278,9 +269,8 @@ module _ {r : Replica} {marks : Marks} {line : Line} {handed : List HandedOut} {
         };
         eligible = λ other rec low high got. eligible_with (h.eligible other rec low high got);
         kept =
-            sym (remove-map Some place handed)
-            ∙ (λ i. remove (h.kept i) (at i))
-            ∙ remove-map as_before (place_in r.out gno) r.out;
+            sym (remove-map Some place handed) ∙ (λ i. remove (h.kept i) (at i))
+            ∙ remove-map (λ number. option_map kept_of (job_of r number)) (place_in r.out gno) r.out;
         results = all_with_result (λ other. IsTaken (job_of r other.job.gno) other) line result h.results taken;
       }
 
@@ -318,10 +308,7 @@ module _ {r : Replica} {marks : Marks} {line : Line} {handed : List HandedOut} {
   kept_published upto later done =
       let all = commits_from r.tables (loaded r.base) (ran r) in
       let sum : r.published + (upto - r.published) ≡ upto = omega arith in
-      let left = drop (upto - r.published) ops in
-      let are : left ≡ drop upto all =
-      ap (drop (upto - r.published)) h.log.ops_are ∙ drop-drop (upto - r.published) r.published all ∙ ap (λ n. drop n all) sum in
-      kept_beside (log_with done are)
+      kept_beside (log_with done (ap (drop (upto - r.published)) h.log.ops_are ∙ drop-drop (upto - r.published) r.published all ∙ ap (λ n. drop n all) sum))
 
   -- what is published is a gapped state
   pub shows_gapped : (n : ℕ) → n ≤ length r.commits → ShowsGapped r n
@@ -372,14 +359,11 @@ module _ {r : Replica} {marks : Marks} {line : Line} {handed : List HandedOut} {
         IsCounted r.preserve r.dispatched r.workers (r.commits ++ result.job.gno ∷ []) r.out (without result.job.gno r.finished) marks_then
     counted_then marks_then exact greatest =
         let gno = result.job.gno in
-        let counted = h.counted.counted in
-        let busy = h.counted.busy in
-        let more = length_push r.commits gno in
         let fewer = length-without gno r.finished gno_waits in
         let marked = marks_of_more marks marks_then r.commits gno exact h.counted.marked in
         record {
-          counted = omega arith;
-          busy = omega arith;
+          counted = omega (arith, h.counted.counted, fewer, length_push r.commits gno);
+          busy = omega (arith, h.counted.busy, fewer);
           distinct = distinct_moved_front r.commits r.out r.finished gno h.counted.distinct gno_waits;
           each = λ other. has_gno_moved_front r.commits r.out r.finished gno other gno_waits ∙ h.counted.each other;
           marked = marked;
@@ -392,7 +376,6 @@ module _ {r : Replica} {marks : Marks} {line : Line} {handed : List HandedOut} {
         (ops ++ Commit result.job.gno left ∷ [])
     kept_committed marks_then exact greatest =
         let gno = result.job.gno in
-        let more = length_push r.commits gno in
         record {
           set_up = h.set_up;
           log = record {
@@ -401,7 +384,7 @@ module _ {r : Replica} {marks : Marks} {line : Line} {handed : List HandedOut} {
             rows_are = step.rows_are;
             apart = h.log.apart;
             indexed = keys_follow r.tables rows left keys step.rising step.apart step.apart_then h.log.indexed;
-            published = (let before = h.log.published in omega arith);
+            published = omega (arith, h.log.published, length_push r.commits gno);
             ops_are = ap (λ (l : List Op). l ++ Commit gno left ∷ []) h.log.ops_are ∙ sym (step.ops h.log.published);
           };
           turned = record { preserve = h.turned.preserve; next = next_then; out = h.turned.out; done = done_then };

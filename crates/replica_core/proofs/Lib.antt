@@ -5,9 +5,6 @@ pub mod Jobs
 pub mod InOrder
 pub mod Lists
 pub mod Kept
-pub mod LookedUp
 pub mod Marked
 pub mod Steps
-pub mod Copies
 pub mod Handing
-pub mod Pieces

@@ -3,11 +3,11 @@ use Rattle.std.proofs.Common.{◌≡◌, ◌∙◌, sym, ap, subst, refl, true�
 use Rattle.std.proofs.Common.{◌∷◌, ◌++◌, length, Option, Some, None, is_none, arith}
 use Rattle.std.specs.Prelude.{IfSome}
 use Rattle.std.proofs.Math.Bool.{or-false}
-use Rattle.std.proofs.lemmas.Bool.{cases_Bool, cases_eq, and_parts, and_from, and_left, and_right, or_left, ne_eqb, leb-true, le-leb}
+use Rattle.std.proofs.lemmas.Bool.{cases_eq, ne_eqb, leb-true}
 use Rattle.std.proofs.lemmas.Bool.Decides.{nat_tests}
 use Rattle.gtid_set.specs.Ids.{Ids, IsSet, no_ids, first_ids, Adds}
 use Rattle.gtid_set.specs.declared.intervals.Interval.{Interval}
-use Rattle.gtid_set.specs.Numbers.{has_number, is_within, AreNumbers}
+use Rattle.gtid_set.specs.Numbers.{has_number, AreNumbers}
 use Rattle.scheduler.specs.Gnos.{has_gno, first_gnos}
 use Rattle.scheduler.proofs.Gnos.{has_gno_first, has_gno_front, has_first}
 use Rattle.scheduler.specs.Marks.{Marks, is_committed}
@@ -15,51 +15,29 @@ use Rattle.replica_core.specs.Replica.{Replica}
 use Rattle.replica_core.specs.Calls.{AreExecuted}
 use Rattle.replica_core.specs.Core.{IsCounted, AreMarked, IsMarked}
 
--- with one more number
-with_next : (m n : ℕ) (c : Bool) → (m ≡ n + 1 → c ≡ true) → ((nat_le 1 m && nat_le m n && c) || eqb m (n + 1)) ≡ (nat_le 1 m && nat_le m (n + 1) && c)
-with_next m n true h = grind (arith, nat_tests)
-with_next m n false h = elim (cases_eq m (n + 1)) [
-  | inl same ↦ absurd (true≢false (sym (h same)))
-  | inr apart ↦ grind (arith, nat_tests)
-]
-
-without_next : (m n : ℕ) (c : Bool) → (m ≡ n + 1 → c ≡ false) → (nat_le 1 m && nat_le m n && c) ≡ (nat_le 1 m && nat_le m (n + 1) && c)
-without_next m n true h = elim (cases_eq m (n + 1)) [
-  | inl same ↦ absurd (true≢false (h same))
-  | inr apart ↦ grind (arith, nat_tests)
-]
-without_next m n false h = grind (arith, nat_tests)
-
-marked_more : (source : List ℕ) (marks : Marks) (n : ℕ) (old new : Ids) → AreMarked source marks n old → is_committed marks (n + 1) ≡ true →
-    Adds old new (record { source = source; gno = n + 1 }) → AreMarked source marks (n + 1) new
-marked_more source marks n old new h is adds = record {
-  is_set = adds.is_set;
-  source_is = subst (λ (o : Option (List ℕ)). IfSome o (λ own. own ≡ source)) (sym adds.source) refl;
-  numbers = λ m. adds.numbers m ∙ ap (λ (b : Bool). b || eqb m (n + 1)) (h.numbers m) ∙ with_next m n (is_committed marks m) (λ same. ap (is_committed marks) same ∙ is);
-}
-
-marked_same : (source : List ℕ) (marks : Marks) (n : ℕ) (ids : Ids) → AreMarked source marks n ids → is_committed marks (n + 1) ≡ false → AreMarked source marks (n + 1) ids
-marked_same source marks n ids h is = record {
-  is_set = h.is_set;
-  source_is = h.source_is;
-  numbers = λ m. h.numbers m ∙ without_next m n (is_committed marks m) (λ same. ap (is_committed marks) same ∙ is);
-}
-
 -- the next number is looked at: where it is marked, its id goes in
+with_next : (m gno : ℕ) (c : Bool) → 1 ≤ gno → (m ≡ gno → c ≡ true) → ((nat_le 1 m && nat_le m (gno - 1) && c) || eqb m gno) ≡ (nat_le 1 m && nat_le m (gno + 1 - 1) && c)
+with_next m gno true low h = grind (arith, nat_tests)
+with_next m gno false low h = elim (cases_eq m gno) [ inl same ↦ absurd (true≢false (sym (h same))) | inr apart ↦ grind (arith, nat_tests) ]
+
+without_next : (m gno : ℕ) (c : Bool) → 1 ≤ gno → (m ≡ gno → c ≡ false) → (nat_le 1 m && nat_le m (gno - 1) && c) ≡ (nat_le 1 m && nat_le m (gno + 1 - 1) && c)
+without_next m gno true low h = elim (cases_eq m gno) [ inl same ↦ absurd (true≢false (h same)) | inr apart ↦ grind (arith, nat_tests) ]
+without_next m gno false low h = grind (arith, nat_tests)
+
 module _ (source : List ℕ) (marks : Marks) (gno : ℕ) (old : Ids) (low : 1 ≤ gno) (h : AreMarked source marks (gno - 1) old) where
-  number : gno - 1 + 1 ≡ gno
-  number = omega arith
-
-  behind : gno - 1 + 1 ≡ gno + 1 - 1
-  behind = omega arith
-
   pub next_marked : (new : Ids) → is_committed marks gno ≡ true → Adds old new (record { source = source; gno = gno }) → AreMarked source marks (gno + 1 - 1) new
-  next_marked new is adds =
-      subst (λ (n : ℕ). AreMarked source marks n new) behind
-      (marked_more source marks (gno - 1) old new h (ap (is_committed marks) number ∙ is) (subst (λ (n : ℕ). Adds old new (record { source = source; gno = n })) (sym number) adds))
+  next_marked new is adds = record {
+    is_set = adds.is_set;
+    source_is = subst (λ (o : Option (List ℕ)). IfSome o (λ own. own ≡ source)) (sym adds.source) refl;
+    numbers = λ m. adds.numbers m ∙ ap (λ (b : Bool). b || eqb m gno) (h.numbers m) ∙ with_next m gno (is_committed marks m) low (λ same. ap (is_committed marks) same ∙ is);
+  }
 
   pub next_unmarked : is_committed marks gno ≡ false → AreMarked source marks (gno + 1 - 1) old
-  next_unmarked is = subst (λ (n : ℕ). AreMarked source marks n old) behind (marked_same source marks (gno - 1) old h (ap (is_committed marks) number ∙ is))
+  next_unmarked is = record {
+    is_set = h.is_set;
+    source_is = h.source_is;
+    numbers = λ m. h.numbers m ∙ without_next m gno (is_committed marks m) low (λ same. ap (is_committed marks) same ∙ is);
+  }
 
 -- ---- the ids of a replica
 
@@ -69,18 +47,15 @@ not_zero n = ne_eqb (suc n) 0 (λ e. omega arith)
 -- there is a number where there is an interval
 no_intervals : (numbers : List Interval) → AreNumbers numbers → ((n : ℕ) → has_number numbers n ≡ false) → numbers ≡ []
 no_intervals [] are none = refl
-no_intervals (i ∷ rest) are none =
-    absurd (true≢false (sym (or_left (is_within i i.first) (has_number rest i.first)
-    (and_from (nat_le i.first i.first) (nat_le i.first i.last) (le-leb i.first i.first (omega arith)) (le-leb i.first i.last are.1))) ∙ none i.first))
+no_intervals (i ∷ rest) are none = absurd (grind (arith, nat_tests, none i.first, are.1))
 
 -- so the source is told where there is one
+without_some : (o : Option (List ℕ)) → is_none o ≡ true → o ≡ None
+without_some None is = refl
+without_some (Some source) is = cc
+
 source_of_none : (ids : Ids) → IsSet ids → ((n : ℕ) → has_number ids.numbers n ≡ false) → ids.source ≡ None
-source_of_none ids set none =
-    without_some ids.source (set.source ∙ ap (λ (l : List Interval). eqb (length l) 0) (no_intervals ids.numbers set.numbers none))
-  where
-    without_some : (o : Option (List ℕ)) → is_none o ≡ true → o ≡ None
-    without_some None is = refl
-    without_some (Some source) is = cc
+source_of_none ids set none = without_some ids.source (set.source ∙ ap (λ (l : List Interval). eqb (length l) 0) (no_intervals ids.numbers set.numbers none))
 
 source_of_some : (source : List ℕ) (ids : Ids) (gno : ℕ) → IsSet ids → IfSome ids.source (λ own. own ≡ source) → has_number ids.numbers gno ≡ true → ids.source ≡ Some source
 source_of_some source ids gno set own has = of ids.source ids.numbers set.source own has
@@ -90,22 +65,16 @@ source_of_some source ids gno set own has = of ids.source ids.numbers set.source
     of None [] some is has = absurd (true≢false (sym has))
     of None (i ∷ numbers) some is has = absurd (true≢false (some ∙ not_zero (length numbers)))
 
+only_commits : (low high marked has all : Bool) → (low ≡ true → marked ≡ has) → (has ≡ true → all ≡ true) → all ≡ (low && high) → (low && high && marked) ≡ has
+only_commits low high marked true all is more each = grind arith
+only_commits low high marked false all is more each = grind arith
+
 module _ (r : Replica) (marks : Marks) (ids : Ids) (counted : IsCounted r.preserve r.dispatched r.workers r.commits r.out r.finished marks) (h : AreMarked r.source marks r.dispatched ids) where
   -- those marked are those of the commits
-  marked_has : (n : ℕ) → (nat_le 1 n && nat_le n r.dispatched && is_committed marks n) ≡ has_gno r.commits n
-  marked_has n = elim (cases_Bool (has_gno r.commits n)) [
-    | inl has ↦
-        let known = and_parts (nat_le 1 n) (nat_le n r.dispatched) (sym (counted.each n) ∙ has_gno_front r.commits (r.out ++ r.finished) n has) in
-        and_from (nat_le 1 n && nat_le n r.dispatched) (is_committed marks n) (and_from (nat_le 1 n) (nat_le n r.dispatched) known.0 known.1) (counted.marked n (leb-true 1 n known.0) ∙ has) ∙ sym has
-    | inr lacks ↦
-        (elim (cases_Bool (nat_le 1 n)) [
-          | inl low ↦ and_right (nat_le 1 n && nat_le n r.dispatched) (is_committed marks n) (counted.marked n (leb-true 1 n low) ∙ lacks)
-          | inr none ↦ and_left (nat_le 1 n && nat_le n r.dispatched) (is_committed marks n) (and_left (nat_le 1 n) (nat_le n r.dispatched) none)
-        ]) ∙ sym lacks
-  ]
-
   has_commits : (n : ℕ) → has_number ids.numbers n ≡ has_gno r.commits n
-  has_commits n = h.numbers n ∙ marked_has n
+  has_commits n =
+      h.numbers n ∙ only_commits (nat_le 1 n) (nat_le n r.dispatched) (is_committed marks n) (has_gno r.commits n) (has_gno (r.commits ++ (r.out ++ r.finished)) n)
+      (λ low. counted.marked n (leb-true 1 n low)) (has_gno_front r.commits (r.out ++ r.finished) n) (counted.each n)
 
   pub executed_is : AreExecuted r ids
   executed_is = record { is_set = h.is_set; source = of r.commits has_commits; numbers = has_commits }
@@ -118,11 +87,8 @@ module _ (r : Replica) (marks : Marks) (ids : Ids) (counted : IsCounted r.preser
 
 -- a number that is marked is that of a commit
 pub some_commit : (commits : List ℕ) (marks : Marks) → ((gno : ℕ) → 1 ≤ gno → is_committed marks gno ≡ has_gno commits gno) → IsMarked marks → 0 < length commits
-some_commit commits marks marked is = of commits (sym (marked is.gno is.from_one) ∙ is.marked)
-  where
-    of : (commits : List ℕ) → has_gno commits is.gno ≡ true → 0 < length commits
-    of [] has = absurd (true≢false (sym has))
-    of (gno ∷ commits) has = omega arith
+some_commit [] marks marked is = absurd (true≢false (sym is.marked ∙ marked is.gno is.from_one))
+some_commit (gno ∷ commits) marks marked is = omega arith
 
 -- in the order of the log they are the first ids
 one_interval : (source : List ℕ) (n : ℕ) → first_ids source (suc n) ≡ record { source = Some source; numbers = record { first = 1; last = suc n } ∷ [] }

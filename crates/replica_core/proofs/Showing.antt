@@ -37,8 +37,7 @@ sound_stands r sound = record { acceptable = sound.accepted; commits = sound.com
 numbered_from_here : (ts : List Table) (front rest : List Record) → AreAcceptable ts (front ++ rest) → AreNumbered (length front + 1) rest
 numbered_from_here ts front [] are = tt
 numbered_from_here ts front (r ∷ rest) are =
-    let regrouped : front ++ r ∷ rest ≡ (front ++ r ∷ []) ++ rest = sym (append_assoc front (r ∷ []) rest) in
-    let others = numbered_from_here ts (front ++ r ∷ []) rest (subst (AreAcceptable ts) regrouped are) in
+    let others = numbered_from_here ts (front ++ r ∷ []) rest (subst (AreAcceptable ts) (sym (append_assoc front (r ∷ []) rest)) are) in
     ((are front r rest refl).gno, subst (λ (n : ℕ). AreNumbered (n + 1) rest) (length_push front r) others)
 
 pub numbered_of : (ts : List Table) (log : List Record) → AreAcceptable ts log → AreNumbered 1 log
@@ -62,15 +61,12 @@ state_now r h = ran_is_gapped r.tables (loaded r.base) r.accepted r.commits h.ap
 
 -- the records in the order of their commits leave the working rows
 pub rows_of_ran : (r : Replica) (rows : Database) → Stands r → working_rows r ≡ Some rows → after r.tables (loaded r.base) (ran r) ≡ Some rows
-rows_of_ran r rows h is =
-    let state = state_now r h in
-    state.ran ∙ sym state.rows ∙ is
+rows_of_ran r rows h is = let state = state_now r h in state.ran ∙ sym state.rows ∙ is
 
 -- where no two rows of a table have one value in its unique column
 pub rows_apart : (r : Replica) (rows : Database) → Stands r → working_rows r ≡ Some rows → NoValueTwice r.tables rows
 rows_apart r rows h is =
-    let state = state_now r h in
-    subst (NoValueTwice r.tables) (same_Some state.left rows (sym state.rows ∙ is)) state.apart
+    let state = state_now r h in subst (NoValueTwice r.tables) (same_Some state.left rows (sym state.rows ∙ is)) state.apart
 
 -- each commit is of an accepted record
 pub commits_within : (r : Replica) → Stands r → AreWithin r.commits r.accepted
@@ -123,12 +119,10 @@ module _ (ts : List Table) (base : Database) (log : List Record) (numbers : AreN
   marks_from front [] mid are is = tt
   marks_from front (gno ∷ rest) mid are is =
       let may = are front gno rest refl in
-      let same : may.rows ≡ mid = same_Some may.rows mid (sym may.rows_are ∙ is) in
-      let here = subst (λ (db : Database). SameRows may.rec.marks (marks ts may.rec.changes db)) same may.good.marks in
+      let here = subst (λ (db : Database). SameRows may.rec.marks (marks ts may.rec.changes db)) (same_Some may.rows mid (sym may.rows_are ∙ is)) may.good.marks in
       subst (StateMarks ts mid) (sym (first_found front rest gno may)) (
         here,
-        λ next one.
-            marks_from (front ++ gno ∷ []) rest next (regrouped front rest gno are) (leaves_here front gno mid next may is one),
+        λ next one. marks_from (front ++ gno ∷ []) rest next (regrouped front rest gno are) (leaves_here front gno mid next may is one),
       )
 
   gnos_from : (gnos_of : List Op → List ℕ) → TellsGnos gnos_of → (front rest : List ℕ) (mid : Database) → AreCommits ts base log (front ++ rest) → after ts base (records_at log front) ≡ Some mid

@@ -1,11 +1,11 @@
 -- What a replica keeps, as each call leaves its parts.
 use Rattle.std.proofs.Common.{◌≡◌, ◌∙◌, sym, ap, subst, refl, ℕ, ◌+◌, ◌-◌, ◌<◌, ◌≤◌, ◌^◌, max, ◌⊎◌, ◌↔◌, inl, inr, Bool, true, false, not, true≢false, ◌&&◌, ◌||◌, eqb, List, [], ◌∷◌, ◌++◌, map}
-use Rattle.std.proofs.Common.{length, drop, Option, Some, None, is_some, Result, Ok, Err, IfOk, OnErr, IsErrOf, IsErrAnd, arith, slice_get, get_or, if◌then◌else◌, nat_le, nat_lt}
+use Rattle.std.proofs.Common.{length, drop, Option, Some, None, is_some, Result, Ok, Err, IfOk, OnErr, IsErrOf, IsErrAnd, arith, slice_get, if◌then◌else◌, nat_le, nat_lt}
 use Rattle.std.specs.List.{position_or_len, remove}
 use Rattle.std.specs.Map.{keys_of}
 use Rattle.std.specs.Option.{option_and_then, option_map, option_map_or, option_or}
 use Rattle.std.proofs.lemmas.Bool.{and_parts, or_cases, cases_Bool, cases_lt, ltb-true, leb-true, le-leb}
-use Rattle.std.proofs.lemmas.Option.{none-some, same_Some, option_and_then_some, slice_get-map, slice_get_within, slice_get_read}
+use Rattle.std.proofs.lemmas.Option.{none-some, same_Some, option_and_then_some, slice_get-map, slice_get_within}
 use Rattle.std.proofs.lemmas.List.{length-map, length_push}
 use Rattle.schema.specs.declared.Memory.{Memory}
 use Rattle.schema.specs.declared.Table.{Table}
@@ -33,19 +33,19 @@ use Rattle.row_index.specs.Keys.{Keys, Indexes, marks_at, moved}
 use Rattle.gone_records.specs.Going.{MayBeGone}
 use Rattle.scheduler.specs.Gnos.{has_gno, first_gnos}
 use Rattle.scheduler.specs.Marks.{Marks, is_committed, none_committed}
-use Rattle.scheduler.proofs.Gnos.{first_gnos-next, has_gno_front, low_of_more, below_low, low_is_few, AreDistinct_front}
+use Rattle.scheduler.proofs.Gnos.{first_gnos-next, low_rises, below_low}
 use Rattle.commit_order.specs.Turns.{Line, no_turns, entered, with_result, turn, passed}
 use Rattle.commit_order.proofs.Lines.{turn_has, turn_waits, turn_free, turn_kept}
 use Rattle.replica_core.specs.Replica.{Replica, low_water, job_over, job_of}
 use Rattle.replica_core.specs.Sound.{IsUnderWay, ShowsGapped}
-use Rattle.replica_core.specs.Calls.{new_over, letting_go, relay_of, is_near, is_eligible, finish_fault, dispatched_next, with_finished, next_commit, with_commit, with_published}
+use Rattle.replica_core.specs.Calls.{new_over, relay_of, is_near, is_eligible, finish_fault, dispatched_next, with_finished, next_commit, with_commit}
 use Rattle.replica_core.specs.declared.dispatching.HandedOut.{HandedOut}
 use Rattle.replica_core.specs.Core.{Holds, ArePartsOf, IsTaken, Parts, commits_seen, seen_as, kept_of, turn_rows, CommitsTurn, LeavesTurn, TakesTurn, IsJudged, place_in}
 use Rattle.replica_core.proofs.Jobs.{job_at, job_is_of_its_record}
 use Rattle.replica_core.proofs.InOrder.{low_in_order}
 use Rattle.replica_core.proofs.Lists.{place-map, place_there}
-use Rattle.replica_core.proofs.Kept.{IsNext, shows_gapped, finished_under_way, kept_new, kept_accepted, kept_dispatched, kept_finished, kept_committed, next_in_turn}
-use Rattle.replica_core.proofs.Kept.{kept_published, kept_letting_go, out_under_way}
+use Rattle.replica_core.proofs.Kept.{holds, IsNext, shows_gapped, finished_under_way, kept_new, kept_accepted, kept_dispatched, kept_finished, kept_committed, next_in_turn}
+use Rattle.replica_core.proofs.Kept.{out_under_way}
 
 -- ---- numbers fit
 
@@ -55,25 +55,10 @@ few_accepted = few_acceptable
 
 -- ---- answers
 
-pub not_stopped : (stopped : Option ℕ) (u : Unit {0}) → Ok u ≡ option_map_or (λ gno. Err (Stopped gno)) stopped (Ok tt) → stopped ≡ None
-not_stopped None u is = refl
-not_stopped (Some gno) u is = cc
-
 -- the causes for which a result is refused, one after another
 abbrev pub cause : Option ℕ → Bool → Bool → Option ReplicaFault
 cause stopped known out =
     option_or (option_map_or (λ gno. Some (Stopped gno)) stopped None) (if not known then Some Stranger else if not out then Some Double else None)
-
-abbrev pub told_as : Option ReplicaFault → Result (Unit {0}) ReplicaFault
-told_as fault = option_map_or (λ f. Err f) fault (Ok tt)
-
-pub err_refuses_so : (fault : Option ReplicaFault) (told : ReplicaFault) → Err told ≡ told_as fault → fault ≡ Some told
-err_refuses_so None told is = cc
-err_refuses_so (Some fault) told is = cc
-
-pub ok_refuses_none : (fault : Option ReplicaFault) (u : Unit {0}) → Ok u ≡ told_as fault → fault ≡ None
-ok_refuses_none None u is = refl
-ok_refuses_none (Some fault) u is = cc
 
 pub judged_err : (r : Replica) (done : Finished) (told : ReplicaFault) (result : Result ℕ ReplicaFault) → IsErrAnd result (λ e. e ≡ told) → finish_fault r done.job.gno ≡ Some told →
     IsJudged r done result
@@ -126,17 +111,21 @@ answered (Err fault) told h = tt
 answered (Ok answer) told (inl lacks) = cc
 answered (Ok answer) told (inr is) = sym is
 
+module _ {r : Replica} {marks : Marks} {line : Line} {handed : List HandedOut} {rows : Database} {keys : Keys} {ops : List Op} (h : ArePartsOf r marks line handed rows keys ops) where
+  length_outs : length line.out ≡ length r.out
+  length_outs = ap (λ (l : List ℕ). length l) h.turned.out
+
+  length_dones : length line.done ≡ length r.finished
+  length_dones = sym (length-map line.done (λ (result : Finished). result.job.gno)) ∙ ap (λ (l : List ℕ). length l) h.turned.done
+
 module _ {r : Replica} {marks : Marks} {line : Line} {handed : List HandedOut} {rows : Database} {keys : Keys} {ops : List Op} (order : List ℕ) (h : ArePartsOf r marks line handed rows keys ops)
     (seen : commits_seen line.preserve marks.low order ≡ r.commits) where
   -- the parts are seen as the replica whose parts they are
   pub as_parts : with_parts r marks order line ≡ r
   as_parts =
-      let all = h.counted.counted in
-      let outs = ap (λ (l : List ℕ). length l) h.turned.out in
-      let dones = ap (λ (l : List ℕ). length l) h.turned.done in
       let commits = ap (λ (l : List ℕ). length l) seen in
       let count : length (commits_seen line.preserve marks.low order) + (length line.out + length line.done) ≡ r.dispatched =
-      omega (arith, length-map line.done (λ (result : Finished). result.job.gno)) in
+      omega (arith, h.counted.counted, commits, length_outs h, length_dones h) in
       λ i. record r { preserve = h.turned.preserve i; commits = seen i; dispatched = count i; out = h.turned.out i; finished = h.turned.done i }
 
   pub parts_kept : ArePartsOf (with_parts r marks order line) marks line handed rows keys ops
@@ -178,13 +167,7 @@ commits_then false low low_then order gno h = refl
 
 -- a place is near, or no worker is free
 any_order : (parent near worker : Bool) (always : Bool) → (always ≡ true → worker ≡ true → near ≡ true) → ((parent && near) && worker) ≡ ((parent && worker) && (always || near))
-any_order false near worker always h = refl
-any_order true true false always h = refl
-any_order true true true true h = refl
-any_order true true true false h = refl
-any_order true false false always h = refl
-any_order true false true true h = h refl refl
-any_order true false true false h = refl
+any_order parent near worker always h = grind arith
 
 module _ {r : Replica} {marks : Marks} {line : Line} {handed : List HandedOut} {rows : Database} {keys : Keys} {ops : List Op} (h : ArePartsOf r marks line handed rows keys ops) where
   -- ---- receive
@@ -195,69 +178,38 @@ module _ {r : Replica} {marks : Marks} {line : Line} {handed : List HandedOut} {
       IfOk result (λ answer. left ≡ relay.left_by_receive (relay_with r gone) new answer) → OnErr result (left ≡ relay_with r gone) →
       Holds (with_relay r left) left.gone marks line handed rows keys ops
   received_kept from new (Err refused) left kept answer ok err =
-      subst (λ (v : relay.Relay). Holds (with_relay r v) v.gone marks line handed rows keys ops) (sym err) (record { parts = h; kept = kept })
+      subst (λ (v : relay.Relay). Holds (with_relay r v) v.gone marks line handed rows keys ops) (sym err) (holds h kept)
   received_kept from new (Ok Skipped) left kept answer ok err =
-      subst (λ (v : relay.Relay). Holds (with_relay r v) v.gone marks line handed rows keys ops) (sym ok) (record { parts = h; kept = kept })
+      subst (λ (v : relay.Relay). Holds (with_relay r v) v.gone marks line handed rows keys ops) (sym ok) (holds h kept)
   received_kept {gone = gone} from new (Ok Accepted) left kept answer ok err =
       let next : IsAcceptable r.tables r.accepted new = ((accepts_the_acceptable (relay_with r gone) from new).0 answer).1 in
       subst (λ (v : relay.Relay). Holds (with_relay r v) v.gone marks line handed rows keys ops) (sym ok)
-      (record { parts = kept_accepted h new (next_is_acceptable r.tables r.accepted new h.log.acceptable next); kept = kept })
+      (holds (kept_accepted h new (next_is_acceptable r.tables r.accepted new h.log.acceptable next)) kept)
 
   -- ---- let_go
 
-  -- that committed records may go changes nothing else
-  pub let_go_kept : {gone : ℕ} → MayBeGone r.keeps gone marks.low → Holds (letting_go r) gone marks line handed rows keys ops
-  let_go_kept kept = record { parts = kept_letting_go h; kept = record { within = kept.within; none = λ keeps. cc } }
-
-  -- and some of them went
+  -- some of them went
   pub gone_then : {gone low : ℕ} → MayBeGone r.keeps gone low → low ≤ marks.low → (left : relay.Relay) → relay.LetsGo (if r.keeps then 0 else marks.low) (relay_with r gone) left →
       Holds (with_relay r left) left.gone marks line handed rows keys ops
-  gone_then {gone = gone} {low = low} kept rises left goes = record {
-    parts = subst (λ (q : Replica). ArePartsOf q marks line handed rows keys ops) (sym (gone_seen r goes)) h;
-    kept = still_within r.keeps gone low marks.low left.gone kept rises goes.within;
-  }
+  gone_then {gone = gone} {low = low} kept rises left goes =
+      holds (subst (λ (q : Replica). ArePartsOf q marks line handed rows keys ops) (sym (gone_seen r goes)) h) (still_within r.keeps gone low marks.low left.gone kept rises goes.within)
 
   -- ---- dispatch
 
-  pub few_dispatched : r.dispatched < 2 ^ 63
-  few_dispatched = let few = few_accepted r.tables r.accepted h.log.acceptable in let all = h.within in omega arith
-
-  -- the mark is not above them, and in the order of the log it is the number of the commits
-  pub low_dispatched : marks.low ≤ r.dispatched
-  low_dispatched =
-      let few = low_is_few r.commits (AreDistinct_front r.commits (r.out ++ r.finished) h.counted.distinct) in
-      let low = h.counted.low in
-      let counted = h.counted.counted in
-      omega arith
-
-  -- so what is not dispatched is kept
-  pub gone_dispatched : {gone : ℕ} → MayBeGone r.keeps gone marks.low → gone ≤ r.dispatched
-  gone_dispatched kept = let few = kept.within in let low = low_dispatched in omega arith
-
-  pub low_in_turn : r.preserve ≡ true → marks.low ≡ length r.commits
-  low_in_turn preserve = h.counted.low ∙ low_in_order r (h.counted.in_turn preserve)
-
   -- in the order of the log a place is near wherever a worker is free
   near_in_order : r.preserve ≡ true → r.dispatched - length r.commits < r.workers → r.dispatched + 1 ≤ low_water r + 4096
-  near_in_order preserve free =
-      let low = low_in_order r (h.counted.in_turn preserve) in
-      let counted = h.counted.counted in
-      let few = h.set_up.few in
-      omega arith
+  near_in_order preserve free = omega (arith, low_in_order r (h.counted.in_turn preserve), h.set_up.few)
 
   -- the line has as many as were dispatched and are not committed
   length_line : length line.out + length line.done ≡ r.dispatched - length r.commits
-  length_line =
-      let counted = h.counted.counted in
-      let outs = ap (λ (l : List ℕ). length l) h.turned.out in
-      let dones = ap (λ (l : List ℕ). length l) h.turned.done in
-      omega (arith, length-map line.done (λ (result : Finished). result.job.gno))
+  length_line = omega (arith, h.counted.counted, length_outs h, length_dones h)
 
   -- whether the next record may be dispatched, as it is tested
-  pub eligible_seen : (next : Record) → slice_get r.accepted r.dispatched ≡ Some next →
-      ((nat_le next.parent marks.low && nat_le (r.dispatched + 1) (marks.low + 4096)) && nat_lt (length line.out + length line.done) r.workers) ≡ is_eligible r
-  eligible_seen next got =
-      (λ i. (nat_le next.parent (h.counted.low i) && nat_le (r.dispatched + 1) (h.counted.low i + 4096)) && nat_lt (length_line i) r.workers)
+  pub eligible_seen : (next : Record) (count : ℕ) (may free : Bool) → slice_get r.accepted r.dispatched ≡ Some next → count ≡ r.dispatched →
+      may ≡ (nat_le next.parent marks.low && nat_le (count + 1) (marks.low + 4096)) → free ≡ nat_lt (length line.out + length line.done) r.workers → (may && free) ≡ is_eligible r
+  eligible_seen next count may free got number may_is free_is =
+      (λ i. may_is i && free_is i)
+      ∙ (λ i. (nat_le next.parent (h.counted.low i) && nat_le (number i + 1) (h.counted.low i + 4096)) && nat_lt (length_line i) r.workers)
       ∙ any_order (nat_le next.parent (low_water r)) (nat_le (r.dispatched + 1) (low_water r + 4096)) (nat_lt (r.dispatched - length r.commits) r.workers) r.preserve
       (λ preserve free. le-leb (r.dispatched + 1) (low_water r + 4096) (near_in_order preserve (ltb-true (r.dispatched - length r.commits) r.workers free)))
       ∙ ap (λ (o : Option Record). option_map_or (λ rec. nat_le rec.parent (low_water r)) o false && nat_lt (r.dispatched - length r.commits) r.workers && is_near r) (sym got)
@@ -337,37 +289,28 @@ module _ {r : Replica} {marks : Marks} {line : Line} {handed : List HandedOut} {
             let parts = tells.0 is in
             let input : made.input ≡ job.input = ap (λ (k : HandedOut). k.input) (sym same) ∙ sym parts.1 in
             let holders : made.holders ≡ job.holders = ap (λ (k : HandedOut). k.holders) (sym same) ∙ sym parts.2 in
-            let schema_is : made.schema ≡ job.schema = sym tables ∙ sym parts.3 in
-            now ∙ (λ i. Some (record { gno = job.gno; rec = sym parts.0 i; input = input i; holders = holders i; schema = schema_is i })),
-        λ is.
-            let made_is : made ≡ job = same_Some made job (sym now ∙ is) in
-            tells.1 (
-              ap (λ (j : Job). j.rec) (sym made_is),
-              ap (λ (j : Job). j.input) (sym made_is) ∙ ap (λ (k : HandedOut). k.input) (sym same),
-              ap (λ (j : Job). j.holders) (sym made_is) ∙ ap (λ (k : HandedOut). k.holders) (sym same),
-              ap (λ (j : Job). j.schema) (sym made_is) ∙ sym tables,
+            now ∙ (λ i. Some (record { gno = job.gno; rec = sym parts.0 i; input = input i; holders = holders i; schema = (sym tables ∙ sym parts.3) i })),
+        λ is. tells.1 (
+            subst (λ (j : Job). (j.rec ≡ rec) × (j.input ≡ kept.input) × (j.holders ≡ kept.holders) × (j.schema ≡ schema)) (same_Some made job (sym now ∙ is))
+            (refl, ap (λ (k : HandedOut). k.input) (sym same), ap (λ (k : HandedOut). k.holders) (sym same), sym tables)
             ),
       )
 
   -- it is past the mark, so its record is kept
+  past_mark : (gno : ℕ) → IsUnderWay r gno → marks.low < gno
+  past_mark gno under = elim (cases_lt marks.low gno) [
+    | inl past ↦ past
+    | inr before ↦ absurd (true≢false (sym (below_low r.commits gno under.0 (omega (arith, h.counted.low))) ∙ under.2))
+  ]
+
   pub record_kept : {gone : ℕ} (gno : ℕ) → MayBeGone r.keeps gone marks.low → has_gno r.out gno ≡ true → gone ≤ gno - 1
   record_kept gno kept out =
-      let under = out_under_way h gno out in
-      let few = kept.within in
-      let low = h.counted.low in
-      elim (cases_lt marks.low gno) [
-        | inl past ↦ omega arith
-        | inr before ↦ absurd (true≢false (sym (below_low r.commits gno under.0 (omega arith)) ∙ under.2))
-      ]
+      let past = past_mark gno (out_under_way h gno out) in
+      omega (arith, kept.within)
 
   -- its record is one of those accepted
   pub record_within : (gno : ℕ) → has_gno r.out gno ≡ true → gno - 1 < length r.accepted
-  record_within gno out =
-      let under = out_under_way h gno out in
-      let low = under.0 in
-      let high = under.1 in
-      let all = h.within in
-      omega arith
+  record_within gno out = let under = out_under_way h gno out in omega (arith, under.0, under.1, h.within)
 
   -- and it is kept there
   pub place_within : (gno place : ℕ) → has_gno r.out gno ≡ true → place ≡ place_in r.out gno → place < length handed
@@ -388,23 +331,15 @@ module _ {r : Replica} {marks : Marks} {line : Line} {handed : List HandedOut} {
       rw (is_line, is_handed)
       (kept_finished h result place (out_from r result.job.gno judged.0) judged.2 (record { job = judged.1; left = left; output = is; came = made }))
 
-  pub published_kept : (upto : ℕ) (ops_then : List Op) → r.published ≤ upto → upto ≤ length r.commits → ops_then ≡ drop (upto - r.published) ops →
-      ArePartsOf (with_published r upto) marks line handed rows keys ops_then
-  published_kept upto ops_then later done is_ops = rw is_ops (kept_published h upto later done)
-
   -- ---- the next commit
 
   -- whose turn it is, as it is told
   next_is : next_commit r ≡ option_map (λ (result : Finished). result.job.gno) (turn line)
   next_is = elim (cases_Bool r.preserve) [
     | inl preserve ↦
-        ap (λ (b : Bool). if b then (if has_gno r.finished (length r.commits + 1) then Some (length r.commits + 1) else None) else slice_get r.finished 0) preserve
-        ∙ (λ i. if has_gno (sym h.turned.done i) (sym (h.turned.next preserve) i) then Some (sym (h.turned.next preserve) i) else None)
-        ∙ sym (turn_kept line (h.turned.preserve ∙ preserve))
+        rw (preserve, ← h.turned.done, ← h.turned.next preserve) (sym (turn_kept line (h.turned.preserve ∙ preserve)))
     | inr free ↦
-        ap (λ (b : Bool). if b then (if has_gno r.finished (length r.commits + 1) then Some (length r.commits + 1) else None) else slice_get r.finished 0) free
-        ∙ ap (λ (l : List ℕ). slice_get l 0) (sym h.turned.done)
-        ∙ sym (turn_free line (h.turned.preserve ∙ free))
+        rw (free, ← h.turned.done) (sym (turn_free line (h.turned.preserve ∙ free)))
   ]
 
   -- each result that was taken has rows
@@ -452,22 +387,14 @@ record HasTurn (line : Line) (gno : ℕ) (left : List Entry) : Type 0 where
   output : result.outcome ≡ Output left
   number : result.job.gno ≡ gno
 
+has_rows : (gno : ℕ) (o : Outcome) (told : ℕ × List Entry) → option_map {U = ℕ × List Entry} (λ rows. (gno, rows)) (output_of o) ≡ Some told → (gno ≡ told.0) × (o ≡ Output told.1)
+has_rows gno (Output entries) told made = let both = same_Some (gno, entries) told made in (ap (λ (p : ℕ × List Entry). p.0) both, ap (λ (p : ℕ × List Entry). Output p.1) both)
+has_rows gno _ told made = absurd (none-some told made)
+
 has_turn : (line : Line) (gno : ℕ) (left : List Entry) → turn_rows line ≡ Some (gno, left) → HasTurn line gno left
 has_turn line gno left is =
     option_and_then_some (λ (result : Finished). option_map {U = ℕ × List Entry} (λ rows. (result.job.gno, rows)) (output_of result.outcome)) (turn line) (gno, left) is
-    (λ result at made. of_output result at result.outcome refl made)
-  where
-    of_output : (result : Finished) → turn line ≡ Some result → (o : Outcome) → o ≡ result.outcome →
-        option_map {U = ℕ × List Entry} (λ rows. (result.job.gno, rows)) (output_of o) ≡ Some (gno, left) → HasTurn line gno left
-    of_output result at (Output entries) same made =
-        let both = same_Some (result.job.gno, entries) (gno, left) made in
-        record {
-          result = result;
-          is = at;
-          output = sym same ∙ ap (λ (p : ℕ × List Entry). Output p.1) both;
-          number = ap (λ (p : ℕ × List Entry). p.0) both;
-        }
-    of_output result at _ same made = absurd (none-some (gno, left) made)
+    (λ result at made. let both = has_rows result.job.gno result.outcome (gno, left) made in record { result = result; is = at; output = both.1; number = both.0 })
 
 -- the turn of a record: it was dispatched and is not committed, so it is behind the mark, and near it
 module _ {r : Replica} {marks : Marks} {handed : List HandedOut} {gno : ℕ} {old new : Parts} (h : ArePartsOf r marks old.line handed old.rows old.keys old.ops)
@@ -483,24 +410,13 @@ module _ {r : Replica} {marks : Marks} {handed : List HandedOut} {gno : ℕ} {ol
   turn_next = ap (option_map (λ (ready : ℕ × List Entry). ready.0)) (sym put.output) ∙ next_seen h
 
   pub turn_later : marks.low < gno
-  turn_later = elim (cases_lt marks.low gno) [
-    | inl behind ↦ behind
-    | inr before ↦
-        let under = turn_under_way in
-        let low = h.counted.low in
-        absurd (true≢false (sym (below_low r.commits gno under.0 (omega arith)) ∙ under.2))
-  ]
+  turn_later = past_mark h gno turn_under_way
 
   pub turn_near : gno ≤ marks.low + 4096
   turn_near =
       let under = turn_under_way in
-      let low = under.0 in
-      let high = under.1 in
-      let all = h.within in
-      let got = get_within r.accepted (gno - 1) (omega arith) in
-      let near = (h.eligible gno got.0 under.0 under.1 got.1).near in
-      let mark = h.counted.low in
-      omega arith
+      let got = get_within r.accepted (gno - 1) (omega (arith, under.0, under.1, h.within)) in
+      omega (arith, (h.eligible gno got.0 under.0 under.1 got.1).near, h.counted.low)
 
 module _ {r : Replica} {marks : Marks} {handed : List HandedOut} {gno : ℕ} {old new : Parts} (marks_then : Marks) (h : ArePartsOf r marks old.line handed old.rows old.keys old.ops)
     (put : CommitsTurn r.tables gno old new)
@@ -544,20 +460,8 @@ module _ {r : Replica} {marks : Marks} {handed : List HandedOut} {gno : ℕ} {ol
 
   -- the mark goes no lower
   pub mark_rises : marks.low ≤ marks_then.low
-  mark_rises =
-      let low = h.counted.low in
-      let low_then = committed_step.counted.low in
-      let more = low_of_more r.commits (r.commits ++ gno ∷ []) (λ g _ has. has_gno_front r.commits (gno ∷ []) g has) in
-      omega arith
-
--- what is looked up in a list
-pub got_there : {X : Type 0} (xs : List X) (n : ℕ) (x : X) → n < length xs → x ≡ get_or xs n x → slice_get xs n ≡ Some x
-got_there xs n x within is = slice_get_read xs (length xs) n x refl within is
+  mark_rises = omega (arith, h.counted.low, committed_step.counted.low, low_rises r.commits (gno ∷ []))
 
 pub not_eligible : (r : Replica) → slice_get r.accepted r.dispatched ≡ None → false ≡ is_eligible r
 not_eligible r none =
     ap (λ (o : Option Record). option_map_or (λ rec. nat_le rec.parent (low_water r)) o false && nat_lt (r.dispatched - length r.commits) r.workers && is_near r) (sym none)
-
-pub stays_false : (b other : Bool) → b ≡ false → b ≡ (b && other)
-stays_false false other is = refl
-stays_false true other is = cc

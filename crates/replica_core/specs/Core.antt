@@ -1,6 +1,6 @@
 -- What the parts of a replica keep.
 use Rattle.std.specs.Prelude.{◌≡◌, ◌⊎◌, ℕ, ◌+◌, ◌≤◌, ◌&&◌, ◌==◌, nat_le, Bool, true, false, if◌then◌else◌, List, [], ◌∷◌, ◌++◌, map, length, Option, Some, None, is_some, option_and_then, Result, Ok}
-use Rattle.std.specs.Prelude.{Err, IfSome}
+use Rattle.std.specs.Prelude.{◌^◌, ◌<◌, Err, IfSome}
 use Rattle.std.specs.List.{AllByRecursion, position_or_len}
 use Rattle.std.specs.Option.{option_map}
 use Rattle.std.specs.Map.{keys_of}
@@ -31,7 +31,7 @@ use Rattle.gone_records.specs.Going.{MayBeGone}
 use Rattle.commit_order.specs.Turns.{Line, turn, passed}
 use Rattle.replica_core.specs.declared.dispatching.HandedOut.{HandedOut}
 use Rattle.replica_core.specs.Replica.{Replica, working_rows, waiting, job_of}
-use Rattle.replica_core.specs.Sound.{AreEligible}
+use Rattle.replica_core.specs.Sound.{AreEligible, IsSound}
 use Rattle.replica_core.specs.Calls.{finish_fault, IsHandedOut}
 
 -- the gnos of the commits: in the order of the log those up to the mark, else as they are kept
@@ -119,9 +119,15 @@ pub record ArePartsOf (r : Replica) (marks : Marks) (line : Line) (handed : List
   pub results : AllByRecursion (λ (result : Finished). IsTaken (job_of r result.job.gno) result) line.done
 
 -- And this many of the first accepted records are gone: none past the mark, since only those up to it are not asked for any more.
+-- So the replica is sound, the records dispatched have numbers that fit, the mark is not above them, and in the order of the log it is
+-- the number of the commits.
 pub record Holds (r : Replica) (gone : ℕ) (marks : Marks) (line : Line) (handed : List HandedOut) (rows : Database) (keys : Keys) (ops : List Op) : Type 0 where
   pub parts : ArePartsOf r marks line handed rows keys ops
   pub kept : MayBeGone r.keeps gone marks.low
+  pub sound : IsSound r
+  pub fits : r.dispatched < 2 ^ 63
+  pub low_within : marks.low ≤ r.dispatched
+  pub low_in_turn : r.preserve ≡ true → marks.low ≡ length r.commits
 
 -- ---- the next commit
 

@@ -1,6 +1,6 @@
 //! What is handed out, what is kept of it, and what is refused.
 
-ghost use Rattle.std.specs.Prelude.{◌≡◌, ◌&&◌, ◌==◌, nat_le, not, map, Ok, Err, IfOk, if◌then◌else◌};
+ghost use Rattle.std.specs.Prelude.{◌≡◌, ◌&&◌, ◌==◌, nat_le, not, map, Ok, Err, IfOk, OnOk, None, if◌then◌else◌};
 ghost use Rattle.std.specs.List.{position_or_len};
 ghost use Rattle.std.specs.Option.{option_map_or};
 ghost use Rattle.std.specs.FinMap.{get as row_of};
@@ -46,7 +46,8 @@ impl HandedOut {
 
 /// Refuses if the replica is stopped.
 pub fn refuse_stopped(stopped: Option<u64>) -> Result<(), ReplicaFault>
-    ensures { result ≡ option_map_or (λ gno. Err (ReplicaFault.Stopped gno)) stopped (Ok tt) }
+    ensures value { result ≡ option_map_or (λ gno. Err (ReplicaFault.Stopped gno)) stopped (Ok tt) }
+    ensures runs { OnOk result (stopped ≡ None) }
 {
     match stopped {
         Some(gno) => Err(ReplicaFault::Stopped(gno)),

@@ -567,7 +567,8 @@ impl<S: RowStore> ReplicaCore<S> {
 
     /// Refuses the number of a result, whatever else the result has.
     fn refuse(&self, gno: u64) -> Result<(), ReplicaFault>
-        ensures { result ≡ option_map_or (λ fault. Err fault) (finish_fault self.now gno) (Ok tt) }
+        ensures ok { OnOk result (finish_fault self.now gno ≡ None) }
+        ensures err { IfErr result (λ fault. finish_fault self.now gno ≡ Some fault) }
     {
         refuse_stopped(self.stopped)?;
         refuse_finish(&self.turns, self.dispatched(), gno)

@@ -5,26 +5,14 @@ use Rattle.relay.specs.Relay.{LetsGo}
 use Rattle.replica_core.specs.Replica.{Replica}
 use Rattle.replica_core.specs.Calls.{next_commit, unless_stopped, with_commit}
 use Rattle.replica_core.specs.Sound.{ShowsGapped}
-use Rattle.replica_core.proofs.Kept.{sound_as_seen}
-use Rattle.replica_core.proofs.Steps.{not_stopped, commits_of, leaves_of, none_next, next_some, still_gapped, turn_next}
-use Rattle.replica_core.proofs.Steps.{turn_later, turn_near, committed_kept, committed_seen, committed_gapped, gone_then, gone_seen, mark_rises, low_dispatched}
+use Rattle.replica_core.proofs.Kept.{low_dispatched}
+use Rattle.replica_core.proofs.Steps.{commits_of, leaves_of, none_next, next_some, still_gapped, turn_next}
+use Rattle.replica_core.proofs.Steps.{turn_later, turn_near, committed_kept, committed_seen, committed_gapped, gone_then, gone_seen, mark_rises}
 use Rattle.replica_core.proofs.ReplicaCore.commit_next.Goals as goal
-
-pub returns-in_err-refuse_stopped-clause-sound : goal.returns-in_err-refuse_stopped-clause-sound
-returns-in_err-refuse_stopped-clause-sound g c = sound_as_seen c.self.invariant.parts c.self.view_is
-
-pub returns-in_err-gno-clause-sound : goal.returns-in_err-gno-clause-sound
-returns-in_err-gno-clause-sound g c = sound_as_seen c.self.invariant.parts c.self.view_is
-
-pub returns-in_default-clause-sound : goal.returns-in_default-clause-sound
-returns-in_default-clause-sound g c = sound_as_seen c.self.invariant.parts c.self.view_is
-
-pub returns-clause-sound : goal.returns-clause-sound
-returns-clause-sound g c = sound_as_seen c.self.invariant.parts c.self.view_is
 
 pub returns-in_err-gno-clause-memory : goal.returns-in_err-gno-clause-memory
 returns-in_err-gno-clause-memory g c = λ _. (
-  sym (ap (λ (r : Replica). r.stopped) c.self.view_is) ∙ not_stopped c.self.inside.stopped _ c.in_ok-refuse_stopped.ensures,
+  sym (ap (λ (r : Replica). r.stopped) c.self.view_is) ∙ c.in_ok-refuse_stopped.ensures.runs,
   ap (λ (r : Replica). is_some (next_commit r)) (sym c.self.view_is) ∙ sym (next_some c.self.invariant.parts) ∙ c.in_err-gno.ensures.there,
 )
 
@@ -32,7 +20,7 @@ pub returns-in_default-clause-answer : goal.returns-in_default-clause-answer
 returns-in_default-clause-answer g c =
     let none = none_next c.self.invariant.parts (leaves_of _ _ _ _ c.in_default.is c.in_ok-gno.ensures) in
     inr (sym (ap (λ (r : Replica). unless_stopped r (next_commit r)) (sym c.self.view_is)
-    ∙ (λ i. option_map_or (λ gno. Err (Stopped gno)) (not_stopped c.self.inside.stopped _ c.in_ok-refuse_stopped.ensures i) (Ok (none i)))))
+    ∙ (λ i. option_map_or (λ gno. Err (Stopped gno)) (c.in_ok-refuse_stopped.ensures.runs i) (Ok (none i)))))
 
 pub returns-in_default-clause-gapped : goal.returns-in_default-clause-gapped
 returns-in_default-clause-gapped g c = still_gapped c.self.invariant.parts (leaves_of _ _ _ _ c.in_default.is c.in_ok-gno.ensures) refl
@@ -52,9 +40,7 @@ pub let_go-requires : goal.let_go-requires
 let_go-requires g c =
     let put = commits_of _ _ _ _ _ _ c.schema.ensures c.in-Some.is c.in_ok-gno.ensures in
     let kept = committed_kept c.committed.new.self c.self.invariant.parts put c.committed.ensures.exact c.committed.ensures.greatest refl in
-    let low = low_dispatched kept in
-    let all = kept.within in
-    omega (arith, c.low_water.ensures.value)
+    omega (arith, low_dispatched kept, kept.within, c.low_water.ensures.value)
 
 pub invariant_of-self-2 : goal.invariant_of-self-2
 invariant_of-self-2 g c =
@@ -67,7 +53,7 @@ pub returns-clause-answer : goal.returns-clause-answer
 returns-clause-answer g c =
     let next = turn_next c.self.invariant.parts (commits_of _ _ _ _ _ _ c.schema.ensures c.in-Some.is c.in_ok-gno.ensures) in
     inr (sym (ap (λ (r : Replica). unless_stopped r (next_commit r)) (sym c.self.view_is)
-    ∙ (λ i. option_map_or (λ gno. Err (Stopped gno)) (not_stopped c.self.inside.stopped _ c.in_ok-refuse_stopped.ensures i) (Ok (sym next i)))))
+    ∙ (λ i. option_map_or (λ gno. Err (Stopped gno)) (c.in_ok-refuse_stopped.ensures.runs i) (Ok (sym next i)))))
 
 pub returns-clause-ok : goal.returns-clause-ok
 returns-clause-ok g c =

@@ -2,7 +2,6 @@ use Rattle.std.proofs.Common.{◌∙◌, sym, ap, length, Bool}
 use Rattle.scheduler.proofs.Gnos.{length-first_gnos}
 use Rattle.replica_core.specs.Replica.{Replica}
 use Rattle.replica_core.specs.Core.{commits_seen}
-use Rattle.replica_core.proofs.Kept.{sound_as_seen}
 use Rattle.replica_core.proofs.ReplicaCore.committed.Goals as goal
 
 pub returns-then-preserve-clause-value : goal.returns-then-preserve-clause-value
@@ -11,9 +10,3 @@ returns-then-preserve-clause-value g c =
     c.low_water.ensures.value ∙ sym (length-first_gnos was.scheduler.low)
     ∙ ap (λ (b : Bool). length (commits_seen b was.scheduler.low was.order.items)) (sym c.if-preserve.true ∙ c.preserve.ensures)
     ∙ ap (λ (r : Replica). length r.commits) c.self.view_is
-
-pub returns-then-preserve-clause-sound : goal.returns-then-preserve-clause-sound
-returns-then-preserve-clause-sound g c = sound_as_seen c.self.invariant.parts c.self.view_is
-
-pub returns-else-preserve-clause-sound : goal.returns-else-preserve-clause-sound
-returns-else-preserve-clause-sound g c = sound_as_seen c.self.invariant.parts c.self.view_is

@@ -5,17 +5,13 @@ use Rattle.replica_core.specs.Replica.{Replica}
 use Rattle.replica_core.specs.Calls.{AreExecuted}
 use Rattle.replica_core.specs.Core.{AreMarked}
 use Rattle.replica_core.proofs.Marked.{executed_is, executed_in_order, some_commit}
-use Rattle.replica_core.proofs.Steps.{not_stopped, few_accepted, few_dispatched, low_dispatched}
+use Rattle.replica_core.proofs.Steps.{few_accepted}
 use Rattle.replica_core.proofs.ReplicaCore.executed.Goals as goal
 
 pub first-requires : goal.first-requires
 first-requires g c =
     let sound = c.committed.ensures.sound in
-    let few = few_accepted _ _ sound.accepted in
-    let all = sound.dispatched in
-    let counted = sound.counted in
-    let is = c.committed.ensures.value in
-    omega arith
+    omega (arith, few_accepted _ _ sound.accepted, sound.dispatched, sound.counted, c.committed.ensures.value)
 
 pub returns-then-preserve-clause-ok : goal.returns-then-preserve-clause-ok
 returns-then-preserve-clause-ok g c =
@@ -25,26 +21,11 @@ returns-then-preserve-clause-ok g c =
     let source = c.source-source.ensures in
     subst (λ (ids : Ids). AreExecuted c.args.self.now ids) (sym (c.in_ok-first.ensures.value ∙ ap (λ (s : List ℕ). first_ids s c.committed.result) source))
     (executed_in_order c.args.self.now c.committed.result ((sound.in_order preserve).commits ∙ ap first_gnos (sym count)) (sym count)
-    (let few = few_accepted _ _ sound.accepted in
-    let all = sound.dispatched in
-    let counted = sound.counted in
-    omega arith))
-
-pub committed_ids-requires-clause-low : goal.committed_ids-requires-clause-low
-committed_ids-requires-clause-low g c =
-    let low = low_dispatched c.self.invariant.parts in
-    let count = c.dispatched.ensures ∙ ap (λ (r : Replica). r.dispatched) (sym c.self.view_is) in
-    omega arith
-
-pub committed_ids-requires-clause-few : goal.committed_ids-requires-clause-few
-committed_ids-requires-clause-few g c =
-    let few = few_dispatched c.self.invariant.parts in
-    let count = c.dispatched.ensures ∙ ap (λ (r : Replica). r.dispatched) (sym c.self.view_is) in
-    omega arith
+    (omega (arith, few_accepted _ _ sound.accepted, sound.dispatched, sound.counted, count)))
 
 pub returns-in_err-committed_ids-clause-memory : goal.returns-in_err-committed_ids-clause-memory
 returns-in_err-committed_ids-clause-memory g c = λ _. (
-  sym (ap (λ (r : Replica). r.stopped) c.self.view_is) ∙ not_stopped c.self.inside.stopped _ c.in_ok-refuse_stopped.ensures,
+  sym (ap (λ (r : Replica). r.stopped) c.self.view_is) ∙ c.in_ok-refuse_stopped.ensures.runs,
   subst (λ (r : Replica). 0 < length r.commits) c.self.view_is (some_commit _ _ c.self.invariant.parts.counted.marked c.in_err-committed_ids.ensures.memory),
 )
 

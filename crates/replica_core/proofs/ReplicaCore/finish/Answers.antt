@@ -3,7 +3,7 @@ use Rattle.commit_order.specs.Turns.{Line}
 use Rattle.replica_core.specs.Replica.{Replica}
 use Rattle.replica_core.specs.Calls.{with_finished}
 use Rattle.replica_core.specs.Core.{IsJudged, commits_seen}
-use Rattle.replica_core.proofs.Kept.{kept_stopped, sound_as_seen}
+use Rattle.replica_core.proofs.Kept.{holds, kept_stopped}
 use Rattle.replica_core.proofs.Steps.{judged_within, finished_kept, parts_kept, as_parts}
 use Rattle.replica_core.proofs.ReplicaCore.finish.Goals as goal
 
@@ -17,17 +17,13 @@ pub invariant_of-self : goal.invariant_of-self
 invariant_of-self g c =
     let was = c.self.inside in
     let judged = subst (λ (r : Replica). IsJudged r c.args.done (Ok c.in-Ok.place)) (sym c.self.view_is) c.in-Ok.ensures in
-    record {
-      parts =
-          parts_kept was.order.items
-          (finished_kept c.self.invariant.parts c.args.done c.in-Output.field-0 c.in-Ok.place c.finish.new.self c.remove.new.self.items judged
-          c.outcome.ensures.valid (sym c.outcome.ensures.value ∙ c.in-Output.is) c.finish.ensures c.remove.ensures.items)
-          (ap (λ (line : Line). commits_seen line.preserve was.scheduler.low was.order.items) c.finish.ensures);
-      kept = c.self.invariant.kept;
-    }
+    holds (parts_kept was.order.items
+    (finished_kept c.self.invariant.parts c.args.done c.in-Output.field-0 c.in-Ok.place c.finish.new.self c.remove.new.self.items judged
+    c.outcome.ensures.valid (sym c.outcome.ensures.value ∙ c.in-Output.is) c.finish.ensures c.remove.ensures.items)
+    (ap (λ (line : Line). commits_seen line.preserve was.scheduler.low was.order.items) c.finish.ensures)) c.self.invariant.kept
 
 pub invariant_of-self-in-Undefined : goal.invariant_of-self-in-Undefined
-invariant_of-self-in-Undefined g c = record { parts = kept_stopped c.self.invariant.parts c.gno.result; kept = c.self.invariant.kept }
+invariant_of-self-in-Undefined g c = holds (kept_stopped c.self.invariant.parts c.gno.result) c.self.invariant.kept
 
 pub returns-in-Output-clause-ok : goal.returns-in-Output-clause-ok
 returns-in-Output-clause-ok g c =
@@ -38,15 +34,3 @@ returns-in-Output-clause-ok g c =
     c.outcome.ensures.valid (sym c.outcome.ensures.value ∙ c.in-Output.is) c.finish.ensures c.remove.ensures.items)
     (ap (λ (line : Line). commits_seen line.preserve was.scheduler.low was.order.items) c.finish.ensures)
     ∙ ap (λ (r : Replica). with_finished r c.args.done.job.gno) c.self.view_is
-
-pub returns-in-Err-clause-sound : goal.returns-in-Err-clause-sound
-returns-in-Err-clause-sound g c = sound_as_seen c.self.invariant.parts c.self.view_is
-
-pub returns-in-Output-clause-sound : goal.returns-in-Output-clause-sound
-returns-in-Output-clause-sound g c = sound_as_seen c.self.invariant.parts c.self.view_is
-
-pub returns-in-Memory-clause-sound : goal.returns-in-Memory-clause-sound
-returns-in-Memory-clause-sound g c = sound_as_seen c.self.invariant.parts c.self.view_is
-
-pub returns-in-Undefined-clause-sound : goal.returns-in-Undefined-clause-sound
-returns-in-Undefined-clause-sound g c = sound_as_seen c.self.invariant.parts c.self.view_is

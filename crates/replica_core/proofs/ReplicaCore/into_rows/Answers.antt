@@ -1,7 +1,7 @@
 use Rattle.std.proofs.Common.{subst}
 use Rattle.rows.specs.Database.{NoValueTwice}
 use Rattle.replica_core.specs.Replica.{Replica}
-use Rattle.replica_core.proofs.Kept.{stands, sound_as_seen}
+use Rattle.replica_core.proofs.Kept.{stands}
 use Rattle.replica_core.proofs.Showing.{rows_apart}
 use Rattle.replica_core.proofs.ReplicaCore.into_rows.Goals as goal
 
@@ -10,6 +10,3 @@ returns-clause-apart g c =
     rw c.into_store.ensures
     (subst (λ (r : Replica). NoValueTwice r.tables (g.S.RowStore.contents c.self.inside.stored.store)) c.self.view_is
     (rows_apart _ _ (stands c.self.invariant.parts) c.self.invariant.parts.log.rows_are))
-
-pub returns-clause-sound : goal.returns-clause-sound
-returns-clause-sound g c = sound_as_seen c.self.invariant.parts c.self.view_is

@@ -1,47 +1,26 @@
-use Rattle.std.proofs.Common.{◌∙◌, sym, ap, ℕ, ◌+◌, ◌&&◌, nat_le, nat_lt, length, Some, None, arith}
+use Rattle.std.proofs.Common.{◌∙◌, sym, ap, refl, ℕ, nat_lt, true, false, Some, None}
 use Rattle.replica_core.specs.Replica.{Replica}
 use Rattle.replica_core.specs.Calls.{is_eligible}
 use Rattle.replica_core.specs.Core.{seen_as}
 use Rattle.replica_core.proofs.Lists.{found_past}
-use Rattle.replica_core.proofs.Steps.{gone_dispatched, few_dispatched, eligible_seen, not_eligible, stays_false}
+use Rattle.replica_core.proofs.Steps.{eligible_seen, not_eligible}
 use Rattle.replica_core.proofs.ReplicaCore.is_eligible.Goals as goal
-
-pub past-requires-clause-kept : goal.past-requires-clause-kept
-past-requires-clause-kept g c =
-    let few = gone_dispatched c.self.invariant.parts c.self.invariant.kept in
-    let count = c.dispatched-dispatched.ensures ∙ ap (λ (r : Replica). r.dispatched) (sym c.self.view_is) in
-    omega arith
-
-pub overflow_add-dispatched : goal.overflow_add-dispatched
-overflow_add-dispatched g c =
-    let few = few_dispatched c.self.invariant.parts in
-    let count = c.dispatched-dispatched.ensures ∙ ap (λ (r : Replica). r.dispatched) (sym c.self.view_is) in
-    record { fits = omega arith }
 
 pub returns-then-eligible : goal.returns-then-eligible
 returns-then-eligible g c =
     let was = c.self.inside in
     let next = c.in-Some.next.now in
-    let free = nat_lt (length was.turns.out + length was.turns.done) was.workers in
     let count = c.dispatched-dispatched.ensures ∙ ap (λ (r : Replica). r.dispatched) (sym c.self.view_is) in
     let got = found_past was.relay.accepted _ _ c.past.result.now (Some next) count c.past.ensures.value c.in-Some.ensures.value in
-    ap (λ (n : ℕ). nat_lt n was.workers) c.len.ensures.value
-    ∙ ap (λ b. b && free)
-    (sym c.if-eligible.true ∙ c.eligible.ensures ∙ ap (λ (n : ℕ). nat_le next.parent was.scheduler.low && nat_le (n + 1) (was.scheduler.low + 4096)) count)
-    ∙ eligible_seen c.self.invariant.parts next got
+    eligible_seen c.self.invariant.parts next _ true _ got count (sym c.if-eligible.true ∙ c.eligible.ensures) (ap (λ (n : ℕ). nat_lt n was.workers) c.len.ensures.value)
     ∙ ap is_eligible c.self.view_is
 
 pub returns-else-eligible : goal.returns-else-eligible
 returns-else-eligible g c =
-    let was = c.self.inside in
     let next = c.in-Some.next.now in
-    let free = nat_lt (length was.turns.out + length was.turns.done) was.workers in
     let count = c.dispatched-dispatched.ensures ∙ ap (λ (r : Replica). r.dispatched) (sym c.self.view_is) in
-    let got = found_past was.relay.accepted _ _ c.past.result.now (Some next) count c.past.ensures.value c.in-Some.ensures.value in
-    stays_false c.eligible.result free c.if-eligible.false
-    ∙ ap (λ b. b && free) (c.eligible.ensures ∙ ap (λ (n : ℕ). nat_le next.parent was.scheduler.low && nat_le (n + 1) (was.scheduler.low + 4096)) count)
-    ∙ eligible_seen c.self.invariant.parts next got
-    ∙ ap is_eligible c.self.view_is
+    let got = found_past c.self.inside.relay.accepted _ _ c.past.result.now (Some next) count c.past.ensures.value c.in-Some.ensures.value in
+    c.if-eligible.false ∙ eligible_seen c.self.invariant.parts next _ false _ got count (sym c.if-eligible.false ∙ c.eligible.ensures) refl ∙ ap is_eligible c.self.view_is
 
 pub returns-in-None : goal.returns-in-None
 returns-in-None g c =

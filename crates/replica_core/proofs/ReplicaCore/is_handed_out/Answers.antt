@@ -1,11 +1,12 @@
 use Rattle.std.proofs.Common.{◌≡◌, ◌∙◌, sym, ap, subst, refl, ◌<◌, ◌↔◌, Some, ℕ, arith}
 use Rattle.std.specs.Prelude.{IsTrue}
+use Rattle.std.proofs.lemmas.Option.{slice_get_read}
 use Rattle.scheduler.specs.Gnos.{has_gno}
 use Rattle.replica_core.specs.Replica.{Replica, job_of}
 use Rattle.replica_core.specs.Core.{place_in}
 use Rattle.replica_core.proofs.Kept.{out_under_way}
 use Rattle.replica_core.proofs.Lists.{found_past, within_past}
-use Rattle.replica_core.proofs.Steps.{handed_is, record_kept, record_within, place_within, got_there}
+use Rattle.replica_core.proofs.Steps.{handed_is, record_kept, record_within, place_within}
 use Rattle.replica_core.proofs.ReplicaCore.is_handed_out.Goals as goal
 
 pub overflow_sub-job : goal.overflow_sub-job
@@ -37,10 +38,9 @@ returns g c =
     let gno = c.args.job.now.gno in
     let out = ap (λ (r : Replica). has_gno r.out gno) c.self.view_is ∙ c.requires.out in
     let at = c.requires.at ∙ ap (λ (r : Replica). place_in r.out gno) (sym c.self.view_is) in
+    let within = within_past c.self.inside.relay.accepted _ c.past.result.now (record_within c.self.invariant.parts gno out) c.past.ensures.value in
+    let first = slice_get_read c.past.result.now _ 0 c.index-past-0.result refl within c.index-past-0.is in
+    let kept = slice_get_read c.self.inside.handed.items _ c.args.place c.index-kept.result.now refl (place_within c.self.invariant.parts gno c.args.place out at) c.index-kept.ensures in
     subst (λ (r : Replica). IsTrue c.is_of.result ↔ (job_of r gno ≡ Some c.args.job.now)) c.self.view_is
     (handed_is c.self.invariant.parts c.args.job.now c.args.place c.index-past-0.result c.index-kept.result.now c.schema.result.now (IsTrue c.is_of.result) out at
-    (found_past c.self.inside.relay.accepted _ _ c.past.result.now (Some c.index-past-0.result) refl c.past.ensures.value
-    (sym (got_there c.past.result.now 0 c.index-past-0.result
-    (within_past c.self.inside.relay.accepted _ c.past.result.now (record_within c.self.invariant.parts gno out) c.past.ensures.value) c.index-past-0.is)))
-    (got_there c.self.inside.handed.items c.args.place c.index-kept.result.now (place_within c.self.invariant.parts gno c.args.place out at) c.index-kept.ensures)
-    c.schema.ensures c.is_of.ensures)
+    (found_past c.self.inside.relay.accepted _ _ c.past.result.now (Some c.index-past-0.result) refl c.past.ensures.value (sym first)) kept c.schema.ensures c.is_of.ensures)

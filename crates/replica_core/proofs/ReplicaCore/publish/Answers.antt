@@ -1,26 +1,19 @@
-use Rattle.std.proofs.Common.{◌≡◌, ◌≤◌, length, ap, arith}
+use Rattle.std.proofs.Common.{◌≤◌, length, ap, arith}
 use Rattle.replica_core.specs.Replica.{Replica}
-use Rattle.replica_core.proofs.Kept.{length_ops, shows_gapped}
-use Rattle.replica_core.proofs.Steps.{published_kept}
+use Rattle.replica_core.proofs.Kept.{holds, length_ops, kept_published, shows_gapped}
 use Rattle.replica_core.proofs.ReplicaCore.publish.Goals as goal
 
 pub drop_first-requires : goal.drop_first-requires
 drop_first-requires g c =
-    let was = c.self.inside in
     let count = length_ops c.self.invariant.parts in
     let committed = ap (λ (r : Replica). length r.commits) c.self.view_is in
     omega (arith, c.requires.done)
 
 pub invariant_of-self : goal.invariant_of-self
 invariant_of-self g c =
-    let was = c.self.inside in
     let committed = ap (λ (r : Replica). length r.commits) c.self.view_is in
-    let published : was.published ≡ c.args.self.now.published = ap (λ (r : Replica). r.published) c.self.view_is in
-    let later : was.published ≤ c.args.upto = omega (arith, c.requires.later) in
-    record {
-      parts = published_kept c.self.invariant.parts c.args.upto c.drop_first.new.list.items later (omega (arith, c.requires.done)) c.drop_first.ensures;
-      kept = c.self.invariant.kept;
-    }
+    let later : c.self.inside.published ≤ c.args.upto = omega (arith, c.requires.later, ap (λ (r : Replica). r.published) c.self.view_is) in
+    rw c.drop_first.ensures (holds (kept_published c.self.invariant.parts c.args.upto later (omega (arith, c.requires.done))) c.self.invariant.kept)
 
 pub returns-clause-gapped : goal.returns-clause-gapped
 returns-clause-gapped g c =

@@ -1,4 +1,4 @@
-use Rattle.replica_core.proofs.Pieces.{nothing_taken, takes_on}
+use Rattle.replica_core.proofs.Handing.{nothing_taken, takes_on}
 use Rattle.replica_core.proofs.laws.wires.Goals as goal
 
 pub returns-clause-nothing : goal.returns-clause-nothing
