@@ -22,10 +22,9 @@ use Rattle.gapped.proofs.Choosing.{among_pushed, are_chosen_more, first_are_chos
 use Rattle.world.specs.declared.events.Event.{Event}
 use Rattle.world.specs.declared.events.Reply.{Reply}
 use Rattle.world.specs.declared.events.Reply.TheVariants as replies
-use Rattle.world.specs.Past.{Past, dispatched, commits, replica_committed, out, finished, published, published_gnos}
+use Rattle.world.specs.Pair.{Pair, new_pair, next, replica_committed, published_gnos}
 use Rattle.world.specs.Legal.{Setup, rows_after, read_reply}
 use Rattle.world.proofs.LawsReplies.{Says}
-use Rattle.world.proofs.LawsSteps.{Holds}
 
 -- Each record that is dispatched is once among the commits, those that are out, and those that are finished; the mark has reached its
 -- parent. With each commit each earlier record is committed that conflicts with it. In the order of the log the commits are of the first
@@ -38,14 +37,14 @@ pub record AreCommitted (preserve : Bool) (log : List Record) (dispatched_ : ℕ
   pub shown : IsClosed (take published_ commits_) log
   pub in_order : preserve ≡ true → commits_ ≡ first_gnos (length commits_)
 
-abbrev pub Committed : Setup → List Record → Past → Type 0
-Committed setup log past = AreCommitted setup.preserve log (dispatched past) (commits past) (out past) (finished past) (published past)
+abbrev pub Committed : Setup → List Record → Pair → Type 0
+Committed setup log pair = AreCommitted setup.preserve log pair.dispatched pair.commits pair.out pair.finished pair.published
 
 -- of no numbers nothing is to be shown
 closed_none : (log : List Record) → IsClosed [] log
 closed_none log = λ front next rest e is. absurd (false≢true is)
 
-pub committed_first : (setup : Setup) (log : List Record) → Committed setup log []
+pub committed_first : (setup : Setup) (log : List Record) → Committed setup log new_pair
 committed_first setup log = record {
   distinct = tt;
   each = none;
@@ -86,14 +85,14 @@ module _ (setup : Setup) (log : List Record) (legal : IsLegalLog setup.tables (l
   legal_waits front rest rec gnos split low = covered gnos rec low [] front (rec ∷ rest) split (legal front rec rest split).covers
 
   -- a job more
-  job_more : (past : Past) (event : Event) (gno : ℕ) → Says setup log past event (replies.Job gno) → Committed setup log past → Committed setup log ((event, replies.Job gno) ∷ past)
-  job_more past event gno s c =
-      let d = dispatched past in
-      let new : has_gno (commits past ++ (out past ++ finished past)) gno ≡ false = c.each gno ∙ past_all gno d s.number in
+  pub job_more : (pair : Pair) (event : Event) (gno : ℕ) → Says setup log pair event (replies.Job gno) → Committed setup log pair → Committed setup log (next pair event (replies.Job gno))
+  job_more pair event gno s c =
+      let d = pair.dispatched in
+      let new : has_gno (pair.commits ++ (pair.out ++ pair.finished)) gno ≡ false = c.each gno ∙ past_all gno d s.number in
       record {
-        distinct = distinct_entered (commits past) (out past) (finished past) gno c.distinct new;
+        distinct = distinct_entered pair.commits pair.out pair.finished gno c.distinct new;
         each = λ other.
-            has_gno_entered (commits past) (out past) (finished past) gno other ∙ ap (λ (b : Bool). b || (gno == other)) (c.each other) ∙ one_more d gno other s.number;
+            has_gno_entered pair.commits pair.out pair.finished gno other ∙ ap (λ (b : Bool). b || (gno == other)) (c.each other) ∙ one_more d gno other s.number;
         eligible = λ other rec some within got. elim (cases_lt d other) [
           | inl last ↦ parent setup.preserve refl rec (subst (λ n. slice_get log n ≡ Some rec) (omega (arith, last, within)) got)
           | inr before ↦ c.eligible other rec some before got
@@ -108,92 +107,80 @@ module _ (setup : Setup) (log : List Record) (legal : IsLegalLog setup.tables (l
         one_more : (d g other : ℕ) → g ≡ d + 1 → ((nat_le 1 other && nat_le other d) || (g == other)) ≡ (nat_le 1 other && nat_le other (d + 1))
         one_more d g other e = grind (arith, nat_tests)
 
-        parent : (b : Bool) → setup.preserve ≡ b → (rec : Record) → slice_get log (dispatched past) ≡ Some rec → rec.parent ≤ low_of (commits past)
+        parent : (b : Bool) → setup.preserve ≡ b → (rec : Record) → slice_get log pair.dispatched ≡ Some rec → rec.parent ≤ low_of pair.commits
         parent true e rec got =
-            let low : low_of (commits past) ≡ replica_committed past = ap low_of (c.in_order e) ∙ low_of_first (length (commits past)) in
+            let low : low_of pair.commits ≡ replica_committed pair = ap low_of (c.in_order e) ∙ low_of_first (length pair.commits) in
             omega (arith, low, s.in_order e rec got)
         parent false e rec got = s.in_any e rec got
 
-  finish_more : (past : Past) (event : Event) (gno : ℕ) → Says setup log past event (replies.Finished gno) → Committed setup log past → Committed setup log ((event, replies.Finished gno) ∷ past)
-  finish_more past event gno s c = record {
-    distinct = distinct_moved_behind (commits past) (out past) (finished past) gno c.distinct s;
-    each = λ other. has_gno_moved_behind (commits past) (out past) (finished past) gno other s ∙ c.each other;
+  pub finish_more : (pair : Pair) (event : Event) (gno : ℕ) → Says setup log pair event (replies.Finished gno) → Committed setup log pair → Committed setup log (next pair event (replies.Finished gno))
+  finish_more pair event gno s c = record {
+    distinct = distinct_moved_behind pair.commits pair.out pair.finished gno c.distinct s;
+    each = λ other. has_gno_moved_behind pair.commits pair.out pair.finished gno other s ∙ c.each other;
     eligible = c.eligible;
     closed = c.closed;
     shown = c.shown;
     in_order = c.in_order;
   }
 
-  commit_more : (past : Past) (event : Event) (gno : ℕ) → Says setup log past event (replies.Commit gno) → Holds log past → Committed setup log past →
-      Committed setup log ((event, replies.Commit gno) ∷ past)
-  commit_more past event gno s h c =
-      let bounds = and_parts _ _ (sym (c.each gno) ∙ has_gno_behind (commits past) (out past ++ finished past) gno (has_gno_behind (out past) (finished past) gno s.done)) in
+  pub commit_more : (pair : Pair) (event : Event) (gno : ℕ) → Says setup log pair event (replies.Commit gno) → pair.published ≤ replica_committed pair → Committed setup log pair →
+      Committed setup log (next pair event (replies.Commit gno))
+  commit_more pair event gno s shown c =
+      let bounds = and_parts _ _ (sym (c.each gno) ∙ has_gno_behind pair.commits (pair.out ++ pair.finished) gno (has_gno_behind pair.out pair.finished gno s.done)) in
       let some = leb-true 1 gno bounds.0 in
-      let within = leb-true gno (dispatched past) bounds.1 in
+      let within = leb-true gno pair.dispatched bounds.1 in
       record {
-        distinct = distinct_moved_front (commits past) (out past) (finished past) gno c.distinct s.done;
-        each = λ other. has_gno_moved_front (commits past) (out past) (finished past) gno other s.done ∙ c.each other;
-        eligible = λ other rec one upto got. omega (arith, c.eligible other rec one upto got, low_rises (commits past) (gno ∷ []));
-        closed = closed_push log (commits past) gno c.closed
+        distinct = distinct_moved_front pair.commits pair.out pair.finished gno c.distinct s.done;
+        each = λ other. has_gno_moved_front pair.commits pair.out pair.finished gno other s.done ∙ c.each other;
+        eligible = λ other rec one upto got. omega (arith, c.eligible other rec one upto got, low_rises pair.commits (gno ∷ []));
+        closed = closed_push log pair.commits gno c.closed
             (λ front rec rest e same. c.eligible gno rec some within (subst (λ n. slice_get log (n - 1) ≡ Some rec) same (record_at_number log front rest rec numbered e)))
-            (λ front rec rest e low. legal_waits front rest rec (commits past) e low);
-        shown = subst (λ (l : List ℕ). IsClosed l log) (sym (take-append-le (published past) (commits past) (gno ∷ []) h.shown)) c.shown;
+            (λ front rec rest e low. legal_waits front rest rec pair.commits e low);
+        shown = subst (λ (l : List ℕ). IsClosed l log) (sym (take-append-le pair.published pair.commits (gno ∷ []) shown)) c.shown;
         in_order = λ preserve.
-            (λ i. c.in_order preserve i ++ s.in_order preserve i ∷ []) ∙ sym (first_gnos-next (length (commits past))) ∙ ap first_gnos (sym (length-append (commits past) (gno ∷ [])));
+            (λ i. c.in_order preserve i ++ s.in_order preserve i ∷ []) ∙ sym (first_gnos-next (length pair.commits)) ∙ ap first_gnos (sym (length-append pair.commits (gno ∷ [])));
       }
 
-  publish_more : (past : Past) (event : Event) (upto : ℕ) → Says setup log past event (replies.Published upto) → Committed setup log past → Committed setup log ((event, replies.Published upto) ∷ past)
-  publish_more past event upto s c = record {
+  pub publish_more : (pair : Pair) (event : Event) (upto : ℕ) → Says setup log pair event (replies.Published upto) → Committed setup log pair → Committed setup log (next pair event (replies.Published upto))
+  publish_more pair event upto s c = record {
     distinct = c.distinct;
     each = c.each;
     eligible = c.eligible;
     closed = c.closed;
-    shown = subst (λ (l : List ℕ). IsClosed l log) (sym (take_all upto (commits past) (omega (arith, s)))) c.closed;
+    shown = subst (λ (l : List ℕ). IsClosed l log) (sym (take_all upto pair.commits (omega (arith, s)))) c.closed;
     in_order = c.in_order;
   }
-
-  -- an allowed reply leaves them so
-  pub committed_step : (past : Past) (event : Event) (reply : Reply) → Says setup log past event reply → Holds log past → Committed setup log past → Committed setup log ((event, reply) ∷ past)
-  committed_step past event (replies.Job gno) s h c = job_more past event gno s c
-  committed_step past event (replies.Finished gno) s h c = finish_more past event gno s c
-  committed_step past event (replies.Commit gno) s h c = commit_more past event gno s h c
-  committed_step past event (replies.Published upto) s h c = publish_more past event upto s c
-  committed_step past event reply s h c = c
 
   -- ---- reads
 
   -- what a read answers, in any order, and in the order of the log
-  pub record IsRead (past : Past) (id : RowId) (upto more : ℕ) (row : Option (List ℤ)) : Type 0 where
-    pub mark : upto ≡ low_of (published_gnos past)
-    pub counted : upto + more ≡ published past
-    pub row_is : row ≡ option_and_then (λ db. get db id) (gapped setup.tables (loaded setup.base) log (published_gnos past))
-    pub in_order : setup.preserve ≡ true → (upto ≡ published past) × (more ≡ 0) × (row ≡ option_and_then (λ db. get db id) (rows_after setup log (published past)))
-
-  -- there are as many as are published
-  count_published : (past : Past) → Holds log past → length (published_gnos past) ≡ published past
-  count_published past h = length-take-le (published past) (commits past) h.shown
+  pub record IsRead (pair : Pair) (id : RowId) (upto more : ℕ) (row : Option (List ℤ)) : Type 0 where
+    pub mark : upto ≡ low_of (published_gnos pair)
+    pub counted : upto + more ≡ pair.published
+    pub row_is : row ≡ option_and_then (λ db. get db id) (gapped setup.tables (loaded setup.base) log (published_gnos pair))
+    pub in_order : setup.preserve ≡ true → (upto ≡ pair.published) × (more ≡ 0) × (row ≡ option_and_then (λ db. get db id) (rows_after setup log pair.published))
 
   same_parts : (a b c d : ℕ) (x y : Option (List ℤ)) → replies.Read a b x ≡ replies.Read c d y → (a ≡ c) × (b ≡ d) × (x ≡ y)
   same_parts a b c d x y e = (cc e, cc e, cc e)
 
-  pub is_read : (past : Past) (id : RowId) (upto more : ℕ) (row : Option (List ℤ)) → Holds log past → Committed setup log past → replies.Read upto more row ≡ read_reply setup log past id →
-      IsRead past id upto more row
-  is_read past id upto more row h c is = by setup.preserve refl is where
+  pub is_read : (pair : Pair) (id : RowId) (upto more : ℕ) (row : Option (List ℤ)) → pair.published ≤ replica_committed pair → Committed setup log pair → replies.Read upto more row ≡ read_reply setup log pair id →
+      IsRead pair id upto more row
+  is_read pair id upto more row shown c is = by setup.preserve refl is where
     p : ℕ
-    p = published past
+    p = pair.published
 
     gnos : List ℕ
-    gnos = published_gnos past
+    gnos = published_gnos pair
 
     row_of : Option Database → Option (List ℤ)
     row_of rows = option_and_then (λ db. get db id) rows
 
     by : (b : Bool) → setup.preserve ≡ b → replies.Read upto more row ≡ (if b then replies.Read p 0 (row_of (rows_after setup log p))
         else replies.Read (low_of gnos) (p - low_of gnos) (row_of (gapped setup.tables (loaded setup.base) log gnos))) →
-        IsRead past id upto more row
+        IsRead pair id upto more row
     by true e k =
         let same = same_parts upto more p 0 row (row_of (rows_after setup log p)) k in
-        let first : gnos ≡ first_gnos p = ap (take p) (c.in_order e) ∙ take-first_gnos p (length (commits past)) h.shown in
+        let first : gnos ≡ first_gnos p = ap (take p) (c.in_order e) ∙ take-first_gnos p (length pair.commits) shown in
         let rows : gapped setup.tables (loaded setup.base) log gnos ≡ rows_after setup log p =
         ap (gapped setup.tables (loaded setup.base) log) first ∙ ap (after setup.tables (loaded setup.base)) (first_are_chosen log p numbered) in
         record {
@@ -204,10 +191,10 @@ module _ (setup : Setup) (log : List Record) (legal : IsLegalLog setup.tables (l
         }
     by false e k =
         let same = same_parts upto more (low_of gnos) (p - low_of gnos) row (row_of (gapped setup.tables (loaded setup.base) log gnos)) k in
-        let few = low_is_few gnos (AreDistinct-take p (commits past) (AreDistinct_front (commits past) (out past ++ finished past) c.distinct)) in
+        let few = low_is_few gnos (AreDistinct-take p pair.commits (AreDistinct_front pair.commits (pair.out ++ pair.finished) c.distinct)) in
         record {
           mark = same.0;
-          counted = omega (arith, same.0, same.1, few, count_published past h);
+          counted = omega (arith, same.0, same.1, few, length-take-le p pair.commits shown);
           row_is = same.2;
           in_order = λ preserve. absurd (false≢true (sym e ∙ preserve));
         }

@@ -22,10 +22,10 @@ use Rattle.replica_core.specs.Sound.{IsSound}
 use Rattle.replica_core.specs.Calls.{next_commit, with_commit}
 use Rattle.world.specs.declared.events.Event.TheVariants as events
 use Rattle.world.specs.declared.events.Reply.TheVariants as replies
-use Rattle.world.specs.Past.{Past, replica_committed, finished}
+use Rattle.world.specs.Pair.{Pair, replica_committed}
 use Rattle.world.specs.Legal.{Setup, replica_at, is_commit, next_reply}
 use Rattle.world.specs.State.{World, IsShown, IsWorld, Stands, Goes}
-use Rattle.world.proofs.Parts.{replica_is, stays, with_replica, untold, source_untold}
+use Rattle.world.proofs.Parts.{replica_is, stays, with_replica}
 use Rattle.world.proofs.Shown.{commits_within}
 use Rattle.world.proofs.Jobs.{jobs_committed, finished_under}
 use Rattle.world.proofs.UnderWay.{under_is_good, under_there}
@@ -59,25 +59,25 @@ is_next r gno is = by r.preserve refl is where
   by false e is_first = record { done = first_among r.finished gno is_first; in_order = λ preserve. absurd (false≢true (sym e ∙ preserve)) }
 
 -- the pairs say the same
-pub next_at : (setup : Setup) (log : List Record) (past : Past) → next_reply setup past ≡ option_map_or replies.Commit (next_commit (replica_at setup log past)) replies.Nothing
-next_at setup log past = by setup.preserve where
+pub next_at : (setup : Setup) (log : List Record) (pair : Pair) → next_reply setup pair ≡ option_map_or replies.Commit (next_commit (replica_at setup log pair)) replies.Nothing
+next_at setup log pair = by setup.preserve where
   k : ℕ
-  k = replica_committed past + 1
+  k = replica_committed pair + 1
 
   first : (b : Bool) → (if b then replies.Commit k else replies.Nothing) ≡ option_map_or replies.Commit (if b then Some k else None) replies.Nothing
   first true = refl
   first false = refl
 
-  by : (b : Bool) → (if b then (if has_gno (finished past) k then replies.Commit k else replies.Nothing) else option_map_or replies.Commit (slice_get (finished past) 0) replies.Nothing)
-      ≡ option_map_or replies.Commit (if b then (if has_gno (finished past) k then Some k else None) else slice_get (finished past) 0) replies.Nothing
-  by true = first (has_gno (finished past) k)
+  by : (b : Bool) → (if b then (if has_gno pair.finished k then replies.Commit k else replies.Nothing) else option_map_or replies.Commit (slice_get pair.finished 0) replies.Nothing)
+      ≡ option_map_or replies.Commit (if b then (if has_gno pair.finished k then Some k else None) else slice_get pair.finished 0) replies.Nothing
+  by true = first (has_gno pair.finished k)
   by false = refl
 
-next_as : {D R : Type 0} (contents : R → Database) (setup : Setup) (past : Past) (w : World D R) (log : List Record) (next : Option ℕ) → IsWorld contents w → Stands setup past w →
+next_as : {D R : Type 0} (contents : R → Database) (setup : Setup) (pair : Pair) (w : World D R) (log : List Record) (next : Option ℕ) → IsWorld contents w → Stands setup pair w →
     IsPrefix w.source.log log → next_commit w.replica ≡ next →
-    next_reply setup past ≡ option_map_or replies.Commit next replies.Nothing
-next_as contents setup past w log next h st longer e =
-    next_at setup log past ∙ ap (λ (o : Option ℕ). option_map_or replies.Commit o replies.Nothing) (ap next_commit (replica_is contents setup past w log h st longer) ∙ e)
+    next_reply setup pair ≡ option_map_or replies.Commit next replies.Nothing
+next_as contents setup pair w log next h st longer e =
+    next_at setup log pair ∙ ap (λ (o : Option ℕ). option_map_or replies.Commit o replies.Nothing) (ap next_commit (replica_is contents setup pair w log h st longer) ∙ e)
 
 -- ---- the event
 
@@ -131,20 +131,20 @@ next_goes {R} contents w gno next h sound is leaves =
       };
       grows = prefix_refl w.source.log;
       still = λ a b. record { quiet = refl; same = refl };
-      stands = λ setup past st. record {
-        source = source_untold setup past w.source.log w.source events.Next (replies.Commit gno) (λ k. refl) st.source;
+      stands = λ setup pair st. record {
+        source = st.source;
         wire = st.wire;
         replica = record { accepted = st.replica.accepted; is = ap (λ (q : Replica). with_commit q gno) st.replica.is };
       };
-      allowed = λ setup past log st longer numbered. inr (sym (next_as contents setup past w log (Some gno) h st longer is));
+      allowed = λ setup pair log st longer numbered. inr (sym (next_as contents setup pair w log (Some gno) h st longer is));
     })
 
 pub next_nothing : {D R : Type 0} (contents : R → Database) (w : World D R) (next : Replica) → IsWorld contents w → next_commit w.replica ≡ None → next ≡ w.replica →
     Goes contents w events.Next replies.Nothing (with_replica w next)
 next_nothing {R} contents w next h is same =
     subst (λ (r : Replica). Goes {R = R} contents w events.Next replies.Nothing (with_replica w r)) (sym same)
-    (stays contents w events.Next replies.Nothing h refl (λ setup past st. untold setup past w events.Next replies.Nothing (λ k. refl) st)
-    (λ setup past log st longer numbered. inr (sym (next_as contents setup past w log None h st longer is))))
+    (stays contents w events.Next replies.Nothing h refl (λ pair. refl)
+    (λ setup pair log st longer numbered. inr (sym (next_as contents setup pair w log None h st longer is))))
 
 -- one more is due
 some_is : (o : Option ℕ) → IsSome o → (n : ℕ) × (o ≡ Some n)
@@ -156,5 +156,5 @@ pub next_lacks : {D R : Type 0} (contents : R → Database) (w : World D R) (nex
 next_lacks contents w next h due same =
     let one = some_is (next_commit w.replica) due in
     no_memory contents w events.Next next h
-    (λ setup past log st longer. ap is_commit (next_as contents setup past w log (Some one.0) h st longer one.1)) refl
-    (λ setup past st. untold setup past w events.Next (replies.Replica faults.Memory) (λ k. refl) st) same
+    (λ setup pair log st longer. ap is_commit (next_as contents setup pair w log (Some one.0) h st longer one.1)) refl
+    (λ pair. refl) same

@@ -20,43 +20,42 @@ use Rattle.log_set.specs.Set.{SetOn, IsRotated}
 use Rattle.world.specs.declared.events.Event.TheVariants as events
 use Rattle.world.specs.declared.events.Reply.{Reply}
 use Rattle.world.specs.declared.events.Reply.TheVariants as replies
-use Rattle.world.specs.Past.{Past, synced, halted, busy, firsts}
+use Rattle.world.specs.Pair.{Pair, busy}
 use Rattle.world.specs.Legal.{Setup, source_at, RotateAnswers, is_full}
 use Rattle.world.specs.Put.{IsNotRotated, FailsToRotate, OneFailed}
 use Rattle.world.specs.State.{World, IsWorld, Stands, Goes, set_of, TellsFailure}
-use Rattle.world.proofs.Parts.{stays, untold, halted_as, asks_of}
-use Rattle.world.proofs.Sessions.{none_told}
+use Rattle.world.proofs.Parts.{stays, halted_as, asks_of}
 use Rattle.world.proofs.Counting.{one_of_two, tells_one, tells_none}
 
 -- ---- refused before a device is asked
 
 -- the pairs say that the source is busy where it is
-busy_as : {D R : Type 0} (setup : Setup) (past : Past) (w : World D R) → Stands setup past w → busy past ≡ is_busy w.source
-busy_as setup past w st = λ i. nat_lt (sym (ap (λ (s : Source). s.committed) st.source.is) i) (st.source.flushed i)
+busy_as : {D R : Type 0} (setup : Setup) (pair : Pair) (w : World D R) → Stands setup pair w → busy pair ≡ is_busy w.source
+busy_as setup pair w st = λ i. nat_lt (sym (ap (λ (s : Source). s.committed) st.source.is) i) (st.source.flushed i)
 
 -- and how many files there are
-files_as : {D R : Type 0} (setup : Setup) (past : Past) (w : World D R) → Stands setup past w → length (firsts past) ≡ length w.wire.firsts
-files_as setup past w st = ap (λ (l : List ℕ). length l) (sym st.wire.firsts)
+files_as : {D R : Type 0} (setup : Setup) (pair : Pair) (w : World D R) → Stands setup pair w → length pair.firsts ≡ length w.wire.firsts
+files_as setup pair w st = ap (λ (l : List ℕ). length l) (sym st.wire.firsts)
 
 pub rotate_halted : {D R : Type 0} (contents : R → Database) (w : World D R) → IsWorld contents w → w.source.halted ≡ true → Goes contents w events.Rotate (replies.Source faults_of.Halted) w
-rotate_halted contents w h halts = stays contents w _ _ h refl (λ setup past st. untold setup past w events.Rotate (replies.Source faults_of.Halted) (λ k. refl) st) (λ setup past log st
+rotate_halted contents w h halts = stays contents w _ _ h refl (λ pair. refl) (λ setup pair log st
     longer numbered.
-    inr (subst (λ b. RotateAnswers b (busy past) (is_full past) (length (firsts past)) (replies.Source faults_of.Halted)) (sym (halted_as setup past w true st halts)) refl))
+    inr (subst (λ b. RotateAnswers b (busy pair) (is_full pair) (length pair.firsts) (replies.Source faults_of.Halted)) (sym (halted_as setup pair w true st halts)) refl))
 
 -- what a source that runs may answer
-running_answer : {D R : Type 0} (setup : Setup) (past : Past) (w : World D R) (busies full : Bool) (files : ℕ) (reply : Reply) → Stands setup past w → w.source.halted ≡ false →
+running_answer : {D R : Type 0} (setup : Setup) (pair : Pair) (w : World D R) (busies full : Bool) (files : ℕ) (reply : Reply) → Stands setup pair w → w.source.halted ≡ false →
     is_busy w.source ≡ busies →
-    length w.wire.firsts ≡ files → nat_le 16 files ≡ full → RotateAnswers false busies full files reply → RotateAnswers (halted past) (busy past) (is_full past) (length (firsts past)) reply
-running_answer setup past w busies full files reply st runs busy_is many full_is answer =
-    let number : length (firsts past) ≡ files = files_as setup past w st ∙ many in
-    subst (λ b. RotateAnswers b (busy past) (is_full past) (length (firsts past)) reply) (sym (halted_as setup past w false st runs))
-    (subst (λ b. RotateAnswers false b (is_full past) (length (firsts past)) reply) (sym (busy_as setup past w st ∙ busy_is))
-    (subst (λ b. RotateAnswers false busies b (length (firsts past)) reply) (sym (ap (nat_le 16) number ∙ full_is))
+    length w.wire.firsts ≡ files → nat_le 16 files ≡ full → RotateAnswers false busies full files reply → RotateAnswers pair.halted (busy pair) (is_full pair) (length pair.firsts) reply
+running_answer setup pair w busies full files reply st runs busy_is many full_is answer =
+    let number : length pair.firsts ≡ files = files_as setup pair w st ∙ many in
+    subst (λ b. RotateAnswers b (busy pair) (is_full pair) (length pair.firsts) reply) (sym (halted_as setup pair w false st runs))
+    (subst (λ b. RotateAnswers false b (is_full pair) (length pair.firsts) reply) (sym (busy_as setup pair w st ∙ busy_is))
+    (subst (λ b. RotateAnswers false busies b (length pair.firsts) reply) (sym (ap (nat_le 16) number ∙ full_is))
     (subst (λ n. RotateAnswers false busies full n reply) (sym number) answer)))
 
 pub rotate_busy : {D R : Type 0} (contents : R → Database) (w : World D R) → IsWorld contents w → w.source.halted ≡ false → is_busy w.source ≡ true → Goes contents w events.Rotate replies.Busy w
-rotate_busy contents w h runs busies = stays contents w _ _ h refl (λ setup past st. untold setup past w events.Rotate replies.Busy (λ k. refl) st) (λ setup past log st longer numbered.
-    inr (running_answer setup past w true (nat_le 16 (length w.wire.firsts)) (length w.wire.firsts) replies.Busy st runs busies refl refl refl))
+rotate_busy contents w h runs busies = stays contents w _ _ h refl (λ pair. refl) (λ setup pair log st longer numbered.
+    inr (running_answer setup pair w true (nat_le 16 (length w.wire.firsts)) (length w.wire.firsts) replies.Busy st runs busies refl refl refl))
 
 full_at : (files spares : ℕ) → files + spares ≡ 16 → spares ≡ 0 → nat_le 16 files ≡ true
 full_at files spares all none = grind (arith, nat_tests)
@@ -66,8 +65,8 @@ room_at files spares all some = grind (arith, nat_tests)
 
 pub rotate_none : {D R : Type 0} (contents : R → Database) (w : World D R) → IsWorld contents w → w.source.halted ≡ false → is_busy w.source ≡ false → w.wire.spare ≡ [] →
     Goes contents w events.Rotate replies.NoDevice w
-rotate_none contents w h runs idle none = stays contents w _ _ h refl (λ setup past st. untold setup past w events.Rotate replies.NoDevice (λ k. refl) st) (λ setup past log st longer numbered.
-    inr (running_answer setup past w false true (length w.wire.firsts) replies.NoDevice st runs idle refl
+rotate_none contents w h runs idle none = stays contents w _ _ h refl (λ pair. refl) (λ setup pair log st longer numbered.
+    inr (running_answer setup pair w false true (length w.wire.firsts) replies.NoDevice st runs idle refl
     (full_at (length w.wire.firsts) (length w.wire.spare) h.wire.places (ap (λ (l : List _). length l) none)) refl))
 
 -- and what is left of the spare devices are none
@@ -101,9 +100,9 @@ rotated_to w next set spare =
     record w { source = next; wire = record w.wire { log = set.log; firsts = set.firsts; starts = set.starts; past = set.past; device = set.device; spare = spare } }
 
 -- the next file begins behind what is synced
-next_first : {D R : Type 0} (setup : Setup) (past : Past) (w : World D R) → Stands setup past w → w.wire.log.head.first ≡ 1 → length w.wire.log.records ≡ w.source.synced →
-    next_of w.wire.log.head w.wire.log.records ≡ synced past + 1
-next_first setup past w st first many = omega (arith, first, many, ap (λ (s : Source). s.synced) st.source.is)
+next_first : {D R : Type 0} (setup : Setup) (pair : Pair) (w : World D R) → Stands setup pair w → w.wire.log.head.first ≡ 1 → length w.wire.log.records ≡ w.source.synced →
+    next_of w.wire.log.head w.wire.log.records ≡ pair.synced + 1
+next_first setup pair w st first many = omega (arith, first, many, ap (λ (s : Source). s.synced) st.source.is)
 
 -- the log goes on in a next file
 pub rotate_goes : {D R : Type 0} (contents : R → Database) (seen : D → List ℕ) (faults : D → ℕ) (w : World D R) (c : RotateCall contents w) (set : SetOn D) (spare : List D) (number : ℕ) →
@@ -143,22 +142,21 @@ rotate_goes contents seen faults w c set spare number is rest counted =
       };
       grows = prefix_refl w.source.log;
       still = λ a other. absurd (other refl);
-      stands = λ setup past st.
-          let told = untold setup past w events.Rotate (replies.Rotated number) (λ k. refl) st in
+      stands = λ setup pair st.
           let before : length (map ends_of w.wire.log.groups) ≡ length w.wire.log.groups = length-map w.wire.log.groups ends_of in
           record {
-            source = told.source;
+            source = st.source;
             wire = record {
               head = head ∙ st.wire.head;
               unsynced = st.wire.unsynced;
               synced = ap (map ends_of) groups ∙ st.wire.synced;
-              firsts = is.firsts ∙ (λ i. st.wire.firsts i ++ (next_first setup past w st h.wire.flushed.first h.wire.flushed.many i) ∷ []);
+              firsts = is.firsts ∙ (λ i. st.wire.firsts i ++ (next_first setup pair w st h.wire.flushed.first h.wire.flushed.many i) ∷ []);
               starts = is.starts ∙ (λ i. st.wire.starts i ++ ((sym before ∙ ap (λ (l : List (ℕ × ℕ)). length l) st.wire.synced) i) ∷ []);
             };
-            replica = told.replica;
+            replica = st.replica;
           };
-      allowed = λ setup past log st longer numbered.
-          inr (running_answer setup past w false false (length w.wire.firsts) (replies.Rotated number) st c.runs c.idle refl (room_of contents w c) (inl (ap replies.Rotated (counted ∙ many))));
+      allowed = λ setup pair log st longer numbered.
+          inr (running_answer setup pair w false false (length w.wire.firsts) (replies.Rotated number) st c.runs c.idle refl (room_of contents w c) (inl (ap replies.Rotated (counted ∙ many))));
     }
 
 -- A device failed: the source is halted, and the log has the files that it had.
@@ -209,12 +207,10 @@ rotate_fails {D} {R} contents faults w c set back next failed next_is =
       };
       grows = prefix_refl w.source.log;
       still = λ a other. absurd (other refl);
-      stands = λ setup past st. record {
+      stands = λ setup pair st. record {
         source = record {
           flushed = st.source.flushed;
-          is = ap halted_source st.source.is
-              ∙ ap (λ (ts : List (Option Open)). record (source_at setup w.source.log past) { halted = true; sessions = ts })
-              (sym (none_told past events.Rotate (replies.Log log_file.Device) (λ k. refl)));
+          is = ap halted_source st.source.is;
         };
         wire = record {
           head = failed.head ∙ st.wire.head;
@@ -225,8 +221,8 @@ rotate_fails {D} {R} contents faults w c set back next failed next_is =
         };
         replica = st.replica;
       };
-      allowed = λ setup past log st longer numbered.
-          inr (running_answer setup past w false false (length w.wire.firsts) (replies.Log log_file.Device) st c.runs c.idle refl (room_of contents w c) (inr refl));
+      allowed = λ setup pair log st longer numbered.
+          inr (running_answer setup pair w false false (length w.wire.firsts) (replies.Log log_file.Device) st c.runs c.idle refl (room_of contents w c) (inr refl));
     })
 
 -- want of memory changes nothing but the device
@@ -255,17 +251,15 @@ rotate_memory contents w c back =
       };
       grows = prefix_refl w.source.log;
       still = λ a other. absurd (other refl);
-      stands = λ setup past st.
-          let told = untold setup past w events.Rotate (replies.Log log_file.Memory) (λ k. refl) st in
-          record {
-            source = told.source;
+      stands = λ setup pair st. record {
+            source = st.source;
             wire = record { head = st.wire.head; unsynced = st.wire.unsynced; synced = st.wire.synced; firsts = st.wire.firsts; starts = st.wire.starts };
-            replica = told.replica;
+            replica = st.replica;
           };
-      allowed = λ setup past log st longer numbered.
-          let idle : not (busy past) ≡ true = ap not (busy_as setup past w st ∙ c.idle) in
-          let some : not (is_full past) ≡ true = ap not (ap (nat_le 16) (files_as setup past w st) ∙ room_of contents w c) in
-          inl (and_from _ true (asks_of setup past w _ st c.runs (and_from _ _ idle some)) refl);
+      allowed = λ setup pair log st longer numbered.
+          let idle : not (busy pair) ≡ true = ap not (busy_as setup pair w st ∙ c.idle) in
+          let some : not (is_full pair) ≡ true = ap not (ap (nat_le 16) (files_as setup pair w st) ∙ room_of contents w c) in
+          inl (and_from _ true (asks_of setup pair w _ st c.runs (and_from _ _ idle some)) refl);
     }
 
 -- a log that did not go on in a next file

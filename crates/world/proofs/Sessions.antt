@@ -1,4 +1,4 @@
--- The transactions of all sessions, as the pairs say that they stand.
+-- The transactions of all sessions.
 use Rattle.std.proofs.Common.{◌≡◌, ◌∙◌, sym, ap, refl, ℕ, zero, suc, ◌+◌, ◌-◌, ◌≤◌, ◌<◌, false, ◌==◌, if◌then◌else◌, List, [], ◌∷◌, length, map, get_or, set, replicate, Option, None, arith}
 use Rattle.std.specs.List.{range_with_len}
 use Rattle.std.proofs.lemmas.Bool.{eq-eqb}
@@ -7,8 +7,8 @@ use Rattle.std.proofs.lemmas.List.FromFn.{length-map-range_with_len}
 use Rattle.source_core.specs.Source.{Open}
 use Rattle.source_core.specs.Calls.{each_session}
 use Rattle.world.specs.declared.events.Event.{Event}
+use Rattle.world.specs.Pair.{Pair, new_pair, transaction_after, next, transactions}
 use Rattle.world.specs.declared.events.Reply.{Reply}
-use Rattle.world.specs.Past.{Past, transaction_of, transaction_after, transactions}
 
 -- ---- lists that a function makes of numbers in turn
 
@@ -50,46 +50,29 @@ set_each f h d one a (suc n) (suc place) is within =
 -- ---- the sessions
 
 -- they are made of as many numbers as there are sessions
-counted : (count : ℕ) × (count ≡ 256) × ((past : Past) → transactions past ≡ map (transaction_of past) (range_with_len 1 count))
+counted : (count : ℕ) × (count ≡ 256) × ((f : ℕ → Option Open) → transactions f ≡ map f (range_with_len 1 count))
 unfolding transactions
-counted = (256, refl, λ past. refl)
+counted = (256, refl, λ f. refl)
 
-pub length_transactions : (past : Past) → length (transactions past) ≡ 256
-length_transactions past = ap (λ (ts : List (Option Open)). length ts) (counted.2 past) ∙ length-map-range_with_len (transaction_of past) 1 counted.0 ∙ counted.1
+pub length_transactions : (f : ℕ → Option Open) → length (transactions f) ≡ 256
+length_transactions f = ap (λ (ts : List (Option Open)). length ts) (counted.2 f) ∙ length-map-range_with_len f 1 counted.0 ∙ counted.1
 
--- at first none has a transaction
-pub none_at_first : replicate 256 None ≡ transactions []
-none_at_first =
-    ap (λ (n : ℕ). replicate {A = Option Open} n None) (sym counted.1) ∙ none_each {X = Option Open} None 1 counted.0
-    ∙ same_each (λ k. None) (transaction_of []) 1 counted.0 (λ k le. refl) ∙ sym (counted.2 [])
+-- none has a transaction
+pub none_open : replicate 256 None ≡ transactions (λ k. None)
+none_open = ap (λ (n : ℕ). replicate {A = Option Open} n None) (sym counted.1) ∙ none_each {X = Option Open} None 1 counted.0 ∙ sym (counted.2 (λ k. None))
 
--- a pair that says nothing of any
-pub none_told : (past : Past) (event : Event) (reply : Reply) → ((k : ℕ) → transaction_after past k event reply (transaction_of past k) ≡ transaction_of past k) →
-    transactions ((event, reply) ∷ past) ≡ transactions past
-none_told past event reply says =
-    counted.2 ((event, reply) ∷ past) ∙ same_each (transaction_of ((event, reply) ∷ past)) (transaction_of past) 1 counted.0 (λ k le. says k) ∙ sym (counted.2 past)
+-- one of them changed
+pub one_changed : (f : ℕ → Option Open) (h : Option Open → Option Open) (session : ℕ) → 1 ≤ session → session ≤ 256 →
+    transactions (λ k. if session == k then h (f k) else f k) ≡ set (transactions f) (session - 1) (h (get_or (transactions f) (session - 1) None))
+one_changed f h session least greatest =
+    counted.2 (λ k. if session == k then h (f k) else f k)
+    ∙ sym (set_each f h None session 1 counted.0 (session - 1) (omega (arith, least)) (omega (arith, least, greatest, counted.1)))
+    ∙ ap (λ (ts : List (Option Open)). set ts (session - 1) (h (get_or ts (session - 1) None))) (sym (counted.2 f))
 
--- a pair that says this of one
-pub one_told : (past : Past) (event : Event) (reply : Reply) (session : ℕ) (h : Option Open → Option Open) →
-    ((k : ℕ) → transaction_after past k event reply (transaction_of past k) ≡ (if session == k then h (transaction_of past k) else transaction_of past k)) →
-    1 ≤ session → session ≤ 256 → transactions ((event, reply) ∷ past) ≡ set (transactions past) (session - 1) (h (get_or (transactions past) (session - 1) None))
-one_told past event reply session h says least greatest =
-    counted.2 ((event, reply) ∷ past)
-    ∙ same_each (transaction_of ((event, reply) ∷ past)) (λ k. if session == k then h (transaction_of past k) else transaction_of past k) 1 counted.0 (λ k le. says k)
-    ∙ sym (set_each (transaction_of past) h None session 1 counted.0 (session - 1) (omega (arith, least)) (omega (arith, least, greatest, counted.1)))
-    ∙ ap (λ (ts : List (Option Open)). set ts (session - 1) (h (get_or ts (session - 1) None))) (sym (counted.2 past))
+-- all of them
+pub all_changed : (f : ℕ → Option Open) (h : Option Open → Option Open) → transactions (λ k. h (f k)) ≡ map h (transactions f)
+all_changed f h = counted.2 (λ k. h (f k)) ∙ sym (map_each f h 1 counted.0) ∙ ap (map h) (sym (counted.2 f))
 
--- a pair that says the same of all
-pub all_told : (past : Past) (event : Event) (reply : Reply) (h : Option Open → Option Open) → ((k : ℕ) → transaction_after past k event reply (transaction_of past k) ≡ h (transaction_of past k)) →
-    transactions ((event, reply) ∷ past) ≡ map h (transactions past)
-all_told past event reply h says =
-    counted.2 ((event, reply) ∷ past) ∙ same_each (transaction_of ((event, reply) ∷ past)) (λ k. h (transaction_of past k)) 1 counted.0 (λ k le. says k)
-    ∙ sym (map_each (transaction_of past) h 1 counted.0) ∙ ap (map h) (sym (counted.2 past))
-
--- a pair that says of each what its number tells
-pub each_told : (past : Past) (event : Event) (reply : Reply) (h : ℕ → Option Open → Option Open) →
-    ((k : ℕ) → transaction_after past k event reply (transaction_of past k) ≡ h k (transaction_of past k)) →
-    transactions ((event, reply) ∷ past) ≡ each_session h 1 (transactions past)
-each_told past event reply h says =
-    counted.2 ((event, reply) ∷ past) ∙ same_each (transaction_of ((event, reply) ∷ past)) (λ k. h k (transaction_of past k)) 1 counted.0 (λ k le. says k)
-    ∙ sym (each_of (transaction_of past) h 1 counted.0) ∙ ap (λ (ts : List (Option Open)). each_session h 1 ts) (sym (counted.2 past))
+-- each by its number
+pub each_changed : (f : ℕ → Option Open) (h : ℕ → Option Open → Option Open) → transactions (λ k. h k (f k)) ≡ each_session h 1 (transactions f)
+each_changed f h = counted.2 (λ k. h k (f k)) ∙ sym (each_of f h 1 counted.0) ∙ ap (λ (ts : List (Option Open)). each_session h 1 ts) (sym (counted.2 f))
