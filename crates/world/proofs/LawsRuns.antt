@@ -238,7 +238,8 @@ synced_before setup log es rs legal (suc place) gno some within = elim (cases_lt
     | inl over ↦ absurd (omega (arith, now, within, ap (λ (p : Pair). p.synced) over.stays))
     | inr s ↦
         let so = says setup log _ s.0 s.1 s.2.allowed in
-        let told = synced_by setup log _ s.0 s.1 gno so (holds_at setup log es rs legal place) now (omega (arith, within, ap (λ (p : Pair). p.synced) s.2.onward)) in
+        let syncs : (pair_at es rs (suc place)).synced ≡ (next (pair_at es rs place) s.0 s.1).synced = ap (λ (p : Pair). p.synced) s.2.onward in
+        let told = synced_by setup log _ s.0 s.1 gno so (holds_at setup log es rs legal place) now (omega (arith, within, syncs)) in
         (place, told.0, told.1, omega arith, s.2.reply_is ∙ ap Some told.2, told.3, told.4)
   ]
   | inr earlier ↦

@@ -1,23 +1,31 @@
 -- Facts of the parts of a world that every event uses.
 use mathlib.Core.List.{IsPrefix}
 use base.Growing.{prefix_refl}
-use Rattle.std.proofs.Common.{◌≡◌, ◌∙◌, sym, ap, subst, refl, ℕ, ◌≤◌, Bool, true, false, not, ◌&&◌, Some, IsSome, Result, List, ◌∷◌, length, take, Option, arith}
+use Rattle.std.proofs.Common.{◌≡◌, ◌∙◌, sym, ap, subst, refl, ℕ, ◌+◌, ◌≤◌, Bool, true, false, not, ◌&&◌, Some, None, IsSome, Result, List, ◌∷◌, length, map, take, Option, arith}
+use Rattle.std.proofs.lemmas.Bool.{false≢true}
 use Rattle.std.proofs.lemmas.List.{take-append-le}
 use Rattle.rows.specs.Database.{Database}
 use Rattle.record_codec.specs.declared.records.Record.{Record}
-use Rattle.record_codec.specs.Group.{AreNumbered}
-use Rattle.source_core.specs.Source.{Source, Open}
-use Rattle.source_core.specs.Calls.{cause}
+use Rattle.record_codec.specs.Group.{GroupValue, AreNumbered}
+use Rattle.source_core.specs.Source.{Source, Open, IsSound}
+use Rattle.source_core.specs.Calls.{cause, halted as halted_source}
+use Rattle.log_file.specs.declared.fault.LogFault.TheVariants as log_file
+use Rattle.log_file.specs.Head.{Head}
+use Rattle.log_file.specs.Log.{Log}
+use Rattle.log_file.specs.Flushed.{IsFlushedOf, kept_of}
+use Rattle.log_file.specs.Calls.{ends as ends_of}
 use Rattle.source_core.specs.declared.fault.SourceFault.{SourceFault}
 use Rattle.source_core.specs.declared.fault.SourceFault.TheVariants as faults
 use Rattle.replica_core.specs.Replica.{Replica}
 use Rattle.world.specs.declared.events.Event.{Event}
+use Rattle.world.specs.declared.events.Event.TheVariants as events
 use Rattle.world.specs.declared.events.Reply.{Reply}
+use Rattle.world.specs.declared.events.Reply.TheVariants as replies
 use Rattle.std.specs.Result.{result_err, IsErrOf}
 use Rattle.std.proofs.lemmas.Bool.{and_from}
-use Rattle.world.specs.Pair.{Pair, transaction_after, next, transactions, is_failure}
+use Rattle.world.specs.Pair.{Pair, next, is_failure}
 use Rattle.world.specs.Legal.{Setup, source_at, replica_at, Allowed}
-use Rattle.world.specs.State.{World, SourceIs, SidesAre, IsWorld, Stands, Goes}
+use Rattle.world.specs.State.{World, Link, IsWire, IsReplica, WireIs, IsWorld, Stands, Goes}
 
 -- the first records of a longer list are those of the list
 pub take_longer : (log longer : List Record) → IsPrefix log longer → (n : ℕ) → n ≤ length log → take n longer ≡ take n log
@@ -70,3 +78,112 @@ with_source w s = record w { source = s }
 
 abbrev pub with_replica : {D R : Type 0} → World D R → Replica → World D R
 with_replica w r = record w { replica = r }
+
+-- ---- the log and its devices
+
+-- a source stays sound if only its sessions, its queue, what is committed and whether it is halted are others
+pub sound_with : (s : Source) (sessions : List (Option Open)) (queue : List ℕ) (committed : ℕ) (halts : Bool) → length sessions ≡ length s.sessions → committed ≤ s.synced → IsSound s →
+    IsSound (record s { committed = committed; sessions = sessions; queue = queue; halted = halts })
+sound_with s sessions queue committed halts many within h = record {
+  sessions = many ∙ h.sessions;
+  legal = h.legal;
+  shaped = h.shaped;
+  few = h.few;
+  bound = h.bound;
+  synced_within = h.synced_within;
+  committed_within = within;
+  owned = h.owned;
+  grouped = h.grouped;
+}
+
+-- the wire is one with another state of its log, of the same head and groups, and with other devices
+pub wire_with : {log accepted : List Record} {synced files spares n m : ℕ} {sizes : List ℕ} {was halts : Bool} {old new : Log} {waited unsynced : List GroupValue} →
+    IsWire log synced sizes was accepted old waited files spares → IsFlushedOf log synced sizes (kept_of new) unsynced → new.groups ≡ old.groups → new.head ≡ old.head →
+    new.finished ≡ old.finished → new.failed ≡ halts → (new.failed ≡ false → new.waiting ≡ None) → n + m ≡ 16 → IsWire log synced sizes halts accepted new unsynced n m
+wire_with h flushed groups head goes failed ready places = record {
+  flushed = flushed;
+  on_log = rw groups h.on_log;
+  versions = rw groups h.versions;
+  failed = failed;
+  ready = ready;
+  goes = goes ∙ h.goes;
+  form = ap (λ (b : Head). b.form) head ∙ h.form;
+  places = places;
+  front = h.front;
+  within = h.within;
+}
+
+-- the replica is one still of a log of the same head
+pub replica_with : {D R : Type 0} (contents : R → Database) (w : World D R) (head : Head) → head ≡ w.wire.log.head → IsWorld contents w →
+    IsReplica w.source.tables w.source.base head.source w.replica.tables w.replica.base w.replica.source w.replica.stopped w.replica.preserve w.replica.commits
+replica_with contents w head same h =
+    let r = w.replica in
+    subst (λ (b : Head). IsReplica w.source.tables w.source.base b.source r.tables r.base r.source r.stopped r.preserve r.commits) (sym same) h.replica
+
+-- the log has the files, the groups and the head that it had
+pub record HasSame {D : Type 0} (old new : Link D) : Type 0 where
+  pub head : new.log.head ≡ old.log.head
+  pub groups : new.log.groups ≡ old.log.groups
+  pub goes : new.log.finished ≡ old.log.finished
+  pub firsts : new.firsts ≡ old.firsts
+  pub starts : new.starts ≡ old.starts
+  pub unsynced : new.unsynced ≡ old.unsynced
+  pub spares : length new.spare ≡ length old.spare
+
+pub wire_is : {D : Type 0} {identifier : List ℕ} {unsynced synced : List (ℕ × ℕ)} {firsts starts : List ℕ} {old new : Link D} → HasSame old new →
+    WireIs identifier unsynced synced firsts starts old → WireIs identifier unsynced synced firsts starts new
+wire_is same is = record {
+  head = same.head ∙ is.head;
+  unsynced = ap (map ends_of) same.unsynced ∙ is.unsynced;
+  synced = ap (map ends_of) same.groups ∙ is.synced;
+  firsts = same.firsts ∙ is.firsts;
+  starts = same.starts ∙ is.starts;
+}
+
+places_with : {D R : Type 0} (contents : R → Database) (w : World D R) (wire : Link D) → IsWorld contents w → HasSame w.wire wire → length wire.firsts + length wire.spare ≡ 16
+places_with contents w wire h same = omega (arith, h.wire.places, ap (λ (l : List ℕ). length l) same.firsts, same.spares)
+
+-- the log is called
+abbrev pub CallsLog : Event → Type 0
+CallsLog event = (event ≡ events.Sync → ⊥) → (event ≡ events.Rotate → ⊥) → ⊥
+
+abbrev pub IsAllowed : {D R : Type 0} → World D R → Event → Reply → Type 0
+IsAllowed w event reply = (setup : Setup) (pair : Pair) (log : List Record) → Stands setup pair w → IsPrefix w.source.log log → AreNumbered 1 log → Allowed setup log pair event reply
+
+-- A device of the log failed: the source is halted, and the groups that wait wait on.
+pub fails_goes : {D R : Type 0} (contents : R → Database) (w : World D R) (event : Event) (wire : Link D) → IsWorld contents w → HasSame w.wire wire → wire.log.failed ≡ true →
+    IsFlushedOf w.source.log w.source.synced w.source.group_sizes (kept_of wire.log) wire.unsynced →
+    ((pair : Pair) → next pair event (replies.Log log_file.Device) ≡ record pair { halted = true }) → CallsLog event → IsAllowed w event (replies.Log log_file.Device) →
+    Goes contents w event (replies.Log log_file.Device) (record w { source = halted_source w.source; wire = wire })
+fails_goes {D} {R} contents w event wire h same failed flushed halts calls allowed = record {
+  world = record {
+    source = record { sound = sound_with w.source w.source.sessions w.source.queue w.source.committed true refl h.source.sound.committed_within h.source.sound };
+    wire = wire_with h.wire flushed same.groups same.head same.goes failed
+        (λ runs. absurd (false≢true (sym runs ∙ failed))) (places_with contents w wire h same);
+    replica = replica_with contents w wire.log.head same.head h;
+    jobs = h.jobs;
+    readers = h.readers;
+  };
+  grows = prefix_refl w.source.log;
+  still = λ a b. absurd (calls a b);
+  stands = λ setup pair st. subst (λ (p : Pair). Stands setup p (record w { source = halted_source w.source; wire = wire })) (sym (halts pair))
+      (record { source = record { flushed = st.source.flushed; is = ap halted_source st.source.is }; wire = wire_is same st.wire; replica = st.replica });
+  allowed = allowed;
+}
+
+-- Memory ran out for the log: only its devices may be others.
+pub devices_go : {D R : Type 0} (contents : R → Database) (w : World D R) (event : Event) (device : D) (spare : List D) → IsWorld contents w → length spare ≡ length w.wire.spare →
+    ((pair : Pair) → next pair event (replies.Log log_file.Memory) ≡ pair) → CallsLog event → IsAllowed w event (replies.Log log_file.Memory) →
+    Goes contents w event (replies.Log log_file.Memory) (record w { wire = record w.wire { device = device; spare = spare } })
+devices_go contents w event device spare h spares idle calls allowed =
+    let wire : Link _ = record w.wire { device = device; spare = spare } in
+    let same : HasSame w.wire wire = record { head = refl; groups = refl; goes = refl; firsts = refl; starts = refl; unsynced = refl; spares = spares } in
+    let world = wire_with h.wire h.wire.flushed refl refl refl h.wire.failed h.wire.ready (places_with contents w wire h same) in
+    record {
+      world = record { source = h.source; wire = world; replica = h.replica; jobs = h.jobs; readers = h.readers };
+      grows = prefix_refl w.source.log;
+      still = λ a b. absurd (calls a b);
+      stands = λ setup pair st.
+          subst (λ (p : Pair). Stands setup p (record w { wire = wire })) (sym (idle pair)) (record { source = st.source; wire = wire_is same st.wire; replica = st.replica });
+      allowed = allowed;
+    }

@@ -24,7 +24,7 @@ use Rattle.world.specs.Pair.{Pair, busy}
 use Rattle.world.specs.Legal.{Setup, source_at, RotateAnswers, is_full}
 use Rattle.world.specs.Put.{IsNotRotated, FailsToRotate, OneFailed}
 use Rattle.world.specs.State.{World, IsWorld, Stands, Goes, set_of, TellsFailure}
-use Rattle.world.proofs.Parts.{stays, halted_as, asks_of}
+use Rattle.world.proofs.Parts.{stays, halted_as, asks_of, wire_with, replica_with, fails_goes, devices_go}
 use Rattle.world.proofs.Counting.{one_of_two, tells_one, tells_none}
 
 -- ---- refused before a device is asked
@@ -114,29 +114,14 @@ rotate_goes contents seen faults w c set spare number is rest counted =
     omega (arith, ap (λ (l : List ℕ). length l) is.firsts, length-append w.wire.firsts (next_of w.wire.log.head w.wire.log.records ∷ [])) in
     let head : set.log.head ≡ w.wire.log.head = ap (λ (l : Log). l.head) is.log in
     let groups : set.log.groups ≡ w.wire.log.groups = ap (λ (l : Log). l.groups) is.log in
-    let kept : kept_of set.log ≡ kept_of w.wire.log = ap kept_of is.log in
     record {
       world = record {
         source = h.source;
-        wire = record {
-          flushed = subst (λ (k : Kept). IsFlushedOf w.source.log w.source.synced w.source.group_sizes k w.wire.unsynced) (sym kept) h.wire.flushed;
-          on_log = rw groups h.wire.on_log;
-          versions = rw groups h.wire.versions;
-          failed = ap (λ (l : Log). l.failed) is.log ∙ h.wire.failed;
-          ready = λ runs. ap (λ (l : Log). l.waiting) is.log ∙ h.wire.ready (sym (ap (λ (l : Log). l.failed) is.log) ∙ runs);
-          goes = ap (λ (l : Log). l.finished) is.log ∙ h.wire.goes;
-          form = ap (λ (b : Head). b.form) head ∙ h.wire.form;
-          places = omega (arith, many, h.wire.places, ap (λ (l : List _). length l) c.spares, ap (λ (l : List _). length l) rest);
-          front = h.wire.front;
-          within = h.wire.within;
-        };
-        replica = record {
-          tables = h.replica.tables;
-          base = h.replica.base;
-          source = h.replica.source ∙ sym (ap (λ (b : Head). b.source) head);
-          going = h.replica.going;
-          in_order = h.replica.in_order;
-        };
+        wire = wire_with h.wire (subst (λ (k : Kept). IsFlushedOf w.source.log w.source.synced w.source.group_sizes k w.wire.unsynced) (sym (ap kept_of is.log)) h.wire.flushed) groups head
+            (ap (λ (l : Log). l.finished) is.log) (ap (λ (l : Log). l.failed) is.log ∙ h.wire.failed)
+            (λ runs. ap (λ (l : Log). l.waiting) is.log ∙ h.wire.ready (sym (ap (λ (l : Log). l.failed) is.log) ∙ runs))
+            (omega (arith, many, h.wire.places, ap (λ (l : List _). length l) c.spares, ap (λ (l : List _). length l) rest));
+        replica = replica_with contents w set.log.head head h;
         jobs = h.jobs;
         readers = h.readers;
       };
@@ -164,103 +149,32 @@ rotate_fails : {D R : Type 0} (contents : R → Database) (faults : D → ℕ) (
     FailsToRotate faults (set_of w.wire) c.given set back → next ≡ halted_source w.source →
     Goes contents w events.Rotate (replies.Log log_file.Device) (rotated_to w next set (back ∷ c.others))
 rotate_fails {D} {R} contents faults w c set back next failed next_is =
-    let h = c.world in
-    let kept : kept_of set.log ≡ kept_of w.wire.log =
-    λ i. record { head = failed.head i; records = failed.records i; groups = failed.groups i; prepared = failed.waiting i } in
+    let kept : kept_of w.wire.log ≡ kept_of set.log =
+    λ i. record { head = sym failed.head i; records = sym failed.records i; groups = sym failed.groups i; prepared = sym failed.waiting i } in
     subst (λ (q : Source). Goes {R = R} contents w events.Rotate (replies.Log log_file.Device) (rotated_to w q set (back ∷ c.others))) (sym next_is)
+    (fails_goes contents w events.Rotate (rotated_to w next set (back ∷ c.others)).wire c.world
     (record {
-      world = record {
-        source = record {
-          sound = record {
-            sessions = h.source.sound.sessions;
-            legal = h.source.sound.legal;
-            shaped = h.source.sound.shaped;
-            few = h.source.sound.few;
-            bound = h.source.sound.bound;
-            synced_within = h.source.sound.synced_within;
-            committed_within = h.source.sound.committed_within;
-            owned = h.source.sound.owned;
-            grouped = h.source.sound.grouped;
-          };
-        };
-        wire = record {
-          flushed = subst (λ (k : Kept). IsFlushedOf w.source.log w.source.synced w.source.group_sizes k w.wire.unsynced) (sym kept) h.wire.flushed;
-          on_log = rw failed.groups h.wire.on_log;
-          versions = rw failed.groups h.wire.versions;
-          failed = failed.failed;
-          ready = λ runs. absurd (false≢true (sym runs ∙ failed.failed));
-          goes = failed.goes ∙ h.wire.goes;
-          form = ap (λ (b : Head). b.form) failed.head ∙ h.wire.form;
-          places = omega (arith, ap (λ (l : List ℕ). length l) failed.files.firsts, h.wire.places, ap (λ (l : List _). length l) c.spares);
-          front = h.wire.front;
-          within = h.wire.within;
-        };
-        replica = record {
-          tables = h.replica.tables;
-          base = h.replica.base;
-          source = h.replica.source ∙ sym (ap (λ (b : Head). b.source) failed.head);
-          going = h.replica.going;
-          in_order = h.replica.in_order;
-        };
-        jobs = h.jobs;
-        readers = h.readers;
-      };
-      grows = prefix_refl w.source.log;
-      still = λ a other. absurd (other refl);
-      stands = λ setup pair st. record {
-        source = record {
-          flushed = st.source.flushed;
-          is = ap halted_source st.source.is;
-        };
-        wire = record {
-          head = failed.head ∙ st.wire.head;
-          unsynced = st.wire.unsynced;
-          synced = ap (map ends_of) failed.groups ∙ st.wire.synced;
-          firsts = failed.files.firsts ∙ st.wire.firsts;
-          starts = failed.files.starts ∙ st.wire.starts;
-        };
-        replica = st.replica;
-      };
-      allowed = λ setup pair log st longer numbered.
-          inr (running_answer setup pair w false false (length w.wire.firsts) (replies.Log log_file.Device) st c.runs c.idle refl (room_of contents w c) (inr refl));
-    })
+      head = failed.head;
+      groups = failed.groups;
+      goes = failed.goes;
+      firsts = failed.files.firsts;
+      starts = failed.files.starts;
+      unsynced = refl;
+      spares = sym (ap (λ (l : List D). length l) c.spares);
+    }) failed.failed
+    (subst (λ (k : Kept). IsFlushedOf w.source.log w.source.synced w.source.group_sizes k w.wire.unsynced) kept c.world.wire.flushed) (λ pair. refl) (λ a other. other refl)
+    (λ setup pair log st longer numbered.
+    inr (running_answer setup pair w false false (length w.wire.firsts) (replies.Log log_file.Device) st c.runs c.idle refl (room_of contents w c) (inr refl))))
 
 -- want of memory changes nothing but the device
 rotate_memory : {D R : Type 0} (contents : R → Database) (w : World D R) (c : RotateCall contents w) (back : D) →
     Goes contents w events.Rotate (replies.Log log_file.Memory) (rotated_to w w.source (set_of w.wire) (back ∷ c.others))
-rotate_memory contents w c back =
-    let h = c.world in
-    record {
-      world = record {
-        source = h.source;
-        wire = record {
-          flushed = h.wire.flushed;
-          on_log = h.wire.on_log;
-          versions = h.wire.versions;
-          failed = h.wire.failed;
-          ready = h.wire.ready;
-          goes = h.wire.goes;
-          form = h.wire.form;
-          places = omega (arith, h.wire.places, ap (λ (l : List _). length l) c.spares);
-          front = h.wire.front;
-          within = h.wire.within;
-        };
-        replica = h.replica;
-        jobs = h.jobs;
-        readers = h.readers;
-      };
-      grows = prefix_refl w.source.log;
-      still = λ a other. absurd (other refl);
-      stands = λ setup pair st. record {
-            source = st.source;
-            wire = record { head = st.wire.head; unsynced = st.wire.unsynced; synced = st.wire.synced; firsts = st.wire.firsts; starts = st.wire.starts };
-            replica = st.replica;
-          };
-      allowed = λ setup pair log st longer numbered.
-          let idle : not (busy pair) ≡ true = ap not (busy_as setup pair w st ∙ c.idle) in
-          let some : not (is_full pair) ≡ true = ap not (ap (nat_le 16) (files_as setup pair w st) ∙ room_of contents w c) in
-          inl (and_from _ true (asks_of setup pair w _ st c.runs (and_from _ _ idle some)) refl);
-    }
+rotate_memory {D} contents w c back =
+    devices_go contents w events.Rotate w.wire.device (back ∷ c.others) c.world (sym (ap (λ (l : List D). length l) c.spares)) (λ pair. refl) (λ a other. other refl)
+    (λ setup pair log st longer numbered.
+    let idle : not (busy pair) ≡ true = ap not (busy_as setup pair w st ∙ c.idle) in
+    let some : not (is_full pair) ≡ true = ap not (ap (nat_le 16) (files_as setup pair w st) ∙ room_of contents w c) in
+    inl (and_from _ true (asks_of setup pair w _ st c.runs (and_from _ _ idle some)) refl))
 
 -- a log that did not go on in a next file
 pub rotate_refused : {D R : Type 0} (contents : R → Database) (faults : D → ℕ) (w : World D R) (c : RotateCall contents w) (fault : LogFault) (set : SetOn D) (spare : List D) (next : Source) →
