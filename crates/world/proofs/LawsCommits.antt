@@ -141,7 +141,8 @@ module _ (setup : Setup) (log : List Record) (legal : IsLegalLog setup.tables (l
             (λ i. c.in_order preserve i ++ s.in_order preserve i ∷ []) ∙ sym (first_gnos-next (length pair.commits)) ∙ ap first_gnos (sym (length-append pair.commits (gno ∷ [])));
       }
 
-  pub publish_more : (pair : Pair) (event : Event) (upto : ℕ) → Says setup log pair event (replies.Published upto) → Committed setup log pair → Committed setup log (next pair event (replies.Published upto))
+  pub publish_more : (pair : Pair) (event : Event) (upto : ℕ) → Says setup log pair event (replies.Published upto) → Committed setup log pair →
+      Committed setup log (next pair event (replies.Published upto))
   publish_more pair event upto s c = record {
     distinct = c.distinct;
     each = c.each;
@@ -163,7 +164,8 @@ module _ (setup : Setup) (log : List Record) (legal : IsLegalLog setup.tables (l
   same_parts : (a b c d : ℕ) (x y : Option (List ℤ)) → replies.Read a b x ≡ replies.Read c d y → (a ≡ c) × (b ≡ d) × (x ≡ y)
   same_parts a b c d x y e = (cc e, cc e, cc e)
 
-  pub is_read : (pair : Pair) (id : RowId) (upto more : ℕ) (row : Option (List ℤ)) → pair.published ≤ replica_committed pair → Committed setup log pair → replies.Read upto more row ≡ read_reply setup log pair id →
+  pub is_read : (pair : Pair) (id : RowId) (upto more : ℕ) (row : Option (List ℤ)) → pair.published ≤ replica_committed pair → Committed setup log pair →
+      replies.Read upto more row ≡ read_reply setup log pair id →
       IsRead pair id upto more row
   is_read pair id upto more row shown c is = by setup.preserve refl is where
     p : ℕ

@@ -261,7 +261,8 @@ module _ (setup : Setup) (log other : List Record) (pair : Pair) (agree : Agree 
   still_within : (event : Event) (reply : Reply) → Says setup log pair event reply → AreWithin ((next pair event reply).flushed) ((next pair event reply).synced_groups)
   still_within event (replies.Flushed first stamps) s = more_within pair.flushed (pair.flushed + length stamps) pair.synced_groups (omega arith) agree.groups
   still_within event (replies.Synced first last) s =
-      AllByRecursion-push (λ (group : ℕ × ℕ). group.1 ≤ pair.flushed) pair.synced_groups (first, last) agree.groups (Follow-le last s.0 pair.flushed (oldest_of pair first last s agree.holds.source.follow).2)
+      AllByRecursion-push (λ (group : ℕ × ℕ). group.1 ≤ pair.flushed) pair.synced_groups (first, last) agree.groups
+      (Follow-le last s.0 pair.flushed (oldest_of pair first last s agree.holds.source.follow).2)
   still_within event reply s = agree.groups
 
   agree_on : (event : Event) (reply answer : Reply) → Allowed setup log pair event reply → Answers setup log pair event reply → Answers setup other pair event answer →

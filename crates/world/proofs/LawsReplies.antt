@@ -155,10 +155,10 @@ module _ (setup : Setup) (log : List Record) (pair : Pair) where
         λ rec got. leb-true rec.parent mark (sym (ap (λ (o : Option Record). option_map_or (λ next. nat_le next.parent mark) o false) got) ∙ parts.1),
       )
 
-  is_job : → may_dispatch setup log pair ≡ true → IsJob setup log pair (pair.dispatched + 1)
+  is_job : may_dispatch setup log pair ≡ true → IsJob setup log pair (pair.dispatched + 1)
   is_job t = by setup.preserve refl t where
-    by : (b : Bool) → setup.preserve ≡ b → (if b then is_due setup log pair (replica_committed pair) else is_due setup log pair (low_water pair) && nat_le (pair.dispatched + 1) (low_water pair + 4096))
-        ≡ true → IsJob setup log pair (pair.dispatched + 1)
+    by : (b : Bool) → setup.preserve ≡ b →
+        (if b then is_due setup log pair (replica_committed pair) else is_due setup log pair (low_water pair) && nat_le (pair.dispatched + 1) (low_water pair + 4096)) ≡ true → IsJob setup log pair (pair.dispatched + 1)
     by true e due =
         let tells = due_tells (replica_committed pair) due in
         record { number = refl; within = tells.0; in_order = λ _. tells.1; in_any = λ other. absurd (false≢true (sym other ∙ e)) }

@@ -41,8 +41,8 @@ pub record SourceInOrder (log : List Record) (flushed_ : ℕ) (groups : List (�
   pub committed_within : source_committed_ ≤ synced_
 
 -- Holds of each state of a run: its numbers are in order, each job is committed, out or finished, and the commits are closed.
-pub record InOrder (preserve : Bool) (log : List Record) (flushed_ : ℕ) (groups : List (ℕ × ℕ)) (synced_ source_committed_ accepted_ dispatched_ : ℕ) (commits_ out_ finished_ : List ℕ) (published_ : ℕ) :
-    Type 0 where
+pub record InOrder (preserve : Bool) (log : List Record) (flushed_ : ℕ) (groups : List (ℕ × ℕ)) (synced_ source_committed_ accepted_ dispatched_ : ℕ)
+    (commits_ out_ finished_ : List ℕ) (published_ : ℕ) : Type 0 where
   pub source : SourceInOrder log flushed_ groups synced_ source_committed_
   pub delivered : accepted_ ≤ synced_
   pub dispatched_within : dispatched_ ≤ accepted_
@@ -192,7 +192,8 @@ none_falls before later g = record {
   flushed_rises = g.rises.6;
 }
 
-rise : (setup : Setup) (log : List Record) (pair : Pair) (event : Event) (reply : Reply) → Says setup log pair event reply → Holds setup log pair → RisesTo pair pair → RisesTo pair (next pair event reply)
+rise : (setup : Setup) (log : List Record) (pair : Pair) (event : Event) (reply : Reply) → Says setup log pair event reply → Holds setup log pair → RisesTo pair pair →
+    RisesTo pair (next pair event reply)
 rise setup log pair event (replies.Flushed first stamps) s h o = (o.0, o.1, o.2, o.3, o.4, o.5, omega arith)
 rise setup log pair event (replies.Synced first last) s h o = (o.0, o.1, o.2, o.3, o.4, (oldest_of pair first last s h.source.follow).1, o.6)
 rise setup log pair event (replies.Committed first last) s h o = (o.0, o.1, o.2, o.3, omega (arith, s.1, h.source.committed_within), o.5, o.6)
