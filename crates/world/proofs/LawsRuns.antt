@@ -26,8 +26,7 @@ use Rattle.world.specs.Laws.{TellsPublished, ReadsArePrefixes, ReadsAreGapped, R
 use Rattle.world.specs.Laws.{EachCommitOnceInOrder, EachCommitOnce, NothingUnsyncedIsAccepted, RefusesOnlyGaps, OperationsLeaveRows, asks_source, HaltsForGood}
 use Rattle.world.proofs.ReplicaEvents.{ordered_leave_rows}
 use Rattle.world.proofs.LawsReplies.{Says, says}
-use Rattle.world.proofs.LawsSteps.{Holds, at_first, step, in_order, oldest_of, Grown, same, onward, none_falls, grows}
-use Rattle.world.proofs.LawsCommits.{IsRead, is_read}
+use Rattle.world.proofs.LawsSteps.{Holds, at_first, step, in_order, oldest_of, Grown, same, onward, none_falls, grows, IsRead, is_read}
 use Rattle.std.specs.Option.{is_none}
 use Rattle.source_core.specs.declared.fault.SourceFault.{SourceFault}
 use Rattle.source_core.specs.declared.fault.SourceFault.TheVariants as source
@@ -122,9 +121,7 @@ read_of : (setup : Setup) (log : List Record) (es : List Event) (rs : List Reply
     slice_get es place ≡ Some (events.Read id) → slice_get rs place ≡ Some (replies.Read upto more row) → IsRead setup log legal.legal (pair_at es rs place) id upto more row
 read_of setup log es rs legal place id upto more row read answer =
     let at = read_at setup log es rs legal place upto more row answer in
-    subst (λ (q : RowId). IsRead setup log legal.legal (pair_at es rs place) q upto more row) (same_read at.0 id (same_Some (events.Read at.0) (events.Read id) (sym at.1 ∙ read))) at.2 where
-      same_read : (a b : RowId) → events.Read a ≡ events.Read b → a ≡ b
-      same_read a b e = cc e
+    subst (λ (q : RowId). IsRead setup log legal.legal (pair_at es rs place) q upto more row) (cc (same_Some (events.Read at.0) (events.Read id) (sym at.1 ∙ read))) at.2
 
 pub prefixes : ReadsArePrefixes
 prefixes setup log es rs legal preserve place id upto more row read answer =

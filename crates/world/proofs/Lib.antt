@@ -10,15 +10,11 @@ pub mod SyncEvents
 pub mod Appending
 pub mod Publish
 pub mod LawsReplies
-pub mod LawsSteps
-pub mod LawsCommits
 pub mod LawsSides
 pub mod LawsOne
-pub mod LawsCrash
 pub mod Counting
 pub mod RotateEvents
 pub mod Run
-pub mod Crash
 pub mod Alike
 pub mod Finish
 pub mod Deliver
@@ -26,3 +22,5 @@ pub mod LawsRuns
 pub mod LawsRecords
 pub mod Jobs
 pub mod NewPairs
+pub mod Crash
+pub mod LawsSteps

@@ -2,7 +2,7 @@
 use mathlib.Core.List.{IsPrefix}
 use base.Growing.{prefix_refl}
 use Rattle.std.proofs.Common.{◌≡◌, ◌∙◌, sym, ap, subst, refl, ℕ, ◌+◌, ◌≤◌, Bool, true, false, not, ◌&&◌, Some, None, IsSome, Result, List, ◌∷◌, length, map, take, Option, arith}
-use Rattle.std.proofs.lemmas.Bool.{false≢true}
+use Rattle.std.proofs.lemmas.Bool.{false≢true, and_from}
 use Rattle.std.proofs.lemmas.List.{take-append-le}
 use Rattle.rows.specs.Database.{Database}
 use Rattle.record_codec.specs.declared.records.Record.{Record}
@@ -22,7 +22,6 @@ use Rattle.world.specs.declared.events.Event.TheVariants as events
 use Rattle.world.specs.declared.events.Reply.{Reply}
 use Rattle.world.specs.declared.events.Reply.TheVariants as replies
 use Rattle.std.specs.Result.{result_err, IsErrOf}
-use Rattle.std.proofs.lemmas.Bool.{and_from}
 use Rattle.world.specs.Pair.{Pair, next, is_failure}
 use Rattle.world.specs.Legal.{Setup, source_at, replica_at, Allowed}
 use Rattle.world.specs.State.{World, Link, IsWire, IsReplica, WireIs, IsWorld, Stands, Goes}

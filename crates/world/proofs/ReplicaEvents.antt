@@ -50,24 +50,14 @@ running_answer r answer e = ap (λ (o : Option ℕ). option_map_or (λ gno. Err 
 -- so what a call answers that does not lack memory is this
 pub answered : {T : Type 0} (r : Replica) (asked given : T) → r.stopped ≡ None → (answer : Result T ReplicaFault) → IsErrOf answer faults.Memory ⊎ (answer ≡ unless_stopped r asked) →
     answer ≡ Ok given → asked ≡ given
-answered {T} r asked given going answer (inl memory) is = absurd (other (sym memory ∙ is)) where
-  other : ◌≡◌ {A = Result T ReplicaFault} (Err faults.Memory) (Ok given) → ⊥
-  other e = cc e
-answered {T} r asked given going answer (inr told) is = same (sym (running_answer r asked going) ∙ sym told ∙ is) where
-  same : ◌≡◌ {A = Result T ReplicaFault} (Ok asked) (Ok given) → asked ≡ given
-  same e = ok_same e where
-    ok_same : ◌≡◌ {A = Result T ReplicaFault} (Ok asked) (Ok given) → asked ≡ given
-    ok_same k = cc k
+answered r asked given going answer (inl memory) is = absurd (cc (sym memory ∙ is))
+answered r asked given going answer (inr told) is = cc (sym (running_answer r asked going) ∙ sym told ∙ is)
 
 -- and what refuses it is want of memory
 pub only_memory : {T : Type 0} (r : Replica) (asked : T) (fault : ReplicaFault) → r.stopped ≡ None → (answer : Result T ReplicaFault) →
     IsErrOf answer faults.Memory ⊎ (answer ≡ unless_stopped r asked) → answer ≡ Err fault → fault ≡ faults.Memory
-only_memory {T} r asked fault going answer (inl memory) is = same (sym is ∙ memory) where
-  same : ◌≡◌ {A = Result T ReplicaFault} (Err fault) (Err faults.Memory) → fault ≡ faults.Memory
-  same e = cc e
-only_memory {T} r asked fault going answer (inr told) is = absurd (other (sym (running_answer r asked going) ∙ sym told ∙ is)) where
-  other : ◌≡◌ {A = Result T ReplicaFault} (Ok asked) (Err fault) → ⊥
-  other e = cc e
+only_memory r asked fault going answer (inl memory) is = cc (sym is ∙ memory)
+only_memory r asked fault going answer (inr told) is = absurd (cc (sym (running_answer r asked going) ∙ sym told ∙ is))
 
 -- the same world, with another replica and other jobs
 abbrev pub with_jobs : {D R : Type 0} → World D R → Replica → List Job → World D R

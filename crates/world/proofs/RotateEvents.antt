@@ -1,7 +1,6 @@
 -- The event by which the log goes on in a next file.
 use base.Growing.{prefix_refl}
-use Rattle.std.proofs.Common.{◌≡◌, ◌∙◌, sym, ap, subst, refl, ℕ, ◌+◌, ◌<◌, Bool, true, false, not, nat_le, List, [], ◌∷◌}
-use Rattle.std.proofs.Common.{◌++◌, length, length-append, map, Option, append_assoc, inl, inr, arith, ◌⊎◌}
+use Rattle.std.proofs.Common.{◌≡◌, ◌∙◌, sym, ap, subst, refl, ℕ, ◌+◌, ◌<◌, Bool, true, false, not, nat_le, List, [], ◌∷◌, ◌++◌, length, length-append, map, Option, append_assoc, inl, inr, arith, ◌⊎◌}
 use Rattle.std.specs.Prelude.{nat_lt}
 use Rattle.std.proofs.lemmas.Bool.Decides.{nat_tests}
 use Rattle.std.proofs.lemmas.Bool.{false≢true, and_from}
@@ -89,6 +88,10 @@ pub record RotateCall {D R : Type 0} (contents : R → Database) (w : World D R)
   pub given : D
   pub others : List D
   pub spares : w.wire.spare ≡ given ∷ others
+
+abbrev pub rotate_call : {D R : Type 0} (contents : R → Database) (w : World D R) {given : D} {others : List D} → IsWorld contents w → w.source.halted ≡ false → is_busy w.source ≡ false →
+    w.wire.spare ≡ given ∷ others → RotateCall contents w
+rotate_call contents w {given} {others} h runs idle spares = record { world = h; runs = runs; idle = idle; given = given; others = others; spares = spares }
 
 -- there is room for one file more
 room_of : {D R : Type 0} (contents : R → Database) (w : World D R) (c : RotateCall contents w) → nat_le 16 (length w.wire.firsts) ≡ false
@@ -182,9 +185,6 @@ pub rotate_refused : {D R : Type 0} (contents : R → Database) (faults : D → 
     Goes contents w events.Rotate (replies.Log fault) (rotated_to w next set spare)
 rotate_refused {D} {R} contents faults w c fault set spare next not halts others =
     subst (λ (l : List D). Goes {R = R} contents w events.Rotate (replies.Log fault) (rotated_to w next set l)) (sym not.spares) (by not.cause) where
-      other : log_file.Memory ≡ log_file.Device → ⊥
-      other is = cc is
-
       by : ((fault ≡ log_file.Device) × FailsToRotate faults (set_of w.wire) c.given set not.back) ⊎ ((fault ≡ log_file.Memory) × (set ≡ set_of w.wire) × (faults not.back ≡ faults c.given)) →
           Goes contents w events.Rotate (replies.Log fault) (rotated_to w next set (not.back ∷ c.others))
       by (inl failed) =
@@ -192,7 +192,7 @@ rotate_refused {D} {R} contents faults w c fault set spare next not halts others
           (rotate_fails contents faults w c set not.back next failed.1 (halts failed.0))
       by (inr lacks) =
           subst (λ (f : LogFault). Goes {R = R} contents w events.Rotate (replies.Log f) (rotated_to w next set (not.back ∷ c.others))) (sym lacks.0)
-          (subst (λ (q : Source). Goes {R = R} contents w events.Rotate (replies.Log log_file.Memory) (rotated_to w q set (not.back ∷ c.others))) (sym (others (λ is. other (sym lacks.0 ∙ is))))
+          (subst (λ (q : Source). Goes {R = R} contents w events.Rotate (replies.Log log_file.Memory) (rotated_to w q set (not.back ∷ c.others))) (sym (others (λ is. cc (sym lacks.0 ∙ is))))
           (subst (λ (s : SetOn D). Goes {R = R} contents w events.Rotate (replies.Log log_file.Memory) (rotated_to w w.source s (not.back ∷ c.others))) (sym lacks.1)
           (rotate_memory contents w c not.back)))
 
