@@ -104,7 +104,6 @@ pub if_none : {A P : Type 0} (o : Option A) → P → IfNone o P
 if_none None p = p
 if_none (Some x) p = tt
 
-
 -- ---- records under way
 
 -- those that were dispatched and are not committed, by their places behind the commits

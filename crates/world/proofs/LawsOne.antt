@@ -66,7 +66,7 @@ take_stamped f n xs =
 in_three : (f n : ℕ) (xs : List Record) → xs ≡ take f xs ++ (take n (drop f xs) ++ drop n (drop f xs))
 in_three f n xs = sym (take-append-drop f xs) ∙ ap (λ l. take f xs ++ l) (sym (take-append-drop n (drop f xs)))
 
--- ---- two logs behind the same pairs
+-- ---- two logs in one state
 
 -- they have the same records, as many as are flushed
 abbrev pub FlushedAlike : List Record → List Record → Pair → Type 0
@@ -245,7 +245,7 @@ module _ (setup : Setup) (log other : List Record) (pair : Pair) (agree : Agree 
   one_answer events.Rotate reply answer a b alike = one_rotation pair.halted (busy pair) (is_full pair) (length pair.firsts) reply answer a b alike
   one_answer events.Log reply answer a b alike = a ∙ ap (λ (files : List (List ℕ)). replies.Text files) same_text ∙ sym b
 
-  -- ---- one more pair
+  -- ---- one more event
 
   still_alike : (event : Event) (reply answer : Reply) → Says setup log pair event reply → Answers setup log pair event reply → Answers setup other pair event answer →
       FlushedAlike log other (next pair event reply)

@@ -99,7 +99,6 @@ rising_is_one (x ∷ xs) (y ∷ ys) h k same =
     let rest : SameRows xs ys = same_rest x xs ys above_x behind_x (λ q. same q ∙ ap (λ z. has_row (z ∷ ys) q) (sym first)) in
     (λ i. first i ∷ rising_is_one xs ys (rising_rest x xs h) (rising_rest y ys k) rest i)
 
-
 -- a log that a source over these rows may have
 pub record MayStand (ts : List Table) (base : List Entry) (log : List Record) : Type 0 where
   pub legal : IsLegalLog ts (loaded base) log

@@ -1,4 +1,4 @@
--- What a reply that the pairs so far allow says of them.
+-- What a reply says of the state that allows it.
 use Rattle.std.proofs.Common.{◌≡◌, ◌∙◌, sym, ap, subst, refl, ℕ, ◌+◌, ◌<◌, ◌≤◌, Bool, true, false, not, ◌&&◌, ◌||◌, ◌==◌, nat_le, List, [], ◌∷◌}
 use Rattle.std.proofs.Common.{length, map, Option, Some, None, Ok, ◌⊎◌, inl, inr, if◌then◌else◌}
 use Rattle.std.specs.Prelude.{option_and_then, slice_get, ◌-◌}
@@ -40,7 +40,7 @@ pub record IsJob (setup : Setup) (log : List Record) (pair : Pair) (gno : ℕ) :
   pub in_order : setup.preserve ≡ true → (rec : Record) → slice_get log pair.dispatched ≡ Some rec → rec.parent ≤ replica_committed pair
   pub in_any : setup.preserve ≡ false → (rec : Record) → slice_get log pair.dispatched ≡ Some rec → rec.parent ≤ low_water pair
 
--- what a reply says of the pairs before it
+-- what a reply says of the state before it
 abbrev pub Says : Setup → List Record → Pair → Event → Reply → Type 0
 Says setup log pair event (replies.Flushed first stamps) = (first ≡ pair.flushed + 1) × (stamps ≡ map stamp_of (next_records log pair)) × (event ≡ events.Flush)
 Says setup log pair event (replies.Synced first last) = (groups : List (ℕ × ℕ)) × (pair.unsynced ≡ (first, last) ∷ groups)
@@ -158,7 +158,8 @@ module _ (setup : Setup) (log : List Record) (pair : Pair) where
   is_job : may_dispatch setup log pair ≡ true → IsJob setup log pair (pair.dispatched + 1)
   is_job t = by setup.preserve refl t where
     by : (b : Bool) → setup.preserve ≡ b →
-        (if b then is_due setup log pair (replica_committed pair) else is_due setup log pair (low_water pair) && nat_le (pair.dispatched + 1) (low_water pair + 4096)) ≡ true → IsJob setup log pair (pair.dispatched + 1)
+        (if b then is_due setup log pair (replica_committed pair) else is_due setup log pair (low_water pair) && nat_le (pair.dispatched + 1) (low_water pair + 4096)) ≡ true →
+        IsJob setup log pair (pair.dispatched + 1)
     by true e due =
         let tells = due_tells (replica_committed pair) due in
         record { number = refl; within = tells.0; in_order = λ _. tells.1; in_any = λ other. absurd (false≢true (sym other ∙ e)) }

@@ -1,4 +1,4 @@
--- The commits at the replica make a closed set of the log, whatever the order; and the numbers of a run stay in order, and grow.
+-- What holds of each state of a run: its numbers are in order, and only grow, and its commits are a closed set of the log.
 use Rattle.std.proofs.Common.{◌≡◌, ◌∙◌, sym, ap, subst, refl, ℕ, ◌+◌, ◌-◌, ◌≤◌, Bool, true, false, ◌&&◌, ◌||◌, ◌==◌, nat_le, if◌then◌else◌, List, [], ◌∷◌, ◌++◌, append_assoc, length, length-append}
 use Rattle.std.proofs.Common.{map, take, Option, Some, inl, inr, arith, drop}
 use Rattle.std.specs.Prelude.{ℤ, option_and_then, slice_get}
@@ -164,9 +164,6 @@ module _ (setup : Setup) (log : List Record) (legal : IsLegalLog setup.tables (l
     pub row_is : row ≡ option_and_then (λ db. get db id) (gapped setup.tables (loaded setup.base) log (published_gnos pair))
     pub in_order : setup.preserve ≡ true → (upto ≡ pair.published) × (more ≡ 0) × (row ≡ option_and_then (λ db. get db id) (rows_after setup log pair.published))
 
-  same_parts : (a b c d : ℕ) (x y : Option (List ℤ)) → replies.Read a b x ≡ replies.Read c d y → (a ≡ c) × (b ≡ d) × (x ≡ y)
-  same_parts a b c d x y e = (cc e, cc e, cc e)
-
   pub is_read : (pair : Pair) (id : RowId) (upto more : ℕ) (row : Option (List ℤ)) → pair.published ≤ replica_committed pair → Committed setup log pair →
       replies.Read upto more row ≡ read_reply setup log pair id →
       IsRead pair id upto more row
@@ -184,7 +181,7 @@ module _ (setup : Setup) (log : List Record) (legal : IsLegalLog setup.tables (l
         else replies.Read (low_of gnos) (p - low_of gnos) (row_of (gapped setup.tables (loaded setup.base) log gnos))) →
         IsRead pair id upto more row
     by true e k =
-        let same = same_parts upto more p 0 row (row_of (rows_after setup log p)) k in
+        let same : (upto ≡ p) × (more ≡ 0) × (row ≡ row_of (rows_after setup log p)) = (cc k, cc k, cc k) in
         let first : gnos ≡ first_gnos p = ap (take p) (c.in_order e) ∙ take-first_gnos p (length pair.commits) shown in
         let rows : gapped setup.tables (loaded setup.base) log gnos ≡ rows_after setup log p =
         ap (gapped setup.tables (loaded setup.base) log) first ∙ ap (after setup.tables (loaded setup.base)) (first_are_chosen log p numbered) in
@@ -195,7 +192,7 @@ module _ (setup : Setup) (log : List Record) (legal : IsLegalLog setup.tables (l
           in_order = λ _. same;
         }
     by false e k =
-        let same = same_parts upto more (low_of gnos) (p - low_of gnos) row (row_of (gapped setup.tables (loaded setup.base) log gnos)) k in
+        let same : (upto ≡ low_of gnos) × (more ≡ p - low_of gnos) × (row ≡ row_of (gapped setup.tables (loaded setup.base) log gnos)) = (cc k, cc k, cc k) in
         let few = low_is_few gnos (AreDistinct-take p pair.commits (AreDistinct_front pair.commits (pair.out ++ pair.finished) c.distinct)) in
         record {
           mark = same.0;
@@ -203,7 +200,6 @@ module _ (setup : Setup) (log : List Record) (legal : IsLegalLog setup.tables (l
           row_is = same.2;
           in_order = λ preserve. absurd (false≢true (sym e ∙ preserve));
         }
-
 
 -- ---- groups
 

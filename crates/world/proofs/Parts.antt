@@ -30,7 +30,7 @@ use Rattle.world.specs.State.{World, Link, IsWire, IsReplica, WireIs, IsWorld, S
 pub take_longer : (log longer : List Record) → IsPrefix log longer → (n : ℕ) → n ≤ length log → take n longer ≡ take n log
 take_longer log longer more n h = ap (λ l. take n l) (sym more.1) ∙ take-append-le n log more.0 h
 
--- whichever longer log is meant, the pairs say that the source stands as it does
+-- whichever longer log is meant, the state says that the source is as it is
 pub source_is : {D R : Type 0} (setup : Setup) (pair : Pair) (w : World D R) (log : List Record) → Stands setup pair w → IsPrefix w.source.log log → source_at setup log pair ≡ w.source
 source_is setup pair w log st longer =
     let same : take pair.flushed log ≡ take pair.flushed w.source.log = take_longer w.source.log log longer pair.flushed (omega (arith, st.source.flushed)) in
@@ -55,7 +55,7 @@ stays {R} contents w event reply h none same allowed = record {
   allowed = allowed;
 }
 
--- the pairs say that the source runs where it does, and that it is halted where it is
+-- the state says that the source runs where it does, and that it is halted where it is
 pub halted_as : {D R : Type 0} (setup : Setup) (pair : Pair) (w : World D R) (b : Bool) → Stands setup pair w → w.source.halted ≡ b → pair.halted ≡ b
 halted_as setup pair w b st e = ap (λ (s : Source). s.halted) (sym st.source.is) ∙ e
 

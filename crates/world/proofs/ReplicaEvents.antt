@@ -63,7 +63,7 @@ only_memory r asked fault going answer (inr told) is = absurd (cc (sym (running_
 abbrev pub with_jobs : {D R : Type 0} → World D R → Replica → List Job → World D R
 with_jobs w r jobs = record w { replica = r; jobs = jobs }
 
--- what is due asks for memory, whichever pairs the world stands for
+-- what is due asks for memory, whichever state the world stands for
 abbrev pub Asks : {D R : Type 0} → World D R → Event → Type 0
 Asks w event = (setup : Setup) (pair : Pair) (log : List Record) → Stands setup pair w → IsPrefix w.source.log log → asks_memory setup log pair event ≡ true
 
@@ -91,7 +91,7 @@ front_has (suc a) (suc d) (r ∷ log) test = ap (λ (b : Bool). b && option_map_
   both : (m n : ℕ) → nat_lt (suc m) (suc n) ≡ nat_lt m n
   both m n = grind (arith, nat_tests)
 
--- the replica of the pairs finds the next record eligible where they say that it may be dispatched
+-- the replica of a state finds the next record eligible where the state says that it may be dispatched
 eligible_at : (setup : Setup) (log : List Record) (pair : Pair) → (setup.preserve ≡ true → low_water pair ≡ replica_committed pair) →
     may_dispatch setup log pair ≡ is_eligible (replica_at setup log pair)
 eligible_at setup log pair low = by setup.preserve refl where
@@ -120,13 +120,13 @@ low_as contents setup pair w h st preserve =
     let first = h.replica.in_order (sym (ap (λ (r : Replica). r.preserve) same) ∙ preserve) in
     ap (λ (r : Replica). low_of r.commits) same ∙ ap low_of first ∙ low_of_first (length w.replica.commits) ∙ ap (λ (r : Replica). length r.commits) (sym same)
 
--- the pairs say that the next record may be dispatched where the replica finds it so
+-- the state says that the next record may be dispatched where the replica finds it so
 eligible_as : {D R : Type 0} (contents : R → Database) (setup : Setup) (pair : Pair) (w : World D R) (log : List Record) → IsWorld contents w → Stands setup pair w → IsPrefix w.source.log log →
     may_dispatch setup log pair ≡ is_eligible w.replica
 eligible_as contents setup pair w log h st longer =
     eligible_at setup log pair (low_as contents setup pair w h st) ∙ ap is_eligible (replica_is contents setup pair w log h st longer)
 
--- the pairs count what the replica dispatched
+-- the state counts what the replica dispatched
 dispatched_as : {D R : Type 0} (setup : Setup) (pair : Pair) (w : World D R) → Stands setup pair w → pair.dispatched ≡ w.replica.dispatched
 dispatched_as setup pair w st = ap (λ (r : Replica). r.dispatched) (sym st.replica.is)
 

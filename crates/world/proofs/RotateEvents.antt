@@ -28,7 +28,7 @@ use Rattle.world.proofs.Counting.{one_of_two, tells_one, tells_none}
 
 -- ---- refused before a device is asked
 
--- the pairs say that the source is busy where it is
+-- the state says that the source is busy where it is
 busy_as : {D R : Type 0} (setup : Setup) (pair : Pair) (w : World D R) → Stands setup pair w → busy pair ≡ is_busy w.source
 busy_as setup pair w st = λ i. nat_lt (sym (ap (λ (s : Source). s.committed) st.source.is) i) (st.source.flushed i)
 

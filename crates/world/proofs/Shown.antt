@@ -1,4 +1,4 @@
--- What readers are shown, in the words of the pairs.
+-- What readers are shown, in the words of the machine.
 use mathlib.Core.List.{IsPrefix}
 use Rattle.std.proofs.Common.{◌≡◌, ◌∙◌, sym, ap, subst, ℕ, ◌+◌, ◌≤◌, true, List, ◌++◌, length, take, drop, Some, arith}
 use Rattle.std.proofs.lemmas.List.{take-append-drop, take-append-le, take-take, length-take-le}
@@ -66,7 +66,7 @@ shows_first contents w h preserve =
       rows = (λ i. after (sym h.replica.tables i) (loaded (sym h.replica.base i)) (sym front i)) ∙ h.readers.ran;
     }
 
--- ---- in the words of the pairs
+-- ---- in the words of the machine
 
 -- in the order of the log
 pub record TellsFirst {R : Type 0} (contents : R → Database) (setup : Setup) (pair : Pair) (log : List Record) (shown : Shown R) : Type 0 where
