@@ -1,11 +1,11 @@
 -- What a run began with and its events fix its replies.
-use Rattle.std.proofs.Common.{◌≡◌, ◌∙◌, sym, ap, subst, refl, ℕ, zero, suc, ◌+◌, ◌-◌, ◌<◌, ◌≤◌, Bool, true, false, ◌&&◌, ◌||◌, nat_le, List, [], ◌∷◌, ◌++◌, length, map, take, drop, Option, slice_get}
+use Rattle.std.proofs.Common.{◌≡◌, ◌∙◌, sym, ap, subst, refl, ℕ, zero, suc, ◌+◌, ◌-◌, ◌<◌, ◌≤◌, Bool, true, false, ◌&&◌, nat_le, List, [], ◌∷◌, ◌++◌, length, map, take, drop, Option, slice_get}
 use Rattle.std.proofs.Common.{inl, inr, if◌then◌else◌, arith}
-use Rattle.std.specs.Prelude.{ℤ, Ok, option_and_then, nat_lt, ◌⊎◌}
+use Rattle.std.specs.Prelude.{ℤ, Ok, option_and_then, nat_lt}
 use Rattle.std.specs.List.{AllByRecursion, list_any, flat_map}
 use Rattle.std.specs.Option.{option_map_or}
 use Rattle.std.specs.FinMap.{get}
-use Rattle.std.proofs.lemmas.Bool.{false≢true, and_parts, or_parts, or_cases, leb-true, ltb-true}
+use Rattle.std.proofs.lemmas.Bool.{false≢true, and_parts, or_parts, leb-true, ltb-true}
 use Rattle.std.proofs.lemmas.List.{length-map, length-take-le, take-append-drop, take-take}
 use Rattle.std.proofs.Math.Seq.{take-add}
 use Rattle.schema.proofs.Lists.{AllByRecursion-push, AllByRecursion-weaker}
@@ -37,7 +37,7 @@ use Rattle.world.specs.Replies.{prepared_reply}
 use Rattle.world.specs.Pair.{Pair, new_pair, next, pair_after, busy, replica_committed, low_water, published_gnos, is_failure}
 use Rattle.world.specs.Legal.{Setup, rows_after, source_at, refused_or, stamp_of, next_records, FlushAnswers, SyncAnswers, RotateAnswers, is_full}
 use Rattle.world.specs.Legal.{commit_reply, group_between, log_text, is_due, may_dispatch, ExecutedAnswers}
-use Rattle.world.specs.Legal.{read_reply, Answers, is_source_memory, is_replica_memory, is_codec_memory, is_log_memory, asks_memory, tells_memory, Allowed, AreAllowed, AreLegal}
+use Rattle.world.specs.Legal.{read_reply, Answers, asks_memory, tells_memory, Allowed, AreAllowed, AreLegal}
 use Rattle.world.specs.Laws.{is_memory, FailAlike, OneAnswer, OneLog}
 use Rattle.world.proofs.LawsReplies.{Says, says, telling_says}
 use Rattle.world.proofs.LawsSteps.{Follow-le, oldest_of, Holds, at_first, step, in_order}

@@ -1,10 +1,10 @@
 -- The laws of runs with legal replies.
 use mathlib.Core.List.{IsPrefix}
 use Rattle.std.proofs.Common.{◌≡◌, ◌∙◌, sym, ap, subst, refl, ℕ, zero, suc, ◌+◌, ◌-◌, ◌<◌, ◌≤◌, Bool, true, false, if◌then◌else◌, List, [], ◌∷◌, ◌++◌, length, length-append, take, drop, Option, Some}
-use Rattle.std.proofs.Common.{None, slice_get, inl, inr, ◌⊎◌, eq-or-lt_of_le, arith, cond, count_by, not, ◌&&◌, ◌||◌}
+use Rattle.std.proofs.Common.{None, slice_get, inl, inr, ◌⊎◌, eq-or-lt_of_le, arith, cond, count_by, not, ◌&&◌}
 use Rattle.std.specs.Prelude.{ℤ, option_and_then}
 use Rattle.std.specs.FinMap.{get}
-use Rattle.std.proofs.lemmas.Bool.{false≢true, cases_lt, and_parts, leb-true, or_right}
+use Rattle.std.proofs.lemmas.Bool.{false≢true, cases_lt, and_parts, leb-true}
 use Rattle.std.proofs.lemmas.Option.{none-some, same_Some}
 use Rattle.std.proofs.lemmas.List.Sums.{sum_by-cons}
 use Rattle.std.proofs.lemmas.List.{take-append-drop, take-append-le, take-take, length-take-le}
@@ -20,9 +20,9 @@ use Rattle.world.specs.declared.events.Event.{Event}
 use Rattle.world.specs.declared.events.Event.TheVariants as events
 use Rattle.world.specs.declared.events.Reply.{Reply}
 use Rattle.world.specs.declared.events.Reply.TheVariants as replies
-use Rattle.world.specs.Pair.{Pair, new_pair, next, pair_after, pair_at, replica_committed, published_gnos, busy, is_failure}
+use Rattle.world.specs.Pair.{Pair, new_pair, next, pair_after, pair_at, replica_committed, published_gnos, busy}
 use Rattle.world.specs.Legal.{Setup, rows_after, is_commit, read_reply, Allowed, AreAllowed, AreLegal, refused_or, FlushAnswers, SyncAnswers, RotateAnswers, is_full, Answers, asks_memory}
-use Rattle.world.specs.Laws.{TellsPublished, ReadsArePrefixes, ReadsAreGapped, ReadsAreAnswered, ReadsAreSynced, ReadsNeverGoBack, PublishedWithin, NumbersNeverFall, NoneFalls, CommittedAreSynced}
+use Rattle.world.specs.Laws.{TellsPublished, ReadsArePrefixes, ReadsAreGapped, ReadsAreAnswered, ReadsAreSynced, ReadsNeverGoBack, PublishedWithin, NumbersNeverFall, CommittedAreSynced}
 use Rattle.world.specs.Laws.{EachCommitOnceInOrder, EachCommitOnce, NothingUnsyncedIsAccepted, RefusesOnlyGaps, OperationsLeaveRows, asks_source, HaltsForGood}
 use Rattle.world.proofs.ReplicaEvents.{ordered_leave_rows}
 use Rattle.world.proofs.LawsReplies.{Says, says}

@@ -1,7 +1,7 @@
 -- Facts of the parts of a world that every event uses.
 use mathlib.Core.List.{IsPrefix}
 use base.Growing.{prefix_refl}
-use Rattle.std.proofs.Common.{◌≡◌, ◌∙◌, sym, ap, subst, refl, ℕ, ◌+◌, ◌≤◌, Bool, true, false, not, ◌&&◌, Some, None, IsSome, Result, List, ◌∷◌, length, map, take, Option, arith}
+use Rattle.std.proofs.Common.{◌≡◌, ◌∙◌, sym, ap, subst, refl, ℕ, ◌+◌, ◌≤◌, Bool, true, false, not, ◌&&◌, Some, None, IsSome, Result, List, length, map, take, Option, arith}
 use Rattle.std.proofs.lemmas.Bool.{false≢true, and_from}
 use Rattle.std.proofs.lemmas.List.{take-append-le}
 use Rattle.rows.specs.Database.{Database}

@@ -1,17 +1,17 @@
 -- The event by which the log goes on in a next file.
 use base.Growing.{prefix_refl}
-use Rattle.std.proofs.Common.{◌≡◌, ◌∙◌, sym, ap, subst, refl, ℕ, ◌+◌, ◌<◌, Bool, true, false, not, nat_le, List, [], ◌∷◌, ◌++◌, length, length-append, map, Option, append_assoc, inl, inr, arith, ◌⊎◌}
+use Rattle.std.proofs.Common.{◌≡◌, ◌∙◌, sym, ap, subst, refl, ℕ, ◌+◌, ◌<◌, Bool, true, false, not, nat_le, List, [], ◌∷◌, ◌++◌, length, length-append, map, append_assoc, inl, inr, arith, ◌⊎◌}
 use Rattle.std.specs.Prelude.{nat_lt}
 use Rattle.std.proofs.lemmas.Bool.Decides.{nat_tests}
-use Rattle.std.proofs.lemmas.Bool.{false≢true, and_from}
+use Rattle.std.proofs.lemmas.Bool.{and_from}
 use Rattle.std.proofs.lemmas.List.{length-map, map-append}
 use Rattle.rows.specs.Database.{Database}
 use Rattle.source_core.specs.declared.fault.SourceFault.TheVariants as faults_of
-use Rattle.source_core.specs.Source.{Source, Open}
+use Rattle.source_core.specs.Source.{Source}
 use Rattle.source_core.specs.Calls.{is_busy, halted as halted_source}
 use Rattle.log_file.specs.declared.fault.LogFault.{LogFault}
 use Rattle.log_file.specs.declared.fault.LogFault.TheVariants as log_file
-use Rattle.log_file.specs.Head.{Head, next_of}
+use Rattle.log_file.specs.Head.{next_of}
 use Rattle.log_file.specs.Log.{Log, Kept}
 use Rattle.log_file.specs.Flushed.{IsFlushedOf, kept_of}
 use Rattle.log_file.specs.Calls.{ends as ends_of}
@@ -20,7 +20,7 @@ use Rattle.world.specs.declared.events.Event.TheVariants as events
 use Rattle.world.specs.declared.events.Reply.{Reply}
 use Rattle.world.specs.declared.events.Reply.TheVariants as replies
 use Rattle.world.specs.Pair.{Pair, busy}
-use Rattle.world.specs.Legal.{Setup, source_at, RotateAnswers, is_full}
+use Rattle.world.specs.Legal.{Setup, RotateAnswers, is_full}
 use Rattle.world.specs.Put.{IsNotRotated, FailsToRotate, OneFailed}
 use Rattle.world.specs.State.{World, IsWorld, Stands, Goes, set_of, TellsFailure}
 use Rattle.world.proofs.Parts.{stays, halted_as, asks_of, wire_with, replica_with, fails_goes, devices_go}

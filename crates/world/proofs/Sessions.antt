@@ -1,14 +1,12 @@
 -- The transactions of all sessions.
-use Rattle.std.proofs.Common.{◌≡◌, ◌∙◌, sym, ap, refl, ℕ, zero, suc, ◌+◌, ◌-◌, ◌≤◌, ◌<◌, false, ◌==◌, if◌then◌else◌, List, [], ◌∷◌, length, map, get_or, set, replicate, Option, None, arith}
+use Rattle.std.proofs.Common.{◌≡◌, ◌∙◌, sym, ap, refl, ℕ, zero, suc, ◌+◌, ◌-◌, ◌≤◌, ◌<◌, false, ◌==◌, if◌then◌else◌, List, ◌∷◌, length, map, get_or, set, replicate, Option, None, arith}
 use Rattle.std.specs.List.{range_with_len}
 use Rattle.std.proofs.lemmas.Bool.{eq-eqb}
 use Rattle.std.proofs.lemmas.Bool.Decides.{nat_tests}
 use Rattle.std.proofs.lemmas.List.FromFn.{length-map-range_with_len}
 use Rattle.source_core.specs.Source.{Open}
 use Rattle.source_core.specs.Calls.{each_session}
-use Rattle.world.specs.declared.events.Event.{Event}
-use Rattle.world.specs.Pair.{Pair, new_pair, transaction_after, next, transactions}
-use Rattle.world.specs.declared.events.Reply.{Reply}
+use Rattle.world.specs.Pair.{transactions}
 
 -- ---- lists that a function makes of numbers in turn
 
