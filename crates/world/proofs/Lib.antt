@@ -1,5 +1,4 @@
 pub mod Parts
-pub mod Groups
 pub mod Sessions
 pub mod Shown
 pub mod SourceEvents

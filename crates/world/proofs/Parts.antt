@@ -1,12 +1,15 @@
 -- Facts of the parts of a world that every event uses.
 use mathlib.Core.List.{IsPrefix}
 use base.Growing.{prefix_refl}
-use Rattle.std.proofs.Common.{◌≡◌, ◌∙◌, sym, ap, subst, refl, ℕ, ◌+◌, ◌≤◌, Bool, true, false, not, ◌&&◌, Some, None, IsSome, Result, List, length, map, take, Option, arith}
+use Rattle.std.proofs.Common.{[], ◌≡◌, ◌∙◌, sym, ap, subst, refl, ℕ, ◌+◌, ◌≤◌, Bool, true, false, not, ◌&&◌, Some, None, IsSome, Result, List, length, map, take, Option, arith}
 use Rattle.std.proofs.lemmas.Bool.{false≢true, and_from}
 use Rattle.std.proofs.lemmas.List.{take-append-le}
 use Rattle.rows.specs.Database.{Database}
 use Rattle.record_codec.specs.declared.records.Record.{Record}
 use Rattle.record_codec.specs.Group.{GroupValue, AreNumbered}
+use Rattle.record_codec.proofs.Logs.{part_is_numbered}
+use Rattle.record_codec.proofs.Numbered.{take_numbered}
+use Rattle.store_trait.specs.Operation.{loaded}
 use Rattle.source_core.specs.Source.{Source, Open, IsSound}
 use Rattle.source_core.specs.Calls.{cause, halted as halted_source}
 use Rattle.log_file.specs.declared.fault.LogFault.TheVariants as log_file
@@ -77,6 +80,10 @@ with_source w s = record w { source = s }
 
 abbrev pub with_replica : {D R : Type 0} → World D R → Replica → World D R
 with_replica w r = record w { replica = r }
+
+-- the synced records of a source are numbered from 1
+pub synced_numbered : (s : Source) → IsSound s → AreNumbered 1 (take s.synced s.log)
+synced_numbered s sound = take_numbered 1 s.synced s.log (part_is_numbered s.tables (loaded s.base) [] s.log sound.legal)
 
 -- ---- the log and its devices
 
