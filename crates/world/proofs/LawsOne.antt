@@ -258,7 +258,7 @@ module _ (setup : Setup) (log other : List Record) (pair : Pair) (agree : Agree 
   more_within : (n m : ℕ) (groups : List (ℕ × ℕ)) → n ≤ m → AreWithin n groups → AreWithin m groups
   more_within n m groups le all = AllByRecursion-weaker (λ (group : ℕ × ℕ). group.1 ≤ n) (λ (group : ℕ × ℕ). group.1 ≤ m) (λ group within. omega (arith, within, le)) groups all
 
-  still_within : (event : Event) (reply : Reply) → Says setup log pair event reply → AreWithin ((next pair event reply).flushed) ((next pair event reply).synced_groups)
+  still_within : (event : Event) (reply : Reply) → Says setup log pair event reply → AreWithin (next pair event reply).flushed (next pair event reply).synced_groups
   still_within event (replies.Flushed first stamps) s = more_within pair.flushed (pair.flushed + length stamps) pair.synced_groups (omega arith) agree.groups
   still_within event (replies.Synced first last) s =
       AllByRecursion-push (λ (group : ℕ × ℕ). group.1 ≤ pair.flushed) pair.synced_groups (first, last) agree.groups

@@ -105,38 +105,36 @@ module _ (setup : Setup) (log : List Record) (es : List Event) (rs : List Reply)
   said_at : (place : ℕ) (reply : Reply) → slice_get rs place ≡ Some reply → (event : Event) × (slice_get es place ≡ Some event) × Says setup log (pair_at es rs place) event reply
   said_at place reply got = let s = by_reply place reply got in (s.0, s.1.event_is, says setup log _ s.0 reply s.1.allowed)
 
+  -- what a read says
+  read_at : (place upto more : ℕ) (row : Option (List ℤ)) → slice_get rs place ≡ Some (replies.Read upto more row) →
+      (id : RowId) × (slice_get es place ≡ Some (events.Read id)) × IsRead setup log legal.legal (pair_at es rs place) id upto more row
+  read_at place upto more row got =
+      let at = said_at place (replies.Read upto more row) got in
+      let h = holds_at place in
+      (at.2.0, at.1 ∙ ap Some at.2.1, is_read setup log legal.legal (pair_at es rs place) at.2.0 upto more row h.shown h.committed at.2.2)
+
+  -- of this row
+  read_of : (place : ℕ) (id : RowId) (upto more : ℕ) (row : Option (List ℤ)) →
+      slice_get es place ≡ Some (events.Read id) → slice_get rs place ≡ Some (replies.Read upto more row) → IsRead setup log legal.legal (pair_at es rs place) id upto more row
+  read_of place id upto more row read answer =
+      let at = read_at place upto more row answer in
+      subst (λ (q : RowId). IsRead setup log legal.legal (pair_at es rs place) q upto more row) (cc (same_Some (events.Read at.0) (events.Read id) (sym at.1 ∙ read))) at.2
+
+  -- the commits are of records that are dispatched
+  committed_within : (place gno : ℕ) → has_gno (pair_at es rs place).commits gno ≡ true → (1 ≤ gno) × (gno ≤ (pair_at es rs place).dispatched)
+  committed_within place gno is =
+      let pair = pair_at es rs place in
+      let c = (holds_at place).committed in
+      let bounds = and_parts _ _ (sym (c.each gno) ∙ has_gno_front pair.commits (pair.out ++ pair.finished) gno is) in
+      (leb-true 1 gno bounds.0, leb-true gno pair.dispatched bounds.1)
+
 -- ---- reads
-
--- what a read says
-read_at : (setup : Setup) (log : List Record) (es : List Event) (rs : List Reply) → (legal : AreLegal setup log es rs) → (place upto more : ℕ) (row : Option (List ℤ)) →
-    slice_get rs place ≡ Some (replies.Read upto more row) →
-    (id : RowId) × (slice_get es place ≡ Some (events.Read id)) × IsRead setup log legal.legal (pair_at es rs place) id upto more row
-read_at setup log es rs legal place upto more row got =
-    let at = said_at setup log es rs legal place (replies.Read upto more row) got in
-    let h = holds_at setup log es rs legal place in
-    (at.2.0, at.1 ∙ ap Some at.2.1, is_read setup log legal.legal (pair_at es rs place) at.2.0 upto more row h.shown h.committed at.2.2)
-
--- of this row
-read_of : (setup : Setup) (log : List Record) (es : List Event) (rs : List Reply) → (legal : AreLegal setup log es rs) → (place : ℕ) (id : RowId) (upto more : ℕ) (row : Option (List ℤ)) →
-    slice_get es place ≡ Some (events.Read id) → slice_get rs place ≡ Some (replies.Read upto more row) → IsRead setup log legal.legal (pair_at es rs place) id upto more row
-read_of setup log es rs legal place id upto more row read answer =
-    let at = read_at setup log es rs legal place upto more row answer in
-    subst (λ (q : RowId). IsRead setup log legal.legal (pair_at es rs place) q upto more row) (cc (same_Some (events.Read at.0) (events.Read id) (sym at.1 ∙ read))) at.2
 
 pub prefixes : ReadsArePrefixes
 prefixes setup log es rs legal preserve place id upto more row read answer =
     let r = read_of setup log es rs legal place id upto more row read answer in
     let first = r.in_order preserve in
     first.2 ∙ ap (λ n. option_and_then (λ db. get db id) (rows_after setup log n)) (sym first.0)
-
--- the commits are of records that are dispatched
-committed_within : (setup : Setup) (log : List Record) (es : List Event) (rs : List Reply) → AreLegal setup log es rs → (place gno : ℕ) → has_gno ((pair_at es rs place).commits) gno ≡ true →
-    (1 ≤ gno) × (gno ≤ (pair_at es rs place).dispatched)
-committed_within setup log es rs legal place gno is =
-    let pair = pair_at es rs place in
-    let c = (holds_at setup log es rs legal place).committed in
-    let bounds = and_parts _ _ (sym (c.each gno) ∙ has_gno_front pair.commits (pair.out ++ pair.finished) gno is) in
-    (leb-true 1 gno bounds.0, leb-true gno pair.dispatched bounds.1)
 
 pub gapped_reads : ReadsAreGapped
 gapped_reads setup log es rs legal place id upto more row read answer =
@@ -215,8 +213,7 @@ once setup log es rs legal before later gno lt first second =
     let at = said_at setup log es rs legal later (replies.Commit gno) second in
     let c = (holds_at setup log es rs legal later).committed in
     let behind = (by_reply setup log es rs legal before (replies.Commit gno) first).1.onward in
-    let among : has_gno (pair_at es rs (suc before)).commits gno ≡ true =
-    ap (λ (p : Pair). has_gno p.commits gno) behind ∙ has_gno_last (pair_at es rs before).commits gno in
+    let among : has_gno (pair_at es rs (suc before)).commits gno ≡ true = ap (λ (p : Pair). has_gno p.commits gno) behind ∙ has_gno_last (pair_at es rs before).commits gno in
     let more = (grown setup log es rs legal (suc before) later lt).commits in
     let now : has_gno pair.commits gno ≡ true = subst (λ (l : List ℕ). has_gno l gno ≡ true) more.1 (has_gno_front (pair_at es rs (suc before)).commits more.0 gno among) in
     false≢true (sym (distinct_apart pair.commits (pair.out ++ pair.finished) c.distinct gno now) ∙ has_gno_behind pair.out pair.finished gno at.2.done)
@@ -227,8 +224,7 @@ once setup log es rs legal before later gno lt first second =
 synced_by : (setup : Setup) (log : List Record) (pair : Pair) (event : Event) (reply : Reply) (gno : ℕ) → Says setup log pair event reply → Holds setup log pair → pair.synced < gno →
     gno ≤ (next pair event reply).synced →
     (from to : ℕ) × (reply ≡ replies.Synced from to) × (from ≤ gno) × (gno ≤ to)
-synced_by setup log pair event (replies.Synced first last) gno s h behind within =
-    (first, last, refl, omega (arith, (oldest_of pair first last s h.source.follow).0, behind), within)
+synced_by setup log pair event (replies.Synced first last) gno s h behind within = (first, last, refl, omega (arith, (oldest_of pair first last s h.source.follow).0, behind), within)
 synced_by setup log pair event reply gno s h behind within = absurd (omega (arith, behind, within))
 
 -- a record that is synced at some moment was told so before
@@ -289,8 +285,7 @@ never_fall setup log es rs legal before later le = none_falls (pair_at es rs bef
 -- of commits that grow, more have no lower mark
 marks_rise : (xs ys : List ℕ) (m n : ℕ) → IsPrefix xs ys → m ≤ n → m ≤ length xs → low_of (take m xs) ≤ low_of (take n ys)
 marks_rise xs ys m n longer le within =
-    let same : take m xs ≡ take m (take n ys) =
-    sym (take-append-le m xs longer.0 within) ∙ ap (take m) longer.1 ∙ sym (take-take m n ys le) in
+    let same : take m xs ≡ take m (take n ys) = sym (take-append-le m xs longer.0 within) ∙ ap (take m) longer.1 ∙ sym (take-take m n ys le) in
     subst (λ (l : List ℕ). low_of l ≤ low_of (take n ys)) (sym same) (low_of-take m (take n ys))
 
 pub never_back : ReadsNeverGoBack

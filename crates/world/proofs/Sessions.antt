@@ -1,9 +1,9 @@
 -- The transactions of all sessions.
 use Rattle.std.proofs.Common.{◌≡◌, ◌∙◌, sym, ap, refl, ℕ, zero, suc, ◌+◌, ◌-◌, ◌≤◌, ◌<◌, false, ◌==◌, if◌then◌else◌, List, ◌∷◌, length, map, get_or, set, replicate, Option, None, arith}
 use Rattle.std.specs.List.{range_with_len}
-use Rattle.std.proofs.lemmas.Bool.{eq-eqb}
-use Rattle.std.proofs.lemmas.Bool.Decides.{nat_tests}
-use Rattle.std.proofs.lemmas.List.FromFn.{length-map-range_with_len}
+use Rattle.std.proofs.lemmas.Bool.{eq-eqb, ne_eqb}
+use Rattle.std.proofs.lemmas.Simd.{map-map, splat_is_map}
+use Rattle.std.proofs.lemmas.List.FromFn.{length-range_with_len, length-map-range_with_len}
 use Rattle.source_core.specs.Source.{Open}
 use Rattle.source_core.specs.Calls.{each_session}
 use Rattle.world.specs.Pair.{transactions}
@@ -14,20 +14,10 @@ same_each : {X : Type 0} (f g : ℕ → X) (a n : ℕ) → ((k : ℕ) → a ≤ 
 same_each f g a zero same = refl
 same_each f g a (suc n) same = λ i. same a (omega arith) i ∷ same_each f g (a + 1) n (λ k le. same k (omega (arith, le))) i
 
--- each element changed by itself
-map_each : {X : Type 0} (f : ℕ → X) (h : X → X) (a n : ℕ) → map h (map f (range_with_len a n)) ≡ map (λ k. h (f k)) (range_with_len a n)
-map_each f h a zero = refl
-map_each f h a (suc n) = ap (λ xs. h (f a) ∷ xs) (map_each f h (a + 1) n)
-
 -- each changed by its number
 each_of : (f : ℕ → Option Open) (h : ℕ → Option Open → Option Open) (a n : ℕ) → each_session h a (map f (range_with_len a n)) ≡ map (λ k. h k (f k)) (range_with_len a n)
 each_of f h a zero = refl
 each_of f h a (suc n) = ap (λ xs. h a (f a) ∷ xs) (each_of f h (a + 1) n)
-
--- none of them
-none_each : {X : Type 0} (x : X) (a n : ℕ) → replicate n x ≡ map (λ k. x) (range_with_len a n)
-none_each x a zero = refl
-none_each x a (suc n) = ap (λ xs. x ∷ xs) (none_each x (a + 1) n)
 
 -- one of them changed, at its place
 set_each : {X : Type 0} (f : ℕ → X) (h : X → X) (d : X) (one a n place : ℕ) → one ≡ a + place → place < n →
@@ -35,15 +25,10 @@ set_each : {X : Type 0} (f : ℕ → X) (h : X → X) (d : X) (one a n place : �
 set_each f h d one a zero place is within = absurd (omega (arith, within))
 set_each f h d one a (suc n) zero is within =
     λ i. (if sym (eq-eqb one a (omega (arith, is))) i then h (f a) else f a) ∷ same_each f (λ k. if one == k then h (f k) else f k) (a + 1) n later i where
-      apart : (x y : ℕ) → x < y → (x == y) ≡ false
-      apart x y q = grind (arith, nat_tests)
-
       later : (k : ℕ) → a + 1 ≤ k → f k ≡ (if one == k then h (f k) else f k)
-      later k le = ap (λ b. if b then h (f k) else f k) (sym (apart one k (omega (arith, is, le))))
+      later k le = ap (λ b. if b then h (f k) else f k) (sym (ne_eqb one k (λ e. omega (arith, is, le, e))))
 set_each f h d one a (suc n) (suc place) is within =
-    λ i. (if sym (apart one a (omega (arith, is))) i then h (f a) else f a) ∷ set_each f h d one (a + 1) n place (omega (arith, is)) (omega (arith, within)) i where
-      apart : (x y : ℕ) → y < x → (x == y) ≡ false
-      apart x y q = grind (arith, nat_tests)
+    λ i. (if sym (ne_eqb one a (λ e. omega (arith, is, e))) i then h (f a) else f a) ∷ set_each f h d one (a + 1) n place (omega (arith, is)) (omega (arith, within)) i
 
 -- ---- the sessions
 
@@ -57,7 +42,7 @@ length_transactions f = ap (λ (ts : List (Option Open)). length ts) (counted.2 
 
 -- none has a transaction
 pub none_open : replicate 256 None ≡ transactions (λ k. None)
-none_open = ap (λ (n : ℕ). replicate {A = Option Open} n None) (sym counted.1) ∙ none_each {X = Option Open} None 1 counted.0 ∙ sym (counted.2 (λ k. None))
+none_open = ap (λ (n : ℕ). replicate {A = Option Open} n None) (sym counted.1) ∙ splat_is_map {V = ℕ} {Y = Option Open} (range_with_len 1 counted.0) counted.0 None (length-range_with_len 1 counted.0) ∙ sym (counted.2 (λ k. None))
 
 -- one of them changed
 pub one_changed : (f : ℕ → Option Open) (h : Option Open → Option Open) (session : ℕ) → 1 ≤ session → session ≤ 256 →
@@ -69,7 +54,7 @@ one_changed f h session least greatest =
 
 -- all of them
 pub all_changed : (f : ℕ → Option Open) (h : Option Open → Option Open) → transactions (λ k. h (f k)) ≡ map h (transactions f)
-all_changed f h = counted.2 (λ k. h (f k)) ∙ sym (map_each f h 1 counted.0) ∙ ap (map h) (sym (counted.2 f))
+all_changed f h = counted.2 (λ k. h (f k)) ∙ sym (map-map h f (range_with_len 1 counted.0)) ∙ ap (map h) (sym (counted.2 f))
 
 -- each by its number
 pub each_changed : (f : ℕ → Option Open) (h : ℕ → Option Open → Option Open) → transactions (λ k. h k (f k)) ≡ each_session h 1 (transactions f)
