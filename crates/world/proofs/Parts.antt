@@ -178,15 +178,33 @@ fails_goes {D} {R} contents w event wire h same failed flushed halts calls allow
 }
 
 -- Memory ran out for the log: only its devices may be others.
-pub devices_go : {D R : Type 0} (contents : R → Database) (w : World D R) (event : Event) (device : D) (spare : List D) → IsWorld contents w → length spare ≡ length w.wire.spare →
+pub devices_go : {D R : Type 0} (contents : R → Database) (w : World D R) (event : Event) (wire : Link D) → IsWorld contents w → wire.log ≡ w.wire.log → wire.firsts ≡ w.wire.firsts →
+    wire.starts ≡ w.wire.starts → wire.unsynced ≡ w.wire.unsynced → length wire.spare ≡ length w.wire.spare →
     ((pair : Pair) → next pair event (replies.Log log_file.Memory) ≡ pair) → CallsLog event → IsAllowed w event (replies.Log log_file.Memory) →
-    Goes contents w event (replies.Log log_file.Memory) (record w { wire = record w.wire { device = device; spare = spare } })
-devices_go contents w event device spare h spares idle calls allowed =
-    let wire : Link _ = record w.wire { device = device; spare = spare } in
-    let same : HasSame w.wire wire = record { head = refl; groups = refl; goes = refl; firsts = refl; starts = refl; unsynced = refl; spares = spares } in
-    let world = wire_with h.wire h.wire.flushed refl refl refl h.wire.failed h.wire.ready (places_with contents w wire h same) in
+    Goes contents w event (replies.Log log_file.Memory) (record w { wire = wire })
+devices_go {D} {R} contents w event wire h log firsts starts unsynced spares idle calls allowed =
+    let same : HasSame w.wire wire = record {
+      head = ap (λ (l : Log). l.head) log;
+      groups = ap (λ (l : Log). l.groups) log;
+      goes = ap (λ (l : Log). l.finished) log;
+      firsts = firsts;
+      starts = starts;
+      unsynced = unsynced;
+      spares = spares;
+    } in
+    let failed = ap (λ (l : Log). l.failed) log in
+    let flushed : IsFlushedOf w.source.log w.source.synced w.source.group_sizes (kept_of wire.log) wire.unsynced =
+    subst (λ (l : Log). IsFlushedOf w.source.log w.source.synced w.source.group_sizes (kept_of l) wire.unsynced) (sym log)
+    (subst (λ (gs : List GroupValue). IsFlushedOf w.source.log w.source.synced w.source.group_sizes (kept_of w.wire.log) gs) (sym unsynced) h.wire.flushed) in
     record {
-      world = record { source = h.source; wire = world; replica = h.replica; jobs = h.jobs; readers = h.readers };
+      world = record {
+        source = h.source;
+        wire = wire_with h.wire flushed same.groups same.head same.goes (failed ∙ h.wire.failed) (λ runs. ap (λ (l : Log). l.waiting) log ∙ h.wire.ready (sym failed ∙ runs))
+            (places_with contents w wire h same);
+        replica = replica_with contents w wire.log.head same.head h;
+        jobs = h.jobs;
+        readers = h.readers;
+      };
       grows = prefix_refl w.source.log;
       still = λ a b. absurd (calls a b);
       stands = λ setup pair st.

@@ -170,10 +170,11 @@ rotate_fails {D} {R} contents faults w c set back next failed next_is =
     inr (running_answer setup pair w false false (length w.wire.firsts) (replies.Log log_file.Device) st c.runs c.idle refl (room_of contents w c) (inr refl))))
 
 -- want of memory changes nothing but the device
-rotate_memory : {D R : Type 0} (contents : R → Database) (w : World D R) (c : RotateCall contents w) (back : D) →
-    Goes contents w events.Rotate (replies.Log log_file.Memory) (rotated_to w w.source (set_of w.wire) (back ∷ c.others))
-rotate_memory {D} contents w c back =
-    devices_go contents w events.Rotate w.wire.device (back ∷ c.others) c.world (sym (ap (λ (l : List D). length l) c.spares)) (λ pair. refl) (λ a other. other refl)
+rotate_memory : {D R : Type 0} (contents : R → Database) (w : World D R) (c : RotateCall contents w) (set : SetOn D) (back : D) → set ≡ set_of w.wire →
+    Goes contents w events.Rotate (replies.Log log_file.Memory) (rotated_to w w.source set (back ∷ c.others))
+rotate_memory {D} contents w c set back same =
+    devices_go contents w events.Rotate (rotated_to w w.source set (back ∷ c.others)).wire c.world (ap (λ (s : SetOn D). s.log) same) (ap (λ (s : SetOn D). s.firsts) same)
+    (ap (λ (s : SetOn D). s.starts) same) refl (sym (ap (λ (l : List D). length l) c.spares)) (λ pair. refl) (λ a other. other refl)
     (λ setup pair log st longer numbered.
     let idle : not (busy pair) ≡ true = ap not (busy_as setup pair w st ∙ c.idle) in
     let some : not (is_full pair) ≡ true = ap not (ap (nat_le 16) (files_as setup pair w st) ∙ room_of contents w c) in
@@ -193,8 +194,7 @@ rotate_refused {D} {R} contents faults w c fault set spare next not halts others
       by (inr lacks) =
           subst (λ (f : LogFault). Goes {R = R} contents w events.Rotate (replies.Log f) (rotated_to w next set (not.back ∷ c.others))) (sym lacks.0)
           (subst (λ (q : Source). Goes {R = R} contents w events.Rotate (replies.Log log_file.Memory) (rotated_to w q set (not.back ∷ c.others))) (sym (others (λ is. cc (sym lacks.0 ∙ is))))
-          (subst (λ (s : SetOn D). Goes {R = R} contents w events.Rotate (replies.Log log_file.Memory) (rotated_to w w.source s (not.back ∷ c.others))) (sym lacks.1)
-          (rotate_memory contents w c not.back)))
+          (rotate_memory contents w c set not.back lacks.1))
 
 -- ---- what the devices tell
 
