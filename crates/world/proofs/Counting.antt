@@ -1,10 +1,9 @@
 -- Counts of failures, of several devices.
-use Rattle.std.proofs.Common.{◌≡◌, ◌∙◌, sym, ap, subst, refl, ℕ, ◌≤◌, Bool, true, false, List, [], ◌∷◌, ◌++◌, inl, inr, arith}
-use Rattle.std.proofs.Common.{eq-or-lt_of_le}
+use Rattle.std.proofs.Common.{◌≡◌, ◌∙◌, sym, ap, subst, refl, ℕ, ◌≤◌, Bool, true, false, List, [], ◌∷◌, ◌++◌, inl, inr, arith, eq-or-lt_of_le}
 use Rattle.std.proofs.lemmas.Bool.{false≢true}
 use Rattle.world.specs.declared.events.Reply.{Reply}
-use Rattle.world.specs.Past.{is_failure}
 use Rattle.world.specs.Put.{FailedBy, OneFailed, SomeFailed}
+use Rattle.world.specs.Pair.{is_failure}
 use Rattle.world.specs.State.{World, Link, Rests, counts_of, IsCounted, TellsFailure}
 use Rattle.world.specs.Run.{AreCounted, TellFailures}
 

@@ -1,22 +1,67 @@
--- The jobs that wait in the world, as the replica goes on.
-use Rattle.std.proofs.Common.{◌≡◌, ◌∙◌, sym, ap, subst, refl, ℕ, ◌+◌, ◌-◌, ◌==◌, true, false, List, [], ◌∷◌, ◌++◌, length, Option, Some, arith}
+-- The jobs that wait, and the first of a number among them.
+use Rattle.std.proofs.Common.{◌≡◌, ◌∙◌, sym, ap, refl, ℕ, zero, suc, ◌+◌, ◌<◌, ◌==◌, Bool, true, false, ◌||◌, cond, get_or, List, [], ◌∷◌, ◌++◌, length, take, drop, Option, Some, None}
+use Rattle.std.proofs.Common.{IfNone, arith, subst, ◌-◌}
+use Rattle.std.specs.List.{position, position_from, remove, AllByRecursion}
+use Rattle.std.proofs.Math.Seq.{split_at}
+use Rattle.std.proofs.lemmas.Bool.{eqb-true, and_parts, leb-true, or_right, false≢true}
+use Rattle.std.proofs.lemmas.Option.{none-some}
+use Rattle.std.proofs.lemmas.Iterator.Adapters.{position_from-zero}
+use Rattle.executor.specs.declared.Job.{Job}
+use Rattle.scheduler.specs.Gnos.{has_gno, without}
+use Rattle.world.specs.Waiting.{TakesOut, numbers_of}
 use Rattle.std.specs.Prelude.{slice_get}
-use Rattle.std.specs.List.{AllByRecursion}
-use Rattle.std.proofs.lemmas.Bool.{and_parts, leb-true, or_right, false≢true}
-use Rattle.std.proofs.lemmas.List.{map-append}
+use Rattle.std.proofs.lemmas.List.{map-append, length-take-le}
+use Rattle.std.proofs.lemmas.List.Quantifiers.{position-Some}
 use Rattle.schema.proofs.Lists.{AllByRecursion-push}
 use Rattle.rows.specs.Database.{Database}
 use Rattle.record_codec.specs.declared.records.Record.{Record}
-use Rattle.executor.specs.declared.Job.{Job}
 use Rattle.executor.specs.Laws.{IsGood}
-use Rattle.scheduler.specs.Gnos.{has_gno, without}
 use Rattle.scheduler.proofs.Gnos.{has_gno_first, has_gno_front, has_gno_behind, has_gno_between, distinct_apart, distinct_apart_behind, AreDistinct_behind, without_between}
 use Rattle.replica_core.specs.Replica.{Replica, working_rows, job_of}
 use Rattle.replica_core.specs.Calls.{with_accepted, dispatched_next, with_finished, with_commit, with_published}
 use Rattle.replica_core.specs.Sound.{IsSound, IsUnderWay}
 use Rattle.replica_core.proofs.Jobs.{job_is_of_its_record, job_stays, job_stays_behind}
-use Rattle.world.specs.Waiting.{TakesOut, numbers_of}
 use Rattle.world.specs.State.{HasJobs}
+
+abbrev has_number : ℕ → Job → Bool
+has_number gno job = job.gno == gno
+
+none_from : (gno : ℕ) (jobs : List Job) (from : ℕ) → position_from (has_number gno) from jobs ≡ None → has_gno (numbers_of jobs) gno ≡ false
+none_from gno [] from e = refl
+none_from gno (j ∷ jobs) from e = by (j.gno == gno) refl e (none_from gno jobs (from + 1)) where
+  by : (b : Bool) → (j.gno == gno) ≡ b → cond b (Some from) (position_from (has_number gno) (from + 1) jobs) ≡ None →
+      (position_from (has_number gno) (from + 1) jobs ≡ None → has_gno (numbers_of jobs) gno ≡ false) →
+      ((j.gno == gno) || has_gno (numbers_of jobs) gno) ≡ false
+  by true t k behind = absurd (none-some from (sym k))
+  by false t k behind = (λ i. t i || behind k i)
+
+-- none before a place has the number
+none_before : (gno : ℕ) (jobs : List Job) (n : ℕ) → ((k : ℕ) (d : Job) → k < n → has_number gno (get_or jobs k d) ≡ false) → has_gno (numbers_of (take n jobs)) gno ≡ false
+none_before gno jobs zero none = refl
+none_before gno [] (suc n) none = refl
+none_before gno (j ∷ jobs) (suc n) none = λ i. none 0 j (omega arith) i || none_before gno jobs n (λ k d lt. none (suc k) d (omega (arith, lt))) i
+
+-- what is removed at the place of the first is taken out
+pub takes_out : (gno : ℕ) (old : List Job) (place : ℕ) (job : Job) (new : List Job) → Some place ≡ position (has_number gno) old → job ≡ get_or old place job → new ≡ remove old place →
+    TakesOut gno old place job new
+takes_out gno old place job new found got left =
+    let at = position-Some (has_number gno) old place job (sym found) in
+    record {
+      front = take place old;
+      rest = drop (suc place) old;
+      were = split_at old place job at.0 ∙ ap (λ (j : Job). take place old ++ j ∷ drop (suc place) old) (sym got);
+      are = left;
+      at = sym (length-take-le place old (omega (arith, at.0)));
+      number = ap (λ (j : Job). j.gno) got ∙ eqb-true _ gno at.1;
+      first = none_before gno old place (λ k d lt. (position-Some (has_number gno) old place d (sym found)).2 k lt);
+    }
+
+pub none_found : (gno : ℕ) (jobs : List Job) → None ≡ position (has_number gno) jobs → has_gno (numbers_of jobs) gno ≡ false
+none_found gno jobs e = none_from gno jobs 0 (sym (position_from-zero (has_number gno) jobs) ∙ sym e)
+
+pub if_none : {A P : Type 0} (o : Option A) → P → IfNone o P
+if_none None p = p
+if_none (Some x) p = tt
 
 -- ---- records under way
 

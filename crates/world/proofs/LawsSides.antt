@@ -10,9 +10,8 @@ use Rattle.store_trait.specs.declared.Op.TheVariants.{Load, Commit}
 use Rattle.store_trait.specs.Operation.{loaded, left_by}
 use Rattle.record_codec.specs.declared.records.Record.{Record}
 use Rattle.record_codec.specs.Log.{after, IsLegalLog}
-use Rattle.record_codec.proofs.Logs.{beginning_leaves}
+use Rattle.record_codec.proofs.Logs.{beginning_leaves, part_is_numbered}
 use Rattle.record_codec.specs.Group.{AreNumbered}
-use Rattle.record_codec.proofs.Logs.{part_is_numbered}
 use Rattle.record_codec.proofs.Numbered.{take_numbered}
 use Rattle.replica_core.specs.Replica.{operations, commits_from}
 use Rattle.replica_core.proofs.Commits.{first_commits, ops_in_order, operations_leave_rows}

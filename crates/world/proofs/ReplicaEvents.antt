@@ -35,11 +35,11 @@ use Rattle.replica_core.specs.Calls.{stop_fault, unless_stopped, is_eligible, ne
 use Rattle.world.specs.declared.events.Event.{Event}
 use Rattle.world.specs.declared.events.Event.TheVariants as events
 use Rattle.world.specs.declared.events.Reply.TheVariants as replies
-use Rattle.world.specs.Past.{Past, published, published_gnos, accepted, dispatched, replica_committed, low_water}
+use Rattle.world.specs.Pair.{Pair, next, replica_committed, low_water, published_gnos}
 use Rattle.world.specs.Legal.{Setup, replica_at, rows_after, is_due, may_dispatch, dispatch_reply, ExecutedAnswers, read_reply, asks_memory, tells_memory}
 use Rattle.world.specs.State.{World, IsWorld, Stands, Goes}
 use Rattle.world.specs.Run.{ShowsOperations}
-use Rattle.world.proofs.Parts.{replica_is, stays, with_replica, untold, source_untold}
+use Rattle.world.proofs.Parts.{replica_is, stays, with_replica}
 use Rattle.world.proofs.Shown.{ShowsState, shows_state, shows_first}
 use Rattle.world.proofs.Jobs.{jobs_dispatched}
 
@@ -50,42 +50,31 @@ running_answer r answer e = ap (λ (o : Option ℕ). option_map_or (λ gno. Err 
 -- so what a call answers that does not lack memory is this
 pub answered : {T : Type 0} (r : Replica) (asked given : T) → r.stopped ≡ None → (answer : Result T ReplicaFault) → IsErrOf answer faults.Memory ⊎ (answer ≡ unless_stopped r asked) →
     answer ≡ Ok given → asked ≡ given
-answered {T} r asked given going answer (inl memory) is = absurd (other (sym memory ∙ is)) where
-  other : ◌≡◌ {A = Result T ReplicaFault} (Err faults.Memory) (Ok given) → ⊥
-  other e = cc e
-answered {T} r asked given going answer (inr told) is = same (sym (running_answer r asked going) ∙ sym told ∙ is) where
-  same : ◌≡◌ {A = Result T ReplicaFault} (Ok asked) (Ok given) → asked ≡ given
-  same e = ok_same e where
-    ok_same : ◌≡◌ {A = Result T ReplicaFault} (Ok asked) (Ok given) → asked ≡ given
-    ok_same k = cc k
+answered r asked given going answer (inl memory) is = absurd (cc (sym memory ∙ is))
+answered r asked given going answer (inr told) is = cc (sym (running_answer r asked going) ∙ sym told ∙ is)
 
 -- and what refuses it is want of memory
 pub only_memory : {T : Type 0} (r : Replica) (asked : T) (fault : ReplicaFault) → r.stopped ≡ None → (answer : Result T ReplicaFault) →
     IsErrOf answer faults.Memory ⊎ (answer ≡ unless_stopped r asked) → answer ≡ Err fault → fault ≡ faults.Memory
-only_memory {T} r asked fault going answer (inl memory) is = same (sym is ∙ memory) where
-  same : ◌≡◌ {A = Result T ReplicaFault} (Err fault) (Err faults.Memory) → fault ≡ faults.Memory
-  same e = cc e
-only_memory {T} r asked fault going answer (inr told) is = absurd (other (sym (running_answer r asked going) ∙ sym told ∙ is)) where
-  other : ◌≡◌ {A = Result T ReplicaFault} (Ok asked) (Err fault) → ⊥
-  other e = cc e
+only_memory r asked fault going answer (inl memory) is = cc (sym is ∙ memory)
+only_memory r asked fault going answer (inr told) is = absurd (cc (sym (running_answer r asked going) ∙ sym told ∙ is))
 
 -- the same world, with another replica and other jobs
 abbrev pub with_jobs : {D R : Type 0} → World D R → Replica → List Job → World D R
 with_jobs w r jobs = record w { replica = r; jobs = jobs }
 
--- what is due asks for memory, whichever pairs the world stands for
+-- what is due asks for memory, whichever state the world stands for
 abbrev pub Asks : {D R : Type 0} → World D R → Event → Type 0
-Asks w event = (setup : Setup) (past : Past) (log : List Record) → Stands setup past w → IsPrefix w.source.log log → asks_memory setup log past event ≡ true
+Asks w event = (setup : Setup) (pair : Pair) (log : List Record) → Stands setup pair w → IsPrefix w.source.log log → asks_memory setup log pair event ≡ true
 
 -- a call that was refused for want of memory leaves the world as it was
-pub lacks : {D R : Type 0} (contents : R → Database) (w : World D R) (event : Event) (next : Replica) (jobs : List Job) → IsWorld contents w → Asks w event →
-    tells_memory event (replies.Replica faults.Memory) ≡ true →
-    ((setup : Setup) (past : Past) → Stands setup past w → Stands setup ((event, replies.Replica faults.Memory) ∷ past) w) → next ≡ w.replica → jobs ≡ w.jobs →
-    Goes contents w event (replies.Replica faults.Memory) (with_jobs w next jobs)
-lacks {R} contents w event next jobs h asks tells stands same kept =
+pub lacks : {D R : Type 0} (contents : R → Database) (w : World D R) (event : Event) (new : Replica) (jobs : List Job) → IsWorld contents w → Asks w event →
+    tells_memory event (replies.Replica faults.Memory) ≡ true → ((pair : Pair) → next pair event (replies.Replica faults.Memory) ≡ pair) → new ≡ w.replica → jobs ≡ w.jobs →
+    Goes contents w event (replies.Replica faults.Memory) (with_jobs w new jobs)
+lacks {R} contents w event new jobs h asks tells idle same kept =
     subst (λ (r : Replica). Goes {R = R} contents w event (replies.Replica faults.Memory) (with_jobs w r jobs)) (sym same)
     (subst (λ (l : List Job). Goes {R = R} contents w event (replies.Replica faults.Memory) (with_jobs w w.replica l)) (sym kept)
-    (stays contents w event (replies.Replica faults.Memory) h refl stands (λ setup past log st longer numbered. inl (and_from _ _ (asks setup past log st longer) tells))))
+    (stays contents w event (replies.Replica faults.Memory) h refl idle (λ setup pair log st longer numbered. inl (and_from _ _ (asks setup pair log st longer) tells))))
 
 -- ---- dispatch
 
@@ -102,50 +91,50 @@ front_has (suc a) (suc d) (r ∷ log) test = ap (λ (b : Bool). b && option_map_
   both : (m n : ℕ) → nat_lt (suc m) (suc n) ≡ nat_lt m n
   both m n = grind (arith, nat_tests)
 
--- the replica of the pairs finds the next record eligible where they say that it may be dispatched
-eligible_at : (setup : Setup) (log : List Record) (past : Past) → (setup.preserve ≡ true → low_water past ≡ replica_committed past) →
-    may_dispatch setup log past ≡ is_eligible (replica_at setup log past)
-eligible_at setup log past low = by setup.preserve refl where
+-- the replica of a state finds the next record eligible where the state says that it may be dispatched
+eligible_at : (setup : Setup) (log : List Record) (pair : Pair) → (setup.preserve ≡ true → low_water pair ≡ replica_committed pair) →
+    may_dispatch setup log pair ≡ is_eligible (replica_at setup log pair)
+eligible_at setup log pair low = by setup.preserve refl where
   free : Bool
-  free = nat_lt (dispatched past - replica_committed past) setup.workers
+  free = nat_lt (pair.dispatched - replica_committed pair) setup.workers
 
   near : Bool
-  near = nat_le (dispatched past + 1) (low_water past + 4096)
+  near = nat_le (pair.dispatched + 1) (low_water pair + 4096)
 
   found : ℕ → Bool
-  found mark = option_map_or (λ (next : Record). nat_le next.parent mark) (slice_get (take (accepted past) log) (dispatched past)) false
+  found mark = option_map_or (λ (next : Record). nat_le next.parent mark) (slice_get (take pair.accepted log) pair.dispatched) false
 
-  due : (mark : ℕ) → is_due setup log past mark ≡ (found mark && free)
-  due mark = ap (λ (b : Bool). b && free) (front_has (accepted past) (dispatched past) log (λ (next : Record). nat_le next.parent mark))
+  due : (mark : ℕ) → is_due setup log pair mark ≡ (found mark && free)
+  due mark = ap (λ (b : Bool). b && free) (front_has pair.accepted pair.dispatched log (λ (next : Record). nat_le next.parent mark))
 
-  by : (b : Bool) → setup.preserve ≡ b → (if b then is_due setup log past (replica_committed past) else is_due setup log past (low_water past) && near)
-      ≡ (found (low_water past) && free && (b || near))
-  by true e = due (replica_committed past) ∙ ap (λ (mark : ℕ). found mark && free) (sym (low e)) ∙ sym (and-true (found (low_water past) && free))
-  by false e = ap (λ (b : Bool). b && near) (due (low_water past))
+  by : (b : Bool) → setup.preserve ≡ b → (if b then is_due setup log pair (replica_committed pair) else is_due setup log pair (low_water pair) && near)
+      ≡ (found (low_water pair) && free && (b || near))
+  by true e = due (replica_committed pair) ∙ ap (λ (mark : ℕ). found mark && free) (sym (low e)) ∙ sym (and-true (found (low_water pair) && free))
+  by false e = ap (λ (b : Bool). b && near) (due (low_water pair))
 
 -- in the order of the log the mark is the number of commits
-low_as : {D R : Type 0} (contents : R → Database) (setup : Setup) (past : Past) (w : World D R) → IsWorld contents w → Stands setup past w → setup.preserve ≡ true →
-    low_water past ≡ replica_committed past
-low_as contents setup past w h st preserve =
+low_as : {D R : Type 0} (contents : R → Database) (setup : Setup) (pair : Pair) (w : World D R) → IsWorld contents w → Stands setup pair w → setup.preserve ≡ true →
+    low_water pair ≡ replica_committed pair
+low_as contents setup pair w h st preserve =
     let same = sym st.replica.is in
     let first = h.replica.in_order (sym (ap (λ (r : Replica). r.preserve) same) ∙ preserve) in
     ap (λ (r : Replica). low_of r.commits) same ∙ ap low_of first ∙ low_of_first (length w.replica.commits) ∙ ap (λ (r : Replica). length r.commits) (sym same)
 
--- the pairs say that the next record may be dispatched where the replica finds it so
-eligible_as : {D R : Type 0} (contents : R → Database) (setup : Setup) (past : Past) (w : World D R) (log : List Record) → IsWorld contents w → Stands setup past w → IsPrefix w.source.log log →
-    may_dispatch setup log past ≡ is_eligible w.replica
-eligible_as contents setup past w log h st longer =
-    eligible_at setup log past (low_as contents setup past w h st) ∙ ap is_eligible (replica_is contents setup past w log h st longer)
+-- the state says that the next record may be dispatched where the replica finds it so
+eligible_as : {D R : Type 0} (contents : R → Database) (setup : Setup) (pair : Pair) (w : World D R) (log : List Record) → IsWorld contents w → Stands setup pair w → IsPrefix w.source.log log →
+    may_dispatch setup log pair ≡ is_eligible w.replica
+eligible_as contents setup pair w log h st longer =
+    eligible_at setup log pair (low_as contents setup pair w h st) ∙ ap is_eligible (replica_is contents setup pair w log h st longer)
 
--- the pairs count what the replica dispatched
-dispatched_as : {D R : Type 0} (setup : Setup) (past : Past) (w : World D R) → Stands setup past w → dispatched past ≡ w.replica.dispatched
-dispatched_as setup past w st = ap (λ (r : Replica). r.dispatched) (sym st.replica.is)
+-- the state counts what the replica dispatched
+dispatched_as : {D R : Type 0} (setup : Setup) (pair : Pair) (w : World D R) → Stands setup pair w → pair.dispatched ≡ w.replica.dispatched
+dispatched_as setup pair w st = ap (λ (r : Replica). r.dispatched) (sym st.replica.is)
 
-reply_as : {D R : Type 0} (contents : R → Database) (setup : Setup) (past : Past) (w : World D R) (log : List Record) (b : Bool) → IsWorld contents w → Stands setup past w →
+reply_as : {D R : Type 0} (contents : R → Database) (setup : Setup) (pair : Pair) (w : World D R) (log : List Record) (b : Bool) → IsWorld contents w → Stands setup pair w →
     IsPrefix w.source.log log → is_eligible w.replica ≡ b →
-    dispatch_reply setup log past ≡ (if b then replies.Job (w.replica.dispatched + 1) else replies.Nothing)
-reply_as contents setup past w log b h st longer e =
-    (λ i. if (eligible_as contents setup past w log h st longer ∙ e) i then replies.Job (dispatched_as setup past w st i + 1) else replies.Nothing)
+    dispatch_reply setup log pair ≡ (if b then replies.Job (w.replica.dispatched + 1) else replies.Nothing)
+reply_as contents setup pair w log b h st longer e =
+    (λ i. if (eligible_as contents setup pair w log h st longer ∙ e) i then replies.Job (dispatched_as setup pair w st i + 1) else replies.Nothing)
 
 -- a job is handed out where the next record is eligible
 handed_out : (r : Replica) (job : Job) → next_job r ≡ Some job → (is_eligible r ≡ true) × (job_of r (r.dispatched + 1) ≡ Some job)
@@ -166,29 +155,29 @@ dispatch_goes {R} contents w job next jobs h is leaves kept =
       world = record { source = h.source; wire = h.wire; replica = h.replica; jobs = jobs_dispatched w.replica w.jobs job h.jobs out.1; readers = h.readers };
       grows = prefix_refl w.source.log;
       still = λ a b. record { quiet = refl; same = refl };
-      stands = λ setup past st.
-          let number : dispatched past + 1 ≡ job.gno = ap (λ n. n + 1) (dispatched_as setup past w st) ∙ sym its in
+      stands = λ setup pair st.
+          let number : pair.dispatched + 1 ≡ job.gno = ap (λ n. n + 1) (dispatched_as setup pair w st) ∙ sym its in
           record {
-            source = source_untold setup past w.source.log w.source events.Dispatch (replies.Job job.gno) (λ k. refl) st.source;
+            source = st.source;
             wire = st.wire;
             replica = record {
               accepted = st.replica.accepted;
-              is = ap dispatched_next st.replica.is ∙ ap (λ (n : ℕ). record (replica_at setup w.source.log past)
-                  { dispatched = dispatched past + 1; out = (replica_at setup w.source.log past).out ++ n ∷ [] }) number;
+              is = ap dispatched_next st.replica.is ∙ ap (λ (n : ℕ). record (replica_at setup w.source.log pair)
+                  { dispatched = pair.dispatched + 1; out = (replica_at setup w.source.log pair).out ++ n ∷ [] }) number;
             };
           };
-      allowed = λ setup past log st longer numbered. inr (ap replies.Job its ∙ sym (reply_as contents setup past w log true h st longer out.0));
+      allowed = λ setup pair log st longer numbered. inr (ap replies.Job its ∙ sym (reply_as contents setup pair w log true h st longer out.0));
     }))
 
 pub dispatch_lacks : {D R : Type 0} (contents : R → Database) (w : World D R) (next : Replica) (jobs : List Job) → IsWorld contents w → is_eligible w.replica ≡ true → next ≡ w.replica →
     jobs ≡ w.jobs → Goes contents w events.Dispatch (replies.Replica faults.Memory) (with_jobs w next jobs)
-dispatch_lacks contents w next jobs h eligible same kept = lacks contents w events.Dispatch next jobs h (λ setup past log st longer. eligible_as contents setup past w log h st longer ∙ eligible) refl
-    (λ setup past st. untold setup past w events.Dispatch (replies.Replica faults.Memory) (λ k. refl) st) same kept
+dispatch_lacks contents w next jobs h eligible same kept = lacks contents w events.Dispatch next jobs h (λ setup pair log st longer. eligible_as contents setup pair w log h st longer ∙ eligible) refl
+    (λ pair. refl) same kept
 
 pub dispatch_idle : {D R : Type 0} (contents : R → Database) (w : World D R) → IsWorld contents w → is_eligible w.replica ≡ false → Goes contents w events.Dispatch replies.Nothing w
 dispatch_idle contents w h idle =
-    stays contents w events.Dispatch replies.Nothing h refl (λ setup past st. untold setup past w events.Dispatch replies.Nothing (λ k. refl) st)
-    (λ setup past log st longer numbered. inr (sym (reply_as contents setup past w log false h st longer idle)))
+    stays contents w events.Dispatch replies.Nothing h refl (λ pair. refl)
+    (λ setup pair log st longer numbered. inr (sym (reply_as contents setup pair w log false h st longer idle)))
 
 -- ---- reads
 
@@ -200,20 +189,20 @@ pub read_goes : {D R : Type 0} (contents : R → Database) (w : World D R) (id :
     row ≡ get (contents w.shown.store) id → upto ≡ w.shown.upto → more ≡ w.shown.more →
     Goes contents w (events.Read id) (replies.Read upto more row) w
 read_goes {R} contents w id row upto more h sound row_is upto_is more_is = stays contents w _ _ h refl
-    (λ setup past st. untold setup past w (events.Read id) (replies.Read upto more row) (λ k. refl) st) (λ setup past log st longer numbered.
-    inr ((λ i. replies.Read (upto_is i) (more_is i) (row_is i)) ∙ read_as setup past log (shows_state contents setup past w log h sound st longer numbered))) where
-      read_as : (setup : Setup) (past : Past) (log : List Record) → ShowsState contents setup past log w.shown →
-          replies.Read w.shown.upto w.shown.more (get (contents w.shown.store) id) ≡ read_reply setup log past id
-      read_as setup past log s = by setup.preserve refl where
+    (λ pair. refl) (λ setup pair log st longer numbered.
+    inr ((λ i. replies.Read (upto_is i) (more_is i) (row_is i)) ∙ read_as setup pair log (shows_state contents setup pair w log h sound st longer numbered))) where
+      read_as : (setup : Setup) (pair : Pair) (log : List Record) → ShowsState contents setup pair log w.shown →
+          replies.Read w.shown.upto w.shown.more (get (contents w.shown.store) id) ≡ read_reply setup log pair id
+      read_as setup pair log s = by setup.preserve refl where
         gnos : List ℕ
-        gnos = published_gnos past
+        gnos = published_gnos pair
 
         by : (b : Bool) → setup.preserve ≡ b → replies.Read w.shown.upto w.shown.more (get (contents w.shown.store) id)
-            ≡ (if b then replies.Read (published past) 0 (option_and_then (λ db. get db id) (rows_after setup log (published past)))
-            else replies.Read (low_of gnos) (published past - low_of gnos) (option_and_then (λ db. get db id) (gapped setup.tables (loaded setup.base) log gnos)))
+            ≡ (if b then replies.Read pair.published 0 (option_and_then (λ db. get db id) (rows_after setup log pair.published))
+            else replies.Read (low_of gnos) (pair.published - low_of gnos) (option_and_then (λ db. get db id) (gapped setup.tables (loaded setup.base) log gnos)))
         by true e = (λ i. replies.Read ((s.in_order e).upto i) ((s.in_order e).more i) (option_and_then (λ db. get db id) (sym (s.in_order e).rows i)))
         by false e =
-            let rest : w.shown.more ≡ published past - low_of gnos = omega (arith, s.counted, s.mark) in
+            let rest : w.shown.more ≡ pair.published - low_of gnos = omega (arith, s.counted, s.mark) in
             (λ i. replies.Read (s.mark i) (rest i) (option_and_then (λ db. get db id) (sym s.rows i)))
 
 -- in the order of a legal log the operations leave what its records do
@@ -240,21 +229,21 @@ shows_operations contents w h = record {
 -- in the order of the log, and in any
 pub executed_goes : {D R : Type 0} (contents : R → Database) (w : World D R) (ids : Ids) → IsWorld contents w → AreExecuted w.replica ids →
     (w.replica.preserve ≡ true → executed_ids w.replica ≡ ids) → Goes contents w events.Executed (replies.Executed ids) w
-executed_goes contents w ids h are in_order = stays contents w _ _ h refl (λ setup past st. untold setup past w events.Executed (replies.Executed ids) (λ k. refl) st)
-    (λ setup past log st longer numbered.
-    inr (told setup past log (replica_is contents setup past w log h st longer) setup.preserve refl)) where
-      told : (setup : Setup) (past : Past) (log : List Record) → replica_at setup log past ≡ w.replica → (b : Bool) → setup.preserve ≡ b → ExecutedAnswers b setup past (replies.Executed ids)
-      told setup past log same true e = ap replies.Executed (sym (in_order (sym (ap (λ (r : Replica). r.preserve) same) ∙ e)) ∙ ap executed_ids (sym same))
-      told setup past log same false e =
+executed_goes contents w ids h are in_order = stays contents w _ _ h refl (λ pair. refl)
+    (λ setup pair log st longer numbered.
+    inr (told setup pair log (replica_is contents setup pair w log h st longer) setup.preserve refl)) where
+      told : (setup : Setup) (pair : Pair) (log : List Record) → replica_at setup log pair ≡ w.replica → (b : Bool) → setup.preserve ≡ b → ExecutedAnswers b setup pair (replies.Executed ids)
+      told setup pair log same true e = ap replies.Executed (sym (in_order (sym (ap (λ (r : Replica). r.preserve) same) ∙ e)) ∙ ap executed_ids (sym same))
+      told setup pair log same false e =
           let are_said = subst (λ (r : Replica). AreExecuted r ids) (sym same) are in
           (ids, refl, record { is_set = are_said.is_set; source = are_said.source; numbers = are_said.numbers })
 
 -- memory lacks only where there are some
 pub executed_lacks : {D R : Type 0} (contents : R → Database) (w : World D R) → IsWorld contents w → 0 < length w.replica.commits → Goes contents w events.Executed (replies.Replica faults.Memory) w
-executed_lacks contents w h some = stays contents w _ _ h refl (λ setup past st. untold setup past w events.Executed (replies.Replica faults.Memory) (λ k. refl) st)
-    (λ setup past log st longer numbered.
-    let said : replica_committed past ≡ length w.replica.commits = ap (λ (r : Replica). length r.commits) (sym st.replica.is) in
-    inl (and_from _ true (lt-ltb 0 (replica_committed past) (omega (arith, said, some))) refl))
+executed_lacks contents w h some = stays contents w _ _ h refl (λ pair. refl)
+    (λ setup pair log st longer numbered.
+    let said : replica_committed pair ≡ length w.replica.commits = ap (λ (r : Replica). length r.commits) (sym st.replica.is) in
+    inl (and_from _ true (lt-ltb 0 (replica_committed pair) (omega (arith, said, some))) refl))
 
 -- a replica that runs refuses nothing else
 pub lacks_only : (r : Replica) (fault : ReplicaFault) → r.stopped ≡ None → (fault ≡ faults.Memory) ⊎ (Some fault ≡ stop_fault r) → fault ≡ faults.Memory
@@ -262,11 +251,10 @@ lacks_only r fault going (inl memory) = memory
 lacks_only r fault going (inr stop) = absurd (none-some fault (sym (stop ∙ ap (λ (o : Option ℕ). option_map_or (λ gno. Some (faults.Stopped gno)) o None) going)))
 
 -- want of memory leaves the replica as it was
-pub no_memory : {D R : Type 0} (contents : R → Database) (w : World D R) (event : Event) (next : Replica) → IsWorld contents w → Asks w event →
-    tells_memory event (replies.Replica faults.Memory) ≡ true →
-    ((setup : Setup) (past : Past) → Stands setup past w → Stands setup ((event, replies.Replica faults.Memory) ∷ past) w) → next ≡ w.replica →
-    Goes contents w event (replies.Replica faults.Memory) (with_replica w next)
-no_memory contents w event next h asks tells stands same = lacks contents w event next w.jobs h asks tells stands same refl
+pub no_memory : {D R : Type 0} (contents : R → Database) (w : World D R) (event : Event) (new : Replica) → IsWorld contents w → Asks w event →
+    tells_memory event (replies.Replica faults.Memory) ≡ true → ((pair : Pair) → next pair event (replies.Replica faults.Memory) ≡ pair) → new ≡ w.replica →
+    Goes contents w event (replies.Replica faults.Memory) (with_replica w new)
+no_memory contents w event new h asks tells idle same = lacks contents w event new w.jobs h asks tells idle same refl
 
 -- what was accepted is a legal log over the replica's own tables and base
 pub accepted_legal : {D R : Type 0} (contents : R → Database) (w : World D R) → IsWorld contents w → IsLegalLog w.replica.tables (loaded w.replica.base) w.replica.accepted

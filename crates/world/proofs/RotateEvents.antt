@@ -1,18 +1,17 @@
 -- The event by which the log goes on in a next file.
 use base.Growing.{prefix_refl}
-use Rattle.std.proofs.Common.{◌≡◌, ◌∙◌, sym, ap, subst, refl, ℕ, ◌+◌, ◌<◌, Bool, true, false, not, nat_le, List, [], ◌∷◌}
-use Rattle.std.proofs.Common.{◌++◌, length, length-append, map, Option, append_assoc, inl, inr, arith, ◌⊎◌}
+use Rattle.std.proofs.Common.{◌≡◌, ◌∙◌, sym, ap, subst, refl, ℕ, ◌+◌, ◌<◌, Bool, true, false, not, nat_le, List, [], ◌∷◌, ◌++◌, length, length-append, map, append_assoc, inl, inr, arith, ◌⊎◌}
 use Rattle.std.specs.Prelude.{nat_lt}
 use Rattle.std.proofs.lemmas.Bool.Decides.{nat_tests}
-use Rattle.std.proofs.lemmas.Bool.{false≢true, and_from}
+use Rattle.std.proofs.lemmas.Bool.{and_from}
 use Rattle.std.proofs.lemmas.List.{length-map, map-append}
 use Rattle.rows.specs.Database.{Database}
 use Rattle.source_core.specs.declared.fault.SourceFault.TheVariants as faults_of
-use Rattle.source_core.specs.Source.{Source, Open}
+use Rattle.source_core.specs.Source.{Source}
 use Rattle.source_core.specs.Calls.{is_busy, halted as halted_source}
 use Rattle.log_file.specs.declared.fault.LogFault.{LogFault}
 use Rattle.log_file.specs.declared.fault.LogFault.TheVariants as log_file
-use Rattle.log_file.specs.Head.{Head, next_of}
+use Rattle.log_file.specs.Head.{next_of}
 use Rattle.log_file.specs.Log.{Log, Kept}
 use Rattle.log_file.specs.Flushed.{IsFlushedOf, kept_of}
 use Rattle.log_file.specs.Calls.{ends as ends_of}
@@ -20,43 +19,42 @@ use Rattle.log_set.specs.Set.{SetOn, IsRotated}
 use Rattle.world.specs.declared.events.Event.TheVariants as events
 use Rattle.world.specs.declared.events.Reply.{Reply}
 use Rattle.world.specs.declared.events.Reply.TheVariants as replies
-use Rattle.world.specs.Past.{Past, synced, halted, busy, firsts}
-use Rattle.world.specs.Legal.{Setup, source_at, RotateAnswers, is_full}
+use Rattle.world.specs.Pair.{Pair, busy}
+use Rattle.world.specs.Legal.{Setup, RotateAnswers, is_full}
 use Rattle.world.specs.Put.{IsNotRotated, FailsToRotate, OneFailed}
 use Rattle.world.specs.State.{World, IsWorld, Stands, Goes, set_of, TellsFailure}
-use Rattle.world.proofs.Parts.{stays, untold, halted_as, asks_of}
-use Rattle.world.proofs.Sessions.{none_told}
+use Rattle.world.proofs.Parts.{stays, halted_as, asks_of, wire_with, replica_with, fails_goes, devices_go}
 use Rattle.world.proofs.Counting.{one_of_two, tells_one, tells_none}
 
 -- ---- refused before a device is asked
 
--- the pairs say that the source is busy where it is
-busy_as : {D R : Type 0} (setup : Setup) (past : Past) (w : World D R) → Stands setup past w → busy past ≡ is_busy w.source
-busy_as setup past w st = λ i. nat_lt (sym (ap (λ (s : Source). s.committed) st.source.is) i) (st.source.flushed i)
+-- the state says that the source is busy where it is
+busy_as : {D R : Type 0} (setup : Setup) (pair : Pair) (w : World D R) → Stands setup pair w → busy pair ≡ is_busy w.source
+busy_as setup pair w st = λ i. nat_lt (sym (ap (λ (s : Source). s.committed) st.source.is) i) (st.source.flushed i)
 
 -- and how many files there are
-files_as : {D R : Type 0} (setup : Setup) (past : Past) (w : World D R) → Stands setup past w → length (firsts past) ≡ length w.wire.firsts
-files_as setup past w st = ap (λ (l : List ℕ). length l) (sym st.wire.firsts)
+files_as : {D R : Type 0} (setup : Setup) (pair : Pair) (w : World D R) → Stands setup pair w → length pair.firsts ≡ length w.wire.firsts
+files_as setup pair w st = ap (λ (l : List ℕ). length l) (sym st.wire.firsts)
 
 pub rotate_halted : {D R : Type 0} (contents : R → Database) (w : World D R) → IsWorld contents w → w.source.halted ≡ true → Goes contents w events.Rotate (replies.Source faults_of.Halted) w
-rotate_halted contents w h halts = stays contents w _ _ h refl (λ setup past st. untold setup past w events.Rotate (replies.Source faults_of.Halted) (λ k. refl) st) (λ setup past log st
+rotate_halted contents w h halts = stays contents w _ _ h refl (λ pair. refl) (λ setup pair log st
     longer numbered.
-    inr (subst (λ b. RotateAnswers b (busy past) (is_full past) (length (firsts past)) (replies.Source faults_of.Halted)) (sym (halted_as setup past w true st halts)) refl))
+    inr (subst (λ b. RotateAnswers b (busy pair) (is_full pair) (length pair.firsts) (replies.Source faults_of.Halted)) (sym (halted_as setup pair w true st halts)) refl))
 
 -- what a source that runs may answer
-running_answer : {D R : Type 0} (setup : Setup) (past : Past) (w : World D R) (busies full : Bool) (files : ℕ) (reply : Reply) → Stands setup past w → w.source.halted ≡ false →
+running_answer : {D R : Type 0} (setup : Setup) (pair : Pair) (w : World D R) (busies full : Bool) (files : ℕ) (reply : Reply) → Stands setup pair w → w.source.halted ≡ false →
     is_busy w.source ≡ busies →
-    length w.wire.firsts ≡ files → nat_le 16 files ≡ full → RotateAnswers false busies full files reply → RotateAnswers (halted past) (busy past) (is_full past) (length (firsts past)) reply
-running_answer setup past w busies full files reply st runs busy_is many full_is answer =
-    let number : length (firsts past) ≡ files = files_as setup past w st ∙ many in
-    subst (λ b. RotateAnswers b (busy past) (is_full past) (length (firsts past)) reply) (sym (halted_as setup past w false st runs))
-    (subst (λ b. RotateAnswers false b (is_full past) (length (firsts past)) reply) (sym (busy_as setup past w st ∙ busy_is))
-    (subst (λ b. RotateAnswers false busies b (length (firsts past)) reply) (sym (ap (nat_le 16) number ∙ full_is))
+    length w.wire.firsts ≡ files → nat_le 16 files ≡ full → RotateAnswers false busies full files reply → RotateAnswers pair.halted (busy pair) (is_full pair) (length pair.firsts) reply
+running_answer setup pair w busies full files reply st runs busy_is many full_is answer =
+    let number : length pair.firsts ≡ files = files_as setup pair w st ∙ many in
+    subst (λ b. RotateAnswers b (busy pair) (is_full pair) (length pair.firsts) reply) (sym (halted_as setup pair w false st runs))
+    (subst (λ b. RotateAnswers false b (is_full pair) (length pair.firsts) reply) (sym (busy_as setup pair w st ∙ busy_is))
+    (subst (λ b. RotateAnswers false busies b (length pair.firsts) reply) (sym (ap (nat_le 16) number ∙ full_is))
     (subst (λ n. RotateAnswers false busies full n reply) (sym number) answer)))
 
 pub rotate_busy : {D R : Type 0} (contents : R → Database) (w : World D R) → IsWorld contents w → w.source.halted ≡ false → is_busy w.source ≡ true → Goes contents w events.Rotate replies.Busy w
-rotate_busy contents w h runs busies = stays contents w _ _ h refl (λ setup past st. untold setup past w events.Rotate replies.Busy (λ k. refl) st) (λ setup past log st longer numbered.
-    inr (running_answer setup past w true (nat_le 16 (length w.wire.firsts)) (length w.wire.firsts) replies.Busy st runs busies refl refl refl))
+rotate_busy contents w h runs busies = stays contents w _ _ h refl (λ pair. refl) (λ setup pair log st longer numbered.
+    inr (running_answer setup pair w true (nat_le 16 (length w.wire.firsts)) (length w.wire.firsts) replies.Busy st runs busies refl refl refl))
 
 full_at : (files spares : ℕ) → files + spares ≡ 16 → spares ≡ 0 → nat_le 16 files ≡ true
 full_at files spares all none = grind (arith, nat_tests)
@@ -66,8 +64,8 @@ room_at files spares all some = grind (arith, nat_tests)
 
 pub rotate_none : {D R : Type 0} (contents : R → Database) (w : World D R) → IsWorld contents w → w.source.halted ≡ false → is_busy w.source ≡ false → w.wire.spare ≡ [] →
     Goes contents w events.Rotate replies.NoDevice w
-rotate_none contents w h runs idle none = stays contents w _ _ h refl (λ setup past st. untold setup past w events.Rotate replies.NoDevice (λ k. refl) st) (λ setup past log st longer numbered.
-    inr (running_answer setup past w false true (length w.wire.firsts) replies.NoDevice st runs idle refl
+rotate_none contents w h runs idle none = stays contents w _ _ h refl (λ pair. refl) (λ setup pair log st longer numbered.
+    inr (running_answer setup pair w false true (length w.wire.firsts) replies.NoDevice st runs idle refl
     (full_at (length w.wire.firsts) (length w.wire.spare) h.wire.places (ap (λ (l : List _). length l) none)) refl))
 
 -- and what is left of the spare devices are none
@@ -91,6 +89,10 @@ pub record RotateCall {D R : Type 0} (contents : R → Database) (w : World D R)
   pub others : List D
   pub spares : w.wire.spare ≡ given ∷ others
 
+abbrev pub rotate_call : {D R : Type 0} (contents : R → Database) (w : World D R) {given : D} {others : List D} → IsWorld contents w → w.source.halted ≡ false → is_busy w.source ≡ false →
+    w.wire.spare ≡ given ∷ others → RotateCall contents w
+rotate_call contents w {given} {others} h runs idle spares = record { world = h; runs = runs; idle = idle; given = given; others = others; spares = spares }
+
 -- there is room for one file more
 room_of : {D R : Type 0} (contents : R → Database) (w : World D R) (c : RotateCall contents w) → nat_le 16 (length w.wire.firsts) ≡ false
 room_of contents w c = room_at (length w.wire.firsts) (length w.wire.spare) c.world.wire.places (omega (arith, ap (λ (l : List _). length l) c.spares))
@@ -101,9 +103,9 @@ rotated_to w next set spare =
     record w { source = next; wire = record w.wire { log = set.log; firsts = set.firsts; starts = set.starts; past = set.past; device = set.device; spare = spare } }
 
 -- the next file begins behind what is synced
-next_first : {D R : Type 0} (setup : Setup) (past : Past) (w : World D R) → Stands setup past w → w.wire.log.head.first ≡ 1 → length w.wire.log.records ≡ w.source.synced →
-    next_of w.wire.log.head w.wire.log.records ≡ synced past + 1
-next_first setup past w st first many = omega (arith, first, many, ap (λ (s : Source). s.synced) st.source.is)
+next_first : {D R : Type 0} (setup : Setup) (pair : Pair) (w : World D R) → Stands setup pair w → w.wire.log.head.first ≡ 1 → length w.wire.log.records ≡ w.source.synced →
+    next_of w.wire.log.head w.wire.log.records ≡ pair.synced + 1
+next_first setup pair w st first many = omega (arith, first, many, ap (λ (s : Source). s.synced) st.source.is)
 
 -- the log goes on in a next file
 pub rotate_goes : {D R : Type 0} (contents : R → Database) (seen : D → List ℕ) (faults : D → ℕ) (w : World D R) (c : RotateCall contents w) (set : SetOn D) (spare : List D) (number : ℕ) →
@@ -115,50 +117,34 @@ rotate_goes contents seen faults w c set spare number is rest counted =
     omega (arith, ap (λ (l : List ℕ). length l) is.firsts, length-append w.wire.firsts (next_of w.wire.log.head w.wire.log.records ∷ [])) in
     let head : set.log.head ≡ w.wire.log.head = ap (λ (l : Log). l.head) is.log in
     let groups : set.log.groups ≡ w.wire.log.groups = ap (λ (l : Log). l.groups) is.log in
-    let kept : kept_of set.log ≡ kept_of w.wire.log = ap kept_of is.log in
     record {
       world = record {
         source = h.source;
-        wire = record {
-          flushed = subst (λ (k : Kept). IsFlushedOf w.source.log w.source.synced w.source.group_sizes k w.wire.unsynced) (sym kept) h.wire.flushed;
-          on_log = rw groups h.wire.on_log;
-          versions = rw groups h.wire.versions;
-          failed = ap (λ (l : Log). l.failed) is.log ∙ h.wire.failed;
-          ready = λ runs. ap (λ (l : Log). l.waiting) is.log ∙ h.wire.ready (sym (ap (λ (l : Log). l.failed) is.log) ∙ runs);
-          goes = ap (λ (l : Log). l.finished) is.log ∙ h.wire.goes;
-          form = ap (λ (b : Head). b.form) head ∙ h.wire.form;
-          places = omega (arith, many, h.wire.places, ap (λ (l : List _). length l) c.spares, ap (λ (l : List _). length l) rest);
-          front = h.wire.front;
-          within = h.wire.within;
-        };
-        replica = record {
-          tables = h.replica.tables;
-          base = h.replica.base;
-          source = h.replica.source ∙ sym (ap (λ (b : Head). b.source) head);
-          going = h.replica.going;
-          in_order = h.replica.in_order;
-        };
+        wire = wire_with h.wire (subst (λ (k : Kept). IsFlushedOf w.source.log w.source.synced w.source.group_sizes k w.wire.unsynced) (sym (ap kept_of is.log)) h.wire.flushed) groups head
+            (ap (λ (l : Log). l.finished) is.log) (ap (λ (l : Log). l.failed) is.log ∙ h.wire.failed)
+            (λ runs. ap (λ (l : Log). l.waiting) is.log ∙ h.wire.ready (sym (ap (λ (l : Log). l.failed) is.log) ∙ runs))
+            (omega (arith, many, h.wire.places, ap (λ (l : List _). length l) c.spares, ap (λ (l : List _). length l) rest));
+        replica = replica_with contents w set.log.head head h;
         jobs = h.jobs;
         readers = h.readers;
       };
       grows = prefix_refl w.source.log;
       still = λ a other. absurd (other refl);
-      stands = λ setup past st.
-          let told = untold setup past w events.Rotate (replies.Rotated number) (λ k. refl) st in
+      stands = λ setup pair st.
           let before : length (map ends_of w.wire.log.groups) ≡ length w.wire.log.groups = length-map w.wire.log.groups ends_of in
           record {
-            source = told.source;
+            source = st.source;
             wire = record {
               head = head ∙ st.wire.head;
               unsynced = st.wire.unsynced;
               synced = ap (map ends_of) groups ∙ st.wire.synced;
-              firsts = is.firsts ∙ (λ i. st.wire.firsts i ++ (next_first setup past w st h.wire.flushed.first h.wire.flushed.many i) ∷ []);
+              firsts = is.firsts ∙ (λ i. st.wire.firsts i ++ (next_first setup pair w st h.wire.flushed.first h.wire.flushed.many i) ∷ []);
               starts = is.starts ∙ (λ i. st.wire.starts i ++ ((sym before ∙ ap (λ (l : List (ℕ × ℕ)). length l) st.wire.synced) i) ∷ []);
             };
-            replica = told.replica;
+            replica = st.replica;
           };
-      allowed = λ setup past log st longer numbered.
-          inr (running_answer setup past w false false (length w.wire.firsts) (replies.Rotated number) st c.runs c.idle refl (room_of contents w c) (inl (ap replies.Rotated (counted ∙ many))));
+      allowed = λ setup pair log st longer numbered.
+          inr (running_answer setup pair w false false (length w.wire.firsts) (replies.Rotated number) st c.runs c.idle refl (room_of contents w c) (inl (ap replies.Rotated (counted ∙ many))));
     }
 
 -- A device failed: the source is halted, and the log has the files that it had.
@@ -166,107 +152,33 @@ rotate_fails : {D R : Type 0} (contents : R → Database) (faults : D → ℕ) (
     FailsToRotate faults (set_of w.wire) c.given set back → next ≡ halted_source w.source →
     Goes contents w events.Rotate (replies.Log log_file.Device) (rotated_to w next set (back ∷ c.others))
 rotate_fails {D} {R} contents faults w c set back next failed next_is =
-    let h = c.world in
-    let kept : kept_of set.log ≡ kept_of w.wire.log =
-    λ i. record { head = failed.head i; records = failed.records i; groups = failed.groups i; prepared = failed.waiting i } in
+    let kept : kept_of w.wire.log ≡ kept_of set.log =
+    λ i. record { head = sym failed.head i; records = sym failed.records i; groups = sym failed.groups i; prepared = sym failed.waiting i } in
     subst (λ (q : Source). Goes {R = R} contents w events.Rotate (replies.Log log_file.Device) (rotated_to w q set (back ∷ c.others))) (sym next_is)
+    (fails_goes contents w events.Rotate (rotated_to w next set (back ∷ c.others)).wire c.world
     (record {
-      world = record {
-        source = record {
-          sound = record {
-            sessions = h.source.sound.sessions;
-            legal = h.source.sound.legal;
-            shaped = h.source.sound.shaped;
-            few = h.source.sound.few;
-            bound = h.source.sound.bound;
-            synced_within = h.source.sound.synced_within;
-            committed_within = h.source.sound.committed_within;
-            owned = h.source.sound.owned;
-            grouped = h.source.sound.grouped;
-          };
-        };
-        wire = record {
-          flushed = subst (λ (k : Kept). IsFlushedOf w.source.log w.source.synced w.source.group_sizes k w.wire.unsynced) (sym kept) h.wire.flushed;
-          on_log = rw failed.groups h.wire.on_log;
-          versions = rw failed.groups h.wire.versions;
-          failed = failed.failed;
-          ready = λ runs. absurd (false≢true (sym runs ∙ failed.failed));
-          goes = failed.goes ∙ h.wire.goes;
-          form = ap (λ (b : Head). b.form) failed.head ∙ h.wire.form;
-          places = omega (arith, ap (λ (l : List ℕ). length l) failed.files.firsts, h.wire.places, ap (λ (l : List _). length l) c.spares);
-          front = h.wire.front;
-          within = h.wire.within;
-        };
-        replica = record {
-          tables = h.replica.tables;
-          base = h.replica.base;
-          source = h.replica.source ∙ sym (ap (λ (b : Head). b.source) failed.head);
-          going = h.replica.going;
-          in_order = h.replica.in_order;
-        };
-        jobs = h.jobs;
-        readers = h.readers;
-      };
-      grows = prefix_refl w.source.log;
-      still = λ a other. absurd (other refl);
-      stands = λ setup past st. record {
-        source = record {
-          flushed = st.source.flushed;
-          is = ap halted_source st.source.is
-              ∙ ap (λ (ts : List (Option Open)). record (source_at setup w.source.log past) { halted = true; sessions = ts })
-              (sym (none_told past events.Rotate (replies.Log log_file.Device) (λ k. refl)));
-        };
-        wire = record {
-          head = failed.head ∙ st.wire.head;
-          unsynced = st.wire.unsynced;
-          synced = ap (map ends_of) failed.groups ∙ st.wire.synced;
-          firsts = failed.files.firsts ∙ st.wire.firsts;
-          starts = failed.files.starts ∙ st.wire.starts;
-        };
-        replica = st.replica;
-      };
-      allowed = λ setup past log st longer numbered.
-          inr (running_answer setup past w false false (length w.wire.firsts) (replies.Log log_file.Device) st c.runs c.idle refl (room_of contents w c) (inr refl));
-    })
+      head = failed.head;
+      groups = failed.groups;
+      goes = failed.goes;
+      firsts = failed.files.firsts;
+      starts = failed.files.starts;
+      unsynced = refl;
+      spares = sym (ap (λ (l : List D). length l) c.spares);
+    }) failed.failed
+    (subst (λ (k : Kept). IsFlushedOf w.source.log w.source.synced w.source.group_sizes k w.wire.unsynced) kept c.world.wire.flushed) (λ pair. refl) (λ a other. other refl)
+    (λ setup pair log st longer numbered.
+    inr (running_answer setup pair w false false (length w.wire.firsts) (replies.Log log_file.Device) st c.runs c.idle refl (room_of contents w c) (inr refl))))
 
 -- want of memory changes nothing but the device
-rotate_memory : {D R : Type 0} (contents : R → Database) (w : World D R) (c : RotateCall contents w) (back : D) →
-    Goes contents w events.Rotate (replies.Log log_file.Memory) (rotated_to w w.source (set_of w.wire) (back ∷ c.others))
-rotate_memory contents w c back =
-    let h = c.world in
-    record {
-      world = record {
-        source = h.source;
-        wire = record {
-          flushed = h.wire.flushed;
-          on_log = h.wire.on_log;
-          versions = h.wire.versions;
-          failed = h.wire.failed;
-          ready = h.wire.ready;
-          goes = h.wire.goes;
-          form = h.wire.form;
-          places = omega (arith, h.wire.places, ap (λ (l : List _). length l) c.spares);
-          front = h.wire.front;
-          within = h.wire.within;
-        };
-        replica = h.replica;
-        jobs = h.jobs;
-        readers = h.readers;
-      };
-      grows = prefix_refl w.source.log;
-      still = λ a other. absurd (other refl);
-      stands = λ setup past st.
-          let told = untold setup past w events.Rotate (replies.Log log_file.Memory) (λ k. refl) st in
-          record {
-            source = told.source;
-            wire = record { head = st.wire.head; unsynced = st.wire.unsynced; synced = st.wire.synced; firsts = st.wire.firsts; starts = st.wire.starts };
-            replica = told.replica;
-          };
-      allowed = λ setup past log st longer numbered.
-          let idle : not (busy past) ≡ true = ap not (busy_as setup past w st ∙ c.idle) in
-          let some : not (is_full past) ≡ true = ap not (ap (nat_le 16) (files_as setup past w st) ∙ room_of contents w c) in
-          inl (and_from _ true (asks_of setup past w _ st c.runs (and_from _ _ idle some)) refl);
-    }
+rotate_memory : {D R : Type 0} (contents : R → Database) (w : World D R) (c : RotateCall contents w) (set : SetOn D) (back : D) → set ≡ set_of w.wire →
+    Goes contents w events.Rotate (replies.Log log_file.Memory) (rotated_to w w.source set (back ∷ c.others))
+rotate_memory {D} contents w c set back same =
+    devices_go contents w events.Rotate (rotated_to w w.source set (back ∷ c.others)).wire c.world (ap (λ (s : SetOn D). s.log) same) (ap (λ (s : SetOn D). s.firsts) same)
+    (ap (λ (s : SetOn D). s.starts) same) refl (sym (ap (λ (l : List D). length l) c.spares)) (λ pair. refl) (λ a other. other refl)
+    (λ setup pair log st longer numbered.
+    let idle : not (busy pair) ≡ true = ap not (busy_as setup pair w st ∙ c.idle) in
+    let some : not (is_full pair) ≡ true = ap not (ap (nat_le 16) (files_as setup pair w st) ∙ room_of contents w c) in
+    inl (and_from _ true (asks_of setup pair w _ st c.runs (and_from _ _ idle some)) refl))
 
 -- a log that did not go on in a next file
 pub rotate_refused : {D R : Type 0} (contents : R → Database) (faults : D → ℕ) (w : World D R) (c : RotateCall contents w) (fault : LogFault) (set : SetOn D) (spare : List D) (next : Source) →
@@ -274,9 +186,6 @@ pub rotate_refused : {D R : Type 0} (contents : R → Database) (faults : D → 
     Goes contents w events.Rotate (replies.Log fault) (rotated_to w next set spare)
 rotate_refused {D} {R} contents faults w c fault set spare next not halts others =
     subst (λ (l : List D). Goes {R = R} contents w events.Rotate (replies.Log fault) (rotated_to w next set l)) (sym not.spares) (by not.cause) where
-      other : log_file.Memory ≡ log_file.Device → ⊥
-      other is = cc is
-
       by : ((fault ≡ log_file.Device) × FailsToRotate faults (set_of w.wire) c.given set not.back) ⊎ ((fault ≡ log_file.Memory) × (set ≡ set_of w.wire) × (faults not.back ≡ faults c.given)) →
           Goes contents w events.Rotate (replies.Log fault) (rotated_to w next set (not.back ∷ c.others))
       by (inl failed) =
@@ -284,9 +193,8 @@ rotate_refused {D} {R} contents faults w c fault set spare next not halts others
           (rotate_fails contents faults w c set not.back next failed.1 (halts failed.0))
       by (inr lacks) =
           subst (λ (f : LogFault). Goes {R = R} contents w events.Rotate (replies.Log f) (rotated_to w next set (not.back ∷ c.others))) (sym lacks.0)
-          (subst (λ (q : Source). Goes {R = R} contents w events.Rotate (replies.Log log_file.Memory) (rotated_to w q set (not.back ∷ c.others))) (sym (others (λ is. other (sym lacks.0 ∙ is))))
-          (subst (λ (s : SetOn D). Goes {R = R} contents w events.Rotate (replies.Log log_file.Memory) (rotated_to w w.source s (not.back ∷ c.others))) (sym lacks.1)
-          (rotate_memory contents w c not.back)))
+          (subst (λ (q : Source). Goes {R = R} contents w events.Rotate (replies.Log log_file.Memory) (rotated_to w q set (not.back ∷ c.others))) (sym (others (λ is. cc (sym lacks.0 ∙ is))))
+          (rotate_memory contents w c set not.back lacks.1))
 
 -- ---- what the devices tell
 

@@ -1,14 +1,12 @@
--- The transactions of all sessions, as the pairs say that they stand.
-use Rattle.std.proofs.Common.{◌≡◌, ◌∙◌, sym, ap, refl, ℕ, zero, suc, ◌+◌, ◌-◌, ◌≤◌, ◌<◌, false, ◌==◌, if◌then◌else◌, List, [], ◌∷◌, length, map, get_or, set, replicate, Option, None, arith}
+-- The transactions of all sessions.
+use Rattle.std.proofs.Common.{◌≡◌, ◌∙◌, sym, ap, refl, ℕ, zero, suc, ◌+◌, ◌-◌, ◌≤◌, ◌<◌, false, ◌==◌, if◌then◌else◌, List, ◌∷◌, length, map, get_or, set, replicate, Option, None, arith}
 use Rattle.std.specs.List.{range_with_len}
-use Rattle.std.proofs.lemmas.Bool.{eq-eqb}
-use Rattle.std.proofs.lemmas.Bool.Decides.{nat_tests}
-use Rattle.std.proofs.lemmas.List.FromFn.{length-map-range_with_len}
+use Rattle.std.proofs.lemmas.Bool.{eq-eqb, ne_eqb}
+use Rattle.std.proofs.lemmas.Simd.{map-map, splat_is_map}
+use Rattle.std.proofs.lemmas.List.FromFn.{length-range_with_len, length-map-range_with_len}
 use Rattle.source_core.specs.Source.{Open}
 use Rattle.source_core.specs.Calls.{each_session}
-use Rattle.world.specs.declared.events.Event.{Event}
-use Rattle.world.specs.declared.events.Reply.{Reply}
-use Rattle.world.specs.Past.{Past, transaction_of, transaction_after, transactions}
+use Rattle.world.specs.Pair.{transactions}
 
 -- ---- lists that a function makes of numbers in turn
 
@@ -16,20 +14,10 @@ same_each : {X : Type 0} (f g : ℕ → X) (a n : ℕ) → ((k : ℕ) → a ≤ 
 same_each f g a zero same = refl
 same_each f g a (suc n) same = λ i. same a (omega arith) i ∷ same_each f g (a + 1) n (λ k le. same k (omega (arith, le))) i
 
--- each element changed by itself
-map_each : {X : Type 0} (f : ℕ → X) (h : X → X) (a n : ℕ) → map h (map f (range_with_len a n)) ≡ map (λ k. h (f k)) (range_with_len a n)
-map_each f h a zero = refl
-map_each f h a (suc n) = ap (λ xs. h (f a) ∷ xs) (map_each f h (a + 1) n)
-
 -- each changed by its number
 each_of : (f : ℕ → Option Open) (h : ℕ → Option Open → Option Open) (a n : ℕ) → each_session h a (map f (range_with_len a n)) ≡ map (λ k. h k (f k)) (range_with_len a n)
 each_of f h a zero = refl
 each_of f h a (suc n) = ap (λ xs. h a (f a) ∷ xs) (each_of f h (a + 1) n)
-
--- none of them
-none_each : {X : Type 0} (x : X) (a n : ℕ) → replicate n x ≡ map (λ k. x) (range_with_len a n)
-none_each x a zero = refl
-none_each x a (suc n) = ap (λ xs. x ∷ xs) (none_each x (a + 1) n)
 
 -- one of them changed, at its place
 set_each : {X : Type 0} (f : ℕ → X) (h : X → X) (d : X) (one a n place : ℕ) → one ≡ a + place → place < n →
@@ -37,59 +25,38 @@ set_each : {X : Type 0} (f : ℕ → X) (h : X → X) (d : X) (one a n place : �
 set_each f h d one a zero place is within = absurd (omega (arith, within))
 set_each f h d one a (suc n) zero is within =
     λ i. (if sym (eq-eqb one a (omega (arith, is))) i then h (f a) else f a) ∷ same_each f (λ k. if one == k then h (f k) else f k) (a + 1) n later i where
-      apart : (x y : ℕ) → x < y → (x == y) ≡ false
-      apart x y q = grind (arith, nat_tests)
-
       later : (k : ℕ) → a + 1 ≤ k → f k ≡ (if one == k then h (f k) else f k)
-      later k le = ap (λ b. if b then h (f k) else f k) (sym (apart one k (omega (arith, is, le))))
+      later k le = ap (λ b. if b then h (f k) else f k) (sym (ne_eqb one k (λ e. omega (arith, is, le, e))))
 set_each f h d one a (suc n) (suc place) is within =
-    λ i. (if sym (apart one a (omega (arith, is))) i then h (f a) else f a) ∷ set_each f h d one (a + 1) n place (omega (arith, is)) (omega (arith, within)) i where
-      apart : (x y : ℕ) → y < x → (x == y) ≡ false
-      apart x y q = grind (arith, nat_tests)
+    λ i. (if sym (ne_eqb one a (λ e. omega (arith, is, e))) i then h (f a) else f a) ∷ set_each f h d one (a + 1) n place (omega (arith, is)) (omega (arith, within)) i
 
 -- ---- the sessions
 
 -- they are made of as many numbers as there are sessions
-counted : (count : ℕ) × (count ≡ 256) × ((past : Past) → transactions past ≡ map (transaction_of past) (range_with_len 1 count))
+counted : (count : ℕ) × (count ≡ 256) × ((f : ℕ → Option Open) → transactions f ≡ map f (range_with_len 1 count))
 unfolding transactions
-counted = (256, refl, λ past. refl)
+counted = (256, refl, λ f. refl)
 
-pub length_transactions : (past : Past) → length (transactions past) ≡ 256
-length_transactions past = ap (λ (ts : List (Option Open)). length ts) (counted.2 past) ∙ length-map-range_with_len (transaction_of past) 1 counted.0 ∙ counted.1
+pub length_transactions : (f : ℕ → Option Open) → length (transactions f) ≡ 256
+length_transactions f = ap (λ (ts : List (Option Open)). length ts) (counted.2 f) ∙ length-map-range_with_len f 1 counted.0 ∙ counted.1
 
--- at first none has a transaction
-pub none_at_first : replicate 256 None ≡ transactions []
-none_at_first =
-    ap (λ (n : ℕ). replicate {A = Option Open} n None) (sym counted.1) ∙ none_each {X = Option Open} None 1 counted.0
-    ∙ same_each (λ k. None) (transaction_of []) 1 counted.0 (λ k le. refl) ∙ sym (counted.2 [])
+-- none has a transaction
+pub none_open : replicate 256 None ≡ transactions (λ k. None)
+none_open =
+    ap (λ (n : ℕ). replicate {A = Option Open} n None) (sym counted.1) ∙ splat_is_map {V = ℕ} {Y = Option Open} (range_with_len 1 counted.0) counted.0 None (length-range_with_len 1 counted.0) ∙ sym (counted.2 (λ k. None))
 
--- a pair that says nothing of any
-pub none_told : (past : Past) (event : Event) (reply : Reply) → ((k : ℕ) → transaction_after past k event reply (transaction_of past k) ≡ transaction_of past k) →
-    transactions ((event, reply) ∷ past) ≡ transactions past
-none_told past event reply says =
-    counted.2 ((event, reply) ∷ past) ∙ same_each (transaction_of ((event, reply) ∷ past)) (transaction_of past) 1 counted.0 (λ k le. says k) ∙ sym (counted.2 past)
+-- one of them changed
+pub one_changed : (f : ℕ → Option Open) (h : Option Open → Option Open) (session : ℕ) → 1 ≤ session → session ≤ 256 →
+    transactions (λ k. if session == k then h (f k) else f k) ≡ set (transactions f) (session - 1) (h (get_or (transactions f) (session - 1) None))
+one_changed f h session least greatest =
+    counted.2 (λ k. if session == k then h (f k) else f k)
+    ∙ sym (set_each f h None session 1 counted.0 (session - 1) (omega (arith, least)) (omega (arith, least, greatest, counted.1)))
+    ∙ ap (λ (ts : List (Option Open)). set ts (session - 1) (h (get_or ts (session - 1) None))) (sym (counted.2 f))
 
--- a pair that says this of one
-pub one_told : (past : Past) (event : Event) (reply : Reply) (session : ℕ) (h : Option Open → Option Open) →
-    ((k : ℕ) → transaction_after past k event reply (transaction_of past k) ≡ (if session == k then h (transaction_of past k) else transaction_of past k)) →
-    1 ≤ session → session ≤ 256 → transactions ((event, reply) ∷ past) ≡ set (transactions past) (session - 1) (h (get_or (transactions past) (session - 1) None))
-one_told past event reply session h says least greatest =
-    counted.2 ((event, reply) ∷ past)
-    ∙ same_each (transaction_of ((event, reply) ∷ past)) (λ k. if session == k then h (transaction_of past k) else transaction_of past k) 1 counted.0 (λ k le. says k)
-    ∙ sym (set_each (transaction_of past) h None session 1 counted.0 (session - 1) (omega (arith, least)) (omega (arith, least, greatest, counted.1)))
-    ∙ ap (λ (ts : List (Option Open)). set ts (session - 1) (h (get_or ts (session - 1) None))) (sym (counted.2 past))
+-- all of them
+pub all_changed : (f : ℕ → Option Open) (h : Option Open → Option Open) → transactions (λ k. h (f k)) ≡ map h (transactions f)
+all_changed f h = counted.2 (λ k. h (f k)) ∙ sym (map-map h f (range_with_len 1 counted.0)) ∙ ap (map h) (sym (counted.2 f))
 
--- a pair that says the same of all
-pub all_told : (past : Past) (event : Event) (reply : Reply) (h : Option Open → Option Open) → ((k : ℕ) → transaction_after past k event reply (transaction_of past k) ≡ h (transaction_of past k)) →
-    transactions ((event, reply) ∷ past) ≡ map h (transactions past)
-all_told past event reply h says =
-    counted.2 ((event, reply) ∷ past) ∙ same_each (transaction_of ((event, reply) ∷ past)) (λ k. h (transaction_of past k)) 1 counted.0 (λ k le. says k)
-    ∙ sym (map_each (transaction_of past) h 1 counted.0) ∙ ap (map h) (sym (counted.2 past))
-
--- a pair that says of each what its number tells
-pub each_told : (past : Past) (event : Event) (reply : Reply) (h : ℕ → Option Open → Option Open) →
-    ((k : ℕ) → transaction_after past k event reply (transaction_of past k) ≡ h k (transaction_of past k)) →
-    transactions ((event, reply) ∷ past) ≡ each_session h 1 (transactions past)
-each_told past event reply h says =
-    counted.2 ((event, reply) ∷ past) ∙ same_each (transaction_of ((event, reply) ∷ past)) (λ k. h k (transaction_of past k)) 1 counted.0 (λ k le. says k)
-    ∙ sym (each_of (transaction_of past) h 1 counted.0) ∙ ap (λ (ts : List (Option Open)). each_session h 1 ts) (sym (counted.2 past))
+-- each by its number
+pub each_changed : (f : ℕ → Option Open) (h : ℕ → Option Open → Option Open) → transactions (λ k. h k (f k)) ≡ each_session h 1 (transactions f)
+each_changed f h = counted.2 (λ k. h k (f k)) ∙ sym (each_of f h 1 counted.0) ∙ ap (λ (ts : List (Option Open)). each_session h 1 ts) (sym (counted.2 f))

@@ -1,4 +1,4 @@
--- What readers are shown, in the words of the pairs.
+-- What readers are shown, in the words of the machine.
 use mathlib.Core.List.{IsPrefix}
 use Rattle.std.proofs.Common.{◌≡◌, ◌∙◌, sym, ap, subst, ℕ, ◌+◌, ◌≤◌, true, List, ◌++◌, length, take, drop, Some, arith}
 use Rattle.std.proofs.lemmas.List.{take-append-drop, take-append-le, take-take, length-take-le}
@@ -15,7 +15,7 @@ use Rattle.replica_core.specs.Replica.{Replica, ran}
 use Rattle.replica_core.specs.Sound.{IsSound}
 use Rattle.replica_core.proofs.Showing.{sound_stands, numbered_of, state_at}
 use Rattle.published.specs.Plain.{Shown}
-use Rattle.world.specs.Past.{Past, published, published_gnos}
+use Rattle.world.specs.Pair.{Pair, published_gnos}
 use Rattle.world.specs.Legal.{Setup, replica_at, rows_after}
 use Rattle.world.specs.State.{World, IsWorld, Stands}
 use Rattle.world.proofs.Parts.{take_longer}
@@ -66,20 +66,20 @@ shows_first contents w h preserve =
       rows = (λ i. after (sym h.replica.tables i) (loaded (sym h.replica.base i)) (sym front i)) ∙ h.readers.ran;
     }
 
--- ---- in the words of the pairs
+-- ---- in the words of the machine
 
 -- in the order of the log
-pub record TellsFirst {R : Type 0} (contents : R → Database) (setup : Setup) (past : Past) (log : List Record) (shown : Shown R) : Type 0 where
-  pub upto : shown.upto ≡ published past
+pub record TellsFirst {R : Type 0} (contents : R → Database) (setup : Setup) (pair : Pair) (log : List Record) (shown : Shown R) : Type 0 where
+  pub upto : shown.upto ≡ pair.published
   pub more : shown.more ≡ 0
-  pub rows : rows_after setup log (published past) ≡ Some (contents shown.store)
+  pub rows : rows_after setup log pair.published ≡ Some (contents shown.store)
 
 -- in any order
-pub record ShowsState {R : Type 0} (contents : R → Database) (setup : Setup) (past : Past) (log : List Record) (shown : Shown R) : Type 0 where
-  pub mark : shown.upto ≡ low_of (published_gnos past)
-  pub counted : shown.upto + shown.more ≡ published past
-  pub rows : gapped setup.tables (loaded setup.base) log (published_gnos past) ≡ Some (contents shown.store)
-  pub in_order : setup.preserve ≡ true → TellsFirst contents setup past log shown
+pub record ShowsState {R : Type 0} (contents : R → Database) (setup : Setup) (pair : Pair) (log : List Record) (shown : Shown R) : Type 0 where
+  pub mark : shown.upto ≡ low_of (published_gnos pair)
+  pub counted : shown.upto + shown.more ≡ pair.published
+  pub rows : gapped setup.tables (loaded setup.base) log (published_gnos pair) ≡ Some (contents shown.store)
+  pub in_order : setup.preserve ≡ true → TellsFirst contents setup pair log shown
 
 -- records that come later change no gapped state
 same_gapped : (r : Replica) (log : List Record) (n : ℕ) → IsSound r → IsPrefix r.accepted log → AreNumbered 1 log → chosen (take n r.commits) log ≡ chosen (take n r.commits) r.accepted
@@ -96,13 +96,13 @@ accepted_begins contents w log h longer =
     take_longer w.source.log log longer n (omega (arith, h.wire.within, h.source.sound.synced_within)) ∙ sym h.wire.front in
     (drop n log, ap (λ (l : List Record). l ++ drop n log) (sym front) ∙ take-append-drop n log)
 
-pub shows_state : {D R : Type 0} (contents : R → Database) (setup : Setup) (past : Past) (w : World D R) (log : List Record) → IsWorld contents w → IsSound w.replica → Stands setup past w →
+pub shows_state : {D R : Type 0} (contents : R → Database) (setup : Setup) (pair : Pair) (w : World D R) (log : List Record) → IsWorld contents w → IsSound w.replica → Stands setup pair w →
     IsPrefix w.source.log log → AreNumbered 1 log →
-    ShowsState contents setup past log w.shown
-shows_state contents setup past w log h sound st longer numbered =
-    let same : replica_at setup w.source.log past ≡ w.replica = sym st.replica.is in
-    let gnos : published_gnos past ≡ take w.replica.published w.replica.commits = ap (λ (r : Replica). take r.published r.commits) same in
-    let number : published past ≡ w.replica.published = ap (λ (r : Replica). r.published) same in
+    ShowsState contents setup pair log w.shown
+shows_state contents setup pair w log h sound st longer numbered =
+    let same : replica_at setup w.source.log pair ≡ w.replica = sym st.replica.is in
+    let gnos : published_gnos pair ≡ take w.replica.published w.replica.commits = ap (λ (r : Replica). take r.published r.commits) same in
+    let number : pair.published ≡ w.replica.published = ap (λ (r : Replica). r.published) same in
     record {
       mark = h.readers.mark ∙ ap low_of (sym gnos);
       counted = h.readers.counted ∙ sym number;
@@ -112,7 +112,7 @@ shows_state contents setup past w log h sound st longer numbered =
           ∙ gapped_rows contents w h sound;
       in_order = λ preserve.
           let s = shows_first contents w h (sym (ap (λ (r : Replica). r.preserve) same) ∙ preserve) in
-          let front : take (published past) log ≡ take w.replica.published w.source.log =
+          let front : take pair.published log ≡ take w.replica.published w.source.log =
           ap (λ n. take n log) number ∙ take_longer w.source.log log longer w.replica.published (omega (arith, h.readers.there, h.wire.within, h.source.sound.synced_within)) in
           record {
             upto = s.upto ∙ sym number;

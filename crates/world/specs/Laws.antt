@@ -1,7 +1,7 @@
 -- What an operator may rely on in each run with legal replies. A place is the index of an event and of its reply, from
 -- 0 on; a moment n is when the first n events are answered.
 use mathlib.Core.List.{IsPrefix}
-use Rattle.std.specs.Prelude.{◌≡◌, ℕ, ℤ, ◌+◌, ◌<◌, ◌≤◌, Bool, true, false, ◌||◌, List, [], ◌∷◌, length, map, take, slice_get, count_by, Option, Some}
+use Rattle.std.specs.Prelude.{◌≡◌, ℕ, ℤ, ◌+◌, ◌<◌, ◌≤◌, Bool, true, false, ◌||◌, List, length, map, take, slice_get, count_by, Option, Some}
 use Rattle.std.specs.Prelude.{option_and_then, ◌⊎◌}
 use Rattle.std.specs.List.{list_any}
 use Rattle.std.specs.FinMap.{get}
@@ -23,18 +23,8 @@ use Rattle.world.specs.declared.events.Event.{Event}
 use Rattle.world.specs.declared.events.Event.TheVariants as events
 use Rattle.world.specs.declared.events.Reply.{Reply}
 use Rattle.world.specs.declared.events.Reply.TheVariants as replies
-use Rattle.world.specs.Past.{Past, is_failure, flushed, synced, source_committed, accepted, dispatched, commits, replica_committed, published}
+use Rattle.world.specs.Pair.{Pair, new_pair, pair_after, pair_at, replica_committed, is_failure}
 use Rattle.world.specs.Legal.{Setup, rows_after, is_commit, is_source_memory, is_replica_memory, is_codec_memory, is_log_memory, AreLegal}
-
--- these pairs, and behind them those of the events and their replies, the newest first
-abbrev pub pairs_after : Past → List Event → List Reply → Past
-pairs_after past [] replies_ = past
-pairs_after past (event ∷ events_) [] = past
-pairs_after past (event ∷ events_) (reply ∷ replies_) = pairs_after ((event, reply) ∷ past) events_ replies_
-
--- the first n pairs of a run: what was said before the place n
-abbrev pub past_at : List Event → List Reply → ℕ → Past
-past_at events_ replies_ n = pairs_after [] (take n events_) (take n replies_)
 
 -- In the order of the log each read at the replica shows the row as it is at the source after the first so many records of the log, and
 -- says how many.
@@ -64,24 +54,24 @@ ReadsAreGapped = (setup : Setup) (log : List Record) (events_ : List Event) (rep
     ShowsClosed setup log id upto more row
 
 -- what a read tells of how many are published at its moment: so many in all, and in the order of the log no others than the first
-pub record TellsPublished (setup : Setup) (past : Past) (upto more : ℕ) : Type 0 where
-  pub all : upto + more ≡ published past
-  pub in_order : setup.preserve ≡ true → (upto ≡ published past) × (more ≡ 0)
+pub record TellsPublished (setup : Setup) (pair : Pair) (upto more : ℕ) : Type 0 where
+  pub all : upto + more ≡ pair.published
+  pub in_order : setup.preserve ≡ true → (upto ≡ pair.published) × (more ≡ 0)
 
 -- No read is refused: each says the number that is published at its moment.
 abbrev pub ReadsAreAnswered : Type 0
 ReadsAreAnswered = (setup : Setup) (log : List Record) (events_ : List Event) (replies_ : List Reply) → AreLegal setup log events_ replies_ →
     (place : ℕ) (id : RowId) → slice_get events_ place ≡ Some (events.Read id) →
     (upto : ℕ) × (more : ℕ) × (row : Option (List ℤ)) × (slice_get replies_ place ≡ Some (replies.Read upto more row))
-    × TellsPublished setup (past_at events_ replies_ place) upto more
+    × TellsPublished setup (pair_at events_ replies_ place) upto more
 
 -- No read shows a record that is not synced at the source by then: neither the first of the log, as many as it says, nor any of the
 -- commits that it counts.
 abbrev pub ReadsAreSynced : Type 0
 ReadsAreSynced = (setup : Setup) (log : List Record) (events_ : List Event) (replies_ : List Reply) → AreLegal setup log events_ replies_ →
     (place upto more : ℕ) (row : Option (List ℤ)) → slice_get replies_ place ≡ Some (replies.Read upto more row) →
-    let past = past_at events_ replies_ place in
-    (upto ≤ synced past) × ((gno : ℕ) → has_gno (take (upto + more) (commits past)) gno ≡ true → gno ≤ synced past)
+    let pair = pair_at events_ replies_ place in
+    (upto ≤ pair.synced) × ((gno : ℕ) → has_gno (take (upto + more) pair.commits) gno ≡ true → gno ≤ pair.synced)
 
 -- A later read never shows fewer records than an earlier one, neither the first of the log nor all together.
 abbrev pub ReadsNeverGoBack : Type 0
@@ -93,14 +83,14 @@ ReadsNeverGoBack = (setup : Setup) (log : List Record) (events_ : List Event) (r
 -- The numbers of records, in order: no more are published than committed at the replica, no more committed there than
 -- dispatched, no more dispatched than accepted, no more accepted than synced at the source, no more synced than
 -- flushed, and all flushed are in the log. And no more are committed at the source than synced.
-pub record AreInOrder (log : List Record) (past : Past) : Type 0 where
-  pub published_within : published past ≤ replica_committed past
-  pub replica_committed_within : replica_committed past ≤ dispatched past
-  pub dispatched_within : dispatched past ≤ accepted past
-  pub accepted_within : accepted past ≤ synced past
-  pub source_committed_within : source_committed past ≤ synced past
-  pub synced_within : synced past ≤ flushed past
-  pub flushed_within : flushed past ≤ length log
+pub record AreInOrder (log : List Record) (pair : Pair) : Type 0 where
+  pub published_within : pair.published ≤ replica_committed pair
+  pub replica_committed_within : replica_committed pair ≤ pair.dispatched
+  pub dispatched_within : pair.dispatched ≤ pair.accepted
+  pub accepted_within : pair.accepted ≤ pair.synced
+  pub source_committed_within : pair.source_committed ≤ pair.synced
+  pub synced_within : pair.synced ≤ pair.flushed
+  pub flushed_within : pair.flushed ≤ length log
 
 -- Each record that is told as committed at the source was told as synced before.
 abbrev pub CommittedAreSynced : Type 0
@@ -111,22 +101,22 @@ CommittedAreSynced = (setup : Setup) (log : List Record) (events_ : List Event) 
 -- At each moment the numbers are in order.
 abbrev pub PublishedWithin : Type 0
 PublishedWithin = (setup : Setup) (log : List Record) (events_ : List Event) (replies_ : List Reply) → AreLegal setup log events_ replies_ →
-    (moment : ℕ) → AreInOrder log (past_at events_ replies_ moment)
+    (moment : ℕ) → AreInOrder log (pair_at events_ replies_ moment)
 
 -- the numbers at a moment, and those at a later one
-pub record NoneFalls (before later : Past) : Type 0 where
-  pub published_rises : published before ≤ published later
+pub record NoneFalls (before later : Pair) : Type 0 where
+  pub published_rises : before.published ≤ later.published
   pub replica_committed_rises : replica_committed before ≤ replica_committed later
-  pub dispatched_rises : dispatched before ≤ dispatched later
-  pub accepted_rises : accepted before ≤ accepted later
-  pub source_committed_rises : source_committed before ≤ source_committed later
-  pub synced_rises : synced before ≤ synced later
-  pub flushed_rises : flushed before ≤ flushed later
+  pub dispatched_rises : before.dispatched ≤ later.dispatched
+  pub accepted_rises : before.accepted ≤ later.accepted
+  pub source_committed_rises : before.source_committed ≤ later.source_committed
+  pub synced_rises : before.synced ≤ later.synced
+  pub flushed_rises : before.flushed ≤ later.flushed
 
 -- None of the numbers ever falls: what is synced stays synced, and what is published stays published.
 abbrev pub NumbersNeverFall : Type 0
 NumbersNeverFall = (setup : Setup) (log : List Record) (events_ : List Event) (replies_ : List Reply) → AreLegal setup log events_ replies_ →
-    (before later : ℕ) → before ≤ later → NoneFalls (past_at events_ replies_ before) (past_at events_ replies_ later)
+    (before later : ℕ) → before ≤ later → NoneFalls (pair_at events_ replies_ before) (pair_at events_ replies_ later)
 
 -- In the order of the log the commits at the replica come once each, in that order: the first is of record 1, and each further one of
 -- the record behind the last.
@@ -175,15 +165,15 @@ HaltsForGood = (setup : Setup) (log : List Record) (events_ : List Event) (repli
 abbrev pub OperationsLeaveRows : Type 0
 OperationsLeaveRows = (setup : Setup) (log : List Record) (events_ : List Event) (replies_ : List Reply) → AreLegal setup log events_ replies_ →
     setup.preserve ≡ true →
-    (moment : ℕ) → let upto = published (past_at events_ replies_ moment) in
+    (moment : ℕ) → let upto = (pair_at events_ replies_ moment).published in
     rows_after setup log upto ≡ Some (left_by (operations_in_order setup.tables setup.base log upto))
 
 -- What the replica accepts is synced at the source before, and is the next record behind those that it has.
 abbrev pub NothingUnsyncedIsAccepted : Type 0
 NothingUnsyncedIsAccepted = (setup : Setup) (log : List Record) (events_ : List Event) (replies_ : List Reply) → AreLegal setup log events_ replies_ →
     (place : ℕ) → slice_get replies_ place ≡ Some replies.Accepted →
-    (gno : ℕ) × (slice_get events_ place ≡ Some (events.Deliver gno)) × (gno ≤ synced (past_at events_ replies_ place))
-    × (gno ≡ accepted (past_at events_ replies_ place) + 1)
+    (gno : ℕ) × (slice_get events_ place ≡ Some (events.Deliver gno)) × (gno ≤ (pair_at events_ replies_ place).synced)
+    × (gno ≡ (pair_at events_ replies_ place).accepted + 1)
 
 -- a reply that says that memory ran out
 abbrev pub is_memory : Reply → Bool
@@ -209,7 +199,7 @@ OneAnswer = (setup : Setup) (log : List Record) (events_ : List Event) (replies_
 abbrev pub OneLog : Type 0
 OneLog = (setup : Setup) (log other_log : List Record) (events_ : List Event) (replies_ others : List Reply) →
     AreLegal setup log events_ replies_ → AreLegal setup other_log events_ others → FailAlike replies_ others →
-    let upto = flushed (pairs_after [] events_ replies_) in take upto other_log ≡ take upto log
+    let upto = (pair_after new_pair events_ replies_).flushed in take upto other_log ≡ take upto log
 
 -- Where both sides are over one schema and began with the same rows, and the records that the replica accepted are a
 -- beginning of the source's log, the replica's database after the first so many is the source's after as many.

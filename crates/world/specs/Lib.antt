@@ -1,4 +1,4 @@
-pub mod Past
+pub mod Pair
 pub mod Legal
 pub mod Replies
 pub mod Waiting

@@ -12,15 +12,15 @@ use Rattle.replica_core.specs.Replica.{operations, operations_in_order, ran}
 use Rattle.world.specs.declared.events.Event.{Event}
 use Rattle.world.specs.declared.events.Reply.{Reply}
 use Rattle.world.specs.Put.{SomeFailed}
+use Rattle.world.specs.Pair.{new_pair, pair_after}
 use Rattle.world.specs.Legal.{Setup, AreLegal}
-use Rattle.world.specs.Laws.{pairs_after}
 use Rattle.world.specs.State.{World, IsWorld, Stands, counts_of, IsCounted}
 
 -- The world came by these events and replies from a new one.
 pub record HasRun {D R : Type 0} (contents : R → Database) (setup : Setup) (events_ : List Event) (replies_ : List Reply) (w : World D R) : Type 0 where
   pub world : IsWorld contents w
-  -- it is the one that the pairs leave
-  pub stands : Stands setup (pairs_after [] events_ replies_) w
+  -- it is as the state behind them says
+  pub stands : Stands setup (pair_after new_pair events_ replies_) w
   pub each : length replies_ ≡ length events_
   -- the replies are legal by the source's own log, and by each longer log that goes on legally from it with records that
   -- have spellings

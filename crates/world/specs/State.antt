@@ -1,4 +1,4 @@
--- How the parts of a world stand together, and to the pairs of event and reply so far.
+-- How the parts of a world stand together, and to the state of the pair.
 use mathlib.Core.List.{IsPrefix}
 use Rattle.std.specs.Prelude.{◌≡◌, ℕ, ◌+◌, ◌≤◌, Bool, true, false, List, ◌∷◌, ◌++◌, length, map, take, drop, Option, Some, None}
 use Rattle.std.specs.List.{AllByRecursion}
@@ -27,7 +27,7 @@ use Rattle.world.specs.Waiting.{numbers_of}
 use Rattle.world.specs.declared.events.Event.{Event}
 use Rattle.world.specs.declared.events.Event.TheVariants as events
 use Rattle.world.specs.declared.events.Reply.{Reply}
-use Rattle.world.specs.Past.{Past, flushed, accepted, unsynced, synced_groups, firsts, starts, is_failure}
+use Rattle.world.specs.Pair.{Pair, next, is_failure}
 use Rattle.world.specs.Legal.{Setup, source_at, replica_at, Allowed}
 
 -- what lies between the two sides
@@ -150,11 +150,11 @@ pub record SidesAre {D : Type 0} (source_ : Source) (flushed_ : ℕ) (identifier
   pub wire : WireIs identifier_ unsynced_ synced_ firsts_ starts_ wire_
   pub replica : ReplicaIs replica_ accepted_ r
 
--- the world is the one that the pairs so far leave
-abbrev pub Stands : {D R : Type 0} → Setup → Past → World D R → Type 0
-Stands setup past w =
-    SidesAre (source_at setup w.source.log past) (flushed past) setup.identifier (unsynced past) (synced_groups past) (firsts past) (starts past) (replica_at setup w.source.log past)
-    (accepted past) w.source w.wire w.replica
+-- the world is as this state says
+abbrev pub Stands : {D R : Type 0} → Setup → Pair → World D R → Type 0
+Stands setup pair w =
+    SidesAre (source_at setup w.source.log pair) pair.flushed setup.identifier pair.unsynced pair.synced_groups pair.firsts pair.starts (replica_at setup w.source.log pair)
+    pair.accepted w.source w.wire w.replica
 
 -- What a reply tells of the counts of the devices' failures: one of them grew, or is at its last value, where the reply says that a
 -- device failed, and else all are as they were.
@@ -172,12 +172,12 @@ pub record Rests {D : Type 0} (reply : Reply) (old new : Link D) : Type 0 where
   pub quiet : is_failure reply ≡ false
   pub same : new ≡ record old { unsynced = new.unsynced }
 
--- One event: the world stays one, its log grows at its end, what is no sync and no rotation leaves the log's files and devices as they were, and, whatever pairs the world
--- stood for, it stands for these and the new one, and the reply is allowed by each numbered log that the world's log begins.
+-- One event: the world stays one, its log grows at its end, what is no sync and no rotation leaves the log's files and devices as they were, and, whatever state the world
+-- stood for, it stands for the next one, and the reply is allowed by each numbered log that the world's log begins.
 pub record Goes {D R : Type 0} (contents : R → Database) (old : World D R) (event : Event) (reply : Reply) (new : World D R) : Type 0 where
   pub world : IsWorld contents new
   pub grows : IsPrefix old.source.log new.source.log
   pub still : (event ≡ events.Sync → ⊥) → (event ≡ events.Rotate → ⊥) → Rests reply old.wire new.wire
-  pub stands : (setup : Setup) (past : Past) → Stands setup past old → Stands setup ((event, reply) ∷ past) new
-  pub allowed : (setup : Setup) (past : Past) (log : List Record) → Stands setup past old → IsPrefix new.source.log log → AreNumbered 1 log →
-      Allowed setup log past event reply
+  pub stands : (setup : Setup) (pair : Pair) → Stands setup pair old → Stands setup (next pair event reply) new
+  pub allowed : (setup : Setup) (pair : Pair) (log : List Record) → Stands setup pair old → IsPrefix new.source.log log → AreNumbered 1 log →
+      Allowed setup log pair event reply

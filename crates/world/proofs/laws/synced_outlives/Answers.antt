@@ -1,4 +1,4 @@
-use Rattle.world.proofs.LawsCrash.{outlives}
+use Rattle.world.proofs.Crash.{outlives}
 use Rattle.world.proofs.laws.synced_outlives.Goals as goal
 
 pub returns : goal.returns

@@ -1,5 +1,5 @@
 use Rattle.std.proofs.Common.{◌∙◌, sym, refl}
-use Rattle.world.proofs.Taking.{takes_out, none_found, if_none}
+use Rattle.world.proofs.Jobs.{takes_out, none_found, if_none}
 use Rattle.world.proofs.replica_events.take_job.Goals as goal
 
 pub returns-in_err-place-clause-none : goal.returns-in_err-place-clause-none
