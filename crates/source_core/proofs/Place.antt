@@ -55,13 +55,12 @@ pub flushed_over : (places others : List (Option Transaction)) (first : ℕ) →
     ((n i : ℕ) (t : Transaction) → first ≤ n → placed places i ≡ Some t → t.phase ≡ Flushed n → placed others i ≡ Some t) →
     (log : List Record) (owners : List ℕ) → AreFlushed places first log owners → AreFlushed others first log owners
 flushed_over places others first stay [] [] are = tt
-flushed_over places others first stay [] (owner ∷ owners) are = absurd are
-flushed_over places others first stay (made ∷ log) [] are = absurd are
 flushed_over places others first stay (made ∷ log) (owner ∷ owners) are =
     let f = are.0 in (
       record { least = f.least; t = f.t; place = stay first (owner - 1) f.t (omega arith) f.place f.phase; phase = f.phase; changes = f.changes; touches = f.touches },
       flushed_over places others (first + 1) (λ n i t le. stay n i t (omega (arith, le))) log owners are.1,
     )
+flushed_over places others first stay _ _ are = absurd are
 
 -- and sessions are queued in other places too, where the transactions stay that are queued
 pub queued_over : (places others : List (Option Transaction)) → ((i : ℕ) (t : Transaction) (order : ℕ) → placed places i ≡ Some t → t.phase ≡ Queued order → placed others i ≡ Some t) →

@@ -66,12 +66,11 @@ pub each_flushed : (places : List (Option Transaction)) (P : ℕ → Type 0) (Q 
     ((n : ℕ) (made : Record) (owner : ℕ) → first ≤ n → n < first + length log → IsFlushedAs places n made owner → P owner × Q made) →
     AreFlushed places first log owners → AllByRecursion P owners × AllByRecursion Q log
 each_flushed places P Q first [] [] each are = (tt, tt)
-each_flushed places P Q first [] (owner ∷ owners) each are = absurd are
-each_flushed places P Q first (made ∷ log) [] each are = absurd are
 each_flushed places P Q first (made ∷ log) (owner ∷ owners) each are =
     let one = each first made owner (omega arith) (omega arith) are.0 in
     let rest = each_flushed places P Q (first + 1) log owners (λ n r o le lt. each n r o (omega (arith, le)) (omega (arith, lt))) are.1 in
     ((one.0, rest.0), (one.1, rest.1))
+each_flushed places P Q first _ _ each are = absurd are
 
 -- a record of these, and the session that it came from
 record At (p : Parts) (first : ℕ) (log : List Record) (owners : List ℕ) (i : ℕ) : Type 0 where
@@ -83,8 +82,6 @@ record At (p : Parts) (first : ℕ) (log : List Record) (owners : List ℕ) (i :
 
 at_place : (p : Parts) (first : ℕ) (log : List Record) (owners : List ℕ) (i : ℕ) → AreFlushed p.places first log owners → i < length log → At p first log owners i
 at_place p first [] [] i are within = absurd (omega (arith, within))
-at_place p first [] (owner ∷ owners) i are within = absurd are
-at_place p first (made ∷ log) [] i are within = absurd are
 at_place p first (made ∷ log) (owner ∷ owners) zero are within = record {
   made = made;
   owner = owner;
@@ -103,6 +100,7 @@ at_place p first (made ∷ log) (owner ∷ owners) (suc i) are within =
       stands =
           subst (λ n. IsFlushedAs p.places n behind.made behind.owner) (omega arith) behind.stands;
     }
+at_place p first _ _ i are within = absurd are
 
 -- each record that is not committed is that of the transaction in its session's place
 pub record IsOf (p : Parts) (n : ℕ) : Type 0 where

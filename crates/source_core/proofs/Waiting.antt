@@ -18,13 +18,12 @@ use Rattle.source_core.proofs.Queueing.{none_is}
 owns_none : (p : Parts) (session n : ℕ) (log : List Record) (owners : List ℕ) → AreFlushed p.places n log owners → IsFree (placed p.places (session - 1)) →
     list_any (eqb session) owners ≡ false
 owns_none p session n [] [] are free = refl
-owns_none p session n [] (owner ∷ owners) are free = absurd are
-owns_none p session n (made ∷ log) [] are free = absurd are
 owns_none p session n (made ∷ log) (owner ∷ owners) are free =
     elim (eqb_tells session owner) [
       | inl same ↦ absurd (not_flushed (placed p.places (session - 1)) are.0.t n free (ap (λ k. placed p.places (k - 1)) same.1 ∙ are.0.place) are.0.phase)
       | inr apart ↦ rw apart.0 (owns_none p session (n + 1) log owners are.1 free)
     ]
+owns_none p session n _ _ are free = absurd are
 
 -- and waits for nothing
 pub waits_not : (p : Parts) (IsSo : Type 0) → Holds p IsSo → (session : ℕ) → 1 ≤ session → IsFree (placed p.places (session - 1)) → is_waiting p.stages session ≡ false

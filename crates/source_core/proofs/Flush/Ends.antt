@@ -47,9 +47,8 @@ behind_synced log records more group synced_ of synced_is first =
 
 pub as_many : (s : Source) (before : List Seen) (queue : List ℕ) (records : List Record) → AreNextRecords s before queue records → length records ≡ length queue
 as_many s before [] [] are = refl
-as_many s before [] (first ∷ records) are = absurd are
-as_many s before (session ∷ queue) [] are = absurd are
 as_many s before (session ∷ queue) (first ∷ records) are = ap (λ n. suc n) (as_many s (before ++ entry_of s.tables first session ∷ []) queue records are.1)
+as_many s before _ _ are = absurd are
 
 pub group_is_counted : GroupIsCounted
 group_is_counted old new group sound f =
