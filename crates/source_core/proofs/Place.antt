@@ -1,8 +1,7 @@
 -- What stands once one session's transaction is another that is not queued, or none.
 use Rattle.std.specs.List.{list_any, IsDistinct}
 use Rattle.tracker_trait.specs.Kind.{Kind}
-use Rattle.std.proofs.Common.{IsTrue, is_some, false, Bool, eqb, ◌≡◌, ◌≢◌, ◌∙◌, sym, ap, subst, refl, ℕ, ◌+◌, ◌-◌, ◌<◌, ◌≤◌, List, [], ◌∷◌, length, map, get_or, set, Option, Some, None, inl, inr}
-use Rattle.std.proofs.Common.{arith}
+use Rattle.std.proofs.Common.{IsTrue, is_some, false, Bool, eqb, ◌≡◌, ◌∙◌, sym, ap, subst, refl, ℕ, ◌+◌, ◌-◌, ◌<◌, ◌≤◌, List, [], ◌∷◌, length, map, get_or, set, Option, Some, None, inl, inr, arith}
 use Rattle.std.specs.Option.{option_map}
 use Rattle.std.proofs.lemmas.Bool.Decides.{eqb_tells}
 use Rattle.std.proofs.lemmas.List.{get_or-set_same, get_or-set_other, set-get_or, map-set, length-set, get_or_default}
@@ -14,10 +13,11 @@ use Rattle.row_locks.specs.Locks.{Holding, AllLocks, NoClash}
 use Rattle.source_core.specs.declared.transaction.Phase.{Phase}
 use Rattle.source_core.specs.declared.transaction.Phase.TheVariants.{Active, Prepared, Queued, Flushed}
 use Rattle.source_core.specs.declared.transaction.Transaction.{Transaction}
-use Rattle.source_core.specs.Calls.{with_open}
+use Rattle.source_core.specs.Calls.{with_open, begun}
 use Rattle.commit_stages.specs.Queues.{Queues, AreSizes}
-use Rattle.source_core.specs.Core.{Parts, IsCore, Course, Applies, StandsAs, IsQueued, AreFlushed, AreQueued, course_of, open_view, sessions_view, source_of, placed}
-use Rattle.source_core.specs.Core.{locks_in, pending_in, rows_held, marks_held}
+use Rattle.source_core.specs.Core.{Parts, IsCore, Course, Applies, StandsAs, IsQueued, AreFlushed, AreQueued, course_of, open_view, sessions_view, source_of, placed, locks_in, pending_in, rows_held}
+use Rattle.source_core.specs.Core.{marks_held, Holds}
+use Rattle.overlay.proofs.Follow.{Follows-none}
 
 -- the transaction, if there is one, is neither queued nor flushed
 abbrev pub IsFreePhase : Phase → Type 0
@@ -38,17 +38,8 @@ IsPlaceOf session i = (i + 1 ≡ session) × (i < 256)
 abbrev pub placing : Parts → ℕ → Option Transaction → Queues → AllLocks → Parts
 placing p i now stages locks = record p { places = set p.places i now; stages = stages; locks = locks }
 
-pub not_flushed : (o : Option Transaction) (t : Transaction) (n : ℕ) → IsFree o → o ≡ Some t → t.phase ≡ Flushed n → ⊥
-not_flushed o t n free is phase =
-    subst (λ (x : Phase). IsFreePhase x) phase (subst (λ (x : Option Transaction). IsFree x) is free)
-
-pub not_queued : (o : Option Transaction) (t : Transaction) (n : ℕ) → IsFree o → o ≡ Some t → t.phase ≡ Queued n → ⊥
-not_queued o t n free is phase =
-    subst (λ (x : Phase). IsFreePhase x) phase (subst (λ (x : Option Transaction). IsFree x) is free)
-
--- a place that is not this one stays
-pub other_place : (places : List (Option Transaction)) (i j : ℕ) (now : Option Transaction) → j ≢ i → placed (set places i now) j ≡ placed places j
-other_place places i j now ne = get_or-set_other places i j now None ne
+pub phase_free : (o : Option Transaction) (t : Transaction) (phase : Phase) → IsFree o → o ≡ Some t → t.phase ≡ phase → IsFreePhase phase
+phase_free o t phase free is at = subst (λ (x : Phase). IsFreePhase x) at (subst (λ (x : Option Transaction). IsFree x) is free)
 
 -- records are those of the transactions of other places too, where those stay that are records of this number and later
 pub flushed_over : (places others : List (Option Transaction)) (first : ℕ) →
@@ -73,7 +64,7 @@ queued_over places others stay queue are =
 stays_beside : (places : List (Option Transaction)) (i : ℕ) (now : Option Transaction) → IsFree (placed places i) → (j : ℕ) (t : Transaction) → placed places j ≡ Some t →
     (IsFreePhase t.phase → ⊥) → placed (set places i now) j ≡ Some t
 stays_beside places i now free j t at not =
-    other_place places i j now (λ same. not (subst (λ (o : Option Transaction). IsFree o) (ap (placed places) (sym same) ∙ at) free)) ∙ at
+    get_or-set_other places i j now None (λ same. not (subst (λ (o : Option Transaction). IsFree o) (ap (placed places) (sym same) ∙ at) free)) ∙ at
 
 pub queued_stay : (places : List (Option Transaction)) (i : ℕ) (now : Option Transaction) → IsFree (placed places i) → (queue : List ℕ) → AreQueued places queue → AreQueued (set places i now) queue
 queued_stay places i now free =
@@ -98,7 +89,7 @@ each_placed P places i now within here others j t at =
       | inl same ↦
           let is : now ≡ Some t = sym (get_or-set_same places i now None within) ∙ ap (placed (set places i now)) (sym same.1) ∙ at in
           subst (λ k. P k t) (sym same.1) (here t is)
-      | inr apart ↦ others j t (sym (other_place places i j now apart.1) ∙ at)
+      | inr apart ↦ others j t (sym (get_or-set_other places i j now None apart.1) ∙ at)
     ]
 
 -- these locks, where the session of a place holds what changes that are pending need
@@ -161,6 +152,11 @@ place_set p core i within now free stages q locks are clear here =
       distinct = q.distinct;
     }
 
+-- the rest holds as before, where no session waits for anything else
+pub holds_placing : {p : Parts} {IsSo : Type 0} {locks : AllLocks} → Holds p IsSo → (i : ℕ) (now : Option Transaction) → IsCore (placing p i now p.stages locks) →
+    Holds (placing p i now p.stages locks) IsSo
+holds_placing h i now core = record { core = core; waits = h.waits; tracked = h.tracked; kept = h.kept }
+
 -- the same, with the stages as they are
 pub place_changed : (p : Parts) → IsCore p → (i : ℕ) → i < 256 → (now : Option Transaction) → IsFree (placed p.places i) → (locks : AllLocks) →
     locks ≡ locks_with p.locks i (pending_in now) → NoClashes locks → StandsIn (placing p i now p.stages locks) i now → IsCore (placing p i now p.stages locks)
@@ -214,3 +210,23 @@ found_again c = sym (placed_is c.p.places c.i c.found (omega (arith, c.within, c
 pub nothing : (o : Option Transaction) → false ≡ is_some o → o ≡ None
 nothing None e = refl
 nothing (Some t) e = cc
+
+-- ---- a session opens a transaction
+
+-- a transaction that has this pending
+abbrev pub fresh : Pending → Option Transaction
+fresh pending = Some (record { pending = pending; phase = Active })
+
+pub new_stands : (p : Parts) → IsCore p → (i session : ℕ) → IsPlaceOf session i → (read : Option Transaction) → read ≡ get_or p.places i read → false ≡ is_some read →
+    (new : Pending) → new ≡ none_pending → IsCore (placing p i (fresh new) p.stages p.locks)
+new_stands p core i session at read read_is none new is =
+    let empty : placed p.places i ≡ None = placed_is p.places i read (omega (arith, at.1, core.sessions)) read_is ∙ nothing read none in
+    rw is (place_changed p core i at.1 (fresh none_pending) (rw empty tt) p.locks
+    (locks_stay p core i (fresh none_pending) (sym (ap pending_in empty))) (core.no_clash, core.no_mark_clash)
+    (record { leaves = p.rows; follows = Follows-none p.tables p.rows; fits = core.stored.fits; shaped = refl; few = omega arith; no_orphan = tt }, tt))
+
+pub begun_view : (p : Parts) → IsCore p → (kind : Kind) (halted : Bool) (i session : ℕ) (new : Pending) → i + 1 ≡ session → new ≡ none_pending →
+    source_of (placing p i (fresh new) p.stages p.locks) kind halted ≡ begun (source_of p kind halted) session
+begun_view p core kind halted i session new at is =
+    view_set p core kind halted i session (fresh new) p.locks at
+    ∙ ap (λ (q : Pending). with_open (source_of p kind halted) session (Some (record { changes = q.changes; phase = Active }))) is
