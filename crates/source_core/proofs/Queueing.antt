@@ -100,10 +100,16 @@ module _ (c : PlaceCall) (order : ℕ) (told : option_and_then prepared_order c.
     phase = refl;
   }
 
-  queued_core : length p.log + length p.stages.flush < p.limit → IsCore (placing p i now (behind p session) p.locks)
-  queued_core few =
+  -- what is found in the place is the transaction, and it is queued now
+  next_is : (next : Option Transaction) → next ≡ option_map (with_phase (Queued order)) c.found → next ≡ now
+  next_is next next_told = next_told ∙ ap (option_map (with_phase (Queued order))) (found_again c ∙ sym (read_there c) ∙ w.is)
+
+  pub queued_at : (next : Option Transaction) → next ≡ option_map (with_phase (Queued order)) c.found → (stages : Queues) → stages ≡ behind p session → length p.log + length p.stages.flush < p.limit →
+      IsCore (placing p i next stages p.locks)
+  queued_at next next_told stages stages_are few =
       let count : length (behind p session).flush ≡ length p.stages.flush + 1 = length-append p.stages.flush (session ∷ []) in
-      place_set p core i within now free (behind p session)
+      rw (stages_are, next_is next next_told)
+      (place_set p core i within now free (behind p session)
       (record {
         sizes = refl;
         few = omega (arith, few, count);
@@ -113,33 +119,20 @@ module _ (c : PlaceCall) (order : ℕ) (told : option_and_then prepared_order c.
       })
       p.locks (locks_stay p core i now (sym (ap pending_in w.is)))
       (core.no_clash, core.no_mark_clash)
-      (core.applies i w.t w.is, (ready, subst (λ k. IsTrue (list_any (eqb k) (behind p session).flush)) (sym is) (in_queue p.stages.flush session)))
+      (core.applies i w.t w.is, (ready, subst (λ k. IsTrue (list_any (eqb k) (behind p session).flush)) (sym is) (in_queue p.stages.flush session))))
 
-  queued_view : (kind : Kind) (halted : Bool) → source_of (placing p i now (behind p session) p.locks) kind halted ≡ queued (source_of p kind halted) session
-  queued_view kind halted =
-      ap (λ (s : Source). record s { queue = (behind p session).flush }) (view_set p core kind halted i session now p.locks is)
-      ∙ ap (λ (o : Option Open). record (with_open (source_of p kind halted) session o) { queue = (behind p session).flush }) (sym opened)
+  pub queued_at_view : (kind : Kind) (halted : Bool) (next : Option Transaction) → next ≡ option_map (with_phase (Queued order)) c.found → (stages : Queues) → stages ≡ behind p session →
+      source_of (placing p i next stages p.locks) kind halted ≡ queued (source_of p kind halted) session
+  queued_at_view kind halted next next_told stages stages_are =
+      rw (stages_are, next_is next next_told)
+      (ap (λ (s : Source). record s { queue = (behind p session).flush }) (view_set p core kind halted i session now p.locks is)
+      ∙ ap (λ (o : Option Open). record (with_open (source_of p kind halted) session o) { queue = (behind p session).flush }) (sym opened))
     where
       opened : option_map {U = Open} (λ (t : Open). record { changes = t.changes; phase = queued_phase t.phase }) (slice_index_or (sessions_view p.places) (session - 1) None)
           ≡ Some (record { changes = w.t.pending.changes; phase = Queued order })
       opened =
           ap (option_map {U = Open} (λ (t : Open). record { changes = t.changes; phase = queued_phase t.phase })) (open_at p kind halted i session is ∙ ap (option_map open_view) w.is)
           ∙ ap (λ (x : Phase). Some (record { changes = w.t.pending.changes; phase = queued_phase x })) w.phase
-
-  -- ---- the same, of what is found in the place
-
-  next_is : (next : Option Transaction) → next ≡ option_map (with_phase (Queued order)) c.found → now ≡ next
-  next_is next next_told = sym (next_told ∙ ap (option_map (with_phase (Queued order))) (found_again c ∙ sym (read_there c) ∙ w.is))
-
-  pub queued_at : (next : Option Transaction) → next ≡ option_map (with_phase (Queued order)) c.found → (stages : Queues) → stages ≡ behind p session → length p.log + length p.stages.flush < p.limit →
-      IsCore (placing p i next stages p.locks)
-  queued_at next next_told stages stages_are few =
-      rw stages_are (subst (λ (o : Option Transaction). IsCore (placing p i o (behind p session) p.locks)) (next_is next next_told) (queued_core few))
-
-  pub queued_at_view : (kind : Kind) (halted : Bool) (next : Option Transaction) → next ≡ option_map (with_phase (Queued order)) c.found → (stages : Queues) → stages ≡ behind p session →
-      source_of (placing p i next stages p.locks) kind halted ≡ queued (source_of p kind halted) session
-  queued_at_view kind halted next next_told stages stages_are =
-      (λ k. source_of (placing p i (sym (next_is next next_told) k) (stages_are k) p.locks) kind halted) ∙ queued_view kind halted
 
 -- ---- the sessions that wait for the sync and for the commit of their records, at each call that moves them
 
