@@ -1,4 +1,4 @@
--- The records of a log that is there before its source: each may be observed.
+-- A source that goes on from a log, and one that is new: what is observed of the log, and what stands.
 use Rattle.std.proofs.Common.{◌≡◌, sym, ap, subst, refl, ℕ, ◌+◌, List, [], ◌∷◌, ◌++◌, append_assoc, length, ◌∙◌, zero, suc, ◌<◌, ◌≤◌, ◌^◌, map, take, drop, replicate, Option, Some, None, arith, true}
 use Rattle.std.proofs.Common.{false}
 use Rattle.std.proofs.lemmas.List.{length_push, length-map, length-take-le, take_all, drop_all, length-replicate}

@@ -1,4 +1,4 @@
--- A session puts its prepared transaction last into the flush queue.
+-- A session puts its prepared transaction last into the flush queue, and waits; who waits at each call that moves them.
 use Rattle.std.proofs.Common.{◌≡◌, ◌∙◌, sym, ap, subst, refl, ℕ, ◌+◌, ◌-◌, ◌<◌, ◌≤◌, List, [], ◌∷◌, ◌++◌, length, length-append, set, slice_index_or, IsTrue, Bool, true, false, eqb, Option, Some}
 use Rattle.std.proofs.Common.{None, arith, append_assoc, take, drop, ◌||◌}
 use Rattle.std.specs.Prelude.{option_and_then}
@@ -50,9 +50,6 @@ is_prepared_at : (o : Option Transaction) (order : ℕ) → option_and_then prep
 is_prepared_at None order e = cc
 is_prepared_at (Some t) order e = record { t = t; is = refl; phase = prepared_phase t t.phase order refl e }
 
-prepared_is_free : (o : Option Transaction) (order : ℕ) → IsPrepared o order → IsFree o
-prepared_is_free o order w = subst (λ (x : Option Transaction). IsFree x) (sym w.is) (subst (λ (x : Phase). IsFreePhase x) (sym w.phase) tt)
-
 -- the stages with the session last in the queue
 abbrev pub behind : Parts → ℕ → Queues
 behind p session = queued_last p.stages session
@@ -73,7 +70,7 @@ module _ (c : PlaceCall) (order : ℕ) (told : option_and_then prepared_order c.
   w = is_prepared_at (placed p.places i) order (ap (option_and_then prepared_order) (read_there c) ∙ told)
 
   free : IsFree (placed p.places i)
-  free = prepared_is_free (placed p.places i) order w
+  free = subst (λ (x : Option Transaction). IsFree x) (sym w.is) (subst (λ (x : Phase). IsFreePhase x) (sym w.phase) tt)
 
   abbrev its : Transaction
   its = with_phase (Queued order) w.t
