@@ -184,28 +184,23 @@ pub placed_is : (places : List (Option Transaction)) (i : ℕ) (o : Option Trans
 placed_is places i o within at = get_or_default places i None o within ∙ sym at
 
 -- what a call of a session finds in the session's place, first as it reads it, and then as it changes it
-pub record PlaceCall : Type 0 where
-  pub p : Parts
+pub record PlaceCall (p : Parts) (i session : ℕ) (read found : Option Transaction) : Type 0 where
   pub core : IsCore p
-  pub i : ℕ
-  pub session : ℕ
   pub is : i + 1 ≡ session
   pub within : i < 256
-  pub read : Option Transaction
   pub read_is : read ≡ get_or p.places i read
-  pub found : Option Transaction
   pub found_is : found ≡ get_or p.places i found
 
-abbrev pub place_call : {p : Parts} {i session : ℕ} {read found : Option Transaction} → IsCore p → IsPlaceOf session i → read ≡ get_or p.places i read → found ≡ get_or p.places i found → PlaceCall
-place_call {p = p} {i = i} {session = session} {read = read} {found = found} core at read_is found_is =
-    record { p = p; core = core; i = i; session = session; is = at.0; within = at.1; read = read; read_is = read_is; found = found; found_is = found_is }
+abbrev pub place_call : {p : Parts} {i session : ℕ} {read found : Option Transaction} → IsCore p → IsPlaceOf session i → read ≡ get_or p.places i read → found ≡ get_or p.places i found →
+    PlaceCall p i session read found
+place_call core at read_is found_is = record { core = core; is = at.0; within = at.1; read_is = read_is; found_is = found_is }
 
-pub read_there : (c : PlaceCall) → placed c.p.places c.i ≡ c.read
-read_there c = placed_is c.p.places c.i c.read (omega (arith, c.within, c.core.sessions)) c.read_is
+pub read_there : {p : Parts} {i session : ℕ} {read found : Option Transaction} → PlaceCall p i session read found → placed p.places i ≡ read
+read_there {p = p} {i = i} {read = read} c = placed_is p.places i read (omega (arith, c.within, c.core.sessions)) c.read_is
 
 -- both times the same
-pub found_again : (c : PlaceCall) → c.found ≡ c.read
-found_again c = sym (placed_is c.p.places c.i c.found (omega (arith, c.within, c.core.sessions)) c.found_is) ∙ read_there c
+pub found_again : {p : Parts} {i session : ℕ} {read found : Option Transaction} → PlaceCall p i session read found → found ≡ read
+found_again {p = p} {i = i} {found = found} c = sym (placed_is p.places i found (omega (arith, c.within, c.core.sessions)) c.found_is) ∙ read_there c
 
 pub nothing : (o : Option Transaction) → false ≡ is_some o → o ≡ None
 nothing None e = refl

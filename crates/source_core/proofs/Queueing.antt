@@ -63,8 +63,8 @@ in_queue queue session = list_any-append (eqb session) queue (session ∷ []) �
     itself : (n : ℕ) → eqb n n ≡ true
     itself n = grind (arith, nat_tests)
 
-module _ (c : PlaceCall) (order : ℕ) (told : option_and_then prepared_order c.read ≡ Some order) where
-  open c use {p, core, i, session, is, within}
+module _ {p : Parts} {i session : ℕ} {read found : Option Transaction} (c : PlaceCall p i session read found) (order : ℕ) (told : option_and_then prepared_order read ≡ Some order) where
+  open c use {core, is, within}
 
   w : IsPrepared (placed p.places i) order
   w = is_prepared_at (placed p.places i) order (ap (option_and_then prepared_order) (read_there c) ∙ told)
@@ -98,10 +98,10 @@ module _ (c : PlaceCall) (order : ℕ) (told : option_and_then prepared_order c.
   }
 
   -- what is found in the place is the transaction, and it is queued now
-  next_is : (next : Option Transaction) → next ≡ option_map (with_phase (Queued order)) c.found → next ≡ now
+  next_is : (next : Option Transaction) → next ≡ option_map (with_phase (Queued order)) found → next ≡ now
   next_is next next_told = next_told ∙ ap (option_map (with_phase (Queued order))) (found_again c ∙ sym (read_there c) ∙ w.is)
 
-  pub queued_at : (next : Option Transaction) → next ≡ option_map (with_phase (Queued order)) c.found → (stages : Queues) → stages ≡ behind p session → length p.log + length p.stages.flush < p.limit →
+  pub queued_at : (next : Option Transaction) → next ≡ option_map (with_phase (Queued order)) found → (stages : Queues) → stages ≡ behind p session → length p.log + length p.stages.flush < p.limit →
       IsCore (placing p i next stages p.locks)
   queued_at next next_told stages stages_are few =
       let count : length (behind p session).flush ≡ length p.stages.flush + 1 = length-append p.stages.flush (session ∷ []) in
@@ -118,7 +118,7 @@ module _ (c : PlaceCall) (order : ℕ) (told : option_and_then prepared_order c.
       (core.no_clash, core.no_mark_clash)
       (core.applies i w.t w.is, (ready, subst (λ k. IsTrue (list_any (eqb k) (behind p session).flush)) (sym is) (in_queue p.stages.flush session))))
 
-  pub queued_at_view : (kind : Kind) (halted : Bool) (next : Option Transaction) → next ≡ option_map (with_phase (Queued order)) c.found → (stages : Queues) → stages ≡ behind p session →
+  pub queued_at_view : (kind : Kind) (halted : Bool) (next : Option Transaction) → next ≡ option_map (with_phase (Queued order)) found → (stages : Queues) → stages ≡ behind p session →
       source_of (placing p i next stages p.locks) kind halted ≡ queued (source_of p kind halted) session
   queued_at_view kind halted next next_told stages stages_are =
       rw (stages_are, next_is next next_told)
