@@ -1,16 +1,22 @@
--- A source that goes on from a log, and one that is new: no session has a transaction, and nothing waits.
-use Rattle.std.proofs.Common.{◌≡◌, ◌∙◌, sym, ap, subst, refl, ℕ, zero, suc, ◌+◌, ◌<◌, ◌≤◌, ◌^◌, List, [], ◌∷◌, length, map, take, drop, replicate, Option, Some, None, arith}
+-- A source that goes on from a log, and one that is new: what is observed of the log, and what stands.
+use Rattle.std.proofs.Common.{◌≡◌, sym, ap, subst, refl, ℕ, ◌+◌, List, [], ◌∷◌, ◌++◌, append_assoc, length, ◌∙◌, zero, suc, ◌<◌, ◌≤◌, ◌^◌, map, take, drop, replicate, Option, Some, None, arith, true}
+use Rattle.std.proofs.Common.{false}
+use Rattle.std.proofs.lemmas.List.{length_push, length-map, length-take-le, take_all, drop_all, length-replicate}
+use Rattle.schema.specs.declared.Table.{Table}
+use Rattle.schema.specs.declared.RowId.{RowId}
+use Rattle.schema.specs.Rows.{SameRows}
+use Rattle.schema.proofs.RowMaps.{same_row_itself}
+use Rattle.rows.specs.Database.{Database, NoValueTwice}
+use Rattle.rows.proofs.Parents.{no_kin_unrelated}
+use Rattle.record_codec.specs.declared.records.Record.{Record}
+use Rattle.record_codec.specs.Log.{IsLegalLog, AreShaped, after}
+use Rattle.source_core.specs.Source.{entry_of, entries_of, Source, Start, Open, new_source}
+use Rattle.source_core.specs.AtLog.{nobody, owners_of, observed, AreObservable, source_at, IsSoundAtLog}
+use Rattle.source_core.proofs.Flush.Drafted.{known_tables, sessions_of}
 use Rattle.std.specs.FinMap.{empty}
 use Rattle.std.specs.Option.{option_map}
-use Rattle.std.proofs.Common.{eqb, true, false}
-use Rattle.std.specs.List.{IsDistinct}
-use Rattle.std.proofs.lemmas.List.{length-map, length-take-le, take_all, drop_all}
 use Rattle.log_index.specs.declared.Entry.{Entry as Seen}
-use Rattle.record_codec.specs.declared.records.Record.{Record}
-use Rattle.record_codec.specs.Log.{after, IsLegalLog, AreShaped}
 use Rattle.tracker_trait.specs.Kind.{Kind}
-use Rattle.schema.specs.declared.Table.{Table}
-use Rattle.rows.specs.Database.{Database, NoValueTwice}
 use Rattle.store_trait.specs.Batch.{Entry, put_batch, all_rows}
 use Rattle.store_trait.specs.Fits.{Fits}
 use Rattle.store_trait.specs.Operation.{loaded}
@@ -21,20 +27,47 @@ use Rattle.row_index.specs.Counts.{Counts, CountsChildren}
 use Rattle.row_locks.specs.Locks.{Holding, AllLocks, no_locks}
 use Rattle.commit_stages.specs.Queues.{Queues}
 use Rattle.source_core.specs.declared.transaction.Transaction.{Transaction}
-use Rattle.source_core.specs.Source.{Source, Start, Open, entries_of, new_source}
-use Rattle.source_core.specs.AtLog.{nobody, owners_of, observed, source_at, IsSoundAtLog}
-use Rattle.source_core.specs.Core.{Parts, Holds, IsTrackedLog, IsStored, IsStart, IsIdle, AreFlushed, parts_of, source_of, open_view, pending_in, rows_held, marks_held, sessions_view, placed}
-use Rattle.source_core.proofs.Observed.{are_entries}
+use Rattle.source_core.specs.Core.{Parts, Holds, IsTrackedLog, IsStored, IsStart, IsIdle, AreFlushed, parts_of, source_of, open_view, pending_in, rows_held, marks_held, placed}
+use Rattle.source_core.proofs.Stand.{none_twice}
+
+no_rows : (rows : List RowId) → SameRows rows [] → rows ≡ []
+no_rows [] same = refl
+no_rows (row ∷ rows) same = let itself = same_row_itself row in absurd (cc (itself, same row))
+
+are_observable : (ts : List Table) (base : Database) (front rest : List Record) → IsLegalLog ts base (front ++ rest) → AreShaped ts rest → AreObservable ts (length front + 1) rest
+are_observable ts base front [] legal shaped = tt
+are_observable ts base front (made ∷ rest) legal shaped =
+    let next = legal front made rest refl in
+    let regrouped : front ++ made ∷ rest ≡ (front ++ made ∷ []) ++ rest = sym (append_assoc front (made ∷ []) rest) in
+    let others = are_observable ts base (front ++ made ∷ []) rest (subst (IsLegalLog ts base) regrouped legal) shaped.1 in (
+      record {
+        sequence = next.sequence;
+        below = next.below;
+        of_tables = record {
+          flags = refl;
+          known = known_tables ts made.changes shaped.0;
+          refs = λ unrelated. no_rows made.refs (subst (SameRows made.refs) (no_kin_unrelated ts made.changes next.before unrelated) next.refs);
+          set = refl;
+        };
+      },
+      subst (λ (n : ℕ). AreObservable ts (n + 1) rest) (length_push front made) others,
+    )
+
+pub legal_are_observable : (ts : List Table) (base : Database) (log : List Record) → IsLegalLog ts base log → AreShaped ts log → AreObservable ts 1 log
+legal_are_observable ts base log = are_observable ts base [] log
+
+-- they are the entries of nobody's records
+pub are_entries : (ts : List Table) (log : List Record) → observed ts log ≡ entries_of ts log (owners_of log)
+are_entries ts [] = refl
+are_entries ts (made ∷ log) = ap (λ l. entry_of ts made nobody ∷ l) (are_entries ts log)
+
+-- ---- a source that goes on from a log, and one that is new: no session has a transaction, and nothing waits
 
 -- no places, so many
 none_of : (n i : ℕ) → placed (replicate n None) i ≡ None
 none_of zero i = refl
 none_of (suc n) zero = refl
 none_of (suc n) (suc i) = none_of n i
-
-long : {X : Type 0} (n : ℕ) (x : X) → length (replicate n x) ≡ n
-long zero x = refl
-long (suc n) x = ap suc (long n x)
 
 mapped : {X Y : Type 0} (f : X → Y) (n : ℕ) (x : X) → map f (replicate n x) ≡ replicate n (f x)
 mapped f zero x = refl
@@ -43,88 +76,67 @@ mapped f (suc n) x = ap (λ l. f x ∷ l) (mapped f n x)
 absent : (i : ℕ) (t : Transaction) → placed (replicate 256 None) i ≡ Some t → ⊥
 absent i t at = cc (sym (none_of 256 i) ∙ at)
 
-pub views_none : sessions_view (replicate 256 None) ≡ replicate 256 None
-views_none = mapped (option_map open_view) 256 None
-
-none_twice : IsDistinct eqb []
-unfolding IsDistinct
-none_twice = tt
-
--- what a source is made of that goes on from a log: no locks, and nothing in its places and its queues
-pub record LogParts : Type 0 where
-  pub tables : List Table
-  pub rows : Database
-  pub base : List Entry
-  pub index : Keys
-  pub children : Counts
-  pub limit : ℕ
-  pub bound : limit < 2 ^ 63
-  pub log : List Record
-  pub few : length log ≤ limit
-  pub entries : List Seen
-  pub logged : IsTrackedLog tables base log (owners_of log) entries
-  pub stored : IsStored tables base log (length log) rows index children
-  pub end : ℕ
-  pub is_end : end ≡ length log
-  pub locks : AllLocks
-  pub places : List (Option Transaction)
-  pub stages : Queues
-  pub idle : IsIdle places stages locks
-
--- its parts
-abbrev pub parts_at : LogParts → Parts
-parts_at n = parts_of n.tables n.rows n.index n.children n.base n.limit n.log n.end n.end n.entries n.places n.stages n.locks true 0
-
 no_held : (held : Pending → Holding) → replicate 256 (held none_pending) ≡ map held (map pending_in (replicate 256 None))
 no_held held = sym (ap (map held) (mapped pending_in 256 None) ∙ mapped held 256 none_pending)
 
-sessions_at : (ts : List Table) (log : List Record) → map (λ (e : Seen). e.session) (entries_of ts log (owners_of log)) ≡ owners_of log
-sessions_at ts [] = refl
-sessions_at ts (made ∷ log) = ap (λ l. nobody ∷ l) (sessions_at ts log)
+-- what is known of a source that goes on from a log: no locks, and nothing in its places and its queues
+pub record IsAtLog (ts : List Table) (rows : Database) (base : List Entry) (index : Keys) (children : Counts) (limit : ℕ) (log : List Record) (entries : List Seen) (end : ℕ)
+    (places : List (Option Transaction)) (stages : Queues) (locks : AllLocks) : Type 0 where
+  pub bound : limit < 2 ^ 63
+  pub few : length log ≤ limit
+  pub logged : IsTrackedLog ts base log (owners_of log) entries
+  pub stored : IsStored ts base log (length log) rows index children
+  pub is_end : end ≡ length log
+  pub idle : IsIdle places stages locks
 
--- the sessions that its entries say are nobody
-owners_at : (n : LogParts) → map (λ (e : Seen). e.session) n.entries ≡ owners_of n.log
-owners_at n = ap (map (λ (e : Seen). e.session)) n.logged.seen ∙ sessions_at n.tables n.log
+module _ {ts : List Table} {rows : Database} {base : List Entry} {index : Keys} {children : Counts} {limit : ℕ} {log : List Record} {entries : List Seen} {end : ℕ}
+    {places : List (Option Transaction)} {stages : Queues} {locks : AllLocks} (n : IsAtLog ts rows base index children limit log entries end places stages locks) where
+  abbrev its : Parts
+  its = parts_of ts rows index children base limit log end end entries places stages locks true 0
 
-as_many : (n : LogParts) → length (parts_at n).owners ≡ n.end
-as_many n = ap length (owners_at n) ∙ n.logged.owned ∙ sym n.is_end
+  -- the sessions that its entries say are nobody
+  owners_at : map (λ (e : Seen). e.session) entries ≡ owners_of log
+  owners_at = ap (map (λ (e : Seen). e.session)) n.logged.seen ∙ sessions_of ts log (owners_of log) n.logged.owned
 
-pub holds_at : (n : LogParts) (IsSo : Type 0) → IsSo → Holds (parts_at n) IsSo
-unfolding no_locks
-holds_at n IsSo so =
-    let owners = (parts_at n).owners in
-    let many = as_many n in
-    let left = drop_all n.end owners (omega (arith, many)) in
-    rw (n.idle.no_places, n.idle.no_stages)
-    (record {
-      core = record {
-        logged = subst (λ (l : List ℕ). IsTrackedLog n.tables n.base n.log l n.entries) (sym (owners_at n)) n.logged;
-        few = omega (arith, n.few);
-        bound = n.bound;
-        synced_within = omega (arith, n.is_end);
-        committed_within = omega arith;
-        stored = subst (λ (k : ℕ). IsStored n.tables n.base n.log k n.rows n.index n.children) (sym n.is_end) n.stored;
-        sessions = long {X = Option Transaction} 256 None;
-        grouped = record { some = tt; whole = omega (arith, n.is_end) };
-        locks = n.idle.none ∙ (λ i. record { rows = no_held rows_held i; marks = no_held marks_held i });
-        no_clash = n.idle.no_clash;
-        no_mark_clash = n.idle.no_mark_clash;
-        applies = λ i t at. absurd (absent i t at);
-        stands = λ i t at. absurd (absent i t at);
-        flushed = subst (λ (l : List Record). AreFlushed (replicate 256 None) (n.end + 1) l (drop n.end owners)) (sym (drop_all n.end n.log (omega (arith, n.is_end))))
-            (subst (λ (l : List ℕ). AreFlushed (replicate 256 None) (n.end + 1) [] l) (sym left) tt);
-        queued = tt;
-        distinct = none_twice;
-      };
-      waits = record { syncing = sym left; committing = sym (drop_all n.end (take n.end owners) (omega (arith, length-take-le n.end owners (omega (arith, many))))) };
-      tracked = so;
-      kept = record { within = omega arith; none = λ _. refl };
-    })
+  as_many : length its.owners ≡ end
+  as_many = ap length owners_at ∙ n.logged.owned ∙ sym n.is_end
 
-pub view_at : (n : LogParts) (kind : Kind) → source_of (parts_at n) kind false ≡ source_at n.tables n.base n.limit kind n.log
-view_at n kind =
-    rw (n.idle.no_places, n.idle.no_stages)
-    (λ i. record (source_at n.tables n.base n.limit kind n.log) { synced = n.is_end i; committed = n.is_end i; owners = owners_at n i; sessions = views_none i })
+  pub holds_at : (IsSo : Type 0) → IsSo → Holds its IsSo
+  unfolding no_locks
+  holds_at IsSo so =
+      let owners = its.owners in
+      let many = as_many in
+      let left = drop_all end owners (omega (arith, many)) in
+      rw (n.idle.no_places, n.idle.no_stages)
+      (record {
+        core = record {
+          logged = subst (λ (l : List ℕ). IsTrackedLog ts base log l entries) (sym owners_at) n.logged;
+          few = omega (arith, n.few);
+          bound = n.bound;
+          synced_within = omega (arith, n.is_end);
+          committed_within = omega arith;
+          stored = subst (λ (k : ℕ). IsStored ts base log k rows index children) (sym n.is_end) n.stored;
+          sessions = length-replicate {A = Option Transaction} 256 None;
+          grouped = record { some = tt; whole = omega (arith, n.is_end) };
+          locks = n.idle.none ∙ (λ i. record { rows = no_held rows_held i; marks = no_held marks_held i });
+          no_clash = n.idle.no_clash;
+          no_mark_clash = n.idle.no_mark_clash;
+          applies = λ i t at. absurd (absent i t at);
+          stands = λ i t at. absurd (absent i t at);
+          flushed = subst (λ (l : List Record). AreFlushed (replicate 256 None) (end + 1) l (drop end owners)) (sym (drop_all end log (omega (arith, n.is_end))))
+              (subst (λ (l : List ℕ). AreFlushed (replicate 256 None) (end + 1) [] l) (sym left) tt);
+          queued = tt;
+          distinct = none_twice;
+        };
+        waits = record { syncing = sym left; committing = sym (drop_all end (take end owners) (omega (arith, length-take-le end owners (omega (arith, many))))) };
+        tracked = so;
+        kept = record { within = omega arith; none = λ _. refl };
+      })
+
+  pub view_at : (kind : Kind) → source_of its kind false ≡ source_at ts base limit kind log
+  view_at kind =
+      rw (n.idle.no_places, n.idle.no_stages)
+      (λ i. record (source_at ts base limit kind log) { synced = n.is_end i; committed = n.is_end i; owners = owners_at i; sessions = mapped (option_map open_view) 256 None i })
 
 -- ---- what is asked of the log
 
@@ -170,7 +182,7 @@ same_tables is are = sym (ap (λ (start : Start). start.tables) is ∙ are)
 
 pub is_sound_at_log : IsSoundAtLog
 is_sound_at_log ts base limit kind log legal shaped few bound = record {
-  sessions = long {X = Option Open} 256 None;
+  sessions = length-replicate {A = Option Open} 256 None;
   legal = legal;
   shaped = shaped;
   few = few;

@@ -1,8 +1,7 @@
--- What stands once one session's transaction is another that is not queued, or none.
+-- What stands once one session's transaction is another that is not queued, or none; and once a session begins one.
 use Rattle.std.specs.List.{list_any, IsDistinct}
 use Rattle.tracker_trait.specs.Kind.{Kind}
-use Rattle.std.proofs.Common.{IsTrue, is_some, false, Bool, eqb, ◌≡◌, ◌≢◌, ◌∙◌, sym, ap, subst, refl, ℕ, ◌+◌, ◌-◌, ◌<◌, ◌≤◌, List, [], ◌∷◌, length, map, get_or, set, Option, Some, None, inl, inr}
-use Rattle.std.proofs.Common.{arith}
+use Rattle.std.proofs.Common.{IsTrue, is_some, false, Bool, eqb, ◌≡◌, ◌∙◌, sym, ap, subst, refl, ℕ, ◌+◌, ◌-◌, ◌<◌, ◌≤◌, List, [], ◌∷◌, length, map, get_or, set, Option, Some, None, inl, inr, arith}
 use Rattle.std.specs.Option.{option_map}
 use Rattle.std.proofs.lemmas.Bool.Decides.{eqb_tells}
 use Rattle.std.proofs.lemmas.List.{get_or-set_same, get_or-set_other, set-get_or, map-set, length-set, get_or_default}
@@ -14,10 +13,11 @@ use Rattle.row_locks.specs.Locks.{Holding, AllLocks, NoClash}
 use Rattle.source_core.specs.declared.transaction.Phase.{Phase}
 use Rattle.source_core.specs.declared.transaction.Phase.TheVariants.{Active, Prepared, Queued, Flushed}
 use Rattle.source_core.specs.declared.transaction.Transaction.{Transaction}
-use Rattle.source_core.specs.Calls.{with_open}
+use Rattle.source_core.specs.Calls.{with_open, begun}
 use Rattle.commit_stages.specs.Queues.{Queues, AreSizes}
-use Rattle.source_core.specs.Core.{Parts, IsCore, Course, Applies, StandsAs, IsQueued, AreFlushed, AreQueued, course_of, open_view, sessions_view, source_of, placed}
-use Rattle.source_core.specs.Core.{locks_in, pending_in, rows_held, marks_held}
+use Rattle.source_core.specs.Core.{Parts, IsCore, Course, Applies, StandsAs, IsQueued, AreFlushed, AreQueued, course_of, open_view, sessions_view, source_of, placed, locks_in, pending_in, rows_held}
+use Rattle.source_core.specs.Core.{marks_held, Holds}
+use Rattle.overlay.proofs.Follow.{Follows-none}
 
 -- the transaction, if there is one, is neither queued nor flushed
 abbrev pub IsFreePhase : Phase → Type 0
@@ -38,30 +38,20 @@ IsPlaceOf session i = (i + 1 ≡ session) × (i < 256)
 abbrev pub placing : Parts → ℕ → Option Transaction → Queues → AllLocks → Parts
 placing p i now stages locks = record p { places = set p.places i now; stages = stages; locks = locks }
 
-pub not_flushed : (o : Option Transaction) (t : Transaction) (n : ℕ) → IsFree o → o ≡ Some t → t.phase ≡ Flushed n → ⊥
-not_flushed o t n free is phase =
-    subst (λ (x : Phase). IsFreePhase x) phase (subst (λ (x : Option Transaction). IsFree x) is free)
-
-pub not_queued : (o : Option Transaction) (t : Transaction) (n : ℕ) → IsFree o → o ≡ Some t → t.phase ≡ Queued n → ⊥
-not_queued o t n free is phase =
-    subst (λ (x : Phase). IsFreePhase x) phase (subst (λ (x : Option Transaction). IsFree x) is free)
-
--- a place that is not this one stays
-pub other_place : (places : List (Option Transaction)) (i j : ℕ) (now : Option Transaction) → j ≢ i → placed (set places i now) j ≡ placed places j
-other_place places i j now ne = get_or-set_other places i j now None ne
+pub phase_free : (o : Option Transaction) (t : Transaction) (phase : Phase) → IsFree o → o ≡ Some t → t.phase ≡ phase → IsFreePhase phase
+phase_free o t phase free is at = subst (λ (x : Phase). IsFreePhase x) at (subst (λ (x : Option Transaction). IsFree x) is free)
 
 -- records are those of the transactions of other places too, where those stay that are records of this number and later
 pub flushed_over : (places others : List (Option Transaction)) (first : ℕ) →
     ((n i : ℕ) (t : Transaction) → first ≤ n → placed places i ≡ Some t → t.phase ≡ Flushed n → placed others i ≡ Some t) →
     (log : List Record) (owners : List ℕ) → AreFlushed places first log owners → AreFlushed others first log owners
 flushed_over places others first stay [] [] are = tt
-flushed_over places others first stay [] (owner ∷ owners) are = absurd are
-flushed_over places others first stay (made ∷ log) [] are = absurd are
 flushed_over places others first stay (made ∷ log) (owner ∷ owners) are =
     let f = are.0 in (
       record { least = f.least; t = f.t; place = stay first (owner - 1) f.t (omega arith) f.place f.phase; phase = f.phase; changes = f.changes; touches = f.touches },
       flushed_over places others (first + 1) (λ n i t le. stay n i t (omega (arith, le))) log owners are.1,
     )
+flushed_over places others first stay _ _ are = absurd are
 
 -- and sessions are queued in other places too, where the transactions stay that are queued
 pub queued_over : (places others : List (Option Transaction)) → ((i : ℕ) (t : Transaction) (order : ℕ) → placed places i ≡ Some t → t.phase ≡ Queued order → placed others i ≡ Some t) →
@@ -74,7 +64,7 @@ queued_over places others stay queue are =
 stays_beside : (places : List (Option Transaction)) (i : ℕ) (now : Option Transaction) → IsFree (placed places i) → (j : ℕ) (t : Transaction) → placed places j ≡ Some t →
     (IsFreePhase t.phase → ⊥) → placed (set places i now) j ≡ Some t
 stays_beside places i now free j t at not =
-    other_place places i j now (λ same. not (subst (λ (o : Option Transaction). IsFree o) (ap (placed places) (sym same) ∙ at) free)) ∙ at
+    get_or-set_other places i j now None (λ same. not (subst (λ (o : Option Transaction). IsFree o) (ap (placed places) (sym same) ∙ at) free)) ∙ at
 
 pub queued_stay : (places : List (Option Transaction)) (i : ℕ) (now : Option Transaction) → IsFree (placed places i) → (queue : List ℕ) → AreQueued places queue → AreQueued (set places i now) queue
 queued_stay places i now free =
@@ -99,7 +89,7 @@ each_placed P places i now within here others j t at =
       | inl same ↦
           let is : now ≡ Some t = sym (get_or-set_same places i now None within) ∙ ap (placed (set places i now)) (sym same.1) ∙ at in
           subst (λ k. P k t) (sym same.1) (here t is)
-      | inr apart ↦ others j t (sym (other_place places i j now apart.1) ∙ at)
+      | inr apart ↦ others j t (sym (get_or-set_other places i j now None apart.1) ∙ at)
     ]
 
 -- these locks, where the session of a place holds what changes that are pending need
@@ -162,6 +152,11 @@ place_set p core i within now free stages q locks are clear here =
       distinct = q.distinct;
     }
 
+-- the rest holds as before, where no session waits for anything else
+pub holds_placing : {p : Parts} {IsSo : Type 0} {locks : AllLocks} → Holds p IsSo → (i : ℕ) (now : Option Transaction) → IsCore (placing p i now p.stages locks) →
+    Holds (placing p i now p.stages locks) IsSo
+holds_placing h i now core = record { core = core; waits = h.waits; tracked = h.tracked; kept = h.kept }
+
 -- the same, with the stages as they are
 pub place_changed : (p : Parts) → IsCore p → (i : ℕ) → i < 256 → (now : Option Transaction) → IsFree (placed p.places i) → (locks : AllLocks) →
     locks ≡ locks_with p.locks i (pending_in now) → NoClashes locks → StandsIn (placing p i now p.stages locks) i now → IsCore (placing p i now p.stages locks)
@@ -189,29 +184,44 @@ pub placed_is : (places : List (Option Transaction)) (i : ℕ) (o : Option Trans
 placed_is places i o within at = get_or_default places i None o within ∙ sym at
 
 -- what a call of a session finds in the session's place, first as it reads it, and then as it changes it
-pub record PlaceCall : Type 0 where
-  pub p : Parts
+pub record PlaceCall (p : Parts) (i session : ℕ) (read found : Option Transaction) : Type 0 where
   pub core : IsCore p
-  pub i : ℕ
-  pub session : ℕ
   pub is : i + 1 ≡ session
   pub within : i < 256
-  pub read : Option Transaction
   pub read_is : read ≡ get_or p.places i read
-  pub found : Option Transaction
   pub found_is : found ≡ get_or p.places i found
 
-abbrev pub place_call : {p : Parts} {i session : ℕ} {read found : Option Transaction} → IsCore p → IsPlaceOf session i → read ≡ get_or p.places i read → found ≡ get_or p.places i found → PlaceCall
-place_call {p = p} {i = i} {session = session} {read = read} {found = found} core at read_is found_is =
-    record { p = p; core = core; i = i; session = session; is = at.0; within = at.1; read = read; read_is = read_is; found = found; found_is = found_is }
+abbrev pub place_call : {p : Parts} {i session : ℕ} {read found : Option Transaction} → IsCore p → IsPlaceOf session i → read ≡ get_or p.places i read → found ≡ get_or p.places i found →
+    PlaceCall p i session read found
+place_call core at read_is found_is = record { core = core; is = at.0; within = at.1; read_is = read_is; found_is = found_is }
 
-pub read_there : (c : PlaceCall) → placed c.p.places c.i ≡ c.read
-read_there c = placed_is c.p.places c.i c.read (omega (arith, c.within, c.core.sessions)) c.read_is
+pub read_there : {p : Parts} {i session : ℕ} {read found : Option Transaction} → PlaceCall p i session read found → placed p.places i ≡ read
+read_there {p = p} {i = i} {read = read} c = placed_is p.places i read (omega (arith, c.within, c.core.sessions)) c.read_is
 
 -- both times the same
-pub found_again : (c : PlaceCall) → c.found ≡ c.read
-found_again c = sym (placed_is c.p.places c.i c.found (omega (arith, c.within, c.core.sessions)) c.found_is) ∙ read_there c
+pub found_again : {p : Parts} {i session : ℕ} {read found : Option Transaction} → PlaceCall p i session read found → found ≡ read
+found_again {p = p} {i = i} {found = found} c = sym (placed_is p.places i found (omega (arith, c.within, c.core.sessions)) c.found_is) ∙ read_there c
 
 pub nothing : (o : Option Transaction) → false ≡ is_some o → o ≡ None
 nothing None e = refl
 nothing (Some t) e = cc
+
+-- ---- a session opens a transaction
+
+-- a transaction that has this pending
+abbrev pub fresh : Pending → Option Transaction
+fresh pending = Some (record { pending = pending; phase = Active })
+
+pub new_stands : (p : Parts) → IsCore p → (i session : ℕ) → IsPlaceOf session i → (read : Option Transaction) → read ≡ get_or p.places i read → false ≡ is_some read →
+    (new : Pending) → new ≡ none_pending → IsCore (placing p i (fresh new) p.stages p.locks)
+new_stands p core i session at read read_is none new is =
+    let empty : placed p.places i ≡ None = placed_is p.places i read (omega (arith, at.1, core.sessions)) read_is ∙ nothing read none in
+    rw is (place_changed p core i at.1 (fresh none_pending) (rw empty tt) p.locks
+    (locks_stay p core i (fresh none_pending) (sym (ap pending_in empty))) (core.no_clash, core.no_mark_clash)
+    (record { leaves = p.rows; follows = Follows-none p.tables p.rows; fits = core.stored.fits; shaped = refl; few = omega arith; no_orphan = tt }, tt))
+
+pub begun_view : (p : Parts) → IsCore p → (kind : Kind) (halted : Bool) (i session : ℕ) (new : Pending) → i + 1 ≡ session → new ≡ none_pending →
+    source_of (placing p i (fresh new) p.stages p.locks) kind halted ≡ begun (source_of p kind halted) session
+begun_view p core kind halted i session new at is =
+    view_set p core kind halted i session (fresh new) p.locks at
+    ∙ ap (λ (q : Pending). with_open (source_of p kind halted) session (Some (record { changes = q.changes; phase = Active }))) is

@@ -1,7 +1,7 @@
 -- What is known of the transactions of a source whose parts stand together.
-use Rattle.std.proofs.Common.{◌≡◌, ◌≢◌, ◌∙◌, sym, ap, subst, refl, ℕ, zero, suc, ◌+◌, ◌-◌, ◌<◌, ◌≤◌, List, [], ◌∷◌, length, map, take, drop, get_or, Bool, false, Option, Some, None, arith}
+use Rattle.std.proofs.Common.{◌≡◌, ◌≢◌, ◌∙◌, sym, ap, subst, refl, ℕ, zero, suc, ◌+◌, ◌-◌, ◌<◌, ◌≤◌, List, [], ◌∷◌, length, map, take, drop, get_or, Bool, false, Option, Some, None, arith, eqb, ◌||◌}
 use Rattle.std.specs.Prelude.{slice_get}
-use Rattle.std.specs.List.{AllByRecursion}
+use Rattle.std.specs.List.{AllByRecursion, list_any, IsDistinct}
 use Rattle.std.specs.Option.{option_map, option_map_or, option_and_then, IsSome}
 use Rattle.std.proofs.lemmas.List.{length-drop, length-map, get_or_past}
 use Rattle.std.specs.FinMap.{empty}
@@ -17,8 +17,10 @@ use Rattle.row_locks.specs.Locks.{Holding, held_by, holding}
 use Rattle.row_locks.proofs.Holders.{holders_do_not_conflict}
 use Rattle.source_core.specs.declared.transaction.Transaction.{Transaction}
 use Rattle.tracker_trait.specs.Kind.{Kind}
+use Rattle.commit_stages.specs.Queues.{Queues, AreSizes}
 use Rattle.source_core.specs.Source.{Source, Open, EachApplies, IsSound, open_of, held_for, marks_held_for, locks_over}
 use Rattle.source_core.specs.Core.{Parts, IsCore, IsFlushedAs, AreFlushed, open_view, sessions_view, source_of, placed, pending_in, touched_in, rows_held, marks_held}
+use Rattle.std.proofs.lemmas.Bool.{ne_eqb}
 
 -- what the session of a place holds, of rows or of marks
 pub held_at : (held : Pending → Holding) (places : List (Option Transaction)) (i : ℕ) →
@@ -61,69 +63,51 @@ within_places places i t is =
     let past : length places ≤ i → ⊥ = λ le. (let e = get_or_past places i None le in absurd (cc (e, is))) in
     omega (arith, past)
 
+pub none_twice : IsDistinct eqb []
+unfolding IsDistinct
+none_twice = tt
+
+-- a session that is none of these is not in their list
+pub not_any : (queue : List ℕ) (session : ℕ) → AllByRecursion (λ other. other ≡ session → ⊥) queue → list_any (eqb session) queue ≡ false
+not_any [] session none = refl
+not_any (other ∷ queue) session none =
+    ap (λ (b : Bool). b || list_any (eqb session) queue) (ne_eqb session other (λ e. none.0 (sym e))) ∙ not_any queue session none.1
+
 -- what is true of each of these records, and of the session that it came from
 pub each_flushed : (places : List (Option Transaction)) (P : ℕ → Type 0) (Q : Record → Type 0) (first : ℕ) (log : List Record) (owners : List ℕ) →
     ((n : ℕ) (made : Record) (owner : ℕ) → first ≤ n → n < first + length log → IsFlushedAs places n made owner → P owner × Q made) →
     AreFlushed places first log owners → AllByRecursion P owners × AllByRecursion Q log
 each_flushed places P Q first [] [] each are = (tt, tt)
-each_flushed places P Q first [] (owner ∷ owners) each are = absurd are
-each_flushed places P Q first (made ∷ log) [] each are = absurd are
 each_flushed places P Q first (made ∷ log) (owner ∷ owners) each are =
     let one = each first made owner (omega arith) (omega arith) are.0 in
     let rest = each_flushed places P Q (first + 1) log owners (λ n r o le lt. each n r o (omega (arith, le)) (omega (arith, lt))) are.1 in
     ((one.0, rest.0), (one.1, rest.1))
+each_flushed places P Q first _ _ each are = absurd are
 
--- a record of these, and the session that it came from
-record At (p : Parts) (first : ℕ) (log : List Record) (owners : List ℕ) (i : ℕ) : Type 0 where
+-- each record that is not committed, and the session that it came from: it is that of the transaction in the session's place
+pub record IsOf (places : List (Option Transaction)) (n : ℕ) (record_ : Option Record) (owner_ : Option ℕ) : Type 0 where
   pub made : Record
   pub owner : ℕ
-  pub is : slice_get log i ≡ Some made
-  pub own : slice_get owners i ≡ Some owner
-  pub stands : IsFlushedAs p.places (first + i) made owner
+  pub is : record_ ≡ Some made
+  pub own : owner_ ≡ Some owner
+  pub stands : IsFlushedAs places n made owner
 
-at_place : (p : Parts) (first : ℕ) (log : List Record) (owners : List ℕ) (i : ℕ) → AreFlushed p.places first log owners → i < length log → At p first log owners i
-at_place p first [] [] i are within = absurd (omega (arith, within))
-at_place p first [] (owner ∷ owners) i are within = absurd are
-at_place p first (made ∷ log) [] i are within = absurd are
-at_place p first (made ∷ log) (owner ∷ owners) zero are within = record {
-  made = made;
-  owner = owner;
-  is = refl;
-  own = refl;
-  stands =
-      subst (λ n. IsFlushedAs p.places n made owner) (omega arith) are.0;
-}
-at_place p first (made ∷ log) (owner ∷ owners) (suc i) are within =
-    let behind = at_place p (first + 1) log owners i are.1 (omega (arith, within)) in
-    record {
-      made = behind.made;
-      owner = behind.owner;
-      is = behind.is;
-      own = behind.own;
-      stands =
-          subst (λ n. IsFlushedAs p.places n behind.made behind.owner) (omega arith) behind.stands;
-    }
+at_place : (places : List (Option Transaction)) (n first : ℕ) (log : List Record) (owners : List ℕ) (i : ℕ) → AreFlushed places first log owners → first + i ≡ n → i < length log →
+    IsOf places n (slice_get log i) (slice_get owners i)
+at_place places n first [] [] i are at within = absurd (omega (arith, within))
+at_place places n first (made ∷ log) (owner ∷ owners) zero are at within =
+    record { made = made; owner = owner; is = refl; own = refl; stands = subst (λ k. IsFlushedAs places k made owner) (omega (arith, at)) are.0 }
+at_place places n first (made ∷ log) (owner ∷ owners) (suc i) are at within = at_place places n (first + 1) log owners i are.1 (omega (arith, at)) (omega (arith, within))
+at_place places n first _ _ i are at within = absurd are
 
--- each record that is not committed is that of the transaction in its session's place
-pub record IsOf (p : Parts) (n : ℕ) : Type 0 where
-  pub made : Record
-  pub owner : ℕ
-  pub is : slice_get p.log (n - 1) ≡ Some made
-  pub own : slice_get p.owners (n - 1) ≡ Some owner
-  pub stands : IsFlushedAs p.places n made owner
-
-pub flushed_at : (p : Parts) → IsCore p → (n : ℕ) → p.committed < n → n ≤ length p.log → IsOf p n
+pub flushed_at : (p : Parts) → IsCore p → (n : ℕ) → p.committed < n → n ≤ length p.log → IsOf p.places n (slice_get p.log (n - 1)) (slice_get p.owners (n - 1))
 flushed_at p core n later there =
     let i = n - (p.committed + 1) in
-    let at = at_place p (p.committed + 1) (drop p.committed p.log) (drop p.committed p.owners) i core.flushed (omega (arith, length-drop p.committed p.log, later, there)) in
     let place : p.committed + i ≡ n - 1 = omega (arith, later) in
-    record {
-      made = at.made;
-      owner = at.owner;
-      is = sym (ap (λ k. slice_get p.log k) place) ∙ sym (get_behind p.committed p.log i) ∙ at.is;
-      own = sym (ap (λ k. slice_get p.owners k) place) ∙ sym (get_behind p.committed p.owners i) ∙ at.own;
-      stands = subst (λ k. IsFlushedAs p.places k at.made at.owner) (omega (arith, later)) at.stands;
-    }
+    subst (λ k. IsOf p.places n (slice_get p.log k) (slice_get p.owners k)) place
+    (rw (← get_behind p.committed p.log i, ← get_behind p.committed p.owners i)
+    (at_place p.places n (p.committed + 1) (drop p.committed p.log) (drop p.committed p.owners) i core.flushed (omega (arith, later))
+    (omega (arith, length-drop p.committed p.log, later, there))))
 
 -- what a session sees is defined: its changes apply to the committed rows
 sees_some : (p : Parts) → IsCore p → (i : ℕ) (o : Option Transaction) → placed p.places i ≡ o →
@@ -154,16 +138,17 @@ is_sound p kind halted core = record {
 pub sound_as : (p : Parts) (kind : Kind) (halted : Bool) (s : Source) → source_of p kind halted ≡ s → IsCore p → IsSound s
 sound_as p kind halted s is core = subst (λ (x : Source). IsSound x) is (is_sound p kind halted core)
 
--- what is kept of the log changes nothing else
-pub core_keeping : (p : Parts) → IsCore p → (keeps : Bool) (gone : ℕ) → IsCore (record p { keeps = keeps; gone = gone })
-core_keeping p core keeps gone = record {
+-- what is synced, who waits for that, and what is kept of the log change nothing else
+pub core_with : (p : Parts) → IsCore p → (last : ℕ) (stages : Queues) (keeps : Bool) (gone : ℕ) → p.committed ≤ last → last ≤ length p.log → AreSizes stages.sizes (length p.log - last) →
+    IsCore (record p { synced = last; stages = record stages { flush = p.stages.flush }; keeps = keeps; gone = gone })
+core_with p core last stages keeps gone more within grouped = record {
   logged = core.logged;
   stored = core.stored;
   few = core.few;
   bound = core.bound;
-  synced_within = core.synced_within;
-  committed_within = core.committed_within;
-  grouped = core.grouped;
+  synced_within = within;
+  committed_within = more;
+  grouped = grouped;
   sessions = core.sessions;
   locks = core.locks;
   no_clash = core.no_clash;
@@ -174,6 +159,9 @@ core_keeping p core keeps gone = record {
   queued = core.queued;
   distinct = core.distinct;
 }
+
+pub core_keeping : (p : Parts) → IsCore p → (keeps : Bool) (gone : ℕ) → IsCore (record p { keeps = keeps; gone = gone })
+core_keeping p core keeps gone = core_with p core p.synced p.stages keeps gone core.committed_within core.synced_within core.grouped
 
 -- a session's transaction, as callers see it
 pub open_at : (p : Parts) (kind : Kind) (halted : Bool) (i session : ℕ) → i + 1 ≡ session → open_of (source_of p kind halted) session ≡ option_map open_view (placed p.places i)

@@ -1,7 +1,6 @@
 -- The group of a flush has the numbers behind the log, and is the oldest once all before it is synced.
 use Rattle.std.proofs.Common.{◌≡◌, ◌∙◌, sym, ap, subst, refl, ℕ, suc, ◌+◌, List, [], ◌∷◌, ◌++◌, length, length-append, take, drop, arith}
 use Rattle.std.proofs.Math.Seq.{drop-append_seam, take-append_seam}
-use Rattle.schema.specs.declared.Table.{Table}
 use Rattle.log_index.specs.declared.Entry.{Entry as Seen}
 use Rattle.record_codec.specs.declared.records.Record.{Record}
 use Rattle.record_codec.specs.Group as codec
@@ -9,14 +8,10 @@ use Rattle.record_codec.specs.Group.{GroupValue, size_of}
 use Rattle.std.specs.Prelude.{slice_get, Some}
 use Rattle.commit_stages.specs.Queues.{AreSizes}
 use Rattle.commit_stages.proofs.Sizes.{sizes_of_some, no_groups}
-use Rattle.source_core.specs.Source.{Source, IsSound, entry_of, entries_of}
+use Rattle.source_core.specs.Source.{Source, IsSound, entry_of}
 use Rattle.source_core.specs.Calls.{AreNextRecords, seen_log}
 use Rattle.source_core.specs.Laws.{GroupEnds, GroupIsCounted, GroupIsOldest}
-
-seen_long : (ts : List Table) (log : List Record) (owners : List ℕ) → length owners ≡ length log → length (entries_of ts log owners) ≡ length log
-seen_long ts [] owners e = refl
-seen_long ts (made ∷ log) [] e = absurd (omega (arith, e))
-seen_long ts (made ∷ log) (owner ∷ owners) e = ap (λ n. suc n) (seen_long ts log owners (omega (arith, e)))
+use Rattle.source_core.proofs.Flush.Fit.{places_of}
 
 first_is : (s : Source) (before : List Seen) (queue : List ℕ) (first : Record) (rest : List Record) → AreNextRecords s before queue (first ∷ rest) → first.gno ≡ length before + 1
 first_is s before [] first rest are = absurd are
@@ -32,7 +27,7 @@ ends s group (first ∷ rest) are of long =
 
 pub group_ends : GroupEnds
 group_ends old new group sound f =
-    let at = ends old group f.records f.are f.group_of (seen_long old.tables old.log old.owners sound.owned) in
+    let at = ends old group f.records f.are f.group_of (places_of old.tables old.log old.owners sound.owned).1 in
     let long : length new.log ≡ length old.log + length f.records = ap (λ (s : Source). length s.log) f.leaves ∙ length-append old.log f.records in
     (at.0, omega (arith, at.1, long))
 
@@ -47,13 +42,12 @@ behind_synced log records more group synced_ of synced_is first =
 
 pub as_many : (s : Source) (before : List Seen) (queue : List ℕ) (records : List Record) → AreNextRecords s before queue records → length records ≡ length queue
 as_many s before [] [] are = refl
-as_many s before [] (first ∷ records) are = absurd are
-as_many s before (session ∷ queue) [] are = absurd are
 as_many s before (session ∷ queue) (first ∷ records) are = ap (λ n. suc n) (as_many s (before ++ entry_of s.tables first session ∷ []) queue records are.1)
+as_many s before _ _ are = absurd are
 
 pub group_is_counted : GroupIsCounted
 group_is_counted old new group sound f =
-    let at = ends old group f.records f.are f.group_of (seen_long old.tables old.log old.owners sound.owned) in
+    let at = ends old group f.records f.are f.group_of (places_of old.tables old.log old.owners sound.owned).1 in
     let many = as_many old (seen_log old) old.queue f.records f.are in
     let size : length old.queue ≡ size_of group = omega (arith, at.0, at.1, many) in
     ap (λ (s : Source). s.group_sizes) f.leaves
@@ -61,7 +55,7 @@ group_is_counted old new group sound f =
 
 pub group_is_oldest : GroupIsOldest
 group_is_oldest old new later group more sizes sound f log_is synced_is sizes_are =
-    let at = ends old group f.records f.are f.group_of (seen_long old.tables old.log old.owners sound.owned) in
+    let at = ends old group f.records f.are f.group_of (places_of old.tables old.log old.owners sound.owned).1 in
     let log : later.log ≡ (old.log ++ f.records) ++ more = log_is ∙ ap (λ (s : Source). s.log ++ more) f.leaves in
     let same = ap (λ (l : List Record). drop later.synced (take group.last l)) log ∙ behind_synced old.log f.records more group later.synced f.group_of synced_is at.0 in
     let first : slice_get later.group_sizes 0 ≡ Some (size_of group) =

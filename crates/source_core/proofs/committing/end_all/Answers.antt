@@ -1,8 +1,7 @@
 use Rattle.std.proofs.Common.{◌∙◌, arith}
 use Rattle.schema.proofs.Lists.{AllByRecursion-at}
 use Rattle.commit_stages.specs.Queues.{IsSession}
-use Rattle.source_core.proofs.Commit.Loops.{one_released}
-use Rattle.source_core.proofs.Ended.{one_left}
+use Rattle.source_core.proofs.Commit.Loops.{one_released, one_left}
 use Rattle.source_core.proofs.committing.end_all.Goals as goal
 
 pub overflow_sub-session : goal.overflow_sub-session

@@ -2,7 +2,7 @@ use Rattle.std.proofs.Common.{◌∙◌, sym, ap}
 use Rattle.rows.specs.declared.Change.{Change}
 use Rattle.overlay.specs.Pending.{seen}
 use Rattle.source_core.specs.Steps.{deletes_parent}
-use Rattle.source_core.proofs.Write.StepFacts.{child_told}
+use Rattle.source_core.proofs.Shapes.{child_told}
 use Rattle.source_core.proofs.stepping.deletes_parent.Goals as goal
 
 pub returns-in-Delete : goal.returns-in-Delete

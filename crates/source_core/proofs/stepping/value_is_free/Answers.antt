@@ -1,5 +1,5 @@
 use Rattle.std.proofs.Common.{◌∙◌}
-use Rattle.source_core.proofs.Write.StepFacts.{value_told}
+use Rattle.source_core.proofs.Shapes.{value_told}
 use Rattle.source_core.proofs.stepping.value_is_free.Goals as goal
 
 pub returns : goal.returns
