@@ -150,13 +150,14 @@ impl<F> NamedWire<F> {
 
 /// A new replica of the wire's source, over the tables and rows in its head. It refuses, in this order, a wire without
 /// a whole head, one of another source than was asked for, one that does not begin with the first record, and one whose
-/// text says no tables and rows.
+/// text says no tables and rows. The replica lets committed records go, since nobody asks it for them.
 fn core_of<R: Read>(
     alloc: Global,
     input: &mut R,
     crew: &Crew,
 ) -> Result<ReplicaCore<BTreeStore>, Stop>
     ensures new { IfOk result (λ core. IsNewReplica (replica_names core) true core) }
+    ensures lets_go { IfOk result (λ core. core.keeps ≡ false) }
     ensures over { IfOk result (λ core. IfSome (R.remaining input.old) (λ bytes. IsOverWire bytes (R.remaining input.new) core)) }
 {
     let (source, head) = read_wire(alloc, crew.source, input)?;
@@ -167,7 +168,9 @@ fn core_of<R: Read>(
     let Head { schema, base } = head;
     drop(base);
     let workers = crew.workers.clamp(1, 64);
-    Ok(ReplicaCore::new(alloc, schema, source, store, workers, true)?)
+    let mut core = ReplicaCore::new(alloc, schema, source, store, workers, true)?;
+    core.let_go();
+    Ok(core)
 }
 
 /// Runs the replica, under the name of its history, until the wire and the lines have ended. Then it makes a log from

@@ -123,7 +123,6 @@ module _ {names : ReplicaNames} {preserve : Bool} {known : Option (List Op)} {s 
           number = t.number;
           in_order = λ kept. (whole.in_order (t.named.3 ∙ kept)).ops;
           of_log = subst (λ (q : Replica). IsOfLog names.log q.accepted) g.is of_log;
-          keeps = t.keeps;
         };
         kept = h.kept;
         line = h.line;
@@ -181,8 +180,8 @@ pub feeds_without : {names : ReplicaNames} {preserve : Bool} {old new : Wire} {p
     → Takes old r piece answer new r)
     → Feeds names preserve old piece answer new
 feeds_without {names = names} {preserve = preserve} {answer = answer} takes =
-    let any : Replica = new_over names.tables names.source names.base 1 preserve in
-    record { before = any; named = (refl, refl, refl, refl); core = any; taken = answer; takes = takes any; told = inl refl; bytes = refl }
+    let any : Replica = record (new_over names.tables names.source names.base 1 preserve) { keeps = names.keeps } in
+    record { before = any; named = (refl, refl, refl, refl, refl); core = any; taken = answer; takes = takes any; told = inl refl; bytes = refl }
 
 -- a list that is told to be empty
 pub is_none : (told list : List Record) (b : Bool) → told ≡ list → b ≡ nat_eq (length told) 0 → b ≡ true → list ≡ []

@@ -110,7 +110,6 @@ module _ {names : ReplicaNames} {preserve : Bool} {r : Replica} {p : Publishing}
     number = t.number;
     in_order = λ kept. (sound.in_order (t.named.3 ∙ kept)).ops;
     of_log = t.of_log;
-    keeps = t.keeps;
   }
     where
       one : List Record
@@ -212,7 +211,6 @@ module _ {names : ReplicaNames} {preserve : Bool} {r : Replica} {p : Publishing}
     number = (let number = t.number in omega (arith, length-append p.waiting (op ∷ [])));
     in_order = t.in_order;
     of_log = t.of_log;
-    keeps = t.keeps;
   }
 
   -- ---- what is published
@@ -263,9 +261,9 @@ module _ {names : ReplicaNames} {preserve : Bool} {r : Replica} {p : Publishing}
 
 -- a new replica, of which the load is published
 pub new_stands : {names : ReplicaNames} {preserve : Bool} {workers : ℕ} {p : Publishing} {stored : List Counts} → p ≡ loaded_alone names.base → stored ≡ []
-    → StandTogether names preserve (new_over names.tables names.source names.base workers preserve) p 0 stored
+    → StandTogether names preserve (record (new_over names.tables names.source names.base workers preserve) { keeps = names.keeps }) p 0 stored
 new_stands {names = names} {preserve = preserve} is none = record {
-  named = (refl, refl, refl, refl);
+  named = (refl, refl, refl, refl, refl);
   within = λ gno has. absurd (true≢false (sym has));
   history = subst (λ (q : Publishing). IsHistory preserve q.published) (sym is) (history_load preserve names.base);
   begins = subst (λ (q : Publishing). IsPrefix (q.published ++ q.waiting) (Load names.base ∷ [])) (sym is) ([], refl);
@@ -274,7 +272,6 @@ new_stands {names = names} {preserve = preserve} is none = record {
   number = sym (ap (λ (q : Publishing). commits_in q.published + length q.waiting) is);
   in_order = λ kept. first;
   of_log = none_of_log names.log;
-  keeps = refl;
 }
   where
     first : (n : ℕ) → n ≤ 0 → operations names.tables names.base [] n ≡ operations_in_order names.tables names.base [] n

@@ -63,7 +63,6 @@ module _ {names : ReplicaNames} {preserve : Bool} {known : Option (List Op)} {s 
               number = t.number;
               in_order = t.in_order;
               of_log = t.of_log;
-              keeps = t.keeps;
             };
             kept = h.kept;
             line = h.line;
@@ -102,7 +101,6 @@ module _ {names : ReplicaNames} {preserve : Bool} {known : Option (List Op)} {s 
           number = t.number;
           in_order = t.in_order;
           of_log = t.of_log;
-          keeps = t.keeps;
         };
         kept = h.kept;
         line = next_in_line s.core s.outlet one.job one.is_next h.line free;

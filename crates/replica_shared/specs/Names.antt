@@ -19,18 +19,20 @@ pub record ReplicaNames : Type 0 where
   pub base : List Entry
   -- the record of each number, from 1 on, if these are known before
   pub log : Option (List Record)
+  -- whether it keeps all accepted records; if not, those that are committed may go
+  pub keeps : Bool
 
 -- those of a core, of whose log nothing is known
 abbrev pub replica_names : Replica → ReplicaNames
-replica_names r = record { tables = r.tables; source = r.source; base = r.base; log = None }
+replica_names r = record { tables = r.tables; source = r.source; base = r.base; log = None; keeps = r.keeps }
 
 -- a core of this replica
 abbrev pub IsReplicaOf : ReplicaNames → Bool → Replica → Type 0
-IsReplicaOf names preserve r = (r.tables ≡ names.tables) × (r.source ≡ names.source) × (r.base ≡ names.base) × (r.preserve ≡ preserve)
+IsReplicaOf names preserve r = (r.tables ≡ names.tables) × (r.source ≡ names.source) × (r.base ≡ names.base) × (r.preserve ≡ preserve) × (r.keeps ≡ names.keeps)
 
--- a new one
+-- a new one, which keeps all records or lets committed ones go
 abbrev pub IsNewReplica : ReplicaNames → Bool → Replica → Type 0
-IsNewReplica names preserve r = r ≡ new_over names.tables names.source names.base r.workers preserve
+IsNewReplica names preserve r = r ≡ record (new_over names.tables names.source names.base r.workers preserve) { keeps = names.keeps }
 
 -- ---- a log that is known before
 

@@ -85,8 +85,6 @@ pub record StandTogether (names : ReplicaNames) (preserve : Bool) (r : Replica) 
   -- in the order of the log the operations of the commits are those of the first accepted records
   pub in_order : preserve ≡ true → (n : ℕ) → n ≤ length r.commits → operations r.tables r.base (ran r) n ≡ operations_in_order r.tables r.base r.accepted n
   pub of_log : IsOfLog names.log r.accepted
-  -- the core keeps all records
-  pub keeps : r.keeps ≡ true
 
 -- whatever the words were, and the number of those appended
 pub record StoodTogether (names : ReplicaNames) (preserve : Bool) (r : Replica) (p : Publishing) : Type 0 where

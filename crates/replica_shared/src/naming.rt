@@ -12,12 +12,13 @@ use std::marker::Brand;
 pub trait ReplicaNaming: Naming {
     ghost use Rattle.replica_shared.specs.Names.{ReplicaNames};
 
-    /// Its tables, its source, its rows before the first commit, and its log, if that is known before.
+    /// Its tables, its source, its rows before the first commit, its log, if that is known before, and whether it keeps
+    /// all records.
     ghost names: { ReplicaNames };
 }
 
 impl ReplicaNaming for Brand {
-    ghost use Rattle.std.specs.Prelude.{[], None};
+    ghost use Rattle.std.specs.Prelude.{[], None, true};
 
-    ghost names = { record { tables = []; source = []; base = []; log = None } };
+    ghost names = { record { tables = []; source = []; base = []; log = None; keeps = true } };
 }

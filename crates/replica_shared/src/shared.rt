@@ -97,8 +97,9 @@ impl Made {
 
 impl<S: RowStore + Drop, J: ReplicaNaming> SharedReplica<S, J> {
     /// Over a new core, and a publisher that has published only the load of the same rows, with the seats that it has.
-    /// Both keep the order of the log, or neither does. It takes the memory of 64 places for jobs, of the queue, and of
-    /// the status. If that is refused, it closes the publisher, and waits for the readers.
+    /// Both keep the order of the log, or neither does. The core may let committed records go. It takes the memory of 64
+    /// places for jobs, of the queue, and of the status. If that is refused, it closes the publisher, and waits for the
+    /// readers.
     pub fn new(
         rt: &impl Wait,
         alloc: Global,
@@ -449,7 +450,7 @@ impl<S: RowStore + Drop, J: ReplicaNaming> SharedReplica<S, J> {
             (operations result.0.tables result.0.base (ran result.0) (length result.0.commits)) }
         ensures shown { result.0.published ≡ commits_in result.1.published }
         ensures accepted { IsOfLog J.names.log result.0.accepted }
-        ensures keeps { result.0.keeps ≡ true }
+        ensures keeps { result.0.keeps ≡ J.names.keeps }
     {
         let SharedReplica {
             lock,

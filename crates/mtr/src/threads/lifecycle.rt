@@ -92,6 +92,7 @@ fn new_cores<S: NewStore, T: Tracker + Drop>(
     ensures replica { IfOk result (λ made. IsNewReplica (replica_names made.replica) made.replica.preserve made.replica) }
     ensures order { IfOk result (λ made. made.replica.preserve ≡ sides.preserve) }
     ensures tables { IfOk result (λ made. made.replica.tables ≡ made.source.tables) }
+    ensures keeps { IfOk result (λ made. made.replica.keeps ≡ true) }
 {
     let (schema, from) = (schema(alloc)?, Uuid::from_bytes(SOURCE));
     let device = MemoryDevice::new(alloc);
@@ -138,6 +139,7 @@ fn run_named<
     requires receipts { receipts ≡ J.book }
     requires replica { OpensReplica K.names K.preserve K.book K.known cores.replica publication }
     requires free { K.names.log ≡ None }
+    requires keeps { K.names.keeps ≡ true }
     requires order { K.preserve ≡ plan.now.sides.preserve }
     requires tables { K.names.tables ≡ J.tables }
     ensures ended { IfOk result (IsEnded plan.now) }
@@ -194,6 +196,7 @@ fn end_all<
 ) -> Result<Ended<S, T>, Trouble>
     requires order { K.preserve ≡ plan.now.sides.preserve }
     requires tables { K.names.tables ≡ J.tables }
+    requires keeps { K.names.keeps ≡ true }
     ensures ended { IfOk result (IsEnded plan.now) }
     ensures source { IfOk result (λ ended. (ended.source.tables ≡ J.tables) × (ended.source.base ≡ J.base)) }
     ensures replica { IfOk result (λ ended. IsReplicaOf K.names K.preserve ended.replica) }

@@ -18,5 +18,5 @@ returns-clause-ended g c =
       counted = c.end-replica.ensures.shown;
       told =
           subst (λ (b : Bool). All (λ (v : Vec Shown Global). AreTold b c.end-replica.result.1.published v.items) c.in-Ok.told.1.items) (sym order) c.in-Ok.ensures;
-      keep = (c.in-Ok-end_source.ensures.keeps, c.end-replica.ensures.keeps);
+      keep = (c.in-Ok-end_source.ensures.keeps, c.end-replica.ensures.keeps ∙ c.requires.keeps);
     }

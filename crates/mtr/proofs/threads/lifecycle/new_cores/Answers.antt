@@ -1,4 +1,4 @@
-use Rattle.std.proofs.Common.{◌≡◌, subst, ℕ, Bool, List, Option, Some}
+use Rattle.std.proofs.Common.{◌≡◌, ap, subst, ℕ, Bool, true, List, Option, Some}
 use Rattle.std.specs.Option.{IfSome}
 use Rattle.schema.specs.declared.Table.{Table}
 use Rattle.store_trait.specs.Batch.{Entry}
@@ -24,6 +24,11 @@ replica_again : {P : Type 0} (replica : P → Replica) (o : Option P) (p : P) (t
     IfSome o (λ x. replica x ≡ new_over ts from base workers preserve) → o ≡ Some p → IsNewReplica (replica_names (replica p)) (replica p).preserve (replica p)
 replica_again replica o p ts from base workers preserve made is = replica_is_new _ _ _ _ _ _ (subst (λ x. IfSome x (λ y. replica y ≡ new_over ts from base workers preserve)) is made)
 
+-- which keeps all records
+keeps_all : {P : Type 0} (replica : P → Replica) (o : Option P) (p : P) (ts : List Table) (from : List ℕ) (base : List Entry) (workers : ℕ) (preserve : Bool) →
+    IfSome o (λ x. replica x ≡ new_over ts from base workers preserve) → o ≡ Some p → (replica p).keeps ≡ true
+keeps_all replica o p ts from base workers preserve made is = ap (λ (r : Replica). r.keeps) (subst (λ x. IfSome x (λ y. replica y ≡ new_over ts from base workers preserve)) is made)
+
 -- and so is a log of a new first file
 log_again : {P D : Type 0} (log : P → SetOn D) (seen : D → List ℕ) (may_leave : D → List ℕ → Type 0) (o : Option P) (p : P) → IfSome o (λ x. IsFirstFile seen may_leave (log x)) → o ≡ Some p →
     IsNew (log p).log
@@ -34,6 +39,9 @@ returns-in-Some-clause-source g c = source_again (λ pair. pair.source) _ c.in-S
 
 pub returns-in-Some-clause-replica : goal.returns-in-Some-clause-replica
 returns-in-Some-clause-replica g c = replica_again (λ pair. pair.replica) _ c.in-Some.cores _ _ _ _ _ c.in_ok-cores.ensures.replica c.in-Some.is
+
+pub returns-in-Some-clause-keeps : goal.returns-in-Some-clause-keeps
+returns-in-Some-clause-keeps g c = keeps_all (λ pair. pair.replica) _ c.in-Some.cores _ _ _ _ _ c.in_ok-cores.ensures.replica c.in-Some.is
 
 pub returns-in-Some-clause-log : goal.returns-in-Some-clause-log
 returns-in-Some-clause-log g c = log_again (λ pair. pair.log) _ _ _ c.in-Some.cores c.in_ok-cores.ensures.log c.in-Some.is

@@ -14,4 +14,4 @@ pub returns-clause-accepted : goal.returns-clause-accepted
 returns-clause-accepted g c = c.end.ensures.together.stand.of_log
 
 pub returns-clause-keeps : goal.returns-clause-keeps
-returns-clause-keeps g c = c.end.ensures.together.stand.keeps
+returns-clause-keeps g c = c.end.ensures.together.stand.named.4
