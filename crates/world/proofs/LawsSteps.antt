@@ -14,7 +14,7 @@ use Rattle.record_codec.specs.declared.records.Record.{Record}
 use Rattle.record_codec.specs.Group.{AreNumbered}
 use Rattle.record_codec.specs.Log.{after, touched, place_of, IsLegalLog}
 use Rattle.record_codec.proofs.Logs.{part_is_numbered}
-use Rattle.scheduler.specs.Gnos.{has_gno, AreDistinct, low_of, first_gnos}
+use Rattle.scheduler.specs.Gnos.{without, has_gno, AreDistinct, low_of, first_gnos}
 use Rattle.scheduler.proofs.Gnos.{has_gno_behind, distinct_entered, has_gno_entered, distinct_moved_behind, has_gno_moved_behind, distinct_moved_front, has_gno_moved_front, AreDistinct_front}
 use Rattle.scheduler.proofs.Gnos.{AreDistinct-take, low_is_low, low_rises, low_is_few, low_of_first, first_gnos-next, take-first_gnos, length-without}
 use Rattle.gapped.specs.Gapped.{gapped, AreChosen, IsClosed}
@@ -224,13 +224,17 @@ pub record SourceInOrder (log : List Record) (flushed_ : ℕ) (groups : List (�
   pub in_log : flushed_ ≤ length log
   pub committed_within : source_committed_ ≤ synced_
 
--- Holds of each state of a run: its numbers are in order, each job is committed, out or finished, and the commits are closed.
+-- And of the jobs: what is dispatched was accepted, and is committed, out or finished.
+pub record JobsInOrder (accepted_ dispatched_ : ℕ) (commits_ out_ finished_ : List ℕ) : Type 0 where
+  pub within : dispatched_ ≤ accepted_
+  pub counted : dispatched_ ≡ length commits_ + (length out_ + length finished_)
+
+-- Holds of each state of a run: its numbers are in order, and the commits are closed.
 pub record InOrder (preserve : Bool) (log : List Record) (flushed_ : ℕ) (groups : List (ℕ × ℕ)) (synced_ source_committed_ accepted_ dispatched_ : ℕ)
     (commits_ out_ finished_ : List ℕ) (published_ : ℕ) : Type 0 where
   pub source : SourceInOrder log flushed_ groups synced_ source_committed_
   pub delivered : accepted_ ≤ synced_
-  pub dispatched_within : dispatched_ ≤ accepted_
-  pub counted : dispatched_ ≡ length commits_ + (length out_ + length finished_)
+  pub jobs : JobsInOrder accepted_ dispatched_ commits_ out_ finished_
   pub shown : published_ ≤ length commits_
   pub committed : AreCommitted preserve log dispatched_ commits_ out_ finished_ published_
 
@@ -241,8 +245,7 @@ pub at_first : (setup : Setup) (log : List Record) → Holds setup log new_pair
 at_first setup log = record {
   source = record { follow = refl; in_log = omega arith; committed_within = omega arith };
   delivered = omega arith;
-  dispatched_within = omega arith;
-  counted = refl;
+  jobs = record { within = omega arith; counted = refl };
   shown = omega arith;
   committed = committed_first setup log;
 }
@@ -268,64 +271,43 @@ step setup log legal pair event (replies.Flushed first stamps) s h =
     let follow = Follow-push pair.synced pair.unsynced pair.flushed first (pair.flushed + length stamps) h.source.follow s.0 (omega arith) in
     let source : SourceInOrder log (pair.flushed + length stamps) (pair.unsynced ++ (first, pair.flushed + length stamps) ∷ []) pair.synced pair.source_committed =
     record { follow = follow; in_log = stamps_in_log log pair stamps h.source.in_log s.1; committed_within = h.source.committed_within } in
-    record { source = source; delivered = h.delivered; dispatched_within = h.dispatched_within; counted = h.counted; shown = h.shown; committed = h.committed }
+    record { source = source; delivered = h.delivered; jobs = h.jobs; shown = h.shown; committed = h.committed }
 step setup log legal pair event (replies.Synced first last) s h =
     let all = oldest_of pair first last s h.source.follow in
     let follow = subst (λ g. Follow last (drop 1 g) pair.flushed) (sym s.1) all.2 in
     let source : SourceInOrder log pair.flushed (drop 1 pair.unsynced) last pair.source_committed =
     record { follow = follow; in_log = h.source.in_log; committed_within = omega (arith, h.source.committed_within, all.1) } in
-    record { source = source; delivered = omega (arith, h.delivered, all.1); dispatched_within = h.dispatched_within; counted = h.counted; shown = h.shown; committed = h.committed }
+    record { source = source; delivered = omega (arith, h.delivered, all.1); jobs = h.jobs; shown = h.shown; committed = h.committed }
 step setup log legal pair event (replies.Committed first last) s h =
     let source : SourceInOrder log pair.flushed pair.unsynced pair.synced last = record { follow = h.source.follow; in_log = h.source.in_log; committed_within = omega (arith, s.1) } in
-    record { source = source; delivered = h.delivered; dispatched_within = h.dispatched_within; counted = h.counted; shown = h.shown; committed = h.committed }
-step setup log legal pair event replies.Accepted s h = record {
-  source = h.source;
-  delivered = omega (arith, s.2, s.3);
-  dispatched_within = omega (arith, h.dispatched_within);
-  counted = h.counted;
-  shown = h.shown;
-  committed = h.committed;
-}
-step setup log legal pair event (replies.Job gno) s h = record {
-  source = h.source;
-  delivered = h.delivered;
-  dispatched_within = omega (arith, s.within);
-  counted = omega (arith, h.counted, length-append pair.out (gno ∷ []));
-  shown = h.shown;
-  committed = job_more setup log legal pair event gno s h.committed;
-}
-step setup log legal pair event (replies.Finished gno) s h = record {
-  source = h.source;
-  delivered = h.delivered;
-  dispatched_within = h.dispatched_within;
-  counted = omega (arith, h.counted, length-without gno pair.out s, length-append pair.finished (gno ∷ []));
-  shown = h.shown;
-  committed = finish_more setup log legal pair event gno s h.committed;
-}
-step setup log legal pair event (replies.Commit gno) s h = record {
-  source = h.source;
-  delivered = h.delivered;
-  dispatched_within = h.dispatched_within;
-  counted = omega (arith, h.counted, length-without gno pair.finished s.done, length-append pair.commits (gno ∷ []));
-  shown = omega (arith, h.shown, length-append pair.commits (gno ∷ []));
-  committed = commit_more setup log legal pair event gno s h.shown h.committed;
-}
-step setup log legal pair event (replies.Published upto) s h = record {
-  source = h.source;
-  delivered = h.delivered;
-  dispatched_within = h.dispatched_within;
-  counted = h.counted;
-  shown = omega (arith, s);
-  committed = publish_more setup log legal pair event upto s h.committed;
-}
+    record { source = source; delivered = h.delivered; jobs = h.jobs; shown = h.shown; committed = h.committed }
+step setup log legal pair event replies.Accepted s h =
+    let jobs : JobsInOrder (pair.accepted + 1) pair.dispatched pair.commits pair.out pair.finished = record { within = omega (arith, h.jobs.within); counted = h.jobs.counted } in
+    record { source = h.source; delivered = omega (arith, s.2, s.3); jobs = jobs; shown = h.shown; committed = h.committed }
+step setup log legal pair event (replies.Job gno) s h =
+    let jobs : JobsInOrder pair.accepted (pair.dispatched + 1) pair.commits (pair.out ++ gno ∷ []) pair.finished =
+    record { within = omega (arith, s.within); counted = omega (arith, h.jobs.counted, length-append pair.out (gno ∷ [])) } in
+    record { source = h.source; delivered = h.delivered; jobs = jobs; shown = h.shown; committed = job_more setup log legal pair event gno s h.committed }
+step setup log legal pair event (replies.Finished gno) s h =
+    let jobs : JobsInOrder pair.accepted pair.dispatched pair.commits (without gno pair.out) (pair.finished ++ gno ∷ []) =
+    record { within = h.jobs.within; counted = omega (arith, h.jobs.counted, length-without gno pair.out s, length-append pair.finished (gno ∷ [])) } in
+    record { source = h.source; delivered = h.delivered; jobs = jobs; shown = h.shown; committed = finish_more setup log legal pair event gno s h.committed }
+step setup log legal pair event (replies.Commit gno) s h =
+    let more = length-append pair.commits (gno ∷ []) in
+    let jobs : JobsInOrder pair.accepted pair.dispatched (pair.commits ++ gno ∷ []) pair.out (without gno pair.finished) =
+    record { within = h.jobs.within; counted = omega (arith, h.jobs.counted, length-without gno pair.finished s.done, more) } in
+    let committed = commit_more setup log legal pair event gno s h.shown h.committed in
+    record { source = h.source; delivered = h.delivered; jobs = jobs; shown = omega (arith, h.shown, more); committed = committed }
+step setup log legal pair event (replies.Published upto) s h =
+    record { source = h.source; delivered = h.delivered; jobs = h.jobs; shown = omega (arith, s); committed = publish_more setup log legal pair event upto s h.committed }
 step setup log legal pair event reply s h = h
 
 -- in the words of the law
 pub in_order : (setup : Setup) (log : List Record) (pair : Pair) → Holds setup log pair → AreInOrder log pair
 in_order setup log pair h = record {
   published_within = h.shown;
-  replica_committed_within = omega (arith, h.counted);
-  dispatched_within = h.dispatched_within;
+  replica_committed_within = omega (arith, h.jobs.counted);
+  dispatched_within = h.jobs.within;
   accepted_within = h.delivered;
   source_committed_within = h.source.committed_within;
   synced_within = Follow-le pair.synced pair.unsynced pair.flushed h.source.follow;
