@@ -43,7 +43,8 @@ length_transactions f = ap (λ (ts : List (Option Open)). length ts) (counted.2 
 -- none has a transaction
 pub none_open : replicate 256 None ≡ transactions (λ k. None)
 none_open =
-    ap (λ (n : ℕ). replicate {A = Option Open} n None) (sym counted.1) ∙ splat_is_map {V = ℕ} {Y = Option Open} (range_with_len 1 counted.0) counted.0 None (length-range_with_len 1 counted.0) ∙ sym (counted.2 (λ k. None))
+    ap (λ (n : ℕ). replicate {A = Option Open} n None) (sym counted.1)
+    ∙ splat_is_map {V = ℕ} {Y = Option Open} (range_with_len 1 counted.0) counted.0 None (length-range_with_len 1 counted.0) ∙ sym (counted.2 (λ k. None))
 
 -- one of them changed
 pub one_changed : (f : ℕ → Option Open) (h : Option Open → Option Open) (session : ℕ) → 1 ≤ session → session ≤ 256 →
